@@ -31,7 +31,7 @@ use Rattle.lab_script.specs.declared.line.Op.{Op}
 use Rattle.lab_script.specs.declared.line.Op.TheVariants as op
 use Rattle.lab_report.specs.declared.row.Answer.{Answer}
 use Rattle.lab_report.specs.declared.row.Answer.TheVariants.{Done, Failed}
-use Rattle.lab_run.specs.Client.{answered, done_answer, ended_by, frames_of, reported, stretch_of}
+use Rattle.lab_run.specs.Client.{call_answer, done_answer, ended_by, frames_of, reported_error, stretch_of}
 use Rattle.lab_run.specs.ClientAtPort.{IsOffered, made_call}
 use Rattle.lab_actor.specs.ClientLines.{Extends, HasCalled, IsReady, entries_by}
 use Rattle.lab_actor.proofs.Away.{Extends-back, Extends-grows, Extends-joined, Extends-still, stretch-entries}
@@ -41,7 +41,7 @@ module _ {S T : Type 0} (P : mixport.Ghosts S) (G : gates.Ghosts T) (composes : 
     (ends_in_part : (p : S) (xs ys : List Entry) → P.ends_in p (xs ++ ys) → P.ends_in p ys) where
   -- a call was taken, and its answer is another's
   pub answer-taken : {X : Type 0} (answer : Result X PcmError → Answer) (s t : S × T) (m : Course (Answered X)) (d : PlaybackStream) (result : Result X PcmError) (is : Answer)
-      → TakesAt P G s m t (d, result) → is ≡ answer result → TakesAt P G s (answered answer m) t (d, is)
+      → TakesAt P G s m t (d, result) → is ≡ answer result → TakesAt P G s (call_answer answer m) t (d, is)
   answer-taken answer s t m d result is takes same =
       Takes-map (LoadsAt P G) (LaysAt P G) NoGet s t m (λ (done : Answered _). (done.0, answer done.1)) (d, result) (d, is) takes (ap (λ (a : Answer). (d, a)) (sym same))
 
@@ -240,7 +240,7 @@ module _ {S T : Type 0} (P : mixport.Ghosts S) (G : gates.Ghosts T) (composes : 
           (sym (append-nil (flat_map (entries_by c.stream wav.samples) (stretch_of c.stream)) ∙ stretch-entries c.stream wav.samples)) refl refl)
       by_refusal (Some e) found =
           let r = refused e found in
-          called c.stream c.ring (Failed (reported e)) r.1 (is ∙ ap done_answer r.0) ready
+          called c.stream c.ring (Failed (reported_error e)) r.1 (is ∙ ap done_answer r.0) ready
           (Extends-still P composes s.0 c.stream c.stream wav.samples [] refl refl refl)
 
   -- A pause. It begins with the counts that the client has.

@@ -35,7 +35,7 @@ use Rattle.lab_script.specs.declared.line.Op.TheVariants as op
 use Rattle.lab_report.specs.declared.row.Answer.{Answer}
 use Rattle.lab_report.specs.declared.row.Answer.TheVariants.{Count, Failed}
 use Rattle.lab_run.specs.Client.{count_answer, done_answer}
-use Rattle.lab_run.specs.Reader.{answered, call_of, frames_by}
+use Rattle.lab_run.specs.Reader.{call_answer, call_of, frames_by}
 use Rattle.lab_run.specs.Stretches.{got_by}
 use Rattle.lab_actor.specs.ReaderLines.{AreSamples, HasCalled, HasLoaded, HasRead, HasSameSetup}
 
@@ -164,7 +164,7 @@ module _ {S T : Type 0} (P : snoopport.Ghosts S) (G : gates.Ghosts T) (composes 
 
   -- a call that reads no frame
   pub called-reading_none : {X : Type 0} (answer_of : Result X PcmError → Answer) (s t : S × T) (r d : CaptureStream) (before : List ℤ) (asked : Op)
-      (m : Course (Answered X)) (result : Result X PcmError) (answer : Answer) → call_of r asked ≡ answered answer_of m → TakesAtSnoop P G s m t (d, result)
+      (m : Course (Answered X)) (result : Result X PcmError) (answer : Answer) → call_of r asked ≡ call_answer answer_of m → TakesAtSnoop P G s m t (d, result)
       → answer ≡ answer_of result → CanUse d (P.view t.0) → HasSameSetup r d → got_by asked answer ≡ 0 → frames_by asked answer d ≡ []
       → HasCalled P G s t r d before before asked answer
   called-reading_none answer_of s t r d before asked m result answer call takes is usable same none no_frames =
@@ -178,7 +178,7 @@ module _ {S T : Type 0} (P : snoopport.Ghosts S) (G : gates.Ghosts T) (composes 
 
   -- a call that loads the position and no frame
   pub called-keeps : {X : Type 0} (answer_of : Result X PcmError → Answer) (s t : S × T) (r d : CaptureStream) (before : List ℤ) (asked : Op)
-      (m : Course (Answered X)) (result : Result X PcmError) (answer : Answer) → call_of r asked ≡ answered answer_of m → TakesAtSnoop P G s m t (d, result)
+      (m : Course (Answered X)) (result : Result X PcmError) (answer : Answer) → call_of r asked ≡ call_answer answer_of m → TakesAtSnoop P G s m t (d, result)
       → Keeps P G s t r d result → answer ≡ answer_of result → got_by asked answer ≡ 0 → frames_by asked answer d ≡ []
       → HasCalled P G s t r d before before asked answer
   called-keeps answer_of s t r d before asked m result answer call takes keeps is none no_frames =
@@ -196,7 +196,7 @@ module _ {S T : Type 0} (P : snoopport.Ghosts S) (G : gates.Ghosts T) (composes 
       by_refusal (Some e) found = let now = refused e found in record { there = refl; result = λ i. (now.1 i, now.0 i) }
 
   pub called-state : (s : S × T) (r d : CaptureStream) (before : List ℤ) (asked : Op) (what : Call) (state : State) (result : Result (Unit {0}) PcmError) (answer : Answer)
-      → call_of r asked ≡ answered done_answer (if_admitted r what (ends (in_state r state, Ok tt)))
+      → call_of r asked ≡ call_answer done_answer (if_admitted r what (ends (in_state r state, Ok tt)))
       → ((e : PcmError) → refusal_of Capture r.status what ≡ Some e → (result ≡ Err e) × (d ≡ r))
       → (refusal_of Capture r.status what ≡ None → (result ≡ Ok tt) × (d ≡ in_state r state))
       → answer ≡ done_answer result → CanUse r (P.view s.0) → got_by asked answer ≡ 0 → frames_by asked answer d ≡ []

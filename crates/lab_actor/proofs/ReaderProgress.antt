@@ -31,7 +31,7 @@ use Rattle.lab_script.specs.declared.line.Op.{Op}
 use Rattle.lab_script.specs.declared.line.Op.TheVariants as op
 use Rattle.lab_report.specs.declared.row.Answer.{Answer}
 use Rattle.lab_run.specs.Client.{count_answer, done_answer}
-use Rattle.lab_run.specs.Reader.{answered, call_of}
+use Rattle.lab_run.specs.Reader.{call_answer, call_of}
 use Rattle.lab_run.specs.Stretches.{got_by}
 use Rattle.lab_actor.specs.Progress.{Progress, least_next, least_next-seen}
 use Rattle.lab_actor.specs.Room.{asked_by}
@@ -448,7 +448,7 @@ module _ {S T : Type 0} (P : snoopport.Ghosts S) (G : gates.Ghosts T) where
 
   -- with the answer of its row
   answered-went : {X : Type 0} (answer_of : Result X PcmError → Answer) (s t : S × T) (r d : CaptureStream) (m : Course (Answered X)) (answer : Answer)
-      → ((u : S × T) (y : Answered X) → TakesAtSnoop P G s m u y → Went s u r y.0) → TakesAtSnoop P G s (answered answer_of m) t (d, answer) → Went s t r d
+      → ((u : S × T) (y : Answered X) → TakesAtSnoop P G s m u y → Went s u r y.0) → TakesAtSnoop P G s (call_answer answer_of m) t (d, answer) → Went s t r d
   answered-went answer_of s t r d m answer does takes =
       let parts = Takes-parts (LoadsAtSnoop P G) NoLay (GetsAtSnoop P G) s t m (λ (done : Answered _). ends (done.0, answer_of done.1)) (d, answer) takes in
       Went-there s parts.0 t r parts.1.0 d parts.3.there (ap (λ (z : CaptureStream × Answer). z.0) parts.3.result) (does parts.0 parts.1 parts.2)

@@ -6,7 +6,7 @@ use Rattle.std.proofs.lemmas.List.Concat.{flat_map-append}
 use Rattle.std.specs.Prelude.{◌≢◌, Bool, true, false, nat_eq, if◌then◌else◌, ⊤}
 use Rattle.std.specs.List.{range_with_len}
 use Rattle.dmix_client.specs.ExpansionLaws.{range_with_len-append}
-use Rattle.lab_run.specs.LabRun.{joined, runs_of}
+use Rattle.lab_run.specs.LabRun.{joined_runs, runs_of}
 use Rattle.lab_actor.specs.FrameRuns.{AreApart, frames_in}
 
 -- no run begins at the end of the one before
@@ -15,14 +15,14 @@ IsBefore end [] = ⊤
 IsBefore end (run ∷ runs) = end ≢ run.0
 
 -- a frame before runs is a run of one, unless the first run begins behind it
-joined-apart : (frame : ℕ) (runs : List (ℕ × ℕ)) → IsBefore (frame + 1) runs → joined frame runs ≡ (frame, 1) ∷ runs
+joined-apart : (frame : ℕ) (runs : List (ℕ × ℕ)) → IsBefore (frame + 1) runs → joined_runs frame runs ≡ (frame, 1) ∷ runs
 unfolding IsBefore
 joined-apart frame [] before = refl
 joined-apart frame ((first, count) ∷ runs) before =
     let differs : nat_eq (frame + 1) first ≡ false = grind (arith, nat_tests, before) in
     ap (λ (test : Bool). if test then (frame, count + 1) ∷ runs else (frame, 1) ∷ (first, count) ∷ runs) differs
 
-joined-next : (frame count : ℕ) (runs : List (ℕ × ℕ)) → joined frame ((frame + 1, count) ∷ runs) ≡ (frame, count + 1) ∷ runs
+joined-next : (frame count : ℕ) (runs : List (ℕ × ℕ)) → joined_runs frame ((frame + 1, count) ∷ runs) ≡ (frame, count + 1) ∷ runs
 joined-next frame count runs =
     let same : nat_eq (frame + 1) (frame + 1) ≡ true = grind (arith, nat_tests) in
     ap (λ (test : Bool). if test then (frame, count + 1) ∷ runs else (frame, 1) ∷ (frame + 1, count) ∷ runs) same
@@ -31,9 +31,9 @@ joined-next frame count runs =
 runs_of-run : (count first : ℕ) (runs : List (ℕ × ℕ)) → IsBefore (first + suc count) runs → runs_of (frames_in runs) ≡ runs
     → runs_of (range_with_len first (suc count) ++ frames_in runs) ≡ (first, suc count) ∷ runs
 runs_of-run zero first runs before is =
-    ap (joined first) is ∙ joined-apart first runs (subst (λ (end : ℕ). IsBefore end runs) (let same : first + suc zero ≡ first + 1 = omega arith in same) before)
+    ap (joined_runs first) is ∙ joined-apart first runs (subst (λ (end : ℕ). IsBefore end runs) (let same : first + suc zero ≡ first + 1 = omega arith in same) before)
 runs_of-run (suc count) first runs before is =
-    ap (joined first) (runs_of-run count (first + 1) runs (subst (λ (end : ℕ). IsBefore end runs) (let same : first + suc (suc count) ≡ first + 1 + suc count = omega arith in same) before) is)
+    ap (joined_runs first) (runs_of-run count (first + 1) runs (subst (λ (end : ℕ). IsBefore end runs) (let same : first + suc (suc count) ≡ first + 1 + suc count = omega arith in same) before) is)
     ∙ joined-next first (suc count) runs
     ∙ ap (λ (n : ℕ). (first, n) ∷ runs) (let same : suc count + 1 ≡ suc (suc count) = omega arith in same)
 

@@ -1,13 +1,13 @@
 //! The answers of calls, as a report has them.
 ghost use Rattle.std.specs.Prelude.{◌≡◌};
-ghost use Rattle.lab_run.specs.Client.{count_answer, done_answer, reported};
+ghost use Rattle.lab_run.specs.Client.{count_answer, done_answer, reported_error};
 
 use lab_report::Answer;
 use snd_base::{PcmError, Why, XrunWhy};
 
 /// An error as a report has it: without the word or position that was found, and without which argument was invalid.
 fn reported(error: PcmError) -> PcmError
-    ensures { result ≡ reported error }
+    ensures { result ≡ reported_error error }
 {
     match error {
         PcmError::Xrun(why) => PcmError::Xrun(reported_xrun(why)),
@@ -18,7 +18,7 @@ fn reported(error: PcmError) -> PcmError
 
 /// An xrun as a report has it.
 fn reported_xrun(why: XrunWhy) -> XrunWhy
-    ensures { PcmError.Xrun result ≡ reported (PcmError.Xrun why) }
+    ensures { PcmError.Xrun result ≡ reported_error (PcmError.Xrun why) }
 {
     match why {
         XrunWhy::Avail { avail, .. } => XrunWhy::Avail { avail, seen: 0 },

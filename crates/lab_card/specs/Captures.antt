@@ -4,7 +4,7 @@ use Rattle.std.proofs.Common.{ap, arith}
 use Rattle.std.specs.List.{flat_map, range_with_len}
 use Rattle.dmix_client.specs.Expansion.{sample_at}
 use Rattle.lab_script.specs.Script.{first_frame}
-use Rattle.lab_run.specs.LabRun.{captured}
+use Rattle.lab_run.specs.LabRun.{captured_sample}
 use Rattle.lab_run.specs.Stage.{Session}
 use Rattle.wav_io.specs.Sound.{Sound}
 
@@ -27,7 +27,7 @@ captured_frames capture channels from frames =
     flat_map (captured_frame capture channels) (range_with_len from frames)
 
 -- it is the captured sample of a run
-pub captured-at : (session : Session) (capture : Option Sound) (frame channel : ℕ) → captured session capture (first_frame session.card + frame) channel ≡ captured_at capture frame channel
+pub captured-at : (session : Session) (capture : Option Sound) (frame channel : ℕ) → captured_sample session capture (first_frame session.card + frame) channel ≡ captured_at capture frame channel
 captured-at session None frame channel = refl
 captured-at session (Some wav) frame channel =
     ap (λ (k : ℕ). if nat_lt channel wav.channels then sample_at wav.samples wav.channels k channel else pos 0)

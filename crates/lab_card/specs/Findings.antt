@@ -40,7 +40,7 @@ use Rattle.card_sim.specs.Runs.{captured_if, period_of, records_of, writer_of}
 use Rattle.lab_script.specs.declared.line.Line.{Line}
 use Rattle.lab_script.specs.Script.{is_of_card}
 use Rattle.lab_run.specs.ActorPart.{AreOf, Each, Findings}
-use Rattle.lab_run.specs.Phases.{ops_by, published, published_by}
+use Rattle.lab_run.specs.Phases.{ops_by, phase_positions, published_by}
 use Rattle.lab_run.specs.Rules.{Rules}
 use Rattle.lab_card.specs.declared.card.CardActor.{CardActor}
 use Rattle.lab_card.specs.CardLines.{CardPart, positions_by, unplugs_by}
@@ -55,7 +55,7 @@ use Rattle.lab_card.specs.Rests.{Rests}
 abbrev pub rules_between : Card → Card → List Line → Rules
 rules_between c d lines = record {
   at = record { ring = geometry_of_card c; position = frame_of_card d; gone = is_gone c };
-  published = published (period_of c) (frame_of_card c) lines;
+  published = phase_positions (period_of c) (frame_of_card c) lines;
 }
 
 -- A card in a phase: it rested before it, in which no line unplugged it; then it did its lines. Before them and after them it gave notes and met
@@ -136,7 +136,7 @@ loaded-gone false before false seen ps informed loaded later known =
 -- a position that was published, of a card that rested, is published in the phase, where it isn't below the first one
 published-position : (period first from : ℕ) (before : List ℕ) (lines : List Line) (x : ℕ) → first ≤ from → Each (λ (y : ℕ). y ≤ from) before
     → (x ≡ first) ⊎ ((i : ℕ) × (get_elem? (before ++ positions_by period from (ops_by is_of_card lines)) i ≡ some x)) → from ≤ x
-    → Contains (published period from lines) x
+    → Contains (phase_positions period from lines) x
 published-position period first from before lines x least rested is up = elim is [
   | inl start ↦ head (omega (arith, start, least, up))
   | inr inside ↦ elim (at_append before (positions_by period from (ops_by is_of_card lines)) x inside.0 inside.1) [
@@ -145,10 +145,10 @@ published-position period first from before lines x least rested is up = elim is
   ]
 ]
   where
-    head : from ≡ x → Contains (published period from lines) x
+    head : from ≡ x → Contains (phase_positions period from lines) x
     head same = (0, omega arith, same)
 
-    tail : Contains (published_by period from lines) x → Contains (published period from lines) x
+    tail : Contains (published_by period from lines) x → Contains (phase_positions period from lines) x
     tail there = (suc there.0, omega (arith, there.1), there.2)
 
 -- ---- words of later laps
@@ -238,7 +238,7 @@ module _ {capture : Option Sound} {phase : ℕ} (c : Card) (a b : CardActor) (d 
 
   -- a position of a client that the card knows is published in the phase, where it isn't below the first one
   client-position : (x : ℕ) → IsPosition (player_geometry (seat_of_card d)) (track_of (seat_of_card d)).published x → frame_of_card c ≤ x
-      → Contains (published (period_of c) (frame_of_card c) lines) x
+      → Contains (phase_positions (period_of c) (frame_of_card c) lines) x
   client-position x at up =
       published-position (period_of c) (first_frame (geometry_of_card c)) (frame_of_card c) (track_of (seat_of_card c)).published lines x (frame-least c) is.rests.played
       (subst (λ (ps : List ℕ). IsPosition (geometry_of_card c) ps x) published-between
@@ -271,8 +271,8 @@ module _ {capture : Option Sound} {phase : ℕ} (c : Card) (a b : CardActor) (d 
       let positions : (view_of v).positions ≡ (view_of t).positions ++ map (λ (p : Position). p.frame) found.loads = ap (λ (w : View). w.positions) client.same.view ∙ client.loads.positions in
       let seen : (view_of v).seen_gone ≡ (view_of u).seen_gone = ap (λ (w : View). w.seen_gone) client.same.view in
       record {
-        loads = Each-both (λ (p : Position). Contains (published (period_of c) (frame_of_card c) lines) p.frame) (λ (p : Position). p.gone ≡ is_gone c) found.loads
-            (loads-each (Contains (published (period_of c) (frame_of_card c) lines)) (frame_of_card c) (seen_of t) (view_of t).positions found.loads
+        loads = Each-both (λ (p : Position). Contains (phase_positions (period_of c) (frame_of_card c) lines) p.frame) (λ (p : Position). p.gone ≡ is_gone c) found.loads
+            (loads-each (Contains (phase_positions (period_of c) (frame_of_card c) lines)) (frame_of_card c) (seen_of t) (view_of t).positions found.loads
             (omega (arith, client.informed.seen)) client.loads.rising
             (λ i x at up. client-position x (client.knows.positions i x (ap (λ (xs : List ℕ). get_elem? xs i) positions ∙ at)) up))
             (loaded-gone (is_gone c) (view_of t).seen_gone (view_of u).seen_gone (view_of s).seen_gone found.loads client.informed.gone client.loads.gone client.loads.after_gone
@@ -308,7 +308,7 @@ module _ {capture : Option Sound} {phase : ℕ} (c : Card) (a b : CardActor) (d 
 
   -- a position of a reader that the card knows, likewise
   reader-position : records_of c ≡ true → (x : ℕ) → IsPosition (writer_geometry (writer_of d)) (writer_track (writer_of d)).published x → frame_of_card c ≤ x
-      → Contains (published (period_of c) (frame_of_card c) lines) x
+      → Contains (phase_positions (period_of c) (frame_of_card c) lines) x
   reader-position records x at up =
       let same : writer_geometry (writer_of d) ≡ geometry_of_card c = writer-geometry ∙ sym c.in_step.geometry in
       published-position (period_of c) (first_frame (geometry_of_card c)) (frame_of_card c) (writer_track (writer_of c)).published lines x (frame-least c) is.rests.captured
@@ -353,8 +353,8 @@ module _ {capture : Option Sound} {phase : ℕ} (c : Card) (a b : CardActor) (d 
       let start : position_of (writer_geometry (writer_of c)) (writer_track (writer_of c)) ≡ frame_of_card c =
       ap (λ (h : Geometry). position_of h (writer_track (writer_of c))) (sym c.in_step.geometry) ∙ is.rests.position records in
       record {
-        loads = Each-both (λ (p : Position). Contains (published (period_of c) (frame_of_card c) lines) p.frame) (λ (p : Position). p.gone ≡ is_gone c) found.loads
-            (loads-each (Contains (published (period_of c) (frame_of_card c) lines)) (frame_of_card c) (readers.seen_of t) (readers.view_of t).positions found.loads
+        loads = Each-both (λ (p : Position). Contains (phase_positions (period_of c) (frame_of_card c) lines) p.frame) (λ (p : Position). p.gone ≡ is_gone c) found.loads
+            (loads-each (Contains (phase_positions (period_of c) (frame_of_card c) lines)) (frame_of_card c) (readers.seen_of t) (readers.view_of t).positions found.loads
             (omega (arith, reader.informed.seen, start)) reader.loads.rising
             (λ i x at up. reader-position records x (reader.knows.positions i x (ap (λ (xs : List ℕ). get_elem? xs i) positions ∙ at)) up))
             (loaded-gone (is_gone c) (readers.view_of t).seen_gone (readers.view_of u).seen_gone (readers.view_of s).seen_gone found.loads informed reader.loads.gone reader.loads.after_gone

@@ -16,7 +16,7 @@ use Rattle.card_sim.specs.declared.card.Card.{Card}
 use Rattle.card_sim.specs.Runs.{period_of, records_of, writer_of}
 use Rattle.lab_script.specs.declared.line.Line.{Line}
 use Rattle.lab_run.specs.ActorPart.{Each}
-use Rattle.lab_run.specs.Phases.{published}
+use Rattle.lab_run.specs.Phases.{phase_positions}
 use Rattle.lab_run.specs.Rules.{Rules}
 use Rattle.lab_card.specs.Findings.{rules_between}
 use Rattle.lab_card.specs.Meets.{IsClientOf, IsReaderOf, IsSameCard}
@@ -92,4 +92,4 @@ rules_between-same c e d lines same =
     ∙ (ap (λ (p : ℕ). rules_by (geometry_of_card c) (is_gone c) p (frame_of_card e)) same.period ∙ ap (rules_by (geometry_of_card c) (is_gone c) (period_of c)) (frame-same c e same)))
   where
     rules_by : Geometry → Bool → ℕ → ℕ → Rules
-    rules_by g gone period from = record { at = record { ring = g; position = frame_of_card d; gone = gone }; published = published period from lines }
+    rules_by g gone period from = record { at = record { ring = g; position = frame_of_card d; gone = gone }; published = phase_positions period from lines }

@@ -13,7 +13,7 @@ use Rattle.lab_script.specs.Script.{is_of_card, unplugs}
 use Rattle.lab_report.specs.declared.row.Row.{Row}
 use Rattle.lab_run.specs.Client.{Client}
 use Rattle.lab_run.specs.Items.{phase_end, rules_of}
-use Rattle.lab_run.specs.Phases.{ops_by, played_in, published}
+use Rattle.lab_run.specs.Phases.{ops_by, played_in, phase_positions}
 use Rattle.lab_run.specs.Reader.{Reader}
 use Rattle.lab_run.specs.Rules.{AtPort, Rules}
 use Rattle.lab_run.specs.Stage.{Session, Stage}
@@ -36,7 +36,7 @@ pub record IsCardAt (session : Session) (stage : Stage) (c : Card) : Type 0 wher
 
 rules_by : Geometry → ℕ → Bool → ℕ → ℕ → List Line → Rules
 rules_by ring position gone period from lines =
-    record { at = record { ring = ring; position = position; gone = gone }; published = published period from lines }
+    record { at = record { ring = ring; position = position; gone = gone }; published = phase_positions period from lines }
 
 rules_by-same : (ring ring_is : Geometry) (position position_is : ℕ) (gone gone_is : Bool) (period period_is from from_is : ℕ) (lines : List Line)
     → ring ≡ ring_is → position ≡ position_is → gone ≡ gone_is → period ≡ period_is → from ≡ from_is

@@ -25,7 +25,7 @@ use Rattle.lab_script.specs.declared.script.Share.{Share}
 use Rattle.lab_script.specs.Script.{first_frame}
 use Rattle.lab_run.specs.Client.{Client, segments_of}
 use Rattle.lab_run.specs.Items.{Held, held_of, held_without}
-use Rattle.lab_run.specs.LabRun.{all_segments, entries_of, numbered}
+use Rattle.lab_run.specs.LabRun.{all_segments, entries_of, with_numbers}
 use Rattle.lab_run.specs.Places.{Place, is_free, is_held_by, left_place}
 use Rattle.lab_run.specs.Rules.{AtPort}
 use Rattle.lab_run.specs.Stage.{Session, Setup, ended_client, first_stage, new_port, no_client}
@@ -99,7 +99,7 @@ laid_open-new number (d ∷ ds) f k are =
     omega (arith, ints, closed, more)
 
 numbered-none : (ring : Geometry) (number : ℕ) (setups : List (Option Setup))
-    → numbered (λ (client : AtPort × Client). segments_of client.1) number (map (λ setup. no_client ring) setups) ≡ []
+    → with_numbers (λ (client : AtPort × Client). segments_of client.1) number (map (λ setup. no_client ring) setups) ≡ []
 numbered-none ring number [] = refl
 numbered-none ring number (setup ∷ setups) = numbered-none ring (number + 1) setups
 
@@ -155,7 +155,7 @@ AreAt-new session seat sharing count cs card setups held_by key_is share_is chan
 
 -- those of the clients are those of the run
 flat_map-segments : (session : Session) (ring : TableId) (key : Key) (holdings : Holdings) (number : ℕ) (ds : List LabClient) (xs : List (AtPort × Client))
-    → AreEach (IsClientAt session ring key holdings) number ds xs → flat_map segments_by ds ≡ numbered (λ (client : AtPort × Client). segments_of client.1) number xs
+    → AreEach (IsClientAt session ring key holdings) number ds xs → flat_map segments_by ds ≡ with_numbers (λ (client : AtPort × Client). segments_of client.1) number xs
 flat_map-segments session ring key holdings number [] [] are = refl
 flat_map-segments session ring key holdings number [] (x ∷ xs) are = absurd are
 flat_map-segments session ring key holdings number (d ∷ ds) [] are = absurd are

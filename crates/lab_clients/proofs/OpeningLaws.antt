@@ -23,7 +23,7 @@ use Rattle.lab_report.specs.declared.row.Row.{Row}
 use Rattle.lab_run.specs.Client.{Client, present_of, row_by, segments_of}
 use Rattle.lab_run.specs.Items.{Held, held_of}
 use Rattle.lab_run.specs.Rules.{AtPort}
-use Rattle.lab_run.specs.Stage.{Session, Setup, Stage, after_open, client_at, new_port, no_client, open_client, open_client_with, opened_client, renewed, with_row}
+use Rattle.lab_run.specs.Stage.{Session, Setup, Stage, after_open, client_at, new_port, no_client, open_client, open_client_with, opened_client, renewed_port, with_row}
 use Rattle.lab_places.specs.Held.{IsGiven, IsSameCard, Opens, key_of_places, lobby_of, ring_of_places, share_of}
 use Rattle.lab_places.specs.Holdings.{AreHeld, AreHeld-opened, AreHeld-refused, Holding, Holdings}
 use Rattle.lab_places.specs.StageLaws.{came_of, open_client_with-done, open_client_with-refused, with_held, with_opened}
@@ -191,7 +191,7 @@ module _ (session : Session) (stage : Stage) (number : ℕ) (setup : Setup) (pos
 
   -- the client of the run
   abbrev opened-as : AtPort × Client
-  opened-as = (renewed session.ring (client_at session stage number).0, record (client_at session stage number).1 { own = Some (opened_client session.ring number setup) })
+  opened-as = (renewed_port session.ring (client_at session stage number).0, record (client_at session stage number).1 { own = Some (opened_client session.ring number setup) })
 
   client-is : client_in e ≡ opened-as.1
   client-is =

@@ -11,7 +11,7 @@ use Rattle.sum_table.specs.Seats.{TableId}
 use Rattle.lobby.specs.Lobbies.{free_seats}
 use Rattle.lab_run.specs.Client.{Client, segments_of}
 use Rattle.lab_run.specs.Items.{Held}
-use Rattle.lab_run.specs.LabRun.{all_segments, entries_of, numbered}
+use Rattle.lab_run.specs.LabRun.{all_segments, entries_of, with_numbers}
 use Rattle.lab_run.specs.Rules.{AtPort}
 use Rattle.lab_run.specs.Stage.{Session}
 use Rattle.lab_places.specs.declared.places.Places.{Places}
@@ -70,9 +70,9 @@ laid_open-set (first ∷ ds) (suc at) d e f k inside =
 
 -- one that has as much as the one before
 pub numbered-set : {X Y : Type 0} (of : X → List Y) (number at : ℕ) (xs : List X) (x d : X) → of x ≡ of (slice_index_or xs at d)
-    → numbered of number (slice_set xs at x) ≡ numbered of number xs
+    → with_numbers of number (slice_set xs at x) ≡ with_numbers of number xs
 numbered-set of number at [] x d same = refl
-numbered-set of number zero (first ∷ xs) x d same = ap (λ more. map (λ y. (number, y)) more ++ numbered of (number + 1) xs) same
+numbered-set of number zero (first ∷ xs) x d same = ap (λ more. map (λ y. (number, y)) more ++ with_numbers of (number + 1) xs) same
 numbered-set of number (suc at) (first ∷ xs) x d same =
     ap (λ more. map (λ y. (number, y)) (of first) ++ more) (numbered-set of (number + 1) at xs x d same)
 

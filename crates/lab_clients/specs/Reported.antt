@@ -17,7 +17,7 @@ use Rattle.dmix_client.specs.Expansion.{expand, run_entries, sample_at}
 use Rattle.dmix_client.specs.Growth.{segment_entries}
 use Rattle.lab_run.specs.Client.{Client, segments_of, stretch_of}
 use Rattle.lab_run.specs.Items.{no_sound}
-use Rattle.lab_run.specs.LabRun.{entries_by, entries_of, numbered}
+use Rattle.lab_run.specs.LabRun.{entries_by, entries_of, with_numbers}
 use Rattle.lab_run.specs.Members.{MembersLayAlike, of_member}
 use Rattle.lab_run.specs.Rules.{AtPort}
 use Rattle.lab_run.specs.Stage.{Session, Setup}
@@ -41,7 +41,7 @@ own_segments number client = map (with_number number) (segments_of client)
 
 abbrev pub segments_from : ℕ → List (AtPort × Client) → List (ℕ × Segment)
 segments_from number clients =
-    numbered (λ (client : AtPort × Client). segments_of client.1) number clients
+    with_numbers (λ (client : AtPort × Client). segments_of client.1) number clients
 
 -- what some segments give to a frame and channel
 abbrev pub given_by : Session → List (ℕ × Segment) → ℕ → ℕ → ℤ

@@ -10,7 +10,7 @@ use Rattle.asound_conf.specs.Text.{card_line}
 use Rattle.lab_script.specs.declared.error.ScriptWhy.TheVariants as why
 use Rattle.lab_script.specs.Draft.{begun}
 use Rattle.lab_script.specs.Lexing.{lines_of}
-use Rattle.lab_script.specs.Reading.{after, on_line, refused, script_at, script_of_lines}
+use Rattle.lab_script.specs.Reading.{after, on_line, refusal_at, script_at, script_of_lines}
 use Rattle.lab_conf.specs.Described.{IsScriptText, card_script}
 use Rattle.lab_conf.proofs.CardWords.{AreNumerals, card_line-words, words_with}
 use Rattle.lab_conf.proofs.LineWords.{is_plain_word, lines_of-line}
@@ -68,7 +68,7 @@ IsScriptText-card d card =
       is_period = number_of-decimal d.period (omega (arith, card.period_twice, card.ring_high));
       is_ring = number_of-decimal d.ring (omega (arith, card.ring_high));
     } in
-    ap (λ t. cond t (Err (refused 0 why.TooLong)) (script_of_lines (lines_of text))) fits
+    ap (λ t. cond t (Err (refusal_at 0 why.TooLong)) (script_of_lines (lines_of text))) fits
     ∙ ap script_of_lines (lines_of-card_line d card)
     ∙ ap (λ card. on_line 1 card (λ made. script_at (after (begun made) [])))
     (card_line-words (decimal d.channels) (decimal d.rate) (decimal d.period) (decimal d.ring) d.channels d.rate d.period d.ring numerals card)

@@ -7,7 +7,7 @@ use Rattle.std.proofs.lemmas.List.{take_all}
 use Rattle.std.proofs.lemmas.List.Splits.{slice_split_at, slice_split_none}
 use Rattle.std.proofs.lemmas.List.Folds.{list_all-append}
 use Rattle.lab_script.specs.Word.{is_feed, is_file_byte}
-use Rattle.lab_script.specs.Lexing.{is_blank, is_hash, is_word, lines_of, numbered, put_line, without_return, words_between, words_in}
+use Rattle.lab_script.specs.Lexing.{is_blank, is_hash, is_word, lines_of, numbered_lines, put_line, without_return, words_between, words_in}
 
 -- a word of visible bytes, none of them `#`
 abbrev pub is_plain_word : List ℕ → Bool
@@ -121,5 +121,5 @@ pub lines_of-line : (w : List ℕ) (ws : List (List ℕ)) → list_all is_plain_
 lines_of-line w ws e =
     let line = join_with_byte 32 (w ∷ ws) in
     let no_feed = all_of is_line_byte is_feed line_byte-feed line (join-line w ws e) in
-    ap (numbered 1) (slice_split_at is_feed line 10 [] no_feed refl)
+    ap (numbered_lines 1) (slice_split_at is_feed line 10 [] no_feed refl)
     ∙ ap (λ words. put_line 1 words []) (words_in-join w ws e)

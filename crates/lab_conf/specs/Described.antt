@@ -10,7 +10,7 @@ use Rattle.lab_script.specs.declared.script.Script.{Script}
 use Rattle.lab_script.specs.declared.script.Share.TheVariants as share
 use Rattle.lab_script.specs.Reading.{script_of}
 use Rattle.lab_shelf.specs.Files.{Files, TookPart}
-use Rattle.lab_stop.specs.Causes.{Cause, conf_refused, fetched, ◌>>=◌}
+use Rattle.lab_stop.specs.Causes.{Cause, conf_refused, first_bytes, ◌>>=◌}
 
 -- what a configuration says, or its refusal as a cause
 abbrev pub as_conf : {X : Type 0} → Result X ConfError → Result X Cause
@@ -20,7 +20,7 @@ as_conf (Err e) = Err (conf_refused e)
 -- the device of a name in the configuration in a file, of which one byte more is fetched than a configuration may have
 unfoldable pub device_in : Files → List ℕ → List ℕ → Result Device Cause
 device_in files file name = do
-  text ← fetched files file 1048577
+  text ← first_bytes files file 1048577
   root ← as_conf (conf_of text)
   as_conf (device_of root name)
 

@@ -23,7 +23,7 @@ use Rattle.lab_run.specs.Client.{Client, client_kind}
 use Rattle.lab_run.specs.Items.{Held, ItemMay, ItemsMay, client_kinds, held_after, held_of, is_stopped, reaped_client, reaped_client_if, reaped_one, rules_of}
 use Rattle.lab_run.specs.Lines.{EachMay, LineMay, LinesMay}
 use Rattle.lab_run.specs.Phases.{is_client, ops_by}
-use Rattle.lab_run.specs.Places.{Lobby, attached}
+use Rattle.lab_run.specs.Places.{Lobby, after_attach}
 use Rattle.lab_run.specs.Rules.{AtPort, Rules}
 use Rattle.lab_run.specs.Stage.{Session, Setup, Stage, attached_client, claimed_client, client_at, close_client, close_reader, first_stage, no_client, open_client, open_client_with, open_reader, open_reader_with, reader_at}
 use Rattle.lab_headline.specs.Shares.{AreApart, HaveOwnChannels, channels_of}
@@ -231,7 +231,7 @@ open-shares session stage n None owners share shares = by_setup (slice_index_or 
         → Shares session (claimed_client session stage n setup (client_at session stage n) refusal)
     by_claim setup (Some e) is = same-shares session stage _ refl refl shares
     by_claim setup None is = by_answer setup ((owners stage.claims setup.bindings stage.position).granted
-        (subst (λ s. claim_refusal s stage.claims setup.bindings stage.position ≡ None) share is)) (attached n stage.position stage.lobby)
+        (subst (λ s. claim_refusal s stage.claims setup.bindings stage.position ≡ None) share is)) (after_attach n stage.position stage.lobby)
 
     by_setup : (setup : Option Setup) → Shares session (open_client_with session stage n setup (client_at session stage n))
     by_setup None = same-shares session stage _ refl refl shares

@@ -17,7 +17,7 @@ use Rattle.lab_script.specs.Script.{first_frame}
 use Rattle.lab_report.specs.declared.report.Report.{Report}
 use Rattle.lab_report.specs.declared.row.Answer.{Answer}
 use Rattle.lab_run.specs.Client.{Client, begins, client_kind, line_by, segments_of}
-use Rattle.lab_run.specs.LabRun.{LabRun, Outcome, entries_by, numbered}
+use Rattle.lab_run.specs.LabRun.{LabRun, Outcome, entries_by, with_numbers}
 use Rattle.lab_run.specs.Lines.{LineMay}
 use Rattle.lab_run.specs.Openings.{AreClientOpenings, IsSessionOf, bound_by}
 use Rattle.lab_run.specs.Rules.{AtPort, MayGet, MayLay, MayLoad, Rules}
@@ -117,8 +117,8 @@ client-from script wavs session n client is None setup_is idle = rw (idle-segmen
 
 clients-from : (script : Script) (wavs : List Sound) (session : Session) (n : ℕ) (clients : List (AtPort × Client)) → IsSessionOf script wavs session
     → AreSo IsUsed clients-used session n clients
-    → flat_map (entries_by session) (numbered (λ (client : AtPort × Client). segments_of client.1) n clients)
-    ≡ flat_map (from_file script wavs) (numbered (λ (client : AtPort × Client). segments_of client.1) n clients)
+    → flat_map (entries_by session) (with_numbers (λ (client : AtPort × Client). segments_of client.1) n clients)
+    ≡ flat_map (from_file script wavs) (with_numbers (λ (client : AtPort × Client). segments_of client.1) n clients)
 clients-from script wavs session n [] is are = refl
 clients-from script wavs session n (client ∷ clients) is are =
     flat_map-append (entries_by session) own others
@@ -130,7 +130,7 @@ clients-from script wavs session n (client ∷ clients) is are =
     own = map (λ segment. (n, segment)) (segments_of client.1)
 
     others : List (ℕ × Segment)
-    others = numbered (λ (client : AtPort × Client). segments_of client.1) (n + 1) clients
+    others = with_numbers (λ (client : AtPort × Client). segments_of client.1) (n + 1) clients
 
 pub LabRun-files : (script : Script) (wavs : List Sound) (session : Session) (capture : Option Sound) (client_stops reader_stops : ℕ → ℕ) (outcome : Outcome)
     → IsSessionOf script wavs session → LabRun session capture script.body client_stops reader_stops outcome → IsPlacedFrom script wavs session outcome.report

@@ -30,7 +30,7 @@ use Rattle.dmix_client.specs.Writes.{count_with, ring_with, starts_with}
 use Rattle.lab_script.specs.declared.line.Op.{Op}
 use Rattle.lab_script.specs.declared.line.Op.TheVariants as op
 use Rattle.lab_report.specs.declared.row.Answer.{Answer}
-use Rattle.lab_run.specs.Client.{answered, call_of, count_answer, done_answer, write_course}
+use Rattle.lab_run.specs.Client.{call_answer, call_of, count_answer, done_answer, write_course}
 use Rattle.lab_run.specs.LateRows.{is_rewind}
 use Rattle.lab_run.proofs.LateLaws.{LateAnswer, LateErr, LateIn, LateWhy, next-late, reported-late}
 use Rattle.lab_run.proofs.Results.{All, All-any, All-then}
@@ -286,14 +286,14 @@ admitted-kept {T = T} b c asked m is all = by_refusal (refusal_of Playback c.sta
 abbrev pub Named : List ℕ → PlaybackStream × Answer → Type 0
 Named b (d, answer) = (d.setup.bindings ≡ b) × LateAnswer (λ frame channel. d.stretch.part < length (rising b)) answer
 
-done-named : (b : List ℕ) (m : Course (Answered (Unit {0}))) → All (Kept b) m → All (Named b) (answered done_answer m)
+done-named : (b : List ℕ) (m : Course (Answered (Unit {0}))) → All (Kept b) m → All (Named b) (call_answer done_answer m)
 done-named b m all = All-then (Kept b) (Named b) m (λ done. ends (done.0, done_answer done.1)) all named
   where
     named : (x : Answered (Unit {0})) → Kept b x → Named b (x.0, done_answer x.1)
     named (d, Ok done) kept = (kept.0, tt)
     named (d, Err e) kept = (kept.0, reported-late (λ frame channel. d.stretch.part < length (rising b)) e kept.1)
 
-count-named : (b : List ℕ) (m : Course (Answered ℕ)) → All (Kept b) m → All (Named b) (answered count_answer m)
+count-named : (b : List ℕ) (m : Course (Answered ℕ)) → All (Kept b) m → All (Named b) (call_answer count_answer m)
 count-named b m all = All-then (Kept b) (Named b) m (λ done. ends (done.0, count_answer done.1)) all named
   where
     named : (x : Answered ℕ) → Kept b x → Named b (x.0, count_answer x.1)

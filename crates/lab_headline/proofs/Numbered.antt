@@ -7,7 +7,7 @@ use Rattle.std.proofs.lemmas.List.Concat.{flat_map-append}
 use Rattle.std.proofs.lemmas.List.Elements.{filter-append}
 use Rattle.std.specs.List.{flat_map, range_with_len}
 use Rattle.std.specs.Prelude.{false, zero, suc, nat_eq, filter, map}
-use Rattle.lab_run.specs.LabRun.{numbered}
+use Rattle.lab_run.specs.LabRun.{with_numbers}
 
 -- what the member of a number has
 abbrev pub members_of : {Y : Type 0} → ℕ → List (ℕ × Y) → List Y
@@ -24,11 +24,11 @@ members-other : {Y : Type 0} (n m : ℕ) (ys : List Y) → nat_eq m n ≡ false 
 members-other n m [] is = refl
 members-other n m (y ∷ ys) is = rw is (members-other n m ys is)
 
-numbered-past : {X Y : Type 0} (of : X → List Y) (n number : ℕ) (xs : List X) → n < number → members_of n (numbered of number xs) ≡ []
+numbered-past : {X Y : Type 0} (of : X → List Y) (n number : ℕ) (xs : List X) → n < number → members_of n (with_numbers of number xs) ≡ []
 numbered-past of n number [] low = refl
 numbered-past of n number (x ∷ xs) low =
-    members-append n (map (λ y. (number, y)) (of x)) (numbered of (number + 1) xs)
-    ∙ ap (λ r. r ++ members_of n (numbered of (number + 1) xs)) (members-other n number (of x) (grind (arith, nat_tests)))
+    members-append n (map (λ y. (number, y)) (of x)) (with_numbers of (number + 1) xs)
+    ∙ ap (λ r. r ++ members_of n (with_numbers of (number + 1) xs)) (members-other n number (of x) (grind (arith, nat_tests)))
     ∙ ap (λ r. [] ++ r) (numbered-past of n (number + 1) xs (omega arith))
 
 -- two functions that agree from a number on
@@ -44,8 +44,8 @@ flat_map-numbers of n (y ∷ ys) = ap (λ l. of (n, y) ++ l) (flat_map-numbers o
 
 -- what is made of a numbered list is what is made of each member's part, one after the other
 pub numbered-parts : {X Y A : Type 0} (has : X → List Y) (of : ℕ × Y → List A) (number : ℕ) (xs : List X)
-    → flat_map of (numbered has number xs)
-    ≡ flat_map (λ n. flat_map (λ y. of (n, y)) (members_of n (numbered has number xs))) (range_with_len number (length xs))
+    → flat_map of (with_numbers has number xs)
+    ≡ flat_map (λ n. flat_map (λ y. of (n, y)) (members_of n (with_numbers has number xs))) (range_with_len number (length xs))
 numbered-parts has of number [] = refl
 numbered-parts {X = X} {Y = Y} {A = A} has of number (x ∷ xs) =
     flat_map-append of own others
@@ -58,7 +58,7 @@ numbered-parts {X = X} {Y = Y} {A = A} has of number (x ∷ xs) =
     own = map (λ y. (number, y)) (has x)
 
     others : List (ℕ × Y)
-    others = numbered has (number + 1) xs
+    others = with_numbers has (number + 1) xs
 
     part : List (ℕ × Y) → ℕ → List A
     part pairs n = flat_map (λ y. of (n, y)) (members_of n pairs)

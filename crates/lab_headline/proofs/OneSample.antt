@@ -19,7 +19,7 @@ use Rattle.dshare.specs.Owners.{has_channel}
 use Rattle.dmix_client.specs.Expansion.{expand, frame_entries, sample_at}
 use Rattle.lab_run.specs.Client.{Client, segments_of}
 use Rattle.lab_script.specs.declared.script.Script.{Script}
-use Rattle.lab_run.specs.LabRun.{LabRun, Outcome, entries_by, numbered}
+use Rattle.lab_run.specs.LabRun.{LabRun, Outcome, entries_by, with_numbers}
 use Rattle.lab_run.specs.Openings.{IsSessionOf}
 use Rattle.lab_headline.specs.Mix.{placed_entries}
 use Rattle.lab_headline.specs.OneSample.{AreBound, HasOneSample, only_of}
@@ -258,9 +258,9 @@ module _ (session : Session) where
 
     later-clear : (n : ℕ) (s : Segment) (number : ℕ) (xs : List (AtPort × Client)) → n < number → Are number xs
         → ((k : ℕ) → (n ≡ k → ⊥) → Meets session n k → AllByRecursion (Clear s) (at_number k))
-        → AllByRecursion (Pair (n, s)) (numbered (λ (x : AtPort × Client). segments_of x.1) number xs)
+        → AllByRecursion (Pair (n, s)) (with_numbers (λ (x : AtPort × Client). segments_of x.1) number xs)
     later-clear n s number [] before are each = tt
-    later-clear n s number (x ∷ xs) before are each = append-all (Pair (n, s)) (map (λ t. (number, t)) (segments_of x.1)) (numbered (λ (y : AtPort × Client). segments_of y.1) (number + 1) xs)
+    later-clear n s number (x ∷ xs) before are each = append-all (Pair (n, s)) (map (λ t. (number, t)) (segments_of x.1)) (with_numbers (λ (y : AtPort × Client). segments_of y.1) (number + 1) xs)
         (subst (λ (l : List Segment). AllByRecursion (Pair (n, s)) (map (λ t. (number, t)) l)) (sym are.0)
         (numbers-all number (Pair (n, s)) (at_number number) (pair-all n s number (at_number number) (each number (λ same. irreflexive n number before same)))))
         (later-clear n s (number + 1) xs (omega (arith, before)) are.1 each)
@@ -268,13 +268,13 @@ module _ (session : Session) where
         irreflexive : (a b : ℕ) → a < b → a ≡ b → ⊥
         irreflexive a b less same = omega (arith, less, same)
 
-    all-pairs : (number : ℕ) (xs : List (AtPort × Client)) → Are number xs → Pairs (numbered (λ (x : AtPort × Client). segments_of x.1) number xs)
+    all-pairs : (number : ℕ) (xs : List (AtPort × Client)) → Are number xs → Pairs (with_numbers (λ (x : AtPort × Client). segments_of x.1) number xs)
     all-pairs number [] are = tt
-    all-pairs number (x ∷ xs) are = pairs-append (map (λ s. (number, s)) (segments_of x.1)) (numbered (λ (y : AtPort × Client). segments_of y.1) (number + 1) xs)
+    all-pairs number (x ∷ xs) are = pairs-append (map (λ s. (number, s)) (segments_of x.1)) (with_numbers (λ (y : AtPort × Client). segments_of y.1) (number + 1) xs)
         (subst (λ (l : List Segment). Pairs (map (λ s. (number, s)) l)) (sym are.0) (own-pairs number (at_number number) (ascends number)))
         (all-pairs (number + 1) xs are.1)
-        (subst (λ (l : List Segment). AllByRecursion (λ x. AllByRecursion (Pair x) (numbered (λ (y : AtPort × Client). segments_of y.1) (number + 1) xs)) (map (λ s. (number, s)) l)) (sym are.0)
-        (numbers-all number (λ x. AllByRecursion (Pair x) (numbered (λ (y : AtPort × Client). segments_of y.1) (number + 1) xs)) (at_number number)
+        (subst (λ (l : List Segment). AllByRecursion (λ x. AllByRecursion (Pair x) (with_numbers (λ (y : AtPort × Client). segments_of y.1) (number + 1) xs)) (map (λ s. (number, s)) l)) (sym are.0)
+        (numbers-all number (λ x. AllByRecursion (Pair x) (with_numbers (λ (y : AtPort × Client). segments_of y.1) (number + 1) xs)) (at_number number)
         (each-map (λ s. (a : (k : ℕ) × (number ≡ k → ⊥) × Meets session number k) → AllByRecursion (Clear s) (at_number a.0)) _ (at_number number)
         (λ s each. later-clear number s (number + 1) xs (omega arith) are.1 (λ k other meets. each (k, other, meets)))
         (each-forall (λ (a : (k : ℕ) × (number ≡ k → ⊥) × Meets session number k) s. AllByRecursion (Clear s) (at_number a.0)) (at_number number)

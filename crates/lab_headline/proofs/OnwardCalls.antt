@@ -29,7 +29,7 @@ use Rattle.lab_script.specs.declared.line.Op.{Op}
 use Rattle.lab_script.specs.declared.line.Op.TheVariants as op
 use Rattle.lab_report.specs.declared.row.Answer.{Answer}
 use Rattle.wav_io.specs.Sound.{Sound}
-use Rattle.lab_run.specs.Client.{answered, call_of, count_answer, done_answer, write_course}
+use Rattle.lab_run.specs.Client.{call_answer, call_of, count_answer, done_answer, write_course}
 use Rattle.lab_headline.proofs.Onward.{Begun, Channels, OnwardAfter, Leads, Leads-if, Leads-map, Leads-then, Lies, Onward, Started, Waits, begun, commits-lead, earlier-lies, end_of, ended-lies, free_frame, high_end, looks-lead, moving-begun, moving-unprepared, start-commits, starts-go, after_sync-goes, syncs-go}
 use Rattle.lab_headline.proofs.Withdrawn.{below-sum, frames-back}
 
@@ -314,7 +314,7 @@ module _ (p : ℕ) (g : Geometry) (x y : ℕ) where
   -- ---- the lines
 
   pub answered-goes : {T : Type 0} (answer : Result T PcmError → Answer) (m : Marks) (course : Course (Answered T)) → Leads p g (OnwardAfter p x y) m course
-      → Leads p g (OnwardAfter p x y) m (answered answer course)
+      → Leads p g (OnwardAfter p x y) m (call_answer answer course)
   answered-goes answer m course leads = Leads-then p g (OnwardAfter p x y) (OnwardAfter p x y) m course (λ done. ends (done.0, answer done.1)) leads (λ n done goes. goes)
 
   pub admitted-goes : {T : Type 0} (c : PlaybackStream) (asked : Call) (course : Course (Answered T)) (m : Marks) → Onward p x y m c

@@ -21,7 +21,7 @@ use Rattle.lab_script.specs.declared.line.Op.TheVariants as op
 use Rattle.lab_report.specs.declared.row.Answer.{Answer}
 use Rattle.lab_report.specs.declared.row.Answer.TheVariants.{Done}
 use Rattle.wav_io.specs.Sound.{Sound}
-use Rattle.lab_run.specs.Client.{Client, after_call, answered, begins, call_of, client_kind, dies_if, done_answer, ended_by, line_by, line_if, stretch_of}
+use Rattle.lab_run.specs.Client.{Client, after_call, call_answer, begins, call_of, client_kind, dies_if, done_answer, ended_by, line_by, line_if, stretch_of}
 use Rattle.lab_run.specs.Lines.{LineMay}
 use Rattle.snoop_core.specs.declared.port.Got.TheVariants as got
 use Rattle.lab_run.specs.Rules.{AtPort, May, Rules, lets_pass, with_asks, with_stop, with_stop_by}
@@ -98,7 +98,7 @@ module _ (p : ℕ) (g : Geometry) (x y : ℕ) where
       waits low high first second = inr (record { bound = at.3; still = refl; none = refl; no_part = refl; low = first; top = at.1; high = second })
 
       by_refusal : (refusal : Option PcmError) → Leads p g (λ n (done : Client × Answer). After p x y client c n done.0) m
-          (answered done_answer (admitted_by refusal c (ends (after_prepare c, Ok tt))) >>= λ done. ends (after_call client c op.Prepare done))
+          (call_answer done_answer (admitted_by refusal c (ends (after_prepare c, Ok tt))) >>= λ done. ends (after_call client c op.Prepare done))
       by_refusal None = stretch-ends client c m m (Some (after_prepare c)) is (waits x y at.0 at.2)
           (λ end top. waits (end_of c) (end_of c) (max-least (end_of c) (free_frame m) p end) (omega (arith, end, top)))
       by_refusal (Some e) = (is, inl (append-nil client.ended))

@@ -10,7 +10,7 @@ use Rattle.lab_script.specs.declared.line.Item.{Item}
 use Rattle.lab_script.specs.declared.script.CardLine.{CardLine}
 use Rattle.lab_script.specs.declared.script.ReaderLine.{ReaderLine}
 use Rattle.lab_script.specs.declared.script.Script.{Script}
-use Rattle.lab_run.specs.LabRun.{LabRun, Outcome, captured, joined, recorded_from, runs_of, bindings_of}
+use Rattle.lab_run.specs.LabRun.{LabRun, Outcome, captured_sample, joined_runs, recorded_from, runs_of, bindings_of}
 use Rattle.lab_run.specs.Openings.{AreReaderOpenings, IsSessionOf, read_by}
 use Rattle.lab_run.specs.OwnRows.{rows_by, runs_by}
 use Rattle.lab_run.specs.Phases.{is_reader}
@@ -22,7 +22,7 @@ use Rattle.lab_headline.specs.Recordings.{AreRecordingsOf, IsRecordingOf, bindin
 use Rattle.lab_headline.proofs.Sizes.{map-size, run-size}
 
 -- the frames of the runs of some frames are these frames
-joined-frames : (frame : ℕ) (runs : List (ℕ × ℕ)) → frames_of_runs (joined frame runs) ≡ frame ∷ frames_of_runs runs
+joined-frames : (frame : ℕ) (runs : List (ℕ × ℕ)) → frames_of_runs (joined_runs frame runs) ≡ frame ∷ frames_of_runs runs
 joined-frames frame [] = refl
 joined-frames frame ((first, count) ∷ runs) = by_test (nat_eq (frame + 1) first) refl
   where
@@ -66,10 +66,10 @@ reader-recording session capture outcome number reads =
     let bindings = bindings_at session number in
     let frames : frames_of_runs runs ≡ reads.frames = ap frames_of_runs reads.runs ∙ runs-frames reads.frames in
     let samples : slice_index_or outcome.recorded number [] ≡ recording session capture bindings runs =
-    reads.samples ∙ ap (flat_map (λ frame. map (captured session capture frame) bindings)) (sym frames) in
+    reads.samples ∙ ap (flat_map (λ frame. map (captured_sample session capture frame) bindings)) (sym frames) in
     record {
       frames = samples;
-      samples_are = ap length samples ∙ samples-count (captured session capture) bindings (frames_of_runs runs) ∙ ap (λ n. n * length bindings) (frames-count runs);
+      samples_are = ap length samples ∙ samples-count (captured_sample session capture) bindings (frames_of_runs runs) ∙ ap (λ n. n * length bindings) (frames-count runs);
       after = reads.after;
       stretches = subst (λ f. AreSlices None (rows_by (is_reader number) outcome.report.rows) f reads.after) (sym frames) reads.slices;
     }

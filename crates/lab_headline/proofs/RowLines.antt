@@ -31,7 +31,7 @@ use Rattle.lab_run.specs.LabRun.{LabRun, Outcome}
 use Rattle.lab_run.specs.LateRows.{is_rewind}
 use Rattle.lab_run.specs.Lines.{EachMay, Kind, LineMay, LinesMay}
 use Rattle.lab_run.specs.Phases.{card_row, card_rows, is_client, is_reader, ops_by}
-use Rattle.lab_run.specs.Places.{Lobby, attached, attached_by, is_free, is_silent}
+use Rattle.lab_run.specs.Places.{Lobby, after_attach, attached_by, is_free, is_silent}
 use Rattle.lab_run.specs.Reader.{Reader, reader_kind}
 use Rattle.lab_run.specs.Reader as readers
 use Rattle.lab_run.specs.Rules.{AtPort, Rules}
@@ -84,7 +84,7 @@ claim-early Dshare claims channels position = by_test (list_all (is_free_channel
     by_test true = tt
     by_test false = busy-early _ _
 
-attached-early : (n at : ℕ) (lobby : Lobby) → IsEarlyResult (attached n at lobby).1
+attached-early : (n at : ℕ) (lobby : Lobby) → IsEarlyResult (after_attach n at lobby).1
 attached-early n at lobby = by_test (list_any is_free lobby.places)
   where
     by_place : (place : Option ℕ) → IsEarlyResult (attached_by place n at lobby).1
@@ -114,7 +114,7 @@ open-first session stage n x None all = by_setup (slice_index_or session.clients
 
     by_claim : (setup : Setup) (refusal : Option PcmError) → IsFirst (claimed_client session stage n setup x refusal).rows all → IsFirst stage.rows all
     by_claim setup (Some e) is = first-more stage.rows _ all is
-    by_claim setup None is = by_answer setup (attached n stage.position stage.lobby) is
+    by_claim setup None is = by_answer setup (after_attach n stage.position stage.lobby) is
 
     by_setup : (setup : Option Setup) → IsFirst (open_client_with session stage n setup x).rows all → IsFirst stage.rows all
     by_setup None is = first-more stage.rows _ all is
@@ -288,7 +288,7 @@ module _ (session : Session) (body : List Item) (all : List Row) (late : LateLin
 
       by_claim : (setup : Setup) (refusal : Option PcmError) → IfSome refusal IsEarly → AllByRecursion P (claimed_client session stage n setup x refusal).rows
       by_claim setup (Some e) early = one-more stage.rows _ are (answered-other _ (failed-early e early))
-      by_claim setup None early = by_answer setup (attached n stage.position stage.lobby) (attached-early n stage.position stage.lobby)
+      by_claim setup None early = by_answer setup (after_attach n stage.position stage.lobby) (attached-early n stage.position stage.lobby)
 
       by_setup : (setup : Option Setup) → AllByRecursion P (open_client_with session stage n setup x).rows
       by_setup None = one-more stage.rows _ are (answered-other _ (λ frame channel is. absurd (cc)))

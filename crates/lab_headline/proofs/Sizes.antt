@@ -15,7 +15,7 @@ use Rattle.lab_run.specs.Client.{Client}
 use Rattle.lab_run.specs.Items.{ItemMay, ItemsMay, client_kinds, reader_kinds, reaped_client, reaped_reader, rules_of}
 use Rattle.lab_run.specs.Lines.{EachMay, Kind}
 use Rattle.lab_run.specs.Phases.{is_client, is_reader, ops_by}
-use Rattle.lab_run.specs.Places.{Lobby, attached}
+use Rattle.lab_run.specs.Places.{Lobby, after_attach}
 use Rattle.lab_run.specs.Reader.{Reader}
 use Rattle.lab_run.specs.Rules.{AtPort, Rules}
 use Rattle.lab_run.specs.Stage.{Session, Setup, Stage, attached_client, claimed_client, client_at, close_client, close_reader, first_stage, no_client, no_reader, open_client, open_client_with, open_reader, open_reader_with, reader_at}
@@ -48,7 +48,7 @@ open_client-size session stage n x None = by_setup (slice_index_or session.clien
 
     by_claim : (setup : Setup) (refusal : Option PcmError) → AreAsMany stage (claimed_client session stage n setup x refusal)
     by_claim setup (Some e) = as-before stage _ refl refl
-    by_claim setup None = by_answer setup (attached n stage.position stage.lobby)
+    by_claim setup None = by_answer setup (after_attach n stage.position stage.lobby)
 
     by_setup : (setup : Option Setup) → AreAsMany stage (open_client_with session stage n setup x)
     by_setup None = as-before stage _ refl refl

@@ -28,10 +28,10 @@ use Rattle.lab_run.specs.Client.{Client, client_kind, present_of, segments_of}
 use Rattle.lab_run.specs.Items.{Held, ItemMay, ItemsMay, client_kinds, held_after, held_of, is_stopped, reaped_client, reaped_client_if, reaped_one, rules_of}
 use Rattle.lab_run.specs.LabRun.{bindings_of}
 use Rattle.lab_run.specs.Lines.{EachMay, LinesMay}
-use Rattle.lab_run.specs.Phases.{is_client, on_the_way, ops_by, played_at, published, published_by}
-use Rattle.lab_run.specs.Places.{Lobby, attached}
+use Rattle.lab_run.specs.Phases.{is_client, on_the_way, ops_by, played_at, phase_positions, published_by}
+use Rattle.lab_run.specs.Places.{Lobby, after_attach}
 use Rattle.lab_run.specs.Rules.{AtPort, Rules}
-use Rattle.lab_run.specs.Stage.{Session, Setup, Stage, attached_client, claimed_client, client_at, close_client, close_reader, ended_client, first_stage, no_client, open_client, open_client_with, open_reader, open_reader_with, opened_client, reader_at, renewed}
+use Rattle.lab_run.specs.Stage.{Session, Setup, Stage, attached_client, claimed_client, client_at, close_client, close_reader, ended_client, first_stage, no_client, open_client, open_client_with, open_reader, open_reader_with, opened_client, reader_at, renewed_port}
 use Rattle.lab_headline.specs.Shares.{channels_of}
 use Rattle.lab_headline.proofs.Apart.{Shares, free-unowned, item-shares, reaped-at, set-client}
 use Rattle.lab_headline.proofs.Bound.{HasBindings}
@@ -72,9 +72,9 @@ each-at P [] k d within each = absurd (omega (arith, within))
 each-at P (x ∷ xs) zero d within each = each.0
 each-at P (x ∷ xs) (suc k) d within each = each-at P xs k d (omega (arith, within)) each.1
 
-published-least : (period from : ℕ) (lines : List Line) (q : ℕ) → Contains (published period from lines) q → from ≤ q
+published-least : (period from : ℕ) (lines : List Line) (q : ℕ) → Contains (phase_positions period from lines) q → from ≤ q
 published-least period from lines q (k, within, is) =
-    subst (λ r. from ≤ r) is (each-at (λ r. from ≤ r) (published period from lines) k q within (omega arith, lines-least period from from lines (omega arith)))
+    subst (λ r. from ≤ r) is (each-at (λ r. from ≤ r) (phase_positions period from lines) k q within (omega arith, lines-least period from from lines (omega arith)))
 
 -- ---- what is known of the clients of a stage
 
@@ -613,7 +613,7 @@ module _ (session : Session) (share : session.card.share ≡ Dshare) (stage : St
 
   open-sole : (bound : (m : ℕ) (setup : Setup) → slice_index_or session.clients m None ≡ Some setup → Channels setup.bindings) (n : ℕ) (setup : Setup)
       → slice_index_or session.clients n None ≡ Some setup → AreFree stage.claims stage.position setup.bindings → (client_at session stage n).1.own ≡ None
-      → Sole session (slice_set stage.clients n (renewed session.ring (client_at session stage n).0, record (client_at session stage n).1 { own = Some (opened_client session.ring n setup) }))
+      → Sole session (slice_set stage.clients n (renewed_port session.ring (client_at session stage n).0, record (client_at session stage n).1 { own = Some (opened_client session.ring n setup) }))
       (claimed setup.bindings ∷ stage.claims) stage.position
   open-sole bound n setup is free closed_so = record {
     from = sole.from;
@@ -629,7 +629,7 @@ module _ (session : Session) (share : session.card.share ≡ Dshare) (stage : St
   }
     where
       own : AtPort × Client
-      own = (renewed session.ring (client_at session stage n).0, record (client_at session stage n).1 { own = Some (opened_client session.ring n setup) })
+      own = (renewed_port session.ring (client_at session stage n).0, record (client_at session stage n).1 { own = Some (opened_client session.ring n setup) })
 
       clients : List (AtPort × Client)
       clients = slice_set stage.clients n own
@@ -697,7 +697,7 @@ module _ (session : Session) (share : session.card.share ≡ Dshare) (bound : (m
       by_answer : (setup : Setup) → slice_index_or session.clients n None ≡ Some setup → AreFree stage.claims stage.position setup.bindings → (to : Lobby × Result (Unit {0}) PcmError)
           → (let after : Stage = attached_client session stage n setup (client_at session stage n) to in Sole session after.clients after.claims after.position)
       by_answer setup there free (lobby, Ok done) = subst (λ (claims : List Claim). Sole session
-          (slice_set stage.clients n (renewed session.ring (client_at session stage n).0, record (client_at session stage n).1 { own = Some (opened_client session.ring n setup) })) claims stage.position)
+          (slice_set stage.clients n (renewed_port session.ring (client_at session stage n).0, record (client_at session stage n).1 { own = Some (opened_client session.ring n setup) })) claims stage.position)
           (sym (ap (λ s. with_claim s setup.bindings stage.claims) share)) (open-sole session share stage shares sole bound n setup there free is)
       by_answer setup there free (lobby, Err e) = sole
 
@@ -706,7 +706,7 @@ module _ (session : Session) (share : session.card.share ≡ Dshare) (bound : (m
           → (let after : Stage = claimed_client session stage n setup (client_at session stage n) refusal in Sole session after.clients after.claims after.position)
       by_claim setup there (Some e) refused = sole
       by_claim setup there None granted = by_answer setup there ((owners stage.claims setup.bindings stage.position).granted
-          (subst (λ s. claim_refusal s stage.claims setup.bindings stage.position ≡ None) share granted)) (attached n stage.position stage.lobby)
+          (subst (λ s. claim_refusal s stage.claims setup.bindings stage.position ≡ None) share granted)) (after_attach n stage.position stage.lobby)
 
       by_setup : (setup : Option Setup) → slice_index_or session.clients n None ≡ setup
           → (let after : Stage = open_client_with session stage n setup (client_at session stage n) in Sole session after.clients after.claims after.position)

@@ -17,7 +17,7 @@ use Rattle.lab_run.specs.Client.{Client, client_kind, segments_of}
 use Rattle.lab_run.specs.Items.{ItemMay, ItemsMay, client_kinds, is_stopped, reaped_client, reaped_client_if, rules_of}
 use Rattle.lab_run.specs.Lines.{EachMay, LineMay, LinesMay}
 use Rattle.lab_run.specs.Phases.{is_client, ops_by}
-use Rattle.lab_run.specs.Places.{Lobby, attached}
+use Rattle.lab_run.specs.Places.{Lobby, after_attach}
 use Rattle.lab_run.specs.Rules.{AtPort, Rules}
 use Rattle.lab_run.specs.Stage.{Session, Setup, Stage, attached_client, claimed_client, client_at, close_client, close_reader, first_stage, no_client, open_client, open_client_with, open_reader, open_reader_with, opened_client, reader_at}
 
@@ -101,7 +101,7 @@ module _ (P : Option Setup → Client → Type 0) (kept : IsKept P) where
       by_claim : (setup : Setup) → slice_index_or session.clients n None ≡ Some setup → (refusal : Option PcmError)
           → AreSo session 0 (claimed_client session stage n setup (client_at session stage n) refusal).clients
       by_claim setup is (Some e) = are
-      by_claim setup is None = by_answer setup is (attached n stage.position stage.lobby)
+      by_claim setup is None = by_answer setup is (after_attach n stage.position stage.lobby)
 
       by_setup : (setup : Option Setup) → slice_index_or session.clients n None ≡ setup
           → AreSo session 0 (open_client_with session stage n setup (client_at session stage n)).clients

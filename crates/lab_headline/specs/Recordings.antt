@@ -5,7 +5,7 @@ use Rattle.wav_io.specs.Sound.{Sound}
 use Rattle.lab_script.specs.declared.script.ReaderLine.{ReaderLine}
 use Rattle.lab_script.specs.declared.script.Script.{Script}
 use Rattle.lab_report.specs.declared.report.Report.{Report}
-use Rattle.lab_run.specs.LabRun.{bindings_of, captured}
+use Rattle.lab_run.specs.LabRun.{bindings_of, captured_sample}
 use Rattle.lab_run.specs.Openings.{read_by}
 use Rattle.lab_run.specs.OwnRows.{rows_by, runs_by}
 use Rattle.lab_run.specs.Phases.{is_reader}
@@ -25,7 +25,7 @@ frames_in_runs ((first, count) ∷ runs) = count + frames_in_runs runs
 -- the capture file has of that frame and channel, or 0
 abbrev pub recording : Session → Option Sound → List ℕ → List (ℕ × ℕ) → List ℤ
 recording session capture bindings runs =
-    flat_map (λ frame. map (captured session capture frame) bindings) (frames_of_runs runs)
+    flat_map (λ frame. map (captured_sample session capture frame) bindings) (frames_of_runs runs)
 
 -- the card's channels that a reader's channels are bound to
 abbrev pub bindings_at : Session → ℕ → List ℕ

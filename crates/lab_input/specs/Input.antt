@@ -17,7 +17,7 @@ use Rattle.lab_script.specs.declared.script.ClientLine.{ClientLine}
 use Rattle.lab_script.specs.declared.script.Script.{Script}
 use Rattle.lab_script.specs.Reading.{script_of}
 use Rattle.lab_shelf.specs.Files.{Files}
-use Rattle.lab_stop.specs.Causes.{Cause, script_refused, wav_refused, content_in, fetched, ◌>>=◌}
+use Rattle.lab_stop.specs.Causes.{Cause, script_refused, wav_refused, content_in, first_bytes, ◌>>=◌}
 use Rattle.wav_io.specs.declared.error.WavError.{WavError}
 use Rattle.wav_io.specs.declared.error.WavError.TheVariants.{TooLong}
 use Rattle.wav_io.specs.Sound.{Sound}
@@ -58,7 +58,7 @@ with_weight name shape bytes sound = as_sound name sound >>= λ s. Ok (s, weight
 -- the script in a file, of which one byte more is looked at than a script may have
 unfoldable pub script_in : Files → List ℕ → Result Script Cause
 script_in files name = do
-  text ← fetched files name 1048577
+  text ← first_bytes files name 1048577
   as_script (script_of text)
 
 -- the sound in a WAV file, converted where there is a shape, and how many bytes of a run's limit it takes

@@ -9,7 +9,7 @@ use Rattle.lab_script.specs.declared.line.Actor.TheVariants.{Card, Client}
 use Rattle.lab_script.specs.declared.line.Item.TheVariants as item
 use Rattle.lab_script.specs.declared.line.Op.{Op}
 use Rattle.lab_script.specs.declared.line.Op.TheVariants as op
-use Rattle.lab_script.specs.Draft.{State, card_of, client_of, border_of, ends_lap, is_beside, named, with_end, with_line, with_open, with_phase}
+use Rattle.lab_script.specs.Draft.{State, card_of, client_of, border_of, ends_lap, is_beside, actor_named, with_end, with_line, with_open, with_phase}
 use Rattle.lab_script.specs.Keys.{key_of}
 use Rattle.lab_script.specs.Ops.{op_of, played_by}
 use Rattle.lab_script.specs.Reading.{card_line}
@@ -25,7 +25,7 @@ unfolding card_of key_of
 card_line-made = refl
 
 -- a client's line without keys
-pub client_of-plain : (s : State) (n : ℕ) (name file : List ℕ) → is_name name ≡ true → is_file file ≡ true → named s name ≡ None
+pub client_of-plain : (s : State) (n : ℕ) (name file : List ℕ) → is_name name ≡ true → is_file file ≡ true → actor_named s name ≡ None
     → nat_le 64 (length s.clients) ≡ false → nat_le s.card.ring s.card.period ≡ false
     → client_of s n (name ∷ file ∷ []) ≡ Ok (record {
       number = n;
@@ -43,7 +43,7 @@ unfolding client_of
 client_of-plain s n name file is_one names new room fits = rw (is_one, names, new, room, fits) refl
 
 -- a line that opens an actor
-pub with_open-plain : (s : State) (n : ℕ) (name : List ℕ) (actor : Actor) → named s name ≡ Some actor
+pub with_open-plain : (s : State) (n : ℕ) (name : List ℕ) (actor : Actor) → actor_named s name ≡ Some actor
     → with_open s n (name ∷ []) ≡ Ok (record s { body = s.body ++ item.Opens n actor ∷ [] })
 unfolding with_open border_of
 with_open-plain s n name actor e = rw e refl

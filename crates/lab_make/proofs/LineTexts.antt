@@ -7,7 +7,7 @@ use Rattle.std.proofs.lemmas.List.{take_all}
 use Rattle.std.proofs.lemmas.List.Splits.{slice_split_at, slice_split_none}
 use Rattle.std.proofs.lemmas.List.Folds.{list_all-append}
 use Rattle.lab_script.specs.Word.{is_feed, is_file_byte}
-use Rattle.lab_script.specs.Lexing.{is_blank, is_hash, is_word, lines_from, numbered, put_line, without_return, words_between, words_in}
+use Rattle.lab_script.specs.Lexing.{is_blank, is_hash, is_word, lines_from, numbered_lines, put_line, without_return, words_between, words_in}
 use Rattle.lab_make.specs.Lines.{lines_text}
 
 -- a word of visible bytes, none of them `#`
@@ -122,6 +122,6 @@ lines_from-lines_text n ((w ∷ ws) ∷ lines) e =
     let line = join_with_byte 32 (w ∷ ws) in
     let no_feed = all_of is_line_byte is_feed line_byte-feed line (join-line w ws words) in
     ap (lines_from n) (append_assoc line (10 ∷ []) (lines_text lines))
-    ∙ ap (numbered n) (slice_split_at is_feed line 10 (lines_text lines) no_feed refl)
+    ∙ ap (numbered_lines n) (slice_split_at is_feed line 10 (lines_text lines) no_feed refl)
     ∙ ap (λ ps. put_line n ps (lines_from (n + 1) (lines_text lines))) (words_in-join w ws words)
     ∙ ap (λ ls. (n, w ∷ ws) ∷ ls) (lines_from-lines_text (n + 1) lines parts.1)

@@ -11,7 +11,7 @@ use Rattle.lab_script.specs.declared.line.Item.{Item}
 use Rattle.lab_script.specs.declared.line.Line.{Line}
 use Rattle.lab_script.specs.declared.line.Op.TheVariants as op
 use Rattle.lab_script.specs.Causes.{◌>>=◌}
-use Rattle.lab_script.specs.Draft.{State, ends_lap, inside, is_beside, is_client, is_reader, keywords, named, or_else, unknown_inside, with_client, with_line, with_words}
+use Rattle.lab_script.specs.Draft.{State, ends_lap, inside, is_beside, is_client, is_reader, keywords, actor_named, or_else, unknown_inside, with_client, with_line, with_words}
 use Rattle.lab_script.specs.Keys.{row_of}
 use Rattle.lab_script.specs.Reading.{after, on_line}
 use Rattle.lab_make.specs.Files.{file_name}
@@ -92,7 +92,7 @@ with_words-client : (k : ℕ) → k < 64 → with_words (outside_of k [] 0) (k +
 unfolding with_client
 with_words-client k h =
     let s = outside_of k [] 0 in
-    let new : named s (client_name k) ≡ None = ap (λ place. by_place place (client_name k)) (position-later k h) in
+    let new : actor_named s (client_name k) ≡ None = ap (λ place. by_place place (client_name k)) (position-later k h) in
     let count = length-map-range_with_len made_client 0 k in
     let room : nat_le 64 (length s.clients) ≡ false = ap (nat_le 64) count ∙ nat_le-lt 64 k h in
     let client = client_of-plain s (k + 2) (client_name k) (file_name k) (client_name-is_name k h) (file_name-is_file k h) new room refl in
@@ -125,7 +125,7 @@ with_words-open : (clients k : ℕ) → clients ≤ 64 → k < clients
     → with_words (outside_of clients (openings clients k) 0) (clients + 2 + k) (open_words k) ≡ Ok (outside_of clients (openings clients (k + 1)) 0)
 with_words-open clients k few h =
     let s = outside_of clients (openings clients k) 0 in
-    let known : named s (client_name k) ≡ Some (Client k) = ap (λ place. by_place place (client_name k)) (position-own clients k few h) in
+    let known : actor_named s (client_name k) ≡ Some (Client k) = ap (λ place. by_place place (client_name k)) (position-own clients k few h) in
     with_open-plain s (clients + 2 + k) (client_name k) (Client k) known
     ∙ ap (λ items. Ok (outside_of clients items 0)) (sym (map-range_with_len_more (made_opening clients) 0 k k (zero-add k)))
 
@@ -173,7 +173,7 @@ with_words-inside : (clients k m : ℕ) (body : List Item) (begin phases played 
     ≡ with_line (inside_of clients body begin lines phases played) m (Client k) words
 with_words-inside clients k m body begin phases played lines words few h =
     let s = inside_of clients body begin lines phases played in
-    let known : named s (client_name k) ≡ Some (Client k) = ap (λ place. by_place place (client_name k)) (position-own clients k few h) in
+    let known : actor_named s (client_name k) ≡ Some (Client k) = ap (λ place. by_place place (client_name k)) (position-own clients k few h) in
     ap (λ word. inside s m (client_name k) word words) (keyword_of-name k (omega arith)) ∙ ap (λ actor. unknown_inside s m actor words) known
 
 -- a client writes

@@ -5,7 +5,7 @@ use Rattle.std.proofs.lemmas.List.{append-nil, length-take-le}
 use Rattle.std.specs.Prelude.{ℤ}
 use Rattle.std.specs.List.{flat_map}
 use Rattle.wav_io.specs.Canonical.{sample_bytes}
-use Rattle.lab_shelf.specs.Files.{overwritten}
+use Rattle.lab_shelf.specs.Files.{with_first_bytes}
 use Rattle.lab_output.specs.declared.file.OutputFile.{OutputFile}
 use Rattle.lab_output.specs.Files.{open_head_of, head_of, open_file, finished_file, IsFormOf, MayHold}
 use Rattle.lab_output.specs.GoingLaws.{AllForms}
@@ -24,7 +24,7 @@ open_file-nothing output = append-nil (open_head_of output)
 
 -- the true head in place of the open one finishes an output
 pub finished_file-made : (output : OutputFile) (samples : List ℤ)
-    → overwritten (head_of output (length samples)) (open_file output samples) ≡ finished_file output samples
+    → with_first_bytes (head_of output (length samples)) (open_file output samples) ≡ finished_file output samples
 finished_file-made output samples =
     ap (λ (bytes : List ℕ). head_of output (length samples) ++ bytes)
     (drop-append_seam (open_head_of output) (flat_map sample_bytes samples))
@@ -43,7 +43,7 @@ IsFormOf-opened output = subst (IsFormOf output []) (open_file-nothing output) (
 
 -- an output with the first bytes of its true head has one of the forms
 pub IsFormOf-closing : (output : OutputFile) (samples : List ℤ) (k : ℕ) → k ≤ length (head_of output (length samples))
-    → IsFormOf output samples (overwritten (take k (head_of output (length samples))) (open_file output samples))
+    → IsFormOf output samples (with_first_bytes (take k (head_of output (length samples))) (open_file output samples))
 IsFormOf-closing output samples k few = (
   k,
   inr (
@@ -57,7 +57,7 @@ IsFormOf-closing output samples k few = (
 pub IsFormOf-finished : (output : OutputFile) (samples : List ℤ) → IsFormOf output samples (finished_file output samples)
 IsFormOf-finished output samples =
     subst (IsFormOf output samples)
-    (ap (λ (head : List ℕ). overwritten head (open_file output samples)) (take-length (head_of output (length samples)))
+    (ap (λ (head : List ℕ). with_first_bytes head (open_file output samples)) (take-length (head_of output (length samples)))
     ∙ finished_file-made output samples)
     (IsFormOf-closing output samples (length (head_of output (length samples))) (omega arith))
 

@@ -6,7 +6,7 @@ use Rattle.std.specs.List.{flat_map}
 use Rattle.std.specs.Option.{option_map_or}
 use Rattle.std.proofs.lemmas.List.{get_or-set_same}
 use Rattle.wav_io.specs.Canonical.{sample_bytes}
-use Rattle.lab_shelf.specs.Files.{Files, bytes_under, with_file, changed, overwritten, IsPartAppended, IsPartFinished}
+use Rattle.lab_shelf.specs.Files.{Files, bytes_under, with_file, with_change, with_first_bytes, IsPartAppended, IsPartFinished}
 use Rattle.lab_shelf.specs.Changes.{Changes, Changes-nothing, Changes-then, Changes-with_file, Changes-part}
 use Rattle.lab_output.specs.declared.file.OutputFile.{OutputFile}
 use Rattle.lab_output.specs.Files.{AreApart, begun, finished_files, nothing, open_head_of, head_of, open_file, finished_file, IsFormOf, MayHold}
@@ -57,7 +57,7 @@ closed_files-stored [] sounds m apart = refl
 closed_files-stored (output ∷ outputs) [] m apart = refl
 closed_files-stored (output ∷ outputs) (samples ∷ sounds) m apart =
     ap (closed_files outputs (map length sounds))
-    (changed-first open_file (overwritten (head_of output (length samples))) output outputs samples sounds m apart
+    (changed-first open_file (with_first_bytes (head_of output (length samples))) output outputs samples sounds m apart
     ∙ ap (λ (bytes : List ℕ). begun outputs sounds (with_file m output.name bytes)) (finished_file-made output samples))
     ∙ closed_files-stored outputs sounds (with_file m output.name (finished_file output samples)) apart.1
 
@@ -91,9 +91,9 @@ closed_files-Changes may_hold (output ∷ outputs) (samples ∷ sounds) m after 
     (AllForms-open (output ∷ outputs) (samples ∷ sounds)) into)
 closed_files-Changes may_hold (output ∷ outputs) (samples ∷ sounds) m after apart into (inl (inr part)) =
     let head : List ℕ = take part.0 (head_of output (length samples)) in
-    let bytes : List ℕ = overwritten head (open_file output samples) in
+    let bytes : List ℕ = with_first_bytes head (open_file output samples) in
     let is : after ≡ Some (begun outputs sounds (with_file m output.name bytes)) =
-    part.2 ∙ ap Some (changed-first open_file (overwritten head) output outputs samples sounds m apart) in
+    part.2 ∙ ap Some (changed-first open_file (with_first_bytes head) output outputs samples sounds m apart) in
     subst (λ (a : Option Files). Changes may_hold (Some m) a) (sym is)
     (Changes-then may_hold (Some m) (Some (with_file m output.name bytes)) (Some (begun outputs sounds (with_file m output.name bytes)))
     (Changes-with_file may_hold (Some m) output.name bytes
@@ -102,9 +102,9 @@ closed_files-Changes may_hold (output ∷ outputs) (samples ∷ sounds) m after 
     (λ name b may. into name b (inr may))))
 closed_files-Changes may_hold (output ∷ outputs) (samples ∷ sounds) m after apart into (inr rest) =
     let bytes : List ℕ = finished_file output samples in
-    let is : changed (overwritten (head_of output (length samples))) (begun (output ∷ outputs) (samples ∷ sounds) m) output.name
+    let is : with_change (with_first_bytes (head_of output (length samples))) (begun (output ∷ outputs) (samples ∷ sounds) m) output.name
     ≡ begun outputs sounds (with_file m output.name bytes) =
-    changed-first open_file (overwritten (head_of output (length samples))) output outputs samples sounds m apart
+    changed-first open_file (with_first_bytes (head_of output (length samples))) output outputs samples sounds m apart
     ∙ ap (λ (b : List ℕ). begun outputs sounds (with_file m output.name b)) (finished_file-made output samples) in
     Changes-then may_hold (Some m) (Some (with_file m output.name bytes)) after
     (Changes-with_file may_hold (Some m) output.name bytes (into output.name bytes (inl (refl, IsFormOf-finished output samples))))
@@ -135,7 +135,7 @@ map-length-set (sound ∷ sounds) (suc n) samples = ap (λ (ns : List ℕ). leng
 appended-begun : (outputs : List OutputFile) (sounds : List (List ℤ)) (before : Option Files) (n : ℕ) (output : OutputFile) (samples : List ℤ) (k : ℕ)
     → AreApart outputs → length sounds ≡ length outputs → n < length outputs → output ≡ get_or outputs n output
     → get_or sounds n [] ≡ take k samples
-    → option_map (λ files. changed (λ content. content ++ flat_map sample_bytes (drop k samples)) files output.name) (option_map (begun outputs sounds) before)
+    → option_map (λ files. with_change (λ content. content ++ flat_map sample_bytes (drop k samples)) files output.name) (option_map (begun outputs sounds) before)
     ≡ option_map (begun outputs (set sounds n samples)) before
 appended-begun outputs sounds None n output samples k apart even within is first = refl
 appended-begun outputs sounds (Some m) n output samples k apart even within is first =
@@ -147,20 +147,20 @@ pub IsGoingOn-appended : (outputs : List OutputFile) (counts : List ℕ) (sounds
     (n : ℕ) (output : OutputFile) (samples : List ℤ) (k : ℕ)
     → AreApart outputs → IsGoingOn outputs counts sounds before now → n < length outputs → output ≡ get_or outputs n output
     → get_or sounds n [] ≡ take k samples
-    → after ≡ option_map (λ files. changed (λ content. content ++ flat_map sample_bytes (drop k samples)) files output.name) now
+    → after ≡ option_map (λ files. with_change (λ content. content ++ flat_map sample_bytes (drop k samples)) files output.name) now
     → IsGoingOn outputs (set counts n (length samples)) (set sounds n samples) before after
 IsGoingOn-appended outputs counts sounds before now after n output samples k apart going within is first appended = record {
   counted = map-length-set sounds n samples ∙ ap (λ (ns : List ℕ). set ns n (length samples)) going.counted;
   number = length-set sounds n samples ∙ going.number;
   files =
       appended
-      ∙ ap (option_map (λ files. changed (λ content. content ++ flat_map sample_bytes (drop k samples)) files output.name)) going.files
+      ∙ ap (option_map (λ files. with_change (λ content. content ++ flat_map sample_bytes (drop k samples)) files output.name)) going.files
       ∙ appended-begun outputs sounds before n output samples k apart going.number within is first;
 }
 
 -- a change of one file, which it may hold
 changed-Changes : (may_hold : List ℕ → List ℕ → Type 0) (make : List ℕ → List ℕ) (m : Files) (name content : List ℕ)
-    → bytes_under m name ≡ Some content → may_hold name (make content) → Changes may_hold (Some m) (Some (changed make m name))
+    → bytes_under m name ≡ Some content → may_hold name (make content) → Changes may_hold (Some m) (Some (with_change make m name))
 changed-Changes may_hold make m name content is may =
     subst (λ (o : Option (List ℕ)). Changes may_hold (Some m) (Some (option_map_or (λ c. with_file m name (make c)) o m))) (sym is)
     (Changes-with_file may_hold (Some m) name (make content) may)
@@ -185,7 +185,7 @@ part-Changes outputs sounds targets m after n output samples k apart even within
     (get_or-set_same sounds n samples [] (omega (arith, even, within)))
     (longer-at (set sounds n samples) targets n longer) in
     subst (λ (a : Option Files). Changes may (Some m) a) (sym part.1)
-    (Changes-then may (Some m) (Some now) (Some (changed (λ content. take part.0 (content ++ new)) now output.name))
+    (Changes-then may (Some m) (Some now) (Some (with_change (λ content. take part.0 (content ++ new)) now output.name))
     (written-Changes open_file outputs sounds targets (Some m)
     (AreLonger-forms outputs sounds targets (longer-before sounds targets n samples k first longer)))
     (changed-Changes may (λ content. take part.0 (content ++ new)) now output.name (open_file output (get_or sounds n []))
@@ -324,11 +324,11 @@ pub append-going_on : (outputs : List OutputFile) (counts : List ℕ) (sounds : 
     (n : ℕ) (output : OutputFile) (samples new : List ℤ)
     → AreApart outputs → IsGoingOn outputs counts sounds before now → n < length outputs → output ≡ get_or outputs n output
     → get_or sounds n [] ≡ take (get_or counts n 0) samples → new ≡ drop (get_or counts n 0) samples
-    → after ≡ option_map (λ files. changed (λ content. content ++ flat_map sample_bytes new) files output.name) now
+    → after ≡ option_map (λ files. with_change (λ content. content ++ flat_map sample_bytes new) files output.name) now
     → IsGoingOn outputs (set counts n (length samples)) (set sounds n samples) before after
 append-going_on outputs counts sounds before now after n output samples new apart going within is first rest appended =
     IsGoingOn-appended outputs counts sounds before now after n output samples (get_or counts n 0) apart going within is first
-    (subst (λ (s : List ℤ). after ≡ option_map (λ files. changed (λ content. content ++ flat_map sample_bytes s) files output.name) now) rest appended)
+    (subst (λ (s : List ℤ). after ≡ option_map (λ files. with_change (λ content. content ++ flat_map sample_bytes s) files output.name) now) rest appended)
 
 -- what an append leaves that worked
 pub append-Changes : (outputs : List OutputFile) (counts : List ℕ) (sounds targets : List (List ℤ)) (before now after : Option Files)
@@ -336,7 +336,7 @@ pub append-Changes : (outputs : List OutputFile) (counts : List ℕ) (sounds tar
     → AreApart outputs → IsGoingOn outputs counts sounds before now → n < length outputs → output ≡ get_or outputs n output
     → get_or sounds n [] ≡ take (get_or counts n 0) samples → new ≡ drop (get_or counts n 0) samples
     → AreLonger (set sounds n samples) targets
-    → after ≡ option_map (λ files. changed (λ content. content ++ flat_map sample_bytes new) files output.name) now
+    → after ≡ option_map (λ files. with_change (λ content. content ++ flat_map sample_bytes new) files output.name) now
     → Changes (MayHold outputs targets) before after
 append-Changes outputs counts sounds targets before now after n output samples new apart going within is first rest longer appended =
     IsGoingOn-Changes outputs (set counts n (length samples)) (set sounds n samples) targets before after
@@ -356,11 +356,11 @@ append_part-Changes outputs counts sounds targets before now after n output samp
 
 -- a head in a file's place, where both are known by other words
 pub named-closed : (now after : Option Files) (n name h head : List ℕ) → n ≡ name → h ≡ head
-    → after ≡ option_map (λ files. changed (overwritten h) files n) now
-    → after ≡ option_map (λ files. changed (overwritten head) files name) now
+    → after ≡ option_map (λ files. with_change (with_first_bytes h) files n) now
+    → after ≡ option_map (λ files. with_change (with_first_bytes head) files name) now
 named-closed now after n name h head named is closes =
-    subst (λ (b : List ℕ). after ≡ option_map (λ files. changed (overwritten b) files name) now) is
-    (subst (λ (q : List ℕ). after ≡ option_map (λ files. changed (overwritten h) files q) now) named closes)
+    subst (λ (b : List ℕ). after ≡ option_map (λ files. with_change (with_first_bytes b) files name) now) is
+    (subst (λ (q : List ℕ). after ≡ option_map (λ files. with_change (with_first_bytes h) files q) now) named closes)
 
 -- the same of a head that is there in part
 pub named-part : (now after : Option Files) (n name h head : List ℕ) → n ≡ name → h ≡ head

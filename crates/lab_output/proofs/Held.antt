@@ -3,7 +3,7 @@ use Rattle.std.proofs.Common.{◌≡◌, ◌≢◌, ℕ, ◌<◌, Bool, true, fa
 use Rattle.std.proofs.lemmas.List.Elements.{All-from_recursion}
 use Rattle.std.specs.Prelude.{ℤ, Option, IsErrAnd, IsSome, Result, Ok, Err}
 use Rattle.std.specs.Option.{option_map_or}
-use Rattle.lab_shelf.specs.Files.{Files, bytes_under, with_file, changed}
+use Rattle.lab_shelf.specs.Files.{Files, bytes_under, with_file, with_change}
 use Rattle.lab_stop.specs.declared.stop.Stop.{Stop}
 use Rattle.lab_stop.specs.declared.stop.Stop.TheVariants.{Write}
 use Rattle.lab_output.specs.declared.file.OutputFile.{OutputFile}
@@ -21,7 +21,7 @@ written-there m name bytes q there =
     chosen false = there
 
 -- a file that changes stays there, and so do the others
-changed-there : (make : List ℕ → List ℕ) (m : Files) (name q : List ℕ) → IsSome (bytes_under m q) → IsSome (bytes_under (changed make m name) q)
+changed-there : (make : List ℕ → List ℕ) (m : Files) (name q : List ℕ) → IsSome (bytes_under m q) → IsSome (bytes_under (with_change make m name) q)
 changed-there make m name q there = of (bytes_under m name)
   where
     of : (o : Option (List ℕ)) → IsSome (bytes_under (option_map_or (λ c. with_file m name (make c)) o m) q)
@@ -30,13 +30,13 @@ changed-there make m name q there = of (bytes_under m name)
 
 -- the same of files that may not be told
 changed-file : (make : List ℕ → List ℕ) (now : Option Files) (name q : List ℕ) → HasFile now q
-    → HasFile (option_map (λ files. changed make files name) now) q
+    → HasFile (option_map (λ files. with_change make files name) now) q
 changed-file make None name q there = there
 changed-file make (Some m) name q there = changed-there make m name q there
 
 -- the same of each output
 pub changed-files : (make : List ℕ → List ℕ) (outputs : List OutputFile) (now : Option Files) (name : List ℕ) → HaveFiles now outputs
-    → HaveFiles (option_map (λ files. changed make files name) now) outputs
+    → HaveFiles (option_map (λ files. with_change make files name) now) outputs
 changed-files make [] now name there = tt
 changed-files make (output ∷ outputs) now name there =
     (changed-file make now name output.name there.0, changed-files make outputs now name there.1)

@@ -8,7 +8,7 @@ use Rattle.std.specs.Option.{option_map_or}
 use Rattle.std.specs.Ordering.{nat_cmp, eq_by_cmp}
 use Rattle.std.specs.Cmp.Lexicographic.{slice_cmp, nat_list_cmp_total}
 use Rattle.std.specs.FinMap.{same_map, get-insert, nat_cmp-IsAntisymmetric, slice_cmp-IsAntisymmetric}
-use Rattle.lab_shelf.specs.Files.{Files, bytes_under, with_file, changed, bytes_under-with_file_same, bytes_under-with_file_other, name_test-Decides}
+use Rattle.lab_shelf.specs.Files.{Files, bytes_under, with_file, with_change, bytes_under-with_file_same, bytes_under-with_file_other, name_test-Decides}
 use Rattle.lab_output.specs.declared.file.OutputFile.{OutputFile}
 use Rattle.lab_output.specs.Files.{AreApart, with_outputs}
 
@@ -57,14 +57,14 @@ swapped m name other a b apart = same_files _ _ (λ q.
 
 -- a change of a file that was just written
 changed-written : (make : List ℕ → List ℕ) (m : Files) (name bytes : List ℕ)
-    → changed make (with_file m name bytes) name ≡ with_file m name (make bytes)
+    → with_change make (with_file m name bytes) name ≡ with_file m name (make bytes)
 changed-written make m name bytes =
     ap (λ o. option_map_or (λ c. with_file (with_file m name bytes) name (make c)) o (with_file m name bytes)) (bytes_under-with_file_same m name bytes)
     ∙ twice m name bytes (make bytes)
 
 -- a change of a file before another is written
 changed-other : (make : List ℕ → List ℕ) (m : Files) (name other bytes : List ℕ) → name ≢ other
-    → changed make (with_file m other bytes) name ≡ with_file (changed make m name) other bytes
+    → with_change make (with_file m other bytes) name ≡ with_file (with_change make m name) other bytes
 changed-other make m name other bytes apart =
     ap (λ o. option_map_or (λ c. with_file (with_file m other bytes) name (make c)) o (with_file m other bytes)) (bytes_under-with_file_other m other bytes name apart)
     ∙ by_cases (bytes_under m name)
@@ -77,7 +77,7 @@ changed-other make m name other bytes apart =
 -- a change of a file that is none of the outputs
 changed-outside : (form : OutputFile → List ℤ → List ℕ) (make : List ℕ → List ℕ) (outputs : List OutputFile) (sounds : List (List ℤ)) (m : Files) (name : List ℕ)
     → AllByRecursion (λ (other : OutputFile). name ≢ other.name) outputs
-    → changed make (with_outputs form outputs sounds m) name ≡ with_outputs form outputs sounds (changed make m name)
+    → with_change make (with_outputs form outputs sounds m) name ≡ with_outputs form outputs sounds (with_change make m name)
 changed-outside form make [] sounds m name apart = refl
 changed-outside form make (output ∷ outputs) [] m name apart = refl
 changed-outside form make (output ∷ outputs) (samples ∷ sounds) m name apart =
@@ -87,7 +87,7 @@ changed-outside form make (output ∷ outputs) (samples ∷ sounds) m name apart
 -- a change of the first output
 pub changed-first : (form : OutputFile → List ℤ → List ℕ) (make : List ℕ → List ℕ) (output : OutputFile) (outputs : List OutputFile)
     (samples : List ℤ) (sounds : List (List ℤ)) (m : Files) → AreApart (output ∷ outputs)
-    → changed make (with_outputs form (output ∷ outputs) (samples ∷ sounds) m) output.name
+    → with_change make (with_outputs form (output ∷ outputs) (samples ∷ sounds) m) output.name
     ≡ with_outputs form outputs sounds (with_file m output.name (make (form output samples)))
 changed-first form make output outputs samples sounds m apart =
     changed-outside form make outputs sounds (with_file m output.name (form output samples)) output.name apart.0
@@ -97,11 +97,11 @@ changed-first form make output outputs samples sounds m apart =
 pub changed-output : (form : OutputFile → List ℤ → List ℕ) (make : List ℕ → List ℕ) (outputs : List OutputFile) (sounds : List (List ℤ)) (m : Files)
     (n : ℕ) (output : OutputFile) (samples : List ℤ) → AreApart outputs → length sounds ≡ length outputs → n < length outputs
     → output ≡ get_or outputs n output → make (form output (get_or sounds n [])) ≡ form output samples
-    → changed make (with_outputs form outputs sounds m) output.name ≡ with_outputs form outputs (set sounds n samples) m
+    → with_change make (with_outputs form outputs sounds m) output.name ≡ with_outputs form outputs (set sounds n samples) m
 changed-output form make [] sounds m n output samples apart even within is makes = absurd (omega (arith, within))
 changed-output form make (first ∷ outputs) [] m n output samples apart even within is makes = absurd (omega (arith, even))
 changed-output form make (first ∷ outputs) (sound ∷ sounds) m zero output samples apart even within is makes =
-    ap (λ (o : OutputFile). changed make (with_outputs form (first ∷ outputs) (sound ∷ sounds) m) o.name) is
+    ap (λ (o : OutputFile). with_change make (with_outputs form (first ∷ outputs) (sound ∷ sounds) m) o.name) is
     ∙ changed-first form make first outputs sound sounds m apart
     ∙ ap (λ (bytes : List ℕ). with_outputs form outputs sounds (with_file m first.name bytes))
     (subst (λ (o : OutputFile). make (form o sound) ≡ form o samples) is makes)
@@ -144,7 +144,7 @@ same-written m name content is = same_files _ _ (λ q. bytes_under-with_file_at 
     at q false other = refl
 
 -- the same of a file that may not be there
-same-changed : (m : Files) (name : List ℕ) → changed (λ content. content ++ []) m name ≡ m
+same-changed : (m : Files) (name : List ℕ) → with_change (λ content. content ++ []) m name ≡ m
 same-changed m name = of (bytes_under m name) refl
   where
     of : (o : Option (List ℕ)) → bytes_under m name ≡ o → option_map_or (λ content. with_file m name (content ++ [])) o m ≡ m
@@ -153,7 +153,7 @@ same-changed m name = of (bytes_under m name) refl
 
 -- files of which nothing is appended to one are as they were
 pub appended-nothing : (now : Option Files) (name bytes : List ℕ) → bytes ≡ []
-    → now ≡ option_map (λ files. changed (λ content. content ++ bytes) files name) now
+    → now ≡ option_map (λ files. with_change (λ content. content ++ bytes) files name) now
 appended-nothing None name bytes is = refl
 appended-nothing (Some m) name bytes is =
-    ap Some (sym (same-changed m name)) ∙ ap (λ (b : List ℕ). Some (changed (λ content. content ++ b) m name)) (sym is)
+    ap Some (sym (same-changed m name)) ∙ ap (λ (b : List ℕ). Some (with_change (λ content. content ++ b) m name)) (sym is)

@@ -7,7 +7,7 @@ use Rattle.std.proofs.lemmas.List.Elements.{All-from_recursion}
 use Rattle.lab_output.proofs.Shelves.{bytes_under-with_file_at, test}
 use Rattle.std.specs.Prelude.{Option, IfSome}
 use Rattle.std.specs.Option.{option_map_or}
-use Rattle.lab_shelf.specs.Files.{Files, bytes_under, with_file, changed, overwritten, IsPartWritten, IsPartFinished}
+use Rattle.lab_shelf.specs.Files.{Files, bytes_under, with_file, with_change, with_first_bytes, IsPartWritten, IsPartFinished}
 use Rattle.lab_output.specs.declared.file.OutputFile.{OutputFile}
 use Rattle.lab_output.specs.Files.{open_head_of, head_of}
 use Rattle.lab_output.specs.Going.{opened_files, OpenedInPart, closed_files, ClosedInPart, HasHeadRoom, HaveFiles, HaveHeadRoom}
@@ -104,7 +104,7 @@ left_counts counts n count within is =
 
 -- a file gets its true head, and then those behind it
 closed_files-joined : (output : OutputFile) (outputs : List OutputFile) (count : ℕ) (counts : List ℕ) (now : Option Files)
-    → option_map (closed_files outputs counts) (option_map (λ files. changed (overwritten (head_of output count)) files output.name) now)
+    → option_map (closed_files outputs counts) (option_map (λ files. with_change (with_first_bytes (head_of output count)) files output.name) now)
     ≡ option_map (closed_files (output ∷ outputs) (count ∷ counts)) now
 closed_files-joined output outputs count counts None = refl
 closed_files-joined output outputs count counts (Some m) = refl
@@ -115,7 +115,7 @@ closed_files-none counts None = refl
 closed_files-none counts (Some m) = refl
 
 -- a head in the place of the first bytes leaves room
-overwritten-room : (head content : List ℕ) → 44 ≤ length content → 44 ≤ length (overwritten head content)
+overwritten-room : (head content : List ℕ) → 44 ≤ length content → 44 ≤ length (with_first_bytes head content)
 overwritten-room head content room =
     omega (arith, room, length-append head (drop (length head) content), length-drop (length head) content)
 
@@ -132,25 +132,25 @@ written-room m name bytes q room before =
 -- a file's new head leaves room in each file
 changed-room : (m : Files) (name head q : List ℕ)
     → IfSome (bytes_under m name) (λ content. 44 ≤ length content) → IfSome (bytes_under m q) (λ content. 44 ≤ length content)
-    → IfSome (bytes_under (changed (overwritten head) m name) q) (λ content. 44 ≤ length content)
+    → IfSome (bytes_under (with_change (with_first_bytes head) m name) q) (λ content. 44 ≤ length content)
 changed-room m name head q named before = of (bytes_under m name) named
   where
     of : (o : Option (List ℕ)) → IfSome o (λ content. 44 ≤ length content)
-        → IfSome (bytes_under (option_map_or (λ c. with_file m name (overwritten head c)) o m) q) (λ content. 44 ≤ length content)
+        → IfSome (bytes_under (option_map_or (λ c. with_file m name (with_first_bytes head c)) o m) q) (λ content. 44 ≤ length content)
     of None room = before
-    of (Some c) room = written-room m name (overwritten head c) q (overwritten-room head c room) before
+    of (Some c) room = written-room m name (with_first_bytes head c) q (overwritten-room head c room) before
 
 -- the same of each output
 changed-rooms : (outputs : List OutputFile) (m : Files) (name head : List ℕ)
     → IfSome (bytes_under m name) (λ content. 44 ≤ length content) → HaveHeadRoom (Some m) outputs
-    → HaveHeadRoom (Some (changed (overwritten head) m name)) outputs
+    → HaveHeadRoom (Some (with_change (with_first_bytes head) m name)) outputs
 changed-rooms [] m name head named rooms = tt
 changed-rooms (output ∷ outputs) m name head named rooms =
     (changed-room m name head output.name named rooms.0, changed-rooms outputs m name head named rooms.1)
 
 -- the same of files that may not be told
 kept-rooms : (outputs : List OutputFile) (now : Option Files) (name head : List ℕ) → HasHeadRoom now name → HaveHeadRoom now outputs
-    → HaveHeadRoom (option_map (λ files. changed (overwritten head) files name) now) outputs
+    → HaveHeadRoom (option_map (λ files. with_change (with_first_bytes head) files name) now) outputs
 kept-rooms outputs None name head named rooms = rooms
 kept-rooms outputs (Some m) name head named rooms = changed-rooms outputs m name head named rooms
 
@@ -166,7 +166,7 @@ pub Closing-next : (before now then : Option Files) (outputs : List OutputFile) 
     (fetches fetches_now fetches_then writes writes_now writes_then : ℕ) (reliable reliable_now reliable_then : Type 0)
     → Closing before now outputs counts n fetches fetches_now writes writes_now reliable reliable_now
     → n < length outputs → length counts ≡ length outputs → output ≡ get_or outputs n output → count ≡ get_or counts n 0
-    → then ≡ option_map (λ files. changed (overwritten (head_of output count)) files output.name) now
+    → then ≡ option_map (λ files. with_change (with_first_bytes (head_of output count)) files output.name) now
     → fetches_then ≡ fetches_now → writes_then ≡ writes_now → (reliable_now → reliable_then)
     → Closing before then outputs counts (n + 1) fetches fetches_then writes writes_then reliable reliable_then
 Closing-next before now then outputs counts n output count fetches fetches_now fetches_then writes writes_now writes_then reliable reliable_now reliable_then so_far within even is counted closes same_fetches same_writes stays =
@@ -186,7 +186,7 @@ Closing-next before now then outputs counts n output count fetches fetches_now f
       rooms = subst (λ (f : Option Files). HaveHeadRoom f outputs) (sym closes)
           (kept-rooms outputs now output.name (head_of output count) (room-at now outputs n output so_far.rooms within is) so_far.rooms);
       there = λ there. subst (λ (f : Option Files). HaveFiles f outputs) (sym closes)
-          (changed-files (overwritten (head_of output count)) outputs now output.name (so_far.there there));
+          (changed-files (with_first_bytes (head_of output count)) outputs now output.name (so_far.there there));
       fetch_faults = same_fetches ∙ so_far.fetch_faults;
       write_faults = same_writes ∙ so_far.write_faults;
       reliable = λ r. stays (so_far.reliable r);

@@ -2,7 +2,7 @@
 use Rattle.std.specs.Prelude.{◌≡◌, ◌⊎◌, ℕ, ◌+◌, ◌*◌, ◌^◌, ◌<◌, ◌≤◌, ℤ, List, [], ◌∷◌, length, map, take, All, Option, IfSome, IsSome, IsSomeAnd, ⊤}
 use Rattle.std.specs.List.{AllByRecursion}
 use Rattle.std.specs.Option.{option_map}
-use Rattle.lab_shelf.specs.Files.{Files, bytes_under, with_file, changed, overwritten, IsPartWritten, IsPartFinished}
+use Rattle.lab_shelf.specs.Files.{Files, bytes_under, with_file, with_change, with_first_bytes, IsPartWritten, IsPartFinished}
 use Rattle.lab_output.specs.declared.file.OutputFile.{OutputFile}
 use Rattle.lab_script.specs.declared.script.Script.{Script}
 use Rattle.lab_output.specs.declared.outputs.Outputs.{Outputs}
@@ -27,7 +27,7 @@ abbrev pub closed_files : List OutputFile → List ℕ → Files → Files
 closed_files [] counts files = files
 closed_files (output ∷ outputs) [] files = files
 closed_files (output ∷ outputs) (samples ∷ counts) files =
-    closed_files outputs counts (changed (overwritten (head_of output samples)) files output.name)
+    closed_files outputs counts (with_change (with_first_bytes (head_of output samples)) files output.name)
 
 -- some of the outputs have their true heads, and one of them maybe in part
 abbrev pub ClosedInPart : List OutputFile → List ℕ → Option Files → Option Files → Type 0
@@ -36,7 +36,7 @@ ClosedInPart (output ∷ outputs) [] before after = after ≡ before
 ClosedInPart (output ∷ outputs) (samples ∷ counts) before after =
     IsPartFinished before after output.name (head_of output samples)
     ⊎ ClosedInPart outputs counts
-    (option_map (λ files. changed (overwritten (head_of output samples)) files output.name) before)
+    (option_map (λ files. with_change (with_first_bytes (head_of output samples)) files output.name) before)
     after
 
 -- a file of this name, where it is told, has room for a head

@@ -2,7 +2,7 @@
 ghost use Rattle.std.specs.Prelude.{◌≡◌, ◌≢◌, ◌++◌, Err, IfErr, OnErr, OnOk};
 ghost use Rattle.std.specs.List.{flat_map};
 ghost use Rattle.std.specs.Option.{option_map};
-ghost use Rattle.lab_shelf.specs.Files.{IsPartAppended, changed};
+ghost use Rattle.lab_shelf.specs.Files.{IsPartAppended, with_change};
 ghost use Rattle.lab_output.specs.Going.{HasFile};
 ghost use Rattle.lab_stop.specs.Stops.{IsWriteStop, WriteFaults};
 ghost use Rattle.lab_stop.specs.declared.stop.Stop.TheVariants as stops;
@@ -17,7 +17,7 @@ use wav_io::append_samples;
 /// Appends bytes to a file.
 fn append_bytes<S: Shelf>(shelf: &mut S, name: &[u8], bytes: &[u8]) -> Result<(), Stop>
     ensures appended { OnOk result (S.files shelf.new ≡ option_map
-        (λ files. changed (λ content. content ++ bytes.now) files name.now) (S.files shelf.old)) }
+        (λ files. with_change (λ content. content ++ bytes.now) files name.now) (S.files shelf.old)) }
     ensures part { OnErr result
         (IsPartAppended (S.files shelf.old) (S.files shelf.new) name.now bytes.now) }
     ensures only { IfErr result IsWriteStop }
@@ -42,7 +42,7 @@ pub fn append_new<S: Shelf>(
     samples: &[i16],
 ) -> Result<(), Stop>
     ensures appended { OnOk result (S.files shelf.new ≡ option_map
-        (λ files. changed (λ content. content ++ flat_map sample_bytes samples.now) files
+        (λ files. with_change (λ content. content ++ flat_map sample_bytes samples.now) files
         file.now.name) (S.files shelf.old)) }
     ensures part { OnErr result (IsPartAppended (S.files shelf.old) (S.files shelf.new)
         file.now.name (flat_map sample_bytes samples.now)) }

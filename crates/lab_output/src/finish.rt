@@ -1,7 +1,7 @@
 //! The end of a run's files.
 ghost use Rattle.std.specs.Prelude.{◌≡◌, ◌≢◌, All, Err, IfErr, OnErr, OnOk, length};
 ghost use Rattle.std.specs.Option.{option_map};
-ghost use Rattle.lab_shelf.specs.Files.{IsPartFinished, changed, overwritten};
+ghost use Rattle.lab_shelf.specs.Files.{IsPartFinished, with_change, with_first_bytes};
 ghost use Rattle.lab_output.specs.Files.{IsOutputFile, head_of};
 ghost use Rattle.lab_output.specs.Going.{ClosedInPart, HasFile, HasHeadRoom, HaveFiles, HaveHeadRoom, IsFew, closed_files};
 ghost use Rattle.lab_stop.specs.Stops.{IsWriteStop, WriteFaults};
@@ -18,7 +18,7 @@ fn finish_file<S: Shelf>(shelf: &mut S, file: &OutputFile, samples: usize) -> Re
     requires few { IsFew samples }
     requires room { HasHeadRoom (S.files shelf.old) file.now.name }
     ensures closed { OnOk result (S.files shelf.new ≡ option_map
-        (λ files. changed (overwritten (head_of file.now samples)) files file.now.name)
+        (λ files. with_change (with_first_bytes (head_of file.now samples)) files file.now.name)
         (S.files shelf.old)) }
     ensures part { OnErr result (IsPartFinished (S.files shelf.old) (S.files shelf.new)
         file.now.name (head_of file.now samples)) }

@@ -8,7 +8,7 @@ use Rattle.dsnoop_client.specs.declared.stream.CaptureStream as reading
 use Rattle.lab_run.specs.Claims.{claim_refusal}
 use Rattle.lab_run.specs.Client.{Client}
 use Rattle.lab_run.specs.Items.{held_of}
-use Rattle.lab_run.specs.Places.{Lobby, attached}
+use Rattle.lab_run.specs.Places.{Lobby, after_attach}
 use Rattle.lab_run.specs.Reader.{Reader}
 use Rattle.lab_run.specs.Rules.{AtPort}
 use Rattle.lab_run.specs.Stage.{Session, Setup, Stage, attached_client, claimed_client, client_at, close_client, close_reader, open_client, open_client_with, open_reader, open_reader_with, reader_at}
@@ -78,7 +78,7 @@ module _ (session : Session) (stage : Stage) (number : ℕ) where
   claimed_client-keeps : (setup : Setup) (client : AtPort × Client) (refusal : Option PcmError) → client.0.by_gate ≡ (client_at session stage number).0.by_gate
       → KeepsReaders stage (claimed_client session stage number setup client refusal)
   claimed_client-keeps setup client (Some e) same = keeps-clients _ (record { phases = refl; position = refl; gone = refl }) refl refl
-  claimed_client-keeps setup client None same = attached_client-keeps setup client (attached number stage.position stage.lobby) same
+  claimed_client-keeps setup client None same = attached_client-keeps setup client (after_attach number stage.position stage.lobby) same
 
   open_client_with-keeps : (setup : Option Setup) (client : AtPort × Client) → client.0.by_gate ≡ (client_at session stage number).0.by_gate
       → KeepsReaders stage (open_client_with session stage number setup client)

@@ -14,7 +14,7 @@ use Rattle.lab_script.specs.declared.line.Line.{Line}
 use Rattle.lab_run.specs.Claims.{claim_refusal}
 use Rattle.lab_run.specs.Client.{Client}
 use Rattle.lab_run.specs.Items.{Held, ItemMay, ItemsMay, PhaseMay, held_after, held_of, held_without, is_stopped, reaped_one}
-use Rattle.lab_run.specs.Places.{Lobby, Place, attached, attached_by, held_by, is_free, is_silent, left_place}
+use Rattle.lab_run.specs.Places.{Lobby, Place, after_attach, attached_by, held_by, is_free, is_silent, left_place}
 use Rattle.lab_run.specs.Rules.{AtPort}
 use Rattle.lab_run.specs.Stage.{Session, Setup, Stage, attached_client, claimed_client, client_at, close_client, first_stage, open_client, open_client_with}
 use Rattle.lab_phase.specs.Borders.{after_close-keeps_clients, after_open-keeps_clients}
@@ -33,7 +33,7 @@ length-attached_by : (place : Option ℕ) (client at : ℕ) (lobby : Lobby) → 
 length-attached_by (Some place) client at lobby = length-held_by client place lobby.places
 length-attached_by None client at lobby = refl
 
-length-attached : (client at : ℕ) (lobby : Lobby) → length (attached client at lobby).0.places ≡ length lobby.places
+length-attached : (client at : ℕ) (lobby : Lobby) → length (after_attach client at lobby).0.places ≡ length lobby.places
 length-attached client at lobby = by_free (list_any is_free lobby.places)
   where
     by_free : (free : Bool)
@@ -54,7 +54,7 @@ module _ (session : Session) (stage : Stage) (number : ℕ) where
       → place_count (claimed_client session stage number setup client refusal) ≡ place_count stage
   claimed_client-places setup client (Some e) = refl
   claimed_client-places setup client None =
-      attached_client-places setup client (attached number stage.position stage.lobby) ∙ length-attached number stage.position stage.lobby
+      attached_client-places setup client (after_attach number stage.position stage.lobby) ∙ length-attached number stage.position stage.lobby
 
   open_client_with-places : (setup : Option Setup) (client : AtPort × Client) → place_count (open_client_with session stage number setup client) ≡ place_count stage
   open_client_with-places None client = refl

@@ -12,7 +12,7 @@ use Rattle.sum_table.specs.Seats.{key_of, marks_of_seat, member_of, view_of}
 use Rattle.lobby.specs.declared.lobby.Lobby.{Lobby as Free}
 use Rattle.lobby.specs.Lobbies.{IsSilentSeat, free_seats, key_of_lobby, ring_of_lobby, seen_of_lobby}
 use Rattle.lobby.specs.Seats.{IsPlace, last_of, lowest_free}
-use Rattle.lab_run.specs.Places.{Lobby, attached}
+use Rattle.lab_run.specs.Places.{Lobby, after_attach}
 use Rattle.lab_run.specs.PortSteps.{MarksAlike}
 use Rattle.lab_places.specs.declared.places.Places.{Places}
 use Rattle.lab_places.specs.Held.{AttachesAt, HasMetPlayer, HoldsPlace, IsGiven}
@@ -33,8 +33,8 @@ pub attaches-met : (number position : ℕ) (lobby : Lobby) (p r : PlayerSeat) (s
 attaches-met number position lobby p r s t q is met = record {
   lobby_then = record { places = is.seats_attach.places; seen = is.seen };
   answer = is.seats_attach.answer;
-  place = λ none. subst (λ last. HoldsPlace number (member_of t) last (attached number position lobby).0.places) (sym (ap last_frame met.laid))
-      (subst (λ place. HoldsPlace number place (last_of s) (attached number position lobby).0.places) (sym met.member) (is.seats_attach.place none));
+  place = λ none. subst (λ last. HoldsPlace number (member_of t) last (after_attach number position lobby).0.places) (sym (ap last_frame met.laid))
+      (subst (λ place. HoldsPlace number place (last_of s) (after_attach number position lobby).0.places) (sym met.member) (is.seats_attach.place none));
 }
 
 -- a place was free where a seat was given

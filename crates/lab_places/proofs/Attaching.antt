@@ -17,7 +17,7 @@ use Rattle.lobby.specs.declared.lobby.Lobby.{Lobby as Free}
 use Rattle.lobby.specs.Lobbies.{Attaches, LoadsAt, Outcome, free_seats, seen_of_lobby}
 use Rattle.lobby.specs.Seats.{IsBusy, last_of, lowest_free, lowest_silent, seat_at}
 use Rattle.lobby.specs.Seats as seats
-use Rattle.lab_run.specs.Places.{Lobby, Place, attached, attached_by, held_by, is_below, is_free, is_silent, next_of}
+use Rattle.lab_run.specs.Places.{Lobby, Place, after_attach, attached_by, held_by, is_below, is_free, is_silent, next_of}
 use Rattle.lab_places.specs.Held.{AreAtPlaces, HoldsGiven, HoldsNone, HoldsPlace, IsAnswer, IsAtPlace}
 use Rattle.lab_places.proofs.Least.{least_last-is}
 
@@ -118,18 +118,18 @@ holds-at number (seat ∷ more) (first ∷ places) (suc place) s at there none =
 
 -- what an attach at a position made of the seats is what a run makes of its places
 pub record SeatsAttach (number position : ℕ) (lobby : Lobby) (r : Result MixSeat PcmError) (after : List (Option MixSeat)) : Type 0 where
-  pub places : AreAtPlaces after (attached number position lobby).0.places
-  pub answer : IsAnswer r (attached number position lobby).1
-  pub place : HoldsGiven number lobby.places r (attached number position lobby).0.places
+  pub places : AreAtPlaces after (after_attach number position lobby).0.places
+  pub answer : IsAnswer r (after_attach number position lobby).1
+  pub place : HoldsGiven number lobby.places r (after_attach number position lobby).0.places
 
 attached-none : (number position : ℕ) (lobby : Lobby) (more : List (Option MixSeat)) → AreAtPlaces more lobby.places → lowest_free more ≡ None
-    → attached number position lobby ≡ (lobby, Err (Busy None lobby.seen))
+    → after_attach number position lobby ≡ (lobby, Err (Busy None lobby.seen))
 attached-none number position lobby more at found =
     ap (λ free. if free then attached_by (Rattle.std.specs.List.position (is_silent position) lobby.places) number position lobby else (lobby, Err (Busy None lobby.seen)))
     (none_free more lobby.places at found)
 
 attached-some : (number position : ℕ) (lobby : Lobby) (more : List (Option MixSeat)) (place : ℕ) (silent : Option ℕ) → AreAtPlaces more lobby.places
-    → lowest_free more ≡ Some place → lowest_silent position more ≡ silent → attached number position lobby ≡ attached_by silent number position lobby
+    → lowest_free more ≡ Some place → lowest_silent position more ≡ silent → after_attach number position lobby ≡ attached_by silent number position lobby
 attached-some number position lobby more place silent at found is =
     ap (λ free. if free then attached_by (Rattle.std.specs.List.position (is_silent position) lobby.places) number position lobby else (lobby, Err (Busy None lobby.seen)))
     (any_free more lobby.places place at found)
@@ -167,10 +167,10 @@ attaches-at load number position lobby before between after place r at found loa
 
 -- the position that the lobby saw last is then the one that was loaded
 attached-seen : (number position : ℕ) (lobby : Lobby) (more : List (Option MixSeat)) (place : ℕ) → AreAtPlaces more lobby.places → lowest_free more ≡ Some place
-    → (attached number position lobby).0.seen ≡ position
+    → (after_attach number position lobby).0.seen ≡ position
 attached-seen number position lobby more place at found = by_silent (lowest_silent position more) refl
   where
-    by_silent : (o : Option ℕ) → lowest_silent position more ≡ o → (attached number position lobby).0.seen ≡ position
+    by_silent : (o : Option ℕ) → lowest_silent position more ≡ o → (after_attach number position lobby).0.seen ≡ position
     by_silent None is = ap (λ (x : Lobby × Result (Unit {0}) PcmError). x.0.seen) (attached-some number position lobby more place None at found is)
     by_silent (Some i) is = ap (λ (x : Lobby × Result (Unit {0}) PcmError). x.0.seen) (attached-some number position lobby more place (Some i) at found is)
 
@@ -179,7 +179,7 @@ attached-seen number position lobby more place at found = by_silent (lowest_sile
 -- what an attach made of a lobby is what a run makes of it
 pub record LobbyAttaches (number position : ℕ) (lobby : Lobby) (r : Result MixSeat PcmError) (m : Free) : Type 0 where
   pub seats_attach : SeatsAttach number position lobby r (free_seats m)
-  pub seen : (attached number position lobby).0.seen ≡ seen_of_lobby m
+  pub seen : (after_attach number position lobby).0.seen ≡ seen_of_lobby m
 
 pub lobby-attaches : (load : Position → MixSeat → MixSeat → Type 0) (number position : ℕ) (lobby : Lobby) (l m : Free) (r : Result MixSeat PcmError)
     → AreAtPlaces (free_seats l) lobby.places → lobby.seen ≡ seen_of_lobby l
@@ -196,9 +196,9 @@ lobby-attaches load number position lobby l m r at seen none_free_is free_is pub
         record {
           seats_attach = record {
             places = subst (λ (x : Lobby × Result (Unit {0}) PcmError). AreAtPlaces (free_seats m) x.0.places) (sym is) (subst (λ (x : Free). AreAtPlaces (free_seats x) lobby.places) (sym came.1) at);
-            answer = subst (λ x. IsAnswer x (attached number position lobby).1) (sym came.0)
+            answer = subst (λ x. IsAnswer x (after_attach number position lobby).1) (sym came.0)
                 (ap (λ (x : Lobby × Result (Unit {0}) PcmError). x.1) is ∙ ap (λ n. Err (Busy None n)) seen);
-            place = λ none. subst (λ x. IfOk x (λ s. HoldsPlace number (member_of s) (last_of s) (attached number position lobby).0.places)) (sym came.0) tt;
+            place = λ none. subst (λ x. IfOk x (λ s. HoldsPlace number (member_of s) (last_of s) (after_attach number position lobby).0.places)) (sym came.0) tt;
           };
           seen = ap (λ (x : Lobby × Result (Unit {0}) PcmError). x.0.seen) is ∙ (seen ∙ ap seen_of_lobby (sym came.1));
         }

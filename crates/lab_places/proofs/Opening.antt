@@ -6,7 +6,7 @@ use Rattle.dshare.specs.Shared.{StandsFor}
 use Rattle.lab_script.specs.declared.script.Share.{Share}
 use Rattle.lab_run.specs.Claims.{claim_refusal, with_claim}
 use Rattle.lab_run.specs.Items.{Held}
-use Rattle.lab_run.specs.Places.{Lobby, attached}
+use Rattle.lab_run.specs.Places.{Lobby, after_attach}
 use Rattle.lab_places.specs.declared.places.Places.{Places}
 use Rattle.lab_places.specs.Held.{AttachesAt, HoldsGiven, IsAnswer, IsHeldBy, IsLobby, Opens, attached_held, opened_held, opened_if}
 
@@ -39,14 +39,14 @@ Opens-refused sharing number channels position held e q refused held_by =
     }
 
 granted_is : (sharing : Share) (number : ℕ) (channels : List ℕ) (position : ℕ) (held : Held) → claim_refusal sharing held.claims channels position ≡ None
-    → opened_held sharing number channels position held ≡ attached_held sharing channels held (attached number position held.lobby)
+    → opened_held sharing number channels position held ≡ attached_held sharing channels held (after_attach number position held.lobby)
 granted_is sharing number channels position held is = ap (opened_if sharing number channels position held) is
 
 -- a claim is granted, and so is a place
 pub Opens-granted : (sharing : Share) (number : ℕ) (channels : List ℕ) (position : ℕ) (held : Held) (s : MixSeat) (q : Places)
     → claim_refusal sharing held.claims channels position ≡ None → AttachesAt number position held.lobby (Ok s) q → StandsFor q.shares (with_claim sharing channels held.claims)
     → Opens sharing number channels position held (Ok s) q
-Opens-granted sharing number channels position held s q granted attaches claims = by_attach (attached number position held.lobby) refl
+Opens-granted sharing number channels position held s q granted attaches claims = by_attach (after_attach number position held.lobby) refl
   where
     Then : Came → Type 0
     Then came = IsHeldBy q came.0 × IsAnswer (Ok s) came.1 × HoldsGiven number held.lobby.places (Ok s) came.0.lobby.places
@@ -54,7 +54,7 @@ Opens-granted sharing number channels position held s q granted attaches claims 
     opens : Then (opened_held sharing number channels position held) → Opens sharing number channels position held (Ok s) q
     opens then = record { held_then = then.0; answer = then.1; place = then.2 }
 
-    by_attach : (x : Lobby × Result (Unit {0}) PcmError) → attached number position held.lobby ≡ x → Opens sharing number channels position held (Ok s) q
+    by_attach : (x : Lobby × Result (Unit {0}) PcmError) → after_attach number position held.lobby ≡ x → Opens sharing number channels position held (Ok s) q
     by_attach (lobby, Ok done) is = opens (subst Then (sym (granted_is sharing number channels position held granted ∙ ap (attached_held sharing channels held) is)) (
       record { lobby = subst (λ (x : Lobby × Result (Unit {0}) PcmError). IsLobby q x.0) is attaches.lobby_then; claims = claims },
       sym (ap (λ (x : Lobby × Result (Unit {0}) PcmError). x.1) is) ∙ attaches.answer,
@@ -66,12 +66,12 @@ Opens-granted sharing number channels position held s q granted attaches claims 
 pub Opens-placeless : (sharing : Share) (number : ℕ) (channels : List ℕ) (position : ℕ) (held : Held) (e : PcmError) (q : Places)
     → claim_refusal sharing held.claims channels position ≡ None → AttachesAt number position held.lobby (Err e) q → StandsFor q.shares held.claims
     → Opens sharing number channels position held (Err e) q
-Opens-placeless sharing number channels position held e q granted attaches claims = by_attach (attached number position held.lobby) refl
+Opens-placeless sharing number channels position held e q granted attaches claims = by_attach (after_attach number position held.lobby) refl
   where
     Then : Came → Type 0
     Then came = IsHeldBy q came.0 × (came.1 ≡ Err e)
 
-    by_attach : (x : Lobby × Result (Unit {0}) PcmError) → attached number position held.lobby ≡ x → Opens sharing number channels position held (Err e) q
+    by_attach : (x : Lobby × Result (Unit {0}) PcmError) → after_attach number position held.lobby ≡ x → Opens sharing number channels position held (Err e) q
     by_attach (lobby, Ok done) is = absurd (subst IsRefused (sym attaches.answer ∙ ap (λ (x : Lobby × Result (Unit {0}) PcmError). x.1) is) tt)
     by_attach (lobby, Err other) is =
         let then : Then (opened_held sharing number channels position held) = subst Then (sym (granted_is sharing number channels position held granted ∙ ap (attached_held sharing channels held) is)) (

@@ -19,7 +19,7 @@ use Rattle.lab_script.specs.declared.script.Share.{Share}
 use Rattle.lab_script.specs.declared.script.Share.TheVariants.{Dmix, Dshare}
 use Rattle.lab_run.specs.Claims.{claim_refusal, with_claim, with_release}
 use Rattle.lab_run.specs.Items.{Held}
-use Rattle.lab_run.specs.Places.{Lobby, Place, attached, is_free, is_held_by, last_of, left_by, new_lobby}
+use Rattle.lab_run.specs.Places.{Lobby, Place, after_attach, is_free, is_held_by, last_of, left_by, new_lobby}
 use Rattle.lab_run.specs.PortSteps.{MarksAlike, last_from}
 use Rattle.lab_places.specs.declared.places.Places.{Places}
 
@@ -40,7 +40,7 @@ abbrev pub opened_if : Share → ℕ → List ℕ → ℕ → Held → Option Pc
     → Held × Result (Unit {0}) PcmError
 opened_if sharing number channels position held (Some e) = (held, Err e)
 opened_if sharing number channels position held None =
-    attached_held sharing channels held (attached number position held.lobby)
+    attached_held sharing channels held (after_attach number position held.lobby)
 
 -- a client is opened at a position of the card: it claims its channels, and then attaches
 abbrev pub opened_held : Share → ℕ → List ℕ → ℕ → Held → Held × Result (Unit {0}) PcmError
@@ -149,9 +149,9 @@ IsClaimed sharing claims channels position r after =
 -- the attach of a client, at the places before it
 pub record AttachesAt (number position : ℕ) (lobby : Lobby) (r : Result MixSeat PcmError)
     (q : Places) : Type 0 where
-  pub lobby_then : IsLobby q (attached number position lobby).0
-  pub answer : IsAnswer r (attached number position lobby).1
-  pub place : HoldsGiven number lobby.places r (attached number position lobby).0.places
+  pub lobby_then : IsLobby q (after_attach number position lobby).0
+  pub answer : IsAnswer r (after_attach number position lobby).1
+  pub place : HoldsGiven number lobby.places r (after_attach number position lobby).0.places
 
 -- a client's opening, at what was held: the answer is that of a run, and what is held then
 pub record Opens (sharing : Share) (number : ℕ) (channels : List ℕ) (position : ℕ)

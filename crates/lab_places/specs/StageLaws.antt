@@ -11,9 +11,9 @@ use Rattle.lab_report.specs.declared.row.Answer.TheVariants.{Done}
 use Rattle.lab_run.specs.Claims.{claim_refusal}
 use Rattle.lab_run.specs.Client.{Client}
 use Rattle.lab_run.specs.Items.{Held, held_of, held_without, reaped_one}
-use Rattle.lab_run.specs.Places.{Lobby, attached}
+use Rattle.lab_run.specs.Places.{Lobby, after_attach}
 use Rattle.lab_run.specs.Rules.{AtPort}
-use Rattle.lab_run.specs.Stage.{Session, Setup, Stage, attached_client, claimed_client, close_client, done_open, ended_client, open_client_with, opened_client, refused_open, renewed, row_at, with_client, with_row}
+use Rattle.lab_run.specs.Stage.{Session, Setup, Stage, attached_client, claimed_client, close_client, done_open, ended_client, open_client_with, opened_client, refused_open, renewed_port, row_at, with_client, with_row}
 use Rattle.lab_places.specs.Held.{attached_held, closed_held, opened_held, opened_if}
 use Rattle.lab_places.specs.HeldLaws.{Came}
 
@@ -24,7 +24,7 @@ with_held held stage = record stage { lobby = held.lobby; claims = held.claims }
 -- a client that is opened with a setup
 abbrev pub with_opened : Session → ℕ → Setup → AtPort × Client → Stage → Stage
 with_opened session number setup client stage =
-    with_client number (renewed session.ring client.0, record client.1 { own = Some (opened_client session.ring number setup) }) stage
+    with_client number (renewed_port session.ring client.0, record client.1 { own = Some (opened_client session.ring number setup) }) stage
 
 -- the stage after an opening, by what came of it
 abbrev pub opened_stage : Session → Stage → ℕ → Setup → AtPort × Client → Came → Stage
@@ -45,7 +45,7 @@ module _ (session : Session) (stage : Stage) (number : ℕ) where
       → claimed_client session stage number setup client refusal
       ≡ opened_stage session stage number setup client (opened_if session.card.share number setup.bindings stage.position (held_of stage) refusal)
   claimed-opened setup client (Some e) = refl
-  claimed-opened setup client None = attached-opened setup client (attached number stage.position stage.lobby)
+  claimed-opened setup client None = attached-opened setup client (after_attach number stage.position stage.lobby)
 
   -- an opening with a setup makes of the stage what came of it
   pub open_client_with-came_of : (setup : Setup) (client : AtPort × Client)

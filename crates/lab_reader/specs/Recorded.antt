@@ -10,7 +10,7 @@ use Rattle.wav_io.specs.Sound.{Sound}
 use Rattle.card_sim.specs.declared.card.Card.{Card}
 use Rattle.card_sim.specs.Runs.{records_of, writer_of}
 use Rattle.lab_script.specs.Script as scripts
-use Rattle.lab_run.specs.LabRun.{bindings_of, captured, recorded_by}
+use Rattle.lab_run.specs.LabRun.{bindings_of, captured_sample, recorded_by}
 use Rattle.lab_run.specs.Stage.{Session}
 use Rattle.lab_actor.specs.declared.reader.ReaderActor.{ReaderActor}
 use Rattle.lab_actor.specs.FrameRuns.{frames_in}
@@ -50,7 +50,7 @@ IsCapturedUpTo capture c =
 -- ---- as a run has it
 
 captured-from : (session : Session) (capture : Option Sound) (frame channel : ℕ)
-    → captured session capture frame channel ≡ captured_from capture (scripts.first_frame session.card) frame channel
+    → captured_sample session capture frame channel ≡ captured_from capture (scripts.first_frame session.card) frame channel
 captured-from session None frame channel = refl
 captured-from session (Some wav) frame channel = refl
 
@@ -68,6 +68,6 @@ pub recorded-by : (session : Session) (capture : Option Sound) (number : ℕ) (g
 recorded-by session capture number geometry r first is =
     let bindings = bindings_of (slice_index_or session.readers number None) in
     is.samples
-    ∙ sym (flat_map-same (λ frame. map (captured session capture frame) bindings) (λ frame. map (captured_from capture (first_frame geometry) frame) bindings) (frames_in r.actor.frames.runs)
-    (λ frame. map-same (captured session capture frame) (captured_from capture (first_frame geometry) frame) bindings
+    ∙ sym (flat_map-same (λ frame. map (captured_sample session capture frame) bindings) (λ frame. map (captured_from capture (first_frame geometry) frame) bindings) (frames_in r.actor.frames.runs)
+    (λ frame. map-same (captured_sample session capture frame) (captured_from capture (first_frame geometry) frame) bindings
     (λ channel. captured-from session capture frame channel ∙ ap (λ (n : ℕ). captured_from capture n frame channel) first)))

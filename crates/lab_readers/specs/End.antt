@@ -8,7 +8,7 @@ use Rattle.atomic_table.specs.Seated.{TableId}
 use Rattle.snd_base.specs.Places as rings
 use Rattle.wav_io.specs.Sound.{Sound}
 use Rattle.lab_script.specs.Script.{first_frame}
-use Rattle.lab_run.specs.LabRun.{all_runs, numbered, recorded_by, recorded_from, runs_of}
+use Rattle.lab_run.specs.LabRun.{all_runs, with_numbers, recorded_by, recorded_from, runs_of}
 use Rattle.lab_run.specs.Reader.{Reader}
 use Rattle.lab_run.specs.Rules.{AtPort}
 use Rattle.lab_run.specs.Stage.{Session}
@@ -30,11 +30,11 @@ samples_of r = (actor_of r).samples.items
 module _ (session : Session) (capture : Option Sound) (ring : TableId) where
   runs-each : (number : ℕ) (rs : List LabReader) (xs : List (AtPort × Reader)) → AreEach (IsReaderAt session capture ring session.ring) number rs xs
       → flat_map runs_by rs
-      ≡ map (λ (run : ℕ × (ℕ × ℕ)). (run.0, run.1.0, run.1.1)) (numbered (λ (reader : AtPort × Reader). runs_of reader.1.frames) number xs)
+      ≡ map (λ (run : ℕ × (ℕ × ℕ)). (run.0, run.1.0, run.1.1)) (with_numbers (λ (reader : AtPort × Reader). runs_of reader.1.frames) number xs)
   runs-each number [] [] are = refl
   runs-each number (r ∷ rs) (x ∷ xs) are =
       let flat : ℕ × (ℕ × ℕ) → ℕ × ℕ × ℕ = λ run. (run.0, run.1.0, run.1.1) in
-      let others : List (ℕ × (ℕ × ℕ)) = numbered (λ (reader : AtPort × Reader). runs_of reader.1.frames) (number + 1) xs in
+      let others : List (ℕ × (ℕ × ℕ)) = with_numbers (λ (reader : AtPort × Reader). runs_of reader.1.frames) (number + 1) xs in
       let own : runs_by r ≡ map flat (map (λ (y : ℕ × ℕ). (number, y)) (runs_of x.1.frames)) =
       ap (λ (n : ℕ). map (λ (run : ℕ × ℕ). (n, run.0, run.1)) (runs_of (reader_in r).frames)) are.0.is.numbered
       ∙ (ap (λ (y : Reader). map (λ (run : ℕ × ℕ). (number, run.0, run.1)) (runs_of y.frames)) are.0.is.reader

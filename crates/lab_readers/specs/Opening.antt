@@ -21,7 +21,7 @@ use Rattle.lab_report.specs.declared.row.Row.{Row}
 use Rattle.lab_run.specs.LabRun.{bindings_of}
 use Rattle.lab_run.specs.Reader.{Reader, row_by}
 use Rattle.lab_run.specs.Rules.{AtPort}
-use Rattle.lab_run.specs.Stage.{Session, Setup, Stage, after_close, after_open, close_reader, ended_reader, first_stage, no_reader, open_reader, open_reader_with, opened_reader, reader_at, renewed, with_reader, with_row}
+use Rattle.lab_run.specs.Stage.{Session, Setup, Stage, after_close, after_open, close_reader, ended_reader, first_stage, no_reader, open_reader, open_reader_with, opened_reader, reader_at, renewed_port, with_reader, with_row}
 use Rattle.lab_setup.specs.Sessions.{AreUsable}
 use Rattle.lab_setup.specs.Usable.{IsUsable}
 use Rattle.lab_actors.specs.Walks.{AreEach, AreEach-at}
@@ -189,7 +189,7 @@ module _ (session : Session) (capture : Option Sound) (stage : Stage) (number ph
   -- ---- opened
 
   opened-at : (setup : Setup) → slice_index_or session.readers number None ≡ Some setup → OpensAt (spare_of rs) setup phase before s row
-      → IsReaderAt session capture (ring_of rs) session.ring number s (renewed session.ring actor-before.0, record actor-before.1 { own = Some (opened_reader session.ring setup) })
+      → IsReaderAt session capture (ring_of rs) session.ring number s (renewed_port session.ring actor-before.0, record actor-before.1 { own = Some (opened_reader session.ring setup) })
   opened-at setup setup_is opens =
       let geometry : seats.geometry_of opens.seat ≡ session.ring = opens.of_ring.1 ∙ at_item.are.card.ring in
       record {
@@ -219,7 +219,7 @@ module _ (session : Session) (capture : Option Sound) (stage : Stage) (number ph
       subst (λ (own : Option Setup). AreAfter session capture stage (open_reader_with session stage number own actor-before) row ss) (sym setup_is)
       (refused (row_by stage.phases number op.Opens None (Failed (Invalid why.Config))) (row-is op.Opens None (Failed (Invalid why.Config)) has.1) has.0)
   opening-by None (Some setup) setup_is has =
-      let after : AtPort × Reader = (renewed session.ring actor-before.0, record actor-before.1 { own = Some (opened_reader session.ring setup) }) in
+      let after : AtPort × Reader = (renewed_port session.ring actor-before.0, record actor-before.1 { own = Some (opened_reader session.ring setup) }) in
       let is : IsReaderAt session capture (ring_of rs) session.ring number s after = opened-at setup setup_is has in
       subst (λ (own : Option Setup). AreAfter session capture stage (open_reader_with session stage number own actor-before) row ss) (sym setup_is)
       (exchange (row_by stage.phases number op.Opens (Some (opened_reader session.ring setup)) Done) after

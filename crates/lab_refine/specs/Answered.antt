@@ -4,7 +4,7 @@ use Rattle.std.specs.Option.{ForSome, option_map}
 use Rattle.lab_script.specs.declared.error.ScriptError.{ScriptError}
 use Rattle.lab_shelf.specs.Files.{Files, TookPart}
 use Rattle.lab_refine.specs.declared.request.Request.{Request}
-use Rattle.lab_stop.specs.Causes.{Cause, script_refused, fetched, ◌>>=◌}
+use Rattle.lab_stop.specs.Causes.{Cause, script_refused, first_bytes, ◌>>=◌}
 use Rattle.lab_refine.specs.Reading.{request_of}
 use Rattle.lab_refine.specs.Answers.{AreAnswers}
 
@@ -16,7 +16,7 @@ as_request (Err e) = Err (script_refused e)
 -- what the text in a file asks, of which one byte more is fetched than a text may have
 unfoldable pub request_in : Files → List ℕ → Result Request Cause
 request_in files name = do
-  text ← fetched files name 1048577
+  text ← first_bytes files name 1048577
   as_request (request_of text)
 
 -- a text has the answers to what the text in a file asks, and no other text has them

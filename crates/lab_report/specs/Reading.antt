@@ -157,19 +157,19 @@ abbrev pub next_line : ℕ → ℕ
 next_line number = min (number + 1) 4294967295
 
 -- the refusal of a line
-abbrev pub refused : ℕ → ReportWhy → ReportError
-refused line cause = record { line = line; why = cause }
+abbrev pub refusal_at : ℕ → ReportWhy → ReportError
+refusal_at line cause = record { line = line; why = cause }
 
 -- what is said on a line, or its refusal
 abbrev pub on_line : {X Y : Type 0} → ℕ → Result X ReportWhy → (X → Result Y ReportError) → Result Y ReportError
 on_line line (Ok x) f = f x
-on_line line (Err cause) f = Err (refused line cause)
+on_line line (Err cause) f = Err (refusal_at line cause)
 
 -- the report at the end of the text, whose last line has this number
 abbrev pub report_at : State → Option (ℕ × ℕ) → ℕ → Result Report ReportError
-report_at s None number = Err (refused number why.Ended)
+report_at s None number = Err (refusal_at number why.Ended)
 report_at s (Some played) number =
-    if s.ended then Ok (record { rows = s.rows; segments = s.segments; runs = s.runs; first = played.0; frames = played.1 }) else Err (refused number why.Ended)
+    if s.ended then Ok (record { rows = s.rows; segments = s.segments; runs = s.runs; first = played.0; frames = played.1 }) else Err (refusal_at number why.Ended)
 
 -- the lines that are left, after one of this number
 abbrev pub lines_after : Script → List Request → State → ℕ → List (List ℕ) → Result Report ReportError

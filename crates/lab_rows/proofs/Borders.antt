@@ -22,7 +22,7 @@ use Rattle.lab_report.specs.declared.row.Row.{Row}
 use Rattle.lab_report.specs.Text.{HasErrorText, IsRowOf, request_of_row}
 use Rattle.lab_run.specs.Claims.{claim_refusal, is_free_channel}
 use Rattle.lab_run.specs.Client.{Client}
-use Rattle.lab_run.specs.Places.{Lobby, attached, attached_by, is_free, is_silent}
+use Rattle.lab_run.specs.Places.{Lobby, after_attach, attached_by, is_free, is_silent}
 use Rattle.lab_run.specs.Reader.{Reader}
 use Rattle.lab_run.specs.Rules.{AtPort}
 use Rattle.lab_run.specs.Stage.{Session, Setup, Stage, after_close, after_open, attached_client, claimed_client, client_at, close_client, close_reader, ended_client, ended_reader, no_client, no_reader, open_client, open_client_with, open_reader, open_reader_with, reader_at, with_row}
@@ -100,7 +100,7 @@ held script stage lobby claims reportable = record {
 
 -- ---- refusals
 
-attached-reportable : (n at : ℕ) (lobby : Lobby) → IfErr (attached n at lobby).1 HasErrorText
+attached-reportable : (n at : ℕ) (lobby : Lobby) → IfErr (after_attach n at lobby).1 HasErrorText
 attached-reportable n at lobby = by_test (list_any is_free lobby.places) (position (is_silent at) lobby.places)
   where
     by_test : (free : Bool) (place : Option ℕ) → IfErr (if free then attached_by place n at lobby else (lobby, Err (error.Busy None lobby.seen))).1 HasErrorText
@@ -136,7 +136,7 @@ open_client-adds script session stage n x None within reportable is = by_setup (
 
     by_claim : (setup : Setup) (refusal : Option PcmError) → IfSome refusal HasErrorText → AddsRow script stage request (claimed_client session stage n setup x refusal)
     by_claim setup (Some e) text = adds script stage stage _ request reportable refl refl (record { actor = within; answer = text; state = tt }) refl
-    by_claim setup None text = by_answer setup (attached n stage.position stage.lobby) (attached-reportable n stage.position stage.lobby)
+    by_claim setup None text = by_answer setup (after_attach n stage.position stage.lobby) (attached-reportable n stage.position stage.lobby)
 
     by_setup : (setup : Option Setup) → AddsRow script stage request (open_client_with session stage n setup x)
     by_setup None = adds script stage stage _ request reportable refl refl (record { actor = within; answer = refl; state = tt }) refl

@@ -21,8 +21,8 @@ use Rattle.lab_run.specs.Claims.{claim_refusal}
 use Rattle.lab_run.specs.Client.{Client}
 use Rattle.lab_run.specs.Items.{ItemsMay, PhaseMay, is_reader_stopped, reader_kinds, reaped_reader, reaped_reader_if, rules_of}
 use Rattle.lab_run.specs.Lines.{EachMay, LinesMay}
-use Rattle.lab_run.specs.Phases.{is_reader, on_the_way, ops_by, played_at, played_in, published, published_by}
-use Rattle.lab_run.specs.Places.{Lobby, attached}
+use Rattle.lab_run.specs.Phases.{is_reader, on_the_way, ops_by, played_at, played_in, phase_positions, published_by}
+use Rattle.lab_run.specs.Places.{Lobby, after_attach}
 use Rattle.lab_run.specs.Reader.{Reader, line_by, reader_kind}
 use Rattle.lab_run.specs.Rules.{AtPort, Rules}
 use Rattle.lab_run.specs.Stage.{Session, Setup, Stage, after_close, after_open, attached_client, claimed_client, client_at, close_client, close_reader, first_stage, no_reader, open_client, open_client_with, open_reader, open_reader_with, reader_at}
@@ -55,7 +55,7 @@ published_by-between period begin end from (line ∷ lines) low high =
     (on_the_way-between period begin end from (played_at line) low (omega (arith, high, all)))
     (published_by-between period begin end (from + played_at line) lines (omega (arith, low)) (omega (arith, high, all)))
 
-published-between : (period from : ℕ) (lines : List Line) → All (IsBetween from (from + played_in lines)) (published period from lines)
+published-between : (period from : ℕ) (lines : List Line) → All (IsBetween from (from + played_in lines)) (phase_positions period from lines)
 published-between period from lines =
     All-cons (IsBetween from (from + played_in lines)) from (published_by period from lines) (omega arith, omega arith)
     (published_by-between period from (from + played_in lines) from lines (omega arith) (omega arith))
@@ -145,7 +145,7 @@ open_client-within first session stage n x None are = by_setup (slice_index_or s
 
     by_claim : (setup : Setup) (refusal : Option PcmError) → AreWithin first (claimed_client session stage n setup x refusal)
     by_claim setup (Some e) = record { low = are.low; each = are.each }
-    by_claim setup None = by_answer setup (attached n stage.position stage.lobby)
+    by_claim setup None = by_answer setup (after_attach n stage.position stage.lobby)
 
     by_setup : (setup : Option Setup) → AreWithin first (open_client_with session stage n setup x)
     by_setup None = record { low = are.low; each = are.each }

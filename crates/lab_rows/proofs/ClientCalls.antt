@@ -28,7 +28,7 @@ use Rattle.lab_script.specs.declared.line.Op.{Op}
 use Rattle.lab_script.specs.declared.line.Op.TheVariants as op
 use Rattle.lab_report.specs.declared.row.Answer.{Answer}
 use Rattle.lab_report.specs.Text.{HasStateText, HasText}
-use Rattle.lab_run.specs.Client.{Client, after_call, answered, call_of, count_answer, done_answer, line_by, line_if, write_course}
+use Rattle.lab_run.specs.Client.{Client, after_call, call_answer, call_of, count_answer, done_answer, line_by, line_if, write_course}
 use Rattle.lab_run.proofs.Results.{All, All-any, All-then}
 use Rattle.lab_rows.proofs.TableLaws.{CanReport, CanReportIn, next-reports, refusal-reports, reported-reports}
 
@@ -225,14 +225,14 @@ admitted-reports {T = T} c asked m is all = by_refusal (refusal_of Playback c.st
 abbrev IsSaid : PlaybackStream × Answer → Type 0
 IsSaid (d, answer) = HasText answer × HasState d
 
-done-said : (c : PlaybackStream) (asked : Call) (m : Course (Answered (Unit {0}))) → HasState c → All Reports m → All IsSaid (answered done_answer (if_admitted c asked m))
+done-said : (c : PlaybackStream) (asked : Call) (m : Course (Answered (Unit {0}))) → HasState c → All Reports m → All IsSaid (call_answer done_answer (if_admitted c asked m))
 done-said c asked m is all = All-then Reports IsSaid (if_admitted c asked m) (λ done. ends (done.0, done_answer done.1)) (admitted-reports c asked m is all) said
   where
     said : (x : Answered (Unit {0})) → Reports x → IsSaid (x.0, done_answer x.1)
     said (d, Ok done) reports = (tt, reports.1)
     said (d, Err e) reports = (reported-reports e reports.0, reports.1)
 
-count-said : (c : PlaybackStream) (asked : Call) (m : Course (Answered ℕ)) → HasState c → All Reports m → All IsSaid (answered count_answer (if_admitted c asked m))
+count-said : (c : PlaybackStream) (asked : Call) (m : Course (Answered ℕ)) → HasState c → All Reports m → All IsSaid (call_answer count_answer (if_admitted c asked m))
 count-said c asked m is all = All-then Reports IsSaid (if_admitted c asked m) (λ done. ends (done.0, count_answer done.1)) (admitted-reports c asked m is all) said
   where
     said : (x : Answered ℕ) → Reports x → IsSaid (x.0, count_answer x.1)

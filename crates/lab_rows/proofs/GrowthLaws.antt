@@ -19,7 +19,7 @@ use Rattle.lab_run.specs.Client.{Client}
 use Rattle.lab_run.specs.Items.{ItemMay, PhaseMay, is_reader_stopped, reader_kinds, reaped_reader, reaped_reader_if, rules_of}
 use Rattle.lab_run.specs.Lines.{EachMay, LinesMay}
 use Rattle.lab_run.specs.Phases.{is_reader, ops_by}
-use Rattle.lab_run.specs.Places.{Lobby, attached}
+use Rattle.lab_run.specs.Places.{Lobby, after_attach}
 use Rattle.lab_run.specs.Reader.{Reader, reader_kind}
 use Rattle.lab_run.specs.Rules.{AtPort, Rules}
 use Rattle.lab_run.specs.Stage.{Session, Setup, Stage, after_close, after_open, attached_client, claimed_client, client_at, close_client, close_reader, no_reader, open_client, open_client_with, open_reader, open_reader_with, reader_at}
@@ -84,7 +84,7 @@ module _ (session : Session) (stage : Stage) (number : ℕ) where
 
   claimed_client-keeps : (setup : Setup) (client : AtPort × Client) (refusal : Option PcmError) → (claimed_client session stage number setup client refusal).readers ≡ stage.readers
   claimed_client-keeps setup client (Some e) = refl
-  claimed_client-keeps setup client None = attached_client-keeps setup client (attached number stage.position stage.lobby)
+  claimed_client-keeps setup client None = attached_client-keeps setup client (after_attach number stage.position stage.lobby)
 
   open_client_with-keeps : (setup : Option Setup) (client : AtPort × Client) → (open_client_with session stage number setup client).readers ≡ stage.readers
   open_client_with-keeps None client = refl

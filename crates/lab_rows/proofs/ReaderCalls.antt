@@ -23,7 +23,7 @@ use Rattle.lab_script.specs.declared.line.Op.TheVariants as op
 use Rattle.lab_report.specs.declared.row.Answer.{Answer}
 use Rattle.lab_report.specs.Text.{HasStateText, HasText}
 use Rattle.lab_run.specs.Client.{count_answer, done_answer}
-use Rattle.lab_run.specs.Reader.{Reader, after_call, answered, call_of, line_by, line_if}
+use Rattle.lab_run.specs.Reader.{Reader, after_call, call_answer, call_of, line_by, line_if}
 use Rattle.lab_run.proofs.Results.{All, All-then}
 use Rattle.lab_rows.proofs.ClientCalls.{All-after, All-if}
 use Rattle.lab_rows.proofs.TableLaws.{CanReport, CanReportIn, next-reports, refusal-reports, reported-reports}
@@ -119,14 +119,14 @@ admitted-reports {T = T} r asked m is all = by_refusal (refusal_of Capture r.sta
 abbrev IsSaid : CaptureStream × Answer → Type 0
 IsSaid (d, answer) = HasText answer × HasState d
 
-done-said : (r : CaptureStream) (asked : Call) (m : Course (Answered (Unit {0}))) → HasState r → All Reports m → All IsSaid (answered done_answer (if_admitted r asked m))
+done-said : (r : CaptureStream) (asked : Call) (m : Course (Answered (Unit {0}))) → HasState r → All Reports m → All IsSaid (call_answer done_answer (if_admitted r asked m))
 done-said r asked m is all = All-then Reports IsSaid (if_admitted r asked m) (λ done. ends (done.0, done_answer done.1)) (admitted-reports r asked m is all) said
   where
     said : (x : Answered (Unit {0})) → Reports x → IsSaid (x.0, done_answer x.1)
     said (d, Ok done) reports = (tt, reports.1)
     said (d, Err e) reports = (reported-reports e reports.0, reports.1)
 
-count-said : (r : CaptureStream) (asked : Call) (m : Course (Answered ℕ)) → HasState r → All Reports m → All IsSaid (answered count_answer (if_admitted r asked m))
+count-said : (r : CaptureStream) (asked : Call) (m : Course (Answered ℕ)) → HasState r → All Reports m → All IsSaid (call_answer count_answer (if_admitted r asked m))
 count-said r asked m is all = All-then Reports IsSaid (if_admitted r asked m) (λ done. ends (done.0, count_answer done.1)) (admitted-reports r asked m is all) said
   where
     said : (x : Answered ℕ) → Reports x → IsSaid (x.0, count_answer x.1)

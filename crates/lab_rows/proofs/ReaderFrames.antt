@@ -27,7 +27,7 @@ use Rattle.lab_script.specs.declared.line.Op.TheVariants as op
 use Rattle.lab_report.specs.declared.row.Answer.{Answer}
 use Rattle.lab_report.specs.declared.row.Answer.TheVariants.{Failed}
 use Rattle.lab_run.specs.Client.{count_answer, done_answer}
-use Rattle.lab_run.specs.Reader.{Reader, after_call, answered, call_of, frames_by, line_by, line_if}
+use Rattle.lab_run.specs.Reader.{Reader, after_call, call_answer, call_of, frames_by, line_by, line_if}
 use Rattle.lab_rows.proofs.Known.{AllKnown, AllKnown-then}
 
 -- a reader that runs has its next frame at a frame or past it
@@ -201,7 +201,7 @@ IsLeft base known asked (d, answer) = (base + length (frames_by asked answer d) 
 
 admitted-left : {T : Type 0} (base known : ℕ) (r : CaptureStream) (asked : Op) (c : Call) (answer : Result T PcmError → Answer) (R : ℕ → Answered T → Type 0) (m : Course (Answered T))
     → ((later : ℕ) (x : Answered T) → R later x → IsLeft base later asked (x.0, answer x.1)) → ((e : PcmError) → R known (r, Err e)) → AllKnown R known m
-    → AllKnown (λ later x. IsLeft base later asked x) known (answered answer (if_admitted r c m))
+    → AllKnown (λ later x. IsLeft base later asked x) known (call_answer answer (if_admitted r c m))
 admitted-left {T = T} base known r asked c answer R m leaves refused all =
     AllKnown-then R (λ later x. IsLeft base later asked x) known (if_admitted r c m) (λ done. ends (done.0, answer done.1)) (by_refusal (refusal_of Capture r.status c)) leaves
   where

@@ -20,7 +20,7 @@ use Rattle.lab_script.specs.declared.script.Script.{Script}
 use Rattle.lab_script.specs.Limits.{IsBoundWhere, IsCardLine, IsReaderLine}
 use Rattle.lab_script.specs.Script.{first_frame, frames_played, phases_of}
 use Rattle.lab_script.specs.Script as scripts
-use Rattle.lab_run.specs.LabRun.{all_segments, bindings_of, captured, entries_of, mixed_at, outcome_of, recorded_by, recorded_from, report_of}
+use Rattle.lab_run.specs.LabRun.{all_segments, bindings_of, captured_sample, entries_of, mixed_at, outcome_of, recorded_by, recorded_from, report_of}
 use Rattle.lab_run.specs.Openings.{AreReaderOpenings, IsReaderOpening, read_by}
 use Rattle.lab_run.specs.Reader.{Reader}
 use Rattle.lab_run.specs.Rules.{AtPort}
@@ -161,7 +161,7 @@ recorded-frames script wavs session capture done others stage is number line the
     let size : length (slice_index_or (outcome_of session capture stage).recorded number []) ≡ bound.0 * length (read_by script.card line) =
     ap length (recorded-at session capture 0 number stage.readers (no_reader session.ring) (omega (arith, within, all)))
     ∙ ap (λ (n : ℕ). length (recorded_by session capture n reader)) (zero-add number)
-    ∙ samples-size (captured session capture) (bindings_of setup) reader.frames ∙ bound.2 in
+    ∙ samples-size (captured_sample session capture) (bindings_of setup) reader.frames ∙ bound.2 in
     let fewer : bound.0 ≤ (report_of session stage).frames = let low : bound.0 ≤ length reader.frames = bound.1 in omega (arith, below, low) in
     record {
       frames = frames-whole (length (read_by script.card line)) bound.0 _ channels.0 channels.1 (omega (arith, fewer, few)) size;

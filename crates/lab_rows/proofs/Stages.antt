@@ -24,7 +24,7 @@ use Rattle.lab_report.specs.Requests.{in_order, item_requests, of_place, request
 use Rattle.lab_report.specs.Text.{IsRowOf, IsRunOf, IsTailOf, request_of_row}
 use Rattle.lab_run.specs.Client.{Client, segments_of}
 use Rattle.lab_run.specs.Items.{ItemsMay, PhaseMay, client_kinds, is_reader_stopped, is_stopped, no_sound, reader_kinds, reaped_client, reaped_client_if, reaped_reader, reaped_reader_if, rules_of}
-use Rattle.lab_run.specs.LabRun.{numbered, report_of, runs_of}
+use Rattle.lab_run.specs.LabRun.{with_numbers, report_of, runs_of}
 use Rattle.lab_run.specs.Openings.{AreClientOpenings, AreReaderOpenings, IsSessionOf}
 use Rattle.lab_run.specs.Phases.{card_row, card_rows, is_client, is_reader, ops_by}
 use Rattle.lab_run.specs.Reader.{Reader}
@@ -203,10 +203,10 @@ items-leave script session stage after phases (item.Phase lines ∷ items) at fe
 -- ---- segments and runs
 
 numbered-below : {X Y : Type 0} (of : X → List Y) (first most : ℕ) (xs : List X) → first + length xs ≤ most
-    → All (λ (pair : ℕ × Y). pair.0 < most) (numbered of first xs)
+    → All (λ (pair : ℕ × Y). pair.0 < most) (with_numbers of first xs)
 numbered-below {Y = Y} of first most [] within = All-nil (λ (pair : ℕ × Y). pair.0 < most)
 numbered-below {Y = Y} of first most (x ∷ xs) within =
-    All-append (λ (pair : ℕ × Y). pair.0 < most) (map (λ y. (first, y)) (of x)) (numbered of (first + 1) xs)
+    All-append (λ (pair : ℕ × Y). pair.0 < most) (map (λ y. (first, y)) (of x)) (with_numbers of (first + 1) xs)
     (All-map (λ (pair : ℕ × Y). pair.0 < most) (λ y. (first, y)) (of x) (λ k d inside. omega (arith, within)))
     (numbered-below of (first + 1) most xs (omega (arith, within)))
 

@@ -18,7 +18,7 @@ use Rattle.pcm_stream.specs.Status.{is_refusal, nothing_found, refusal_in, refus
 use Rattle.pcm_stream.specs.declared.direction.Direction.{Direction}
 use Rattle.pcm_stream.specs.declared.status.Status.{Status}
 use Rattle.lab_report.specs.Text.{HasErrorText, HasStateText}
-use Rattle.lab_run.specs.Client.{reported}
+use Rattle.lab_run.specs.Client.{reported_error}
 
 -- an error of a call that a report can have, once what it doesn't print is left out
 abbrev pub CanReport : PcmError → Type 0
@@ -31,7 +31,7 @@ CanReportIn (Ok x) = ⊤
 CanReportIn (Err e) = CanReport e
 
 -- a report has a text for it
-pub reported-reports : (e : PcmError) → CanReport e → HasErrorText (reported e)
+pub reported-reports : (e : PcmError) → CanReport e → HasErrorText (reported_error e)
 reported-reports (error.Xrun (why.Avail avail seen)) reports = refl
 reported-reports (error.Xrun (why.Late frame channel word)) reports = refl
 reported-reports (error.Xrun (why.Overtaken frame channel word)) reports = refl

@@ -10,7 +10,7 @@ use Rattle.lab_script.specs.declared.line.Item.{Item}
 use Rattle.lab_script.specs.declared.line.Item.TheVariants as item
 use Rattle.lab_report.specs.declared.row.Row.{Row}
 use Rattle.lab_run.specs.Items.{ItemMay}
-use Rattle.lab_run.specs.LabRun.{bindings_of, captured, recorded_by, recorded_from}
+use Rattle.lab_run.specs.LabRun.{bindings_of, captured_sample, recorded_by, recorded_from}
 use Rattle.lab_run.specs.Reader.{Reader}
 use Rattle.lab_run.specs.Rules.{AtPort}
 use Rattle.lab_run.specs.Stage.{Session, Stage}
@@ -60,7 +60,7 @@ BordersKeepFrames =
 -- the samples of a reader that has some frames
 abbrev samples_of : Session → Option Sound → ℕ → List ℕ → List ℤ
 samples_of session capture number frames =
-    flat_map (λ frame. map (captured session capture frame)
+    flat_map (λ frame. map (captured_sample session capture frame)
     (bindings_of (slice_index_or session.readers number None))) frames
 
 -- the samples of each reader, by the frames of each; the first of them has a number

@@ -16,7 +16,7 @@ use Rattle.dsnoop_client.specs.Course as reading_course
 use Rattle.lab_script.specs.declared.line.Op.{Op}
 use Rattle.lab_script.specs.declared.line.Op.TheVariants as op
 use Rattle.lab_report.specs.declared.row.Answer.{Answer}
-use Rattle.lab_run.specs.Client.{Client, after_call, answered, begins, call_of, client_kind, count_answer, dies_if, done_answer, frames_of, line_by, line_if}
+use Rattle.lab_run.specs.Client.{Client, after_call, call_answer, begins, call_of, client_kind, count_answer, dies_if, done_answer, frames_of, line_by, line_if}
 use Rattle.lab_run.specs.Lines.{Kind}
 use Rattle.lab_run.specs.Reader.{Reader, reader_kind}
 use Rattle.lab_run.specs.Reader as readers
@@ -35,7 +35,7 @@ pub record IsKind {S : Type 0} (kind : Kind S) : Type 0 where
 -- ---- clients
 
 answered-first : {X : Type 0} (answer : Result X PcmError → Answer) (c : PlaybackStream) (call : Call) (course : Course (Answered X)) → LoadsFirst false course
-    → LoadsFirst false (answered answer (if_admitted c call course))
+    → LoadsFirst false (call_answer answer (if_admitted c call course))
 answered-first answer c call course led =
     first-then false (if_admitted c call course) (λ done. ends (done.0, answer done.1)) (client_leads.admitted-first c call course led) (λ l x. tt)
 
@@ -92,7 +92,7 @@ client-IsKind phase wav number = record {
 -- ---- readers
 
 read-first : {X : Type 0} (answer : Result X PcmError → Answer) (r : reading.CaptureStream) (call : Call) (course : Course (reading_calls.Answered X)) → LoadsFirst false course
-    → LoadsFirst false (readers.answered answer (reading_course.if_admitted r call course))
+    → LoadsFirst false (readers.call_answer answer (reading_course.if_admitted r call course))
 read-first answer r call course led =
     first-then false (reading_course.if_admitted r call course) (λ done. ends (done.0, answer done.1)) (reader_leads.admitted-first r call course led) (λ l x. tt)
 

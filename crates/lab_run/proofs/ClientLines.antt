@@ -25,7 +25,7 @@ use Rattle.lab_script.specs.declared.line.Op.TheVariants as op
 use Rattle.lab_report.specs.declared.row.Answer.{Answer}
 use Rattle.lab_run.specs.ActorPart.{DoesGet, DoesLay, DoesLoad, Doing}
 use Rattle.lab_run.specs.Alike.{Alike, CallsAreAlike, SameButMember, SameFrom}
-use Rattle.lab_run.specs.Client.{Client, after_call, answered, begins, call_of, count_answer, dies_if, done_answer, line_by, line_if, write_course}
+use Rattle.lab_run.specs.Client.{Client, after_call, call_answer, begins, call_of, count_answer, dies_if, done_answer, line_by, line_if, write_course}
 use Rattle.lab_run.specs.ClientAtPort.{ClientLinesAreParts, IsOffered, MakesCall, after_seat_call, is_die, made_call}
 use Rattle.lab_run.specs.Members.{with_member}
 use Rattle.lab_run.specs.PortSteps.{CountsDown, MarksAlike}
@@ -42,7 +42,7 @@ IsRenumbered member x y = y ≡ (with_member member x.0, x.1)
 
 -- a call with its answer, and then a function of both
 answered-alike : {X : Type 0} (from member : ℕ) (answer : Result X PcmError → Answer) (m n : Course (Answered X)) → Alike from (SameButMember member answer) m n
-    → Alike from (IsRenumbered member) (answered answer m) (answered answer n)
+    → Alike from (IsRenumbered member) (call_answer answer m) (call_answer answer n)
 answered-alike from member answer m n alike =
     Alike-then from (SameButMember member answer) (IsRenumbered member) m n (λ done. ends (done.0, answer done.1)) (λ done. ends (done.0, answer done.1)) alike
     (λ x y is. λ i. (sym is.client i, sym is.answer_is i))

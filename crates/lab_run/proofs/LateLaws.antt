@@ -34,7 +34,7 @@ use Rattle.lab_script.specs.declared.line.Op.{Op}
 use Rattle.lab_script.specs.declared.line.Op.TheVariants as op
 use Rattle.lab_report.specs.declared.row.Answer.{Answer}
 use Rattle.lab_report.specs.declared.row.Answer.TheVariants.{Done, Failed}
-use Rattle.lab_run.specs.Client.{after_call, answered, begins, call_of, count_answer, done_answer, line_by, line_if, reported, write_course}
+use Rattle.lab_run.specs.Client.{after_call, call_answer, begins, call_of, count_answer, done_answer, line_by, line_if, reported_error, write_course}
 use Rattle.lab_run.specs.LateRows.{IsNext, LateRowsNameNext, NamesNext, is_rewind}
 use Rattle.lab_run.specs.Rules.{MayGet, MayLay, MayLoad, Rules}
 use Rattle.lab_run.proofs.Results.{All, All-any, All-then, Takes-all}
@@ -58,7 +58,7 @@ LateAnswer Q (Failed e) = LateErr Q e
 LateAnswer Q other = ⊤
 
 module _ (Q : ℕ → ℕ → Type 0) where
-  pub reported-late : (e : PcmError) → LateErr Q e → LateErr Q (reported e)
+  pub reported-late : (e : PcmError) → LateErr Q e → LateErr Q (reported_error e)
   reported-late (error.Xrun (why.Late frame channel word)) late = late
   reported-late (error.Xrun (why.Avail avail seen)) late = tt
   reported-late (error.Xrun (why.Overtaken frame channel word)) late = tt
@@ -316,14 +316,14 @@ admitted-missed {T = T} c asked m all = by_refusal (refusal_of Playback c.status
 abbrev Named : PlaybackStream × Answer → Type 0
 Named (d, answer) = LateAnswer (IsNext d) answer
 
-done-named : (m : Course (Answered (Unit {0}))) → All Missed m → All Named (answered done_answer m)
+done-named : (m : Course (Answered (Unit {0}))) → All Missed m → All Named (call_answer done_answer m)
 done-named m all = All-then Missed Named m (λ done. ends (done.0, done_answer done.1)) all named
   where
     named : (x : Answered (Unit {0})) → Missed x → Named (x.0, done_answer x.1)
     named (d, Ok done) late = tt
     named (d, Err e) late = reported-late (IsNext d) e late
 
-count-named : (m : Course (Answered ℕ)) → All Missed m → All Named (answered count_answer m)
+count-named : (m : Course (Answered ℕ)) → All Missed m → All Named (call_answer count_answer m)
 count-named m all = All-then Missed Named m (λ done. ends (done.0, count_answer done.1)) all named
   where
     named : (x : Answered ℕ) → Missed x → Named (x.0, count_answer x.1)

@@ -23,7 +23,7 @@ use Rattle.lab_run.specs.LabRun.{lab_text}
 use Rattle.lab_run.specs.Lines.{lines_text}
 use Rattle.lab_run.specs.OwnRows.{Alone, Given, HasLines, HaveLines, IsClientAlone, NoneOpen, alone_at, alone_by, answers_of, given_client, own_item, own_items, own_close, own_open, phase_alone, reaped_by, rows_by}
 use Rattle.lab_run.specs.Phases.{is_client, is_reader, ops_by, played_in}
-use Rattle.lab_run.specs.Places.{Lobby, attached}
+use Rattle.lab_run.specs.Places.{Lobby, after_attach}
 use Rattle.lab_run.specs.Reader.{Reader}
 use Rattle.lab_run.specs.Reader as readers
 use Rattle.lab_run.specs.Rules.{AtPort, CardEnd}
@@ -55,7 +55,7 @@ open_client-other session stage n m x None is = by_setup (slice_index_or session
 
     by_claim : (setup : Setup) (refusal : Option PcmError) → client_view session n (claimed_client session stage m setup x refusal) ≡ client_view session n stage
     by_claim setup (Some e) = other-view (is_client n) _ _ stage _ refl is
-    by_claim setup None = by_answer setup (attached m stage.position stage.lobby)
+    by_claim setup None = by_answer setup (after_attach m stage.position stage.lobby)
 
     by_setup : (setup : Option Setup) → client_view session n (open_client_with session stage m setup x) ≡ client_view session n stage
     by_setup None = other-view (is_client n) _ _ stage _ refl is
@@ -108,7 +108,7 @@ open-own session n stage a None ended there is = by_setup (slice_index_or sessio
         → ItemAlone (given_of session n) before (client_view session n (claimed_client session stage n setup (client_with a None ended) refusal)) (own_open ∷ [])
     by_claim setup (Some e) given = open-item (given_of session n) _ _ _ refl (own-row (is_client n) stage.rows _ (is-own n))
         (rw given (own-view (is_client n) _ _ stage _ is (is-own n)))
-    by_claim setup None given = by_answer setup (attached n stage.position stage.lobby) given
+    by_claim setup None given = by_answer setup (after_attach n stage.position stage.lobby) given
 
     by_setup : (setup : Option Setup) → slice_index_or session.clients n None ≡ setup
         → ItemAlone (given_of session n) before (client_view session n (open_client_with session stage n setup (client_with a None ended))) (own_open ∷ [])
@@ -204,7 +204,7 @@ open_client-size session stage m x None = by_setup (slice_index_or session.clien
 
     by_claim : (setup : Setup) (refusal : Option PcmError) → length (claimed_client session stage m setup x refusal).clients ≡ length stage.clients
     by_claim setup (Some e) = refl
-    by_claim setup None = by_answer setup (attached m stage.position stage.lobby)
+    by_claim setup None = by_answer setup (after_attach m stage.position stage.lobby)
 
     by_setup : (setup : Option Setup) → length (open_client_with session stage m setup x).clients ≡ length stage.clients
     by_setup None = refl

@@ -12,7 +12,7 @@ use Rattle.lab_script.specs.declared.line.Op.TheVariants as op
 use Rattle.lab_script.specs.Ops.{played_by}
 use Rattle.lab_report.specs.declared.row.Answer.{Answer}
 use Rattle.lab_report.specs.declared.row.Row.{Row}
-use Rattle.lab_run.specs.LabRun.{numbered}
+use Rattle.lab_run.specs.LabRun.{with_numbers}
 use Rattle.lab_run.specs.Lines.{Kind, each_text, line_text, lines_text}
 use Rattle.lab_run.specs.OwnRows.{NoneOpen, answers_of, is_opening, rows_by}
 use Rattle.lab_run.specs.Phases.{card_row, card_rows}
@@ -158,24 +158,24 @@ members-other : {Y : Type 0} (n m : ℕ) (ys : List Y) → nat_eq m n ≡ false 
 members-other n m [] is = refl
 members-other n m (y ∷ ys) is = rw is (members-other n m ys is)
 
-numbered-past : {X Y : Type 0} (of : X → List Y) (n number : ℕ) (xs : List X) → n < number → members_of n (numbered of number xs) ≡ []
+numbered-past : {X Y : Type 0} (of : X → List Y) (n number : ℕ) (xs : List X) → n < number → members_of n (with_numbers of number xs) ≡ []
 numbered-past of n number [] low = refl
 numbered-past of n number (x ∷ xs) low =
-    members-append n (map (λ y. (number, y)) (of x)) (numbered of (number + 1) xs)
-    ∙ ap (λ r. r ++ members_of n (numbered of (number + 1) xs)) (members-other n number (of x) (grind (arith, nat_tests)))
+    members-append n (map (λ y. (number, y)) (of x)) (with_numbers of (number + 1) xs)
+    ∙ ap (λ r. r ++ members_of n (with_numbers of (number + 1) xs)) (members-other n number (of x) (grind (arith, nat_tests)))
     ∙ ap (λ r. [] ++ r) (numbered-past of n (number + 1) xs (omega arith))
 
 pub numbered-at : {X Y : Type 0} (of : X → List Y) (n number i : ℕ) (xs : List X) (d : X) → number + i ≡ n → i < length xs
-    → members_of n (numbered of number xs) ≡ of (slice_index_or xs i d)
+    → members_of n (with_numbers of number xs) ≡ of (slice_index_or xs i d)
 numbered-at of n number i [] d at low = absurd (omega (arith, low))
 numbered-at of n number zero (x ∷ xs) d at low =
-    members-append n (map (λ y. (number, y)) (of x)) (numbered of (number + 1) xs)
+    members-append n (map (λ y. (number, y)) (of x)) (with_numbers of (number + 1) xs)
     ∙ ap (λ r. members_of n (map (λ y. (number, y)) (of x)) ++ r) (numbered-past of n (number + 1) xs (omega (arith, at)))
     ∙ append-nil (members_of n (map (λ y. (number, y)) (of x)))
     ∙ members-own n number (of x) (grind (arith, nat_tests))
 numbered-at of n number (suc i) (x ∷ xs) d at low =
-    members-append n (map (λ y. (number, y)) (of x)) (numbered of (number + 1) xs)
-    ∙ ap (λ r. r ++ members_of n (numbered of (number + 1) xs)) (members-other n number (of x) (grind (arith, nat_tests)))
+    members-append n (map (λ y. (number, y)) (of x)) (with_numbers of (number + 1) xs)
+    ∙ ap (λ r. r ++ members_of n (with_numbers of (number + 1) xs)) (members-other n number (of x) (grind (arith, nat_tests)))
     ∙ numbered-at of n (number + 1) i xs d (omega (arith, at)) (omega (arith, low))
 
 -- a list with one member alone, over and over

@@ -19,11 +19,11 @@ use Rattle.lab_run.specs.Claims.{claim_refusal}
 use Rattle.lab_run.specs.Client.{Client}
 use Rattle.lab_run.specs.Client as clients
 use Rattle.lab_run.specs.Items.{card_end, client_kinds, clients_text, is_reader_stopped, item_text, items_text, phase_text, reader_kinds, readers_text, reaped_reader, reaped_reader_if}
-use Rattle.lab_run.specs.LabRun.{lab_text, numbered, runs_of}
+use Rattle.lab_run.specs.LabRun.{lab_text, with_numbers, runs_of}
 use Rattle.lab_run.specs.Lines.{lines_text}
 use Rattle.lab_run.specs.OwnRows.{Alone, Given, HasLines, HaveLines, IsReaderAlone, NoneOpen, alone_at, alone_by, answers_of, given_reader, own_item, own_items, own_close, own_open, phase_alone, reaped_by, rows_by, runs_by}
 use Rattle.lab_run.specs.Phases.{is_client, is_reader, ops_by, played_in}
-use Rattle.lab_run.specs.Places.{Lobby, attached}
+use Rattle.lab_run.specs.Places.{Lobby, after_attach}
 use Rattle.lab_run.specs.Reader.{Reader, row_by}
 use Rattle.lab_run.specs.Rules.{AtPort, CardEnd}
 use Rattle.lab_run.specs.Stage.{Session, Setup, Stage, after_close, after_open, attached_client, claimed_client, client_at, close_client, close_reader, first_stage, no_reader, open_client, open_client_with, open_reader, open_reader_with, reader_at}
@@ -67,7 +67,7 @@ open_client-other session stage n m x None = by_setup (slice_index_or session.cl
 
     by_claim : (setup : Setup) (refusal : Option PcmError) → reader_view session n (claimed_client session stage m setup x refusal) ≡ reader_view session n stage
     by_claim setup (Some e) = other-view (is_reader n) _ _ stage _ refl refl
-    by_claim setup None = by_answer setup (attached m stage.position stage.lobby)
+    by_claim setup None = by_answer setup (after_attach m stage.position stage.lobby)
 
     by_setup : (setup : Option Setup) → reader_view session n (open_client_with session stage m setup x) ≡ reader_view session n stage
     by_setup None = other-view (is_reader n) _ _ stage _ refl refl
@@ -200,7 +200,7 @@ open_client-size session stage m x None = by_setup (slice_index_or session.clien
 
     by_claim : (setup : Setup) (refusal : Option PcmError) → length (claimed_client session stage m setup x refusal).readers ≡ length stage.readers
     by_claim setup (Some e) = refl
-    by_claim setup None = by_answer setup (attached m stage.position stage.lobby)
+    by_claim setup None = by_answer setup (after_attach m stage.position stage.lobby)
 
     by_setup : (setup : Option Setup) → length (open_client_with session stage m setup x).readers ≡ length stage.readers
     by_setup None = refl
@@ -279,7 +279,7 @@ pub reader-alone : (session : Session) (capture : Option Sound) (body : List Ite
     → IsReaderAlone session body (lab_text session capture body).report n
 reader-alone session capture body n there lines = record {
   rows = ap (λ (x : Alone Reader). x.rows) alone;
-  runs = runs-members n (numbered (λ (reader : AtPort × Reader). runs_of reader.1.frames) 0 end.readers)
+  runs = runs-members n (with_numbers (λ (reader : AtPort × Reader). runs_of reader.1.frames) 0 end.readers)
       ∙ numbered-at (λ (reader : AtPort × Reader). runs_of reader.1.frames) n 0 n end.readers (no_reader session.ring) (omega arith)
       (rw (items-size session first body ∙ map-size _ session.readers) there)
       ∙ ap (λ (x : Alone Reader). runs_of x.actor.1.frames) alone;

@@ -23,7 +23,7 @@ use Rattle.lab_run.specs.Alike.{Alike, SameAnswer}
 use Rattle.lab_run.specs.Client.{count_answer, dies_if, done_answer}
 use Rattle.lab_run.specs.ClientAtPort.{is_die}
 use Rattle.lab_run.specs.PortSteps.{CountsDown}
-use Rattle.lab_run.specs.Reader.{Reader, after_call, answered, begins, call_of, line_by, line_if}
+use Rattle.lab_run.specs.Reader.{Reader, after_call, call_answer, begins, call_of, line_by, line_if}
 use Rattle.lab_run.specs.ReaderAtPort.{ReaderLinesAreParts, ReadsBy}
 use Rattle.lab_run.specs.Rules.{AtPort}
 use Rattle.lab_run.proofs.AlikeLaws.{Alike-then}
@@ -31,7 +31,7 @@ use Rattle.lab_run.proofs.ReadsAlike.{admitted-alike, at-once, reads-alike}
 use Rattle.lab_run.proofs.SnoopLaws.{course-part_snoop}
 
 answered-alike : {X : Type 0} (answer : Result X PcmError → Answer) (m n : Course (Answered X)) → Alike 0 (SameAnswer answer) m n
-    → Alike 0 (λ x y. x ≡ y) (answered answer m) (answered answer n)
+    → Alike 0 (λ x y. x ≡ y) (call_answer answer m) (call_answer answer n)
 answered-alike answer m n alike =
     Alike-then 0 (SameAnswer answer) (λ x y. x ≡ y) m n (λ done. ends (done.0, answer done.1)) (λ done. ends (done.0, answer done.1)) alike
     (λ x y is. λ i. (is.client i, is.answer_is i))

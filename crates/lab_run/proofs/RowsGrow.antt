@@ -15,7 +15,7 @@ use Rattle.lab_run.specs.Claims.{claim_refusal}
 use Rattle.lab_run.specs.Client.{Client}
 use Rattle.lab_run.specs.Items.{ItemMay, ItemsMay}
 use Rattle.lab_run.specs.Phases.{card_rows, ops_by}
-use Rattle.lab_run.specs.Places.{Lobby, attached}
+use Rattle.lab_run.specs.Places.{Lobby, after_attach}
 use Rattle.lab_run.specs.Reader.{Reader}
 use Rattle.lab_run.specs.Rules.{AtPort}
 use Rattle.lab_run.specs.Stage.{Session, Setup, Stage, after_close, after_open, attached_client, claimed_client, client_at, close_client, close_reader, open_client, open_client_with, open_reader, open_reader_with, reader_at}
@@ -41,7 +41,7 @@ open_client-more session stage n x None = by_setup (slice_index_or session.clien
 
     by_claim : (setup : Setup) (refusal : Option PcmError) → HasMore stage (claimed_client session stage n setup x refusal)
     by_claim setup (Some e) = one stage _ _ refl
-    by_claim setup None = by_answer setup (attached n stage.position stage.lobby)
+    by_claim setup None = by_answer setup (after_attach n stage.position stage.lobby)
 
     by_setup : (setup : Option Setup) → HasMore stage (open_client_with session stage n setup x)
     by_setup None = one stage _ _ refl

@@ -17,12 +17,12 @@ use Rattle.lab_script.specs.Script.{first_frame}
 use Rattle.lab_run.specs.Client.{Client}
 use Rattle.lab_run.specs.Items.{ItemsMay, PhaseMay, client_kinds, clients_text, is_reader_stopped, is_stopped, items_text, phase_text, reader_kinds, readers_text, reaped_client, reaped_client_if, reaped_reader, reaped_reader_if, rules_of}
 use Rattle.lab_run.specs.LabRun.{AreWithin, LabRun, lab_text}
-use Rattle.lab_run.specs.Phases.{is_client, is_reader, on_the_way, ops_by, played_at, played_in, published}
-use Rattle.lab_run.specs.Places.{Lobby, attached}
+use Rattle.lab_run.specs.Phases.{is_client, is_reader, on_the_way, ops_by, played_at, played_in, phase_positions}
+use Rattle.lab_run.specs.Places.{Lobby, after_attach}
 use Rattle.lab_run.specs.Claims.{claim_refusal}
 use Rattle.lab_run.specs.Reader.{Reader}
 use Rattle.lab_run.specs.Rules.{AtPort, Rules}
-use Rattle.lab_run.specs.Stage.{Session, Setup, Stage, after_close, after_open, attached_client, claimed_client, client_at, close_client, close_reader, ended_client, ended_reader, first_stage, no_client, no_reader, open_client, open_client_with, open_reader, open_reader_with, opened_client, opened_reader, reader_at, renewed}
+use Rattle.lab_run.specs.Stage.{Session, Setup, Stage, after_close, after_open, attached_client, claimed_client, client_at, close_client, close_reader, ended_client, ended_reader, first_stage, no_client, no_reader, open_client, open_client_with, open_reader, open_reader_with, opened_client, opened_reader, reader_at, renewed_port}
 use Rattle.lab_run.proofs.EachLaws.{AreBehind, EachExist, IsPublished, each-exist}
 use Rattle.lab_run.proofs.ActorKinds.{client-IsKind, reader-IsKind}
 
@@ -69,19 +69,19 @@ same-actors Q R stage after position clients readers behind =
 
 -- with a client, or a reader, whose port is new
 new-client : (Q R : ℕ → ℕ → Type 0) (ring : Geometry) (stage after : Stage) (n : ℕ) (a : AtPort) (client : Client) → Q n a.by_gate
-    → after.position ≡ stage.position → after.clients ≡ slice_set stage.clients n (renewed ring a, client) → after.readers ≡ stage.readers
+    → after.position ≡ stage.position → after.clients ≡ slice_set stage.clients n (renewed_port ring a, client) → after.readers ≡ stage.readers
     → IsBehind Q R stage → IsBehind Q R after
 new-client Q R ring stage after n a client none position clients readers behind = record {
-  clients = rw (position, clients) (behind-set Q stage.position 0 stage.clients n n (renewed ring a, client) (omega arith) (record { seen = least stage.position; by_gate = none }) behind.clients);
+  clients = rw (position, clients) (behind-set Q stage.position 0 stage.clients n n (renewed_port ring a, client) (omega arith) (record { seen = least stage.position; by_gate = none }) behind.clients);
   readers = rw (position, readers) behind.readers;
 }
 
 new-reader : (Q R : ℕ → ℕ → Type 0) (ring : Geometry) (stage after : Stage) (n : ℕ) (a : AtPort) (reader : Reader) → R n a.by_gate
-    → after.position ≡ stage.position → after.clients ≡ stage.clients → after.readers ≡ slice_set stage.readers n (renewed ring a, reader)
+    → after.position ≡ stage.position → after.clients ≡ stage.clients → after.readers ≡ slice_set stage.readers n (renewed_port ring a, reader)
     → IsBehind Q R stage → IsBehind Q R after
 new-reader Q R ring stage after n a reader none position clients readers behind = record {
   clients = rw (position, clients) behind.clients;
-  readers = rw (position, readers) (behind-set R stage.position 0 stage.readers n n (renewed ring a, reader) (omega arith) (record { seen = least stage.position; by_gate = none }) behind.readers);
+  readers = rw (position, readers) (behind-set R stage.position 0 stage.readers n n (renewed_port ring a, reader) (omega arith) (record { seen = least stage.position; by_gate = none }) behind.readers);
 }
 
 attached-behind : (Q R : ℕ → ℕ → Type 0) (session : Session) (stage : Stage) (n : ℕ) (setup : Setup) (x : AtPort × Client) (at : Lobby × Result (Unit {0}) PcmError)
@@ -97,7 +97,7 @@ open_client-behind Q R session stage n x None none behind = by_setup (slice_inde
   where
     by_claim : (setup : Setup) (refusal : Option PcmError) → IsBehind Q R (claimed_client session stage n setup x refusal)
     by_claim setup (Some e) = same-actors Q R stage _ refl refl refl behind
-    by_claim setup None = attached-behind Q R session stage n setup x (attached n stage.position stage.lobby) none behind
+    by_claim setup None = attached-behind Q R session stage n setup x (after_attach n stage.position stage.lobby) none behind
 
     by_setup : (setup : Option Setup) → IsBehind Q R (open_client_with session stage n setup x)
     by_setup None = same-actors Q R stage _ refl refl refl behind
@@ -158,7 +158,7 @@ reaped-readers Q ring p number (x ∷ actors) low =
     by_test false (a, reader) small none = record { seen = small; by_gate = none }
 
 -- the card publishes the position at the end of each phase
-last-published : (period from : ℕ) (lines : List Line) → Contains (published period from lines) (from + played_in lines)
+last-published : (period from : ℕ) (lines : List Line) → Contains (phase_positions period from lines) (from + played_in lines)
 last-published period from [] = (0, omega arith, omega arith)
 last-published period from (line ∷ lines) = Contains-append_right (from ∷ []) _ _ (rw same_end (elim (Contains-append_cases ((from + played) ∷ []) _ _ (last-published period (from + played) lines)) [
   | inl here ↦ Contains-append_left (on_the_way period from played) _ _ (Contains-append_right _ ((from + played) ∷ []) _ here)

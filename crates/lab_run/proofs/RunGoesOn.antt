@@ -18,7 +18,7 @@ use Rattle.lab_report.specs.declared.row.Row.{Row}
 use Rattle.lab_run.specs.Items.{ItemsMay, PhaseMay, client_kinds, items_text, reader_kinds, rules_of}
 use Rattle.lab_run.specs.LabRun.{AreWithin, GoesOn}
 use Rattle.lab_run.specs.Lines.{EachMay, Kind, LinesMay}
-use Rattle.lab_run.specs.Phases.{is_client, is_reader, on_the_way, ops_by, played_at, played_in, published, published_by}
+use Rattle.lab_run.specs.Phases.{is_client, is_reader, on_the_way, ops_by, played_at, played_in, phase_positions, published_by}
 use Rattle.lab_run.specs.Rules.{AtPort, May, MayGet, MayLay, MayLoad, Rules, lets_pass, with_asks, with_stop, with_stop_by}
 use Rattle.lab_run.specs.Stage.{Session, Stage, first_stage}
 use Rattle.lab_run.proofs.ActorKinds.{IsKind, client-IsKind, reader-IsKind}
@@ -124,7 +124,7 @@ low-Contains p xs all q (i, low, is) = rw (sym is) (at xs i all low)
     at (x ∷ xs) (suc i) all low = at xs i all.1 (omega (arith, low))
 
 bounded : (session : Session) (stage : Stage) (lines : List Line) → IsBounded (rules_of session stage lines)
-bounded session stage lines q there = low-Contains (stage.position + played_in lines) (published session.card.period stage.position lines)
+bounded session stage lines q there = low-Contains (stage.position + played_in lines) (phase_positions session.card.period stage.position lines)
     (omega arith, low-published session.card.period stage.position lines) q there
 
 phase-low : (session : Session) (stage after : Stage) (lines : List Line) → IsBehind Any Any stage → PhaseMay session stage lines after → IsBehind Any Any after

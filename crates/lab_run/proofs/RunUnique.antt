@@ -18,10 +18,10 @@ use Rattle.lab_run.specs.CourseText.{IsStill}
 use Rattle.lab_run.specs.Items.{ItemMay, ItemsMay, PhaseMay, client_kinds, clients_text, is_reader_stopped, is_stopped, item_text, items_text, phase_end, phase_text, reader_kinds, readers_text, reaped_client, reaped_client_if, reaped_reader, reaped_reader_if, rules_of}
 use Rattle.lab_run.specs.LabRun.{AreWithin, LabRun, Outcome, lab_text, outcome_of}
 use Rattle.lab_run.specs.Phases.{AreUnmixed, IsUnmixedItem, is_client, is_reader, ops_by}
-use Rattle.lab_run.specs.Places.{Lobby, attached}
+use Rattle.lab_run.specs.Places.{Lobby, after_attach}
 use Rattle.lab_run.specs.Reader.{Reader}
 use Rattle.lab_run.specs.Rules.{AtPort}
-use Rattle.lab_run.specs.Stage.{Session, Setup, Stage, after_close, after_open, attached_client, claimed_client, client_at, close_client, close_reader, ended_client, ended_reader, first_stage, no_client, no_reader, open_client, open_client_with, open_reader, open_reader_with, opened_client, opened_reader, reader_at, renewed}
+use Rattle.lab_run.specs.Stage.{Session, Setup, Stage, after_close, after_open, attached_client, claimed_client, client_at, close_client, close_reader, ended_client, ended_reader, first_stage, no_client, no_reader, open_client, open_client_with, open_reader, open_reader_with, opened_client, opened_reader, reader_at, renewed_port}
 use Rattle.lab_run.proofs.EachLaws.{NoneStopped, StopsGrow, each-grow, each-only, grow-refl, grow-then, none-between}
 use Rattle.lab_run.proofs.ActorKinds.{client-IsKind, reader-IsKind}
 use Rattle.lab_run.proofs.Still.{Unmixed, idle_phase, still_phase, unmixed}
@@ -58,12 +58,12 @@ open_client-grows session stage n None = by_setup (slice_index_or session.client
   where
     by_answer : (setup : Setup) (at : Lobby × Result (Unit {0}) PcmError) → Grows stage (attached_client session stage n setup (client_at session stage n) at)
     by_answer setup (lobby, Ok done) = set-client session stage _ n
-        (renewed session.ring (client_at session stage n).0, record (client_at session stage n).1 { own = Some (opened_client session.ring n setup) }) refl refl refl
+        (renewed_port session.ring (client_at session stage n).0, record (client_at session stage n).1 { own = Some (opened_client session.ring n setup) }) refl refl refl
     by_answer setup (lobby, Err e) = same-actors stage _ refl refl
 
     by_claim : (setup : Setup) (refusal : Option PcmError) → Grows stage (claimed_client session stage n setup (client_at session stage n) refusal)
     by_claim setup (Some e) = same-actors stage _ refl refl
-    by_claim setup None = by_answer setup (attached n stage.position stage.lobby)
+    by_claim setup None = by_answer setup (after_attach n stage.position stage.lobby)
 
     by_setup : (setup : Option Setup) → Grows stage (open_client_with session stage n setup (client_at session stage n))
     by_setup None = same-actors stage _ refl refl
@@ -76,7 +76,7 @@ open_reader-grows session stage n None = by_setup (slice_index_or session.reader
     by_setup : (setup : Option Setup) → Grows stage (open_reader_with session stage n setup (reader_at session stage n))
     by_setup None = same-actors stage _ refl refl
     by_setup (Some setup) = set-reader session stage _ n
-        (renewed session.ring (reader_at session stage n).0, record (reader_at session stage n).1 { own = Some (opened_reader session.ring setup) }) refl refl refl
+        (renewed_port session.ring (reader_at session stage n).0, record (reader_at session stage n).1 { own = Some (opened_reader session.ring setup) }) refl refl refl
 
 open-grows : (session : Session) (stage : Stage) (who : Actor) → Grows stage (after_open session stage who)
 open-grows session stage actor.Card = same-actors stage stage refl refl

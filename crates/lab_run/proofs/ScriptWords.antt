@@ -23,8 +23,8 @@ use Rattle.lab_script.specs.Script as script_words
 use Rattle.lab_run.specs.Claims.{claim_refusal}
 use Rattle.lab_run.specs.Client.{Client}
 use Rattle.lab_run.specs.Items.{ItemsMay}
-use Rattle.lab_run.specs.Phases.{on_the_way, played_at, played_in, published, published_by}
-use Rattle.lab_run.specs.Places.{Lobby, attached}
+use Rattle.lab_run.specs.Phases.{on_the_way, played_at, played_in, phase_positions, published_by}
+use Rattle.lab_run.specs.Places.{Lobby, after_attach}
 use Rattle.lab_run.specs.Reader.{Reader}
 use Rattle.lab_run.specs.Rules.{AtPort}
 use Rattle.lab_run.specs.ScriptWords.{IsReached, PhasesAreOfScripts, StagesAreOfScripts}
@@ -50,7 +50,7 @@ open_client-card session stage n x None = by_setup (slice_index_or session.clien
 
     by_claim : (setup : Setup) (refusal : Option PcmError) → HasCardOf stage (claimed_client session stage n setup x refusal)
     by_claim setup (Some e) = same stage _ refl refl refl
-    by_claim setup None = by_answer setup (attached n stage.position stage.lobby)
+    by_claim setup None = by_answer setup (after_attach n stage.position stage.lobby)
 
     by_setup : (setup : Option Setup) → HasCardOf stage (open_client_with session stage n setup x)
     by_setup None = same stage _ refl refl refl
@@ -322,11 +322,11 @@ published-on_the_way period from (line ∷ lines) q there = elim (In-append (on_
     at_end (inr there) = absurd there
 
 -- what lines publish from the second on
-next-published : (period from : ℕ) (line : Line) (lines : List Line) (q : ℕ) → In q (published period (from + played_at line) lines) → In q (published period from (line ∷ lines))
+next-published : (period from : ℕ) (line : Line) (lines : List Line) (q : ℕ) → In q (phase_positions period (from + played_at line) lines) → In q (phase_positions period from (line ∷ lines))
 next-published period from line lines q (inl is) = inr (In-left (on_the_way period from (played_at line)) _ q (In-right _ ((from + played_at line) ∷ []) q (inl is)))
 next-published period from line lines q (inr there) = inr (In-right (on_the_way period from (played_at line)) _ q there)
 
-on_the_way-published : (period from : ℕ) (lines : List Line) (q : ℕ) → IsOnTheWay period from lines q → In q (published period from lines)
+on_the_way-published : (period from : ℕ) (lines : List Line) (q : ℕ) → IsOnTheWay period from lines q → In q (phase_positions period from lines)
 on_the_way-published period from lines q (behind zero few is) = inl (omega (arith, is))
 on_the_way-published period from [] q (behind (suc n) few is) = absurd (omega (arith, few))
 on_the_way-published period from (line ∷ lines) q (behind (suc n) few is) =
@@ -339,8 +339,8 @@ on_the_way-published period from (line ∷ lines) q (multiple k is low high) =
     test : ℕ → Bool
     test p = p % period == 0
 
-    by_order : (from + played_at line ≤ q → q < from + played_at line + played_in lines → In q (published period (from + played_at line) lines))
-        → (q < from + played_at line + 1) ⊎ (from + played_at line + 1 ≤ q) → (from ≡ q) ⊎ (from ≡ q → ⊥) → In q (published period from (line ∷ lines))
+    by_order : (from + played_at line ≤ q → q < from + played_at line + played_in lines → In q (phase_positions period (from + played_at line) lines))
+        → (q < from + played_at line + 1) ⊎ (from + played_at line + 1 ≤ q) → (from ≡ q) ⊎ (from ≡ q → ⊥) → In q (phase_positions period from (line ∷ lines))
     by_order more near (inl first) = inl first
     by_order more (inl near) (inr later) =
         inr (In-left (on_the_way period from (played_at line)) _ q (In-left (filter test (range_with_len (from + 1) (played_at line))) _ q
@@ -358,8 +358,8 @@ phases-of_scripts script wavs session done others lines stage is = record {
   lines_are = next;
   position = position;
   gone = (stages-of_scripts script wavs session done (item.Phase lines ∷ others) stage is).gone;
-  published = λ q there. by_way q (In-Contains (published session.card.period stage.position lines) q there);
-  publishes = λ q there. Contains-In (published session.card.period stage.position lines) q (by_words q there);
+  published = λ q there. by_way q (In-Contains (phase_positions session.card.period stage.position lines) q there);
+  publishes = λ q there. Contains-In (phase_positions session.card.period stage.position lines) q (by_words q there);
 }
   where
     card : IsCardOf script done (item.Phase lines ∷ others) stage
@@ -387,7 +387,7 @@ phases-of_scripts script wavs session done others lines stage is = record {
     position : stage.position + played_in lines ≡ position_after script (stage.phases + 1)
     position = omega (arith, card.position, frames, played_in-lines (length script.clients) (length script.readers) lines each)
 
-    by_way : (q : ℕ) → In q (published session.card.period stage.position lines) → IsPublished script (stage.phases + 1) q
+    by_way : (q : ℕ) → In q (phase_positions session.card.period stage.position lines) → IsPublished script (stage.phases + 1) q
     by_way q (inl first) = inl (sym first ∙ begins)
     by_way q (inr there) = of_way (published-on_the_way session.card.period stage.position lines q there)
       where
@@ -407,7 +407,7 @@ phases-of_scripts script wavs session done others lines stage is = record {
               ),
             ))
 
-    by_words : (q : ℕ) → IsPublished script (stage.phases + 1) q → In q (published session.card.period stage.position lines)
+    by_words : (q : ℕ) → IsPublished script (stage.phases + 1) q → In q (phase_positions session.card.period stage.position lines)
     by_words q (inl first) = inl (begins ∙ sym first)
     by_words q (inr (inl (k, same, low, high))) = on_the_way-published session.card.period stage.position lines q
         (multiple k (same ∙ ap (λ (n : ℕ). k * n) (sym period)) (omega (arith, low, begins)) (omega (arith, high, position)))

@@ -18,7 +18,7 @@ use Rattle.lab_script.specs.Script.{is_of_card}
 use Rattle.lab_report.specs.declared.row.Answer.{Answer}
 use Rattle.lab_report.specs.declared.row.Row.{Row}
 use Rattle.lab_run.specs.Items.{ItemMay, ItemsMay, client_kinds, is_reader_stopped, reader_kinds, reaped_reader, reaped_reader_if, rules_of}
-use Rattle.lab_run.specs.LabRun.{Outcome, bindings_of, captured, numbered, recorded_from, runs_of}
+use Rattle.lab_run.specs.LabRun.{Outcome, bindings_of, captured_sample, with_numbers, recorded_from, runs_of}
 use Rattle.lab_run.specs.Lines.{EachMay, Kind, LinesMay}
 use Rattle.lab_run.specs.OwnRows.{Alone, rows_by}
 use Rattle.lab_run.specs.Phases.{card_rows, is_client, is_reader, ops_by}
@@ -283,10 +283,10 @@ items-over session n stage after (one ∷ items) there read (between, may, rest)
 
 recorded-at : (session : Session) (capture : Option Sound) (n number i : ℕ) (readers : List (AtPort × Reader)) (d : AtPort × Reader) → number + i ≡ n → i < length readers
     → slice_index_or (recorded_from session capture number readers) i []
-    ≡ flat_map (λ frame. map (captured session capture frame) (bindings_of (slice_index_or session.readers n None))) (slice_index_or readers i d).1.frames
+    ≡ flat_map (λ frame. map (captured_sample session capture frame) (bindings_of (slice_index_or session.readers n None))) (slice_index_or readers i d).1.frames
 recorded-at session capture n number i [] d at low = absurd (omega (arith, low))
 recorded-at session capture n number zero (x ∷ readers) d at low =
-    ap (λ m. flat_map (λ frame. map (captured session capture frame) (bindings_of (slice_index_or session.readers m None))) x.1.frames) here
+    ap (λ m. flat_map (λ frame. map (captured_sample session capture frame) (bindings_of (slice_index_or session.readers m None))) x.1.frames) here
   where
     here : number ≡ n
     here = omega (arith, at)
@@ -296,7 +296,7 @@ pub readers-read_in_slices : (session : Session) (capture : Option Sound) (body 
 readers-read_in_slices session capture body client_stops reader_stops outcome run n there =
     subst (λ (o : Outcome). ReadsInSlices session capture o n) (sym run.is) (record {
       frames = (reader_at session run.end n).1.frames;
-      runs = runs-members n (numbered (λ (reader : AtPort × Reader). runs_of reader.1.frames) 0 run.end.readers)
+      runs = runs-members n (with_numbers (λ (reader : AtPort × Reader). runs_of reader.1.frames) 0 run.end.readers)
           ∙ numbered-at (λ (reader : AtPort × Reader). runs_of reader.1.frames) n 0 n run.end.readers (no_reader session.ring) (omega arith) over.there;
       samples = recorded-at session capture n 0 n run.end.readers (no_reader session.ring) (omega arith) over.there;
       after = over.read.at;

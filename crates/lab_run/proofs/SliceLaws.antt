@@ -21,8 +21,8 @@ use Rattle.lab_script.specs.declared.line.Op.{Op}
 use Rattle.lab_script.specs.declared.line.Op.TheVariants as op
 use Rattle.lab_report.specs.declared.row.Answer.{Answer}
 use Rattle.lab_report.specs.declared.row.Answer.TheVariants.{Count, Done, Failed}
-use Rattle.lab_run.specs.Client.{count_answer, done_answer, reported}
-use Rattle.lab_run.specs.Reader.{after_call, answered, begins, call_of, frames_by, line_by, line_if}
+use Rattle.lab_run.specs.Client.{count_answer, done_answer, reported_error}
+use Rattle.lab_run.specs.Reader.{after_call, call_answer, begins, call_of, frames_by, line_by, line_if}
 use Rattle.lab_run.specs.Rules.{MayGet, MayLay, MayLoad, Rules}
 use Rattle.lab_run.specs.Slices.{GetsSlice, LinesGetSlices, ReadersReadOn, ReadsOn, ends_by, ends_stretch}
 use Rattle.lab_run.proofs.Results.{All, All-any, All-map, All-then, Takes-all}
@@ -41,7 +41,7 @@ record GoesOn (r : CaptureStream) (asked : Op) (x : CaptureStream × Answer) : T
 -- a sync of it
 abbrev GoesBy : Result (Unit {0}) PcmError → CaptureStream → Type 0
 GoesBy (Ok done) d = d.status.state ≡ Running
-GoesBy (Err e) d = (d.status.state ≡ Running) ⊎ (ends_by (reported e) ≡ true)
+GoesBy (Err e) d = (d.status.state ≡ Running) ⊎ (ends_by (reported_error e) ≡ true)
 
 record Syncs (r : CaptureStream) (x : Answered (Unit {0})) : Type 0 where
   next : x.0.next ≡ r.next
@@ -90,7 +90,7 @@ frames-on r d n done ended same runs = by_test (nat_lt 0 n && nat_eq (avail_of d
 
 -- a call's answer
 answers-on : {X : Type 0} (r : CaptureStream) (asked : Op) (answer : Result X PcmError → Answer) (m : Course (Answered X)) → All (λ x. GoesOn r asked (x.0, answer x.1)) m
-    → All (GoesOn r asked) (answered answer m)
+    → All (GoesOn r asked) (call_answer answer m)
 answers-on r asked answer m all = All-then (λ x. GoesOn r asked (x.0, answer x.1)) (GoesOn r asked) m (λ done. ends (done.0, answer done.1)) all (λ x is. is)
 
 read-on : (r : CaptureStream) (n : ℕ) → All (λ x. GoesOn r (op.Read n) (x.0, count_answer x.1)) (reads_on (going r) n)

@@ -28,9 +28,9 @@ use Rattle.lab_script.specs.declared.line.Op.TheVariants as op
 use Rattle.lab_report.specs.declared.row.Answer.{Answer}
 use Rattle.lab_report.specs.declared.row.Answer.TheVariants.{Done, Failed}
 use Rattle.lab_report.specs.declared.row.Row.{Row}
-use Rattle.lab_run.specs.Client.{count_answer, done_answer, reported}
+use Rattle.lab_run.specs.Client.{count_answer, done_answer, reported_error}
 use Rattle.lab_run.specs.Lines.{LineMay, LinesMay}
-use Rattle.lab_run.specs.Reader.{Reader, after_call, answered, begins, call_of, frames_by, line_by, line_if, reader_kind, row_by}
+use Rattle.lab_run.specs.Reader.{Reader, after_call, call_answer, begins, call_of, frames_by, line_by, line_if, reader_kind, row_by}
 use Rattle.lab_run.specs.Rules.{AtPort, MayGet, MayLay, MayLoad, Rules}
 use Rattle.lab_run.specs.Stretches.{AreSlices, IsFirstOf, ends_by_row, goes_on_after, got_by}
 use Rattle.lab_run.proofs.Results.{All, All-any, All-map, All-then, Takes-all}
@@ -77,7 +77,7 @@ ends_by_error error.Stopped = true
 ends_by_error other = false
 
 ends-reported : (f : Answer → Bool) → ((w : XrunWhy) → f (Failed (error.Xrun w)) ≡ true) → f (Failed error.Stopped) ≡ true → (e : PcmError) → ends_by_error e ≡ true
-    → f (Failed (reported e)) ≡ true
+    → f (Failed (reported_error e)) ≡ true
 ends-reported f xrun stop (error.Xrun (why.Avail avail seen)) is = xrun (why.Avail avail 0)
 ends-reported f xrun stop (error.Xrun (why.Late frame channel word)) is = xrun (why.Late frame channel 0)
 ends-reported f xrun stop (error.Xrun (why.Overtaken frame channel word)) is = xrun (why.Overtaken frame channel 0)
@@ -150,12 +150,12 @@ frames-on r d n done ended same on = by_test (nat_lt 0 n && nat_eq (avail_of d) 
     by_test false = by_end ended
 
 answers-on : {X : Type 0} (at : Option ℕ) (asked : Op) (answer : Result X PcmError → Answer) (m : Course (Answered X)) → All (λ x. Gets at asked (x.0, answer x.1)) m
-    → All (Gets at asked) (answered answer m)
+    → All (Gets at asked) (call_answer answer m)
 answers-on at asked answer m all = All-then (λ x. Gets at asked (x.0, answer x.1)) (Gets at asked) m (λ done. ends (done.0, answer done.1)) all (λ x is. is)
 
 -- an error of a sync
 stays-on : (d : CaptureStream) (asked : Op) (e : PcmError) → ((w : XrunWhy) → ends_by_row asked (Failed (error.Xrun w)) ≡ true) → ends_by_row asked (Failed error.Stopped) ≡ true
-    → IsOpen d ⊎ (ends_by_error e ≡ true) → IsOpen d ⊎ (ends_by_row asked (Failed (reported e)) ≡ true)
+    → IsOpen d ⊎ (ends_by_error e ≡ true) → IsOpen d ⊎ (ends_by_row asked (Failed (reported_error e)) ≡ true)
 stays-on d asked e xrun stop (inl is) = inl is
 stays-on d asked e xrun stop (inr is) = inr (ends-reported (λ answer. ends_by_row asked answer) xrun stop e is)
 
@@ -315,7 +315,7 @@ calls-first r (op.Read n) = answers-on None (op.Read n) count_answer _ (All-map 
 
     by_read : (x : Answered ℕ) → ReadsWell x → Gets None (op.Read n) (x.0, count_answer x.1)
     by_read (d, Ok count) well = record { first = d.next - count; begins = tt; frames = refl; goes = goes d count well }
-    by_read (d, Err e) well = idle d (op.Read n) (Failed (reported e)) refl refl
+    by_read (d, Err e) well = idle d (op.Read n) (Failed (reported_error e)) refl refl
 calls-first r op.Start = All-any _ (call_of r op.Start) (λ x. idle x.0 op.Start x.1 refl refl)
 calls-first r op.Sync = All-any _ (call_of r op.Sync) (λ x. idle x.0 op.Sync x.1 refl refl)
 calls-first r op.Avail = All-any _ (call_of r op.Avail) (λ x. idle x.0 op.Avail x.1 refl refl)

@@ -9,7 +9,7 @@ use Rattle.lab_script.specs.declared.line.Actor.TheVariants.{Card, Client, Reade
 use Rattle.lab_script.specs.declared.line.Line.{Line}
 use Rattle.lab_script.specs.declared.line.Op.{Op}
 use Rattle.lab_script.specs.Script.{is_card_line, is_mixed, is_of_card}
-use Rattle.lab_run.specs.Phases.{is_client, is_reader, on_the_way, ops_by, played_at, played_in, published, published_by}
+use Rattle.lab_run.specs.Phases.{is_client, is_reader, on_the_way, ops_by, played_at, played_in, phase_positions, published_by}
 
 -- all positions of a list are one
 abbrev AreAll : ℕ → List ℕ → Type 0
@@ -60,9 +60,9 @@ idle-lines (line ∷ lines) none =
 
 -- in a phase without the card no position is published but the one that the card has
 still-published : (period from : ℕ) (lines : List Line) → list_any is_card_line lines ≡ false
-    → (q : ℕ) → Contains (published period from lines) q → q ≡ from + played_in lines
+    → (q : ℕ) → Contains (phase_positions period from lines) q → q ≡ from + played_in lines
 still-published period from lines none q there =
-    AreAll-Contains from (published period from lines) (refl, still-lines period from lines none) q there ∙ omega (arith, idle-lines lines none)
+    AreAll-Contains from (phase_positions period from lines) (refl, still-lines period from lines none) q there ∙ omega (arith, idle-lines lines none)
 
 -- in a phase of the card alone no other actor has a line
 no-other : (is_theirs : Actor → Bool) → is_theirs Card ≡ false → (actor : Actor) (asked : Op) → not (is_of_card actor) ≡ false
@@ -82,7 +82,7 @@ both false b is = inl refl
 
 -- a phase that isn't mixed: nothing is published in it but one position, or no client and no reader has a line in it
 pub data Unmixed (period from : ℕ) (lines : List Line) : Type 0 where
-  still_phase : ((q : ℕ) → Contains (published period from lines) q → q ≡ from + played_in lines) → Unmixed period from lines
+  still_phase : ((q : ℕ) → Contains (phase_positions period from lines) q → q ≡ from + played_in lines) → Unmixed period from lines
   idle_phase : ((n : ℕ) → ops_by (is_client n) lines ≡ []) → ((n : ℕ) → ops_by (is_reader n) lines ≡ []) → Unmixed period from lines
 
 pub unmixed : (period from : ℕ) (lines : List Line) → is_mixed lines ≡ false → Unmixed period from lines

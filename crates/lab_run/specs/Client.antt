@@ -29,20 +29,20 @@ abbrev pub frames_of : Sound → ℕ
 frames_of wav = length wav.samples / wav.channels
 
 -- an error as a report has it: without the words and positions that its row has, or doesn't tell
-abbrev pub reported : PcmError → PcmError
-reported (Xrun (why.Avail avail seen)) = Xrun (why.Avail avail 0)
-reported (Xrun (why.Late frame channel seen)) = Xrun (why.Late frame channel 0)
-reported (Xrun (why.Overtaken frame channel seen)) = Xrun (why.Overtaken frame channel 0)
-reported (Invalid why) = Invalid Config
-reported other = other
+abbrev pub reported_error : PcmError → PcmError
+reported_error (Xrun (why.Avail avail seen)) = Xrun (why.Avail avail 0)
+reported_error (Xrun (why.Late frame channel seen)) = Xrun (why.Late frame channel 0)
+reported_error (Xrun (why.Overtaken frame channel seen)) = Xrun (why.Overtaken frame channel 0)
+reported_error (Invalid why) = Invalid Config
+reported_error other = other
 
 abbrev pub done_answer : Result (Unit {0}) PcmError → Answer
 done_answer (Ok done) = Done
-done_answer (Err e) = Failed (reported e)
+done_answer (Err e) = Failed (reported_error e)
 
 abbrev pub count_answer : Result ℕ PcmError → Answer
 count_answer (Ok n) = Count n
-count_answer (Err e) = Failed (reported e)
+count_answer (Err e) = Failed (reported_error e)
 
 -- a client of a script: its stream where it is open, and its segments so far but that of its present stretch
 pub record Client : Type 0 where
@@ -75,35 +75,35 @@ write_course c cursor n =
     if is_running c.status.state then writes_on c [] [] n else fills c [] [] cursor n
 
 -- a call with its answer
-abbrev pub answered : {X : Type 0} → (Result X PcmError → Answer) → Course (Answered X)
+abbrev pub call_answer : {X : Type 0} → (Result X PcmError → Answer) → Course (Answered X)
     → Course (PlaybackStream × Answer)
-answered answer course = course >>= λ done. ends (done.0, answer done.1)
+call_answer answer course = course >>= λ done. ends (done.0, answer done.1)
 
 -- the call that a line of an open client names, of a client with a file and with marks at its port
 abbrev pub call_of : Sound → Marks → PlaybackStream → Op → Course (PlaybackStream × Answer)
 call_of wav marks c (op.Write n) =
-    answered count_answer
+    call_answer count_answer
     (if_admitted c call.Transfer (write_course c marks.cursor (min n (frames_of wav - c.fed))))
 call_of wav marks c op.Start =
-    answered done_answer (if_admitted c call.Start (start_course c [] marks.cursor))
-call_of wav marks c op.Sync = answered done_answer (if_admitted c call.Sync (sync_course c []))
+    call_answer done_answer (if_admitted c call.Start (start_course c [] marks.cursor))
+call_of wav marks c op.Sync = call_answer done_answer (if_admitted c call.Sync (sync_course c []))
 call_of wav marks c op.Avail =
-    answered count_answer (if_admitted c call.Sync (number_course avail_answer c []))
+    call_answer count_answer (if_admitted c call.Sync (number_course avail_answer c []))
 call_of wav marks c op.Delay =
-    answered count_answer (if_admitted c call.Sync (number_course delay_answer c []))
+    call_answer count_answer (if_admitted c call.Sync (number_course delay_answer c []))
 call_of wav marks c op.Drain =
-    answered done_answer (if_admitted c call.Drain (drain_course c [] marks.cursor))
-call_of wav marks c op.Drop = answered done_answer (if_admitted c call.Drop (ends (after_drop c, Ok tt)))
+    call_answer done_answer (if_admitted c call.Drain (drain_course c [] marks.cursor))
+call_of wav marks c op.Drop = call_answer done_answer (if_admitted c call.Drop (ends (after_drop c, Ok tt)))
 call_of wav marks c op.Prepare =
-    answered done_answer (if_admitted c call.Prepare (ends (after_prepare c, Ok tt)))
+    call_answer done_answer (if_admitted c call.Prepare (ends (after_prepare c, Ok tt)))
 call_of wav marks c op.Pause =
-    answered done_answer (if_admitted c call.Pause (pause_course true c [] marks.cursor))
+    call_answer done_answer (if_admitted c call.Pause (pause_course true c [] marks.cursor))
 call_of wav marks c op.Resume =
-    answered done_answer (if_admitted c call.Resume (pause_course false c [] marks.cursor))
+    call_answer done_answer (if_admitted c call.Resume (pause_course false c [] marks.cursor))
 call_of wav marks c (op.Rewind n) =
-    answered count_answer (if_admitted c call.Transfer (rewind_course c [] marks.floor n))
+    call_answer count_answer (if_admitted c call.Transfer (rewind_course c [] marks.floor n))
 call_of wav marks c op.Rewindable =
-    answered count_answer (if_admitted c call.Transfer (rewindable_course c marks.floor))
+    call_answer count_answer (if_admitted c call.Transfer (rewindable_course c marks.floor))
 call_of wav marks c other = ends (c, Failed BadState)
 
 -- the client after a call

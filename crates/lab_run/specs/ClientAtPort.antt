@@ -19,7 +19,7 @@ use Rattle.lab_report.specs.declared.row.Answer.{Answer}
 use Rattle.lab_report.specs.declared.row.Answer.TheVariants.{Done, Failed}
 use Rattle.snd_base.specs.declared.errors.PcmError.TheVariants.{BadState, Stopped}
 use Rattle.lab_run.specs.ActorPart.{Doing, Findings, LineDone}
-use Rattle.lab_run.specs.Client.{Client, answered, client_kind, count_answer, done_answer, ended_by, frames_of}
+use Rattle.lab_run.specs.Client.{Client, call_answer, client_kind, count_answer, done_answer, ended_by, frames_of}
 use Rattle.lab_run.specs.Members.{with_member}
 use Rattle.lab_run.specs.PortSteps.{IsAtPort}
 use Rattle.lab_run.specs.Rules.{AtPort}
@@ -29,29 +29,29 @@ use Rattle.lab_run.specs.Rules.{AtPort}
 abbrev pub made_call : List ℤ → List ℤ → Marks → PlaybackStream → Op
     → Course (PlaybackStream × Answer)
 made_call ring samples marks c (op.Write n) =
-    answered count_answer (if_admitted c call.Transfer (write_course c ring samples marks.cursor))
+    call_answer count_answer (if_admitted c call.Transfer (write_course c ring samples marks.cursor))
 made_call ring samples marks c op.Start =
-    answered done_answer (if_admitted c call.Start (start_course c ring marks.cursor))
+    call_answer done_answer (if_admitted c call.Start (start_course c ring marks.cursor))
 made_call ring samples marks c op.Sync =
-    answered done_answer (if_admitted c call.Sync (sync_course c ring))
+    call_answer done_answer (if_admitted c call.Sync (sync_course c ring))
 made_call ring samples marks c op.Avail =
-    answered count_answer (if_admitted c call.Sync (number_course avail_answer c ring))
+    call_answer count_answer (if_admitted c call.Sync (number_course avail_answer c ring))
 made_call ring samples marks c op.Delay =
-    answered count_answer (if_admitted c call.Sync (number_course delay_answer c ring))
+    call_answer count_answer (if_admitted c call.Sync (number_course delay_answer c ring))
 made_call ring samples marks c op.Drain =
-    answered done_answer (if_admitted c call.Drain (drain_course c ring marks.cursor))
+    call_answer done_answer (if_admitted c call.Drain (drain_course c ring marks.cursor))
 made_call ring samples marks c op.Drop =
-    answered done_answer (if_admitted c call.Drop (ends (after_drop c, Ok tt)))
+    call_answer done_answer (if_admitted c call.Drop (ends (after_drop c, Ok tt)))
 made_call ring samples marks c op.Prepare =
-    answered done_answer (if_admitted c call.Prepare (ends (after_prepare c, Ok tt)))
+    call_answer done_answer (if_admitted c call.Prepare (ends (after_prepare c, Ok tt)))
 made_call ring samples marks c op.Pause =
-    answered done_answer (if_admitted c call.Pause (pause_course true c ring marks.cursor))
+    call_answer done_answer (if_admitted c call.Pause (pause_course true c ring marks.cursor))
 made_call ring samples marks c op.Resume =
-    answered done_answer (if_admitted c call.Resume (pause_course false c ring marks.cursor))
+    call_answer done_answer (if_admitted c call.Resume (pause_course false c ring marks.cursor))
 made_call ring samples marks c (op.Rewind n) =
-    answered count_answer (if_admitted c call.Transfer (rewind_course c ring marks.floor n))
+    call_answer count_answer (if_admitted c call.Transfer (rewind_course c ring marks.floor n))
 made_call ring samples marks c op.Rewindable =
-    answered count_answer (if_admitted c call.Transfer (rewindable_course c marks.floor))
+    call_answer count_answer (if_admitted c call.Transfer (rewindable_course c marks.floor))
 made_call ring samples marks c other = ends (c, Failed BadState)
 
 -- a write is given the next frames of the client's file, as many as it asks for, or those that are left

@@ -12,7 +12,7 @@ use Rattle.lab_script.specs.Script.{is_of_card, unplugs}
 use Rattle.lab_report.specs.declared.row.Row.{Row}
 use Rattle.lab_run.specs.Client.{Client, client_kind}
 use Rattle.lab_run.specs.Lines.{EachMay, Kind, each_text}
-use Rattle.lab_run.specs.Phases.{card_rows, is_client, is_reader, ops_by, played_in, published}
+use Rattle.lab_run.specs.Phases.{card_rows, is_client, is_reader, ops_by, played_in, phase_positions}
 use Rattle.lab_run.specs.Places.{Lobby}
 use Rattle.lab_run.specs.Reader.{Reader, reader_kind}
 use Rattle.lab_run.specs.Rules.{AtPort, CardEnd, Rules}
@@ -27,7 +27,7 @@ abbrev pub rules_of : Session → Stage → List Line → Rules
 rules_of session stage lines =
     record {
       at = card_end session stage lines;
-      published = published session.card.period stage.position lines;
+      published = phase_positions session.card.period stage.position lines;
     }
 
 -- an actor that was stopped ends with the phase

@@ -20,30 +20,30 @@ use Rattle.lab_run.specs.Rules.{AtPort}
 use Rattle.lab_run.specs.Stage.{Session, Setup, Stage, first_stage}
 
 -- what each member of a list has, with the member's number; the first of them has a number
-abbrev pub numbered : {X Y : Type 0} → (X → List Y) → ℕ → List X → List (ℕ × Y)
-numbered of number [] = []
-numbered of number (x ∷ xs) = map (λ y. (number, y)) (of x) ++ numbered of (number + 1) xs
+abbrev pub with_numbers : {X Y : Type 0} → (X → List Y) → ℕ → List X → List (ℕ × Y)
+with_numbers of number [] = []
+with_numbers of number (x ∷ xs) = map (λ y. (number, y)) (of x) ++ with_numbers of (number + 1) xs
 
 -- the runs of a list of frames: a run goes on as long as the next frame is the next number
-abbrev pub joined : ℕ → List (ℕ × ℕ) → List (ℕ × ℕ)
-joined frame [] = (frame, 1) ∷ []
-joined frame ((first, count) ∷ runs) =
+abbrev pub joined_runs : ℕ → List (ℕ × ℕ) → List (ℕ × ℕ)
+joined_runs frame [] = (frame, 1) ∷ []
+joined_runs frame ((first, count) ∷ runs) =
     if nat_eq (frame + 1) first then (frame, count + 1) ∷ runs
     else (frame, 1) ∷ (first, count) ∷ runs
 
 abbrev pub runs_of : List ℕ → List (ℕ × ℕ)
 runs_of [] = []
-runs_of (frame ∷ frames) = joined frame (runs_of frames)
+runs_of (frame ∷ frames) = joined_runs frame (runs_of frames)
 
 -- the segments of all clients, by client and then by time
 abbrev pub all_segments : List (AtPort × Client) → List (ℕ × Segment)
-all_segments clients = numbered (λ (client : AtPort × Client). segments_of client.1) 0 clients
+all_segments clients = with_numbers (λ (client : AtPort × Client). segments_of client.1) 0 clients
 
 -- the runs of all readers, by reader and then by time
 abbrev pub all_runs : List (AtPort × Reader) → List (ℕ × ℕ × ℕ)
 all_runs readers =
     map (λ (run : ℕ × (ℕ × ℕ)). (run.0, run.1.0, run.1.1))
-    (numbered (λ (reader : AtPort × Reader). runs_of reader.1.frames) 0 readers)
+    (with_numbers (λ (reader : AtPort × Reader). runs_of reader.1.frames) 0 readers)
 
 -- the report of a run that ends at a stage
 abbrev pub report_of : Session → Stage → Report
@@ -77,9 +77,9 @@ mix_of session segments frames =
     (range_with_len 0 (frames * session.card.channels))
 
 -- the captured sample of a frame and channel: that of the capture file, or 0 where it has none
-abbrev pub captured : Session → Option Sound → ℕ → ℕ → ℤ
-captured session None frame channel = pos 0
-captured session (Some wav) frame channel =
+abbrev pub captured_sample : Session → Option Sound → ℕ → ℕ → ℤ
+captured_sample session None frame channel = pos 0
+captured_sample session (Some wav) frame channel =
     if nat_lt channel wav.channels
     then sample_at wav.samples wav.channels (frame - first_frame session.card) channel else pos 0
 
@@ -90,7 +90,7 @@ bindings_of (Some setup) = setup.bindings
 -- a reader's samples, interleaved: its frames through its bindings
 abbrev pub recorded_by : Session → Option Sound → ℕ → Reader → List ℤ
 recorded_by session capture number reader =
-    flat_map (λ frame. map (captured session capture frame)
+    flat_map (λ frame. map (captured_sample session capture frame)
     (bindings_of (slice_index_or session.readers number None))) reader.frames
 
 abbrev pub recorded_from : Session → Option Sound → ℕ → List (AtPort × Reader) → List (List ℤ)

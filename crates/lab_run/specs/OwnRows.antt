@@ -23,7 +23,7 @@ use Rattle.lab_run.specs.Lines.{Kind, lines_text}
 use Rattle.lab_run.specs.Phases.{is_client, is_reader, ops_by, played_in}
 use Rattle.lab_run.specs.Reader.{Reader, reader_kind}
 use Rattle.lab_run.specs.Rules.{AtPort, CardEnd}
-use Rattle.lab_run.specs.Stage.{Session, Setup, no_client, no_reader, opened_client, opened_reader, renewed}
+use Rattle.lab_run.specs.Stage.{Session, Setup, no_client, no_reader, opened_client, opened_reader, renewed_port}
 
 -- what a script has of one actor: its opens and closes, and of each phase how far the card plays, whether it is unplugged, and the
 -- actor's own lines
@@ -72,7 +72,7 @@ with_own given asked actor answer alone =
 abbrev pub open_by : {S : Type 0} → Given S → Alone S → Bool → Option S → Answer → Alone S
 open_by given alone true opened answer = with_own given op.Opens alone.actor (Failed BadState) alone
 open_by given alone false (Some s) Done =
-    with_own given op.Opens (renewed given.ring alone.actor.0, s) Done alone
+    with_own given op.Opens (renewed_port given.ring alone.actor.0, s) Done alone
 open_by given alone false opened answer = with_own given op.Opens alone.actor answer alone
 
 abbrev pub open_alone : {S : Type 0} → Given S → Alone S → Answer → Alone S
@@ -81,7 +81,7 @@ open_alone given alone answer =
 
 -- an actor that ends
 abbrev pub ended_actor : {S : Type 0} → Given S → AtPort × S → AtPort × S
-ended_actor given (a, s) = (renewed given.ring a, given.ended s)
+ended_actor given (a, s) = (renewed_port given.ring a, given.ended s)
 
 -- an actor that is open is closed
 abbrev pub close_by : {S : Type 0} → Given S → Alone S → Bool → Alone S

@@ -33,8 +33,8 @@ published_by period from (line ∷ lines) = on_the_way period from (played_at li
     ++ published_by period (from + played_at line) lines
 
 -- the position at which a phase begins, and those that the card publishes in it
-abbrev pub published : ℕ → ℕ → List Line → List ℕ
-published period from lines = from ∷ published_by period from lines
+abbrev pub phase_positions : ℕ → ℕ → List Line → List ℕ
+phase_positions period from lines = from ∷ published_by period from lines
 
 -- no phase is mixed
 abbrev pub IsUnmixedItem : Item → Type 0

@@ -61,8 +61,8 @@ attached_by (Some place) client position lobby =
 attached_by None client position lobby =
     (record lobby { seen = position }, Err (Busy (next_of (least_last lobby.places)) position))
 
-abbrev pub attached : ℕ → ℕ → Lobby → Lobby × Result (Unit {0}) PcmError
-attached client at lobby =
+abbrev pub after_attach : ℕ → ℕ → Lobby → Lobby × Result (Unit {0}) PcmError
+after_attach client at lobby =
     if list_any is_free lobby.places
     then attached_by (position (is_silent at) lobby.places) client at lobby
     else (lobby, Err (Busy None lobby.seen))

@@ -25,19 +25,19 @@ pub record Reader : Type 0 where
   pub frames : List ℕ
 
 -- a call with its answer
-abbrev pub answered : {X : Type 0} → (Result X PcmError → Answer) → Course (Answered X)
+abbrev pub call_answer : {X : Type 0} → (Result X PcmError → Answer) → Course (Answered X)
     → Course (CaptureStream × Answer)
-answered answer course = course >>= λ done. ends (done.0, answer done.1)
+call_answer answer course = course >>= λ done. ends (done.0, answer done.1)
 
 -- the call that a line of an open reader names
 abbrev pub call_of : CaptureStream → Op → Course (CaptureStream × Answer)
-call_of r (op.Read n) = answered count_answer (if_admitted r call.Transfer (read_course r n))
-call_of r op.Start = answered done_answer (if_admitted r call.Start (starts r call.Start))
-call_of r op.Sync = answered done_answer (if_admitted r call.Sync (sync_course r))
-call_of r op.Avail = answered count_answer (if_admitted r call.Sync (avail_course r))
-call_of r op.Drop = answered done_answer (if_admitted r call.Drop (ends (in_state r Setup, Ok tt)))
+call_of r (op.Read n) = call_answer count_answer (if_admitted r call.Transfer (read_course r n))
+call_of r op.Start = call_answer done_answer (if_admitted r call.Start (starts r call.Start))
+call_of r op.Sync = call_answer done_answer (if_admitted r call.Sync (sync_course r))
+call_of r op.Avail = call_answer count_answer (if_admitted r call.Sync (avail_course r))
+call_of r op.Drop = call_answer done_answer (if_admitted r call.Drop (ends (in_state r Setup, Ok tt)))
 call_of r op.Prepare =
-    answered done_answer (if_admitted r call.Prepare (ends (in_state r Prepared, Ok tt)))
+    call_answer done_answer (if_admitted r call.Prepare (ends (in_state r Prepared, Ok tt)))
 call_of r op.Pause = ends (r, Failed NotSupported)
 call_of r other = ends (r, Failed BadState)
 

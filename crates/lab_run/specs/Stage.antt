@@ -26,7 +26,7 @@ use Rattle.lab_report.specs.declared.row.Answer.TheVariants.{Done, Failed}
 use Rattle.lab_report.specs.declared.row.Row.{Row}
 use Rattle.lab_run.specs.Claims.{claim_refusal, with_claim, with_release}
 use Rattle.lab_run.specs.Client.{Client, row_by, segments_of}
-use Rattle.lab_run.specs.Places.{Lobby, attached, left_by, new_lobby}
+use Rattle.lab_run.specs.Places.{Lobby, after_attach, left_by, new_lobby}
 use Rattle.lab_run.specs.Reader.{Reader}
 use Rattle.lab_run.specs.Reader as readers
 use Rattle.lab_run.specs.Rules.{AtPort}
@@ -111,8 +111,8 @@ abbrev pub with_reader : ℕ → AtPort × Reader → Stage → Stage
 with_reader number reader stage = record stage { readers = slice_set stage.readers number reader }
 
 -- an actor's port anew
-abbrev pub renewed : Geometry → AtPort → AtPort
-renewed ring a = new_port ring a.by_gate
+abbrev pub renewed_port : Geometry → AtPort → AtPort
+renewed_port ring a = new_port ring a.by_gate
 
 -- ---- open
 
@@ -142,7 +142,7 @@ abbrev pub attached_client : Session → Stage → ℕ → Setup → AtPort × C
 attached_client session stage number setup (a, client) (lobby, Ok done) =
     done_open (actor.Client number)
     (with_client number
-    (renewed session.ring a, record client { own = Some (opened_client session.ring number setup) })
+    (renewed_port session.ring a, record client { own = Some (opened_client session.ring number setup) })
     (record stage {
       lobby = lobby;
       claims = with_claim session.card.share setup.bindings stage.claims;
@@ -154,7 +154,7 @@ abbrev pub claimed_client : Session → Stage → ℕ → Setup → AtPort × Cl
 claimed_client session stage number setup client (Some e) =
     refused_open (actor.Client number) e stage
 claimed_client session stage number setup client None =
-    attached_client session stage number setup client (attached number stage.position stage.lobby)
+    attached_client session stage number setup client (after_attach number stage.position stage.lobby)
 
 -- a client that isn't open is opened: first its configuration, then its claim, then its place
 abbrev pub open_client_with : Session → Stage → ℕ → Option Setup → AtPort × Client → Stage
@@ -176,7 +176,7 @@ open_reader_with session stage number None reader =
 open_reader_with session stage number (Some setup) (a, reader) =
     done_open (actor.Reader number)
     (with_reader number
-    (renewed session.ring a, record reader { own = Some (opened_reader session.ring setup) }) stage)
+    (renewed_port session.ring a, record reader { own = Some (opened_reader session.ring setup) }) stage)
 
 abbrev pub open_reader : Session → Stage → ℕ → AtPort × Reader → Option reading.CaptureStream
     → Stage
@@ -189,10 +189,10 @@ open_reader session stage number reader None =
 
 -- an actor that isn't open any more
 abbrev pub ended_client : Geometry → AtPort × Client → AtPort × Client
-ended_client ring (a, client) = (renewed ring a, record { own = None; ended = segments_of client })
+ended_client ring (a, client) = (renewed_port ring a, record { own = None; ended = segments_of client })
 
 abbrev pub ended_reader : Geometry → AtPort × Reader → AtPort × Reader
-ended_reader ring (a, reader) = (renewed ring a, record reader { own = None })
+ended_reader ring (a, reader) = (renewed_port ring a, record reader { own = None })
 
 -- an open client gives its place and its channels back
 abbrev pub lobby_without : Geometry → ℕ → AtPort → Lobby → Lobby

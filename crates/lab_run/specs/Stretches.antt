@@ -10,7 +10,7 @@ use Rattle.lab_script.specs.declared.line.Op.TheVariants as op
 use Rattle.lab_report.specs.declared.row.Answer.{Answer}
 use Rattle.lab_report.specs.declared.row.Answer.TheVariants.{Count, Failed}
 use Rattle.lab_report.specs.declared.row.Row.{Row}
-use Rattle.lab_run.specs.LabRun.{LabRun, Outcome, bindings_of, captured, runs_of}
+use Rattle.lab_run.specs.LabRun.{LabRun, Outcome, bindings_of, captured_sample, runs_of}
 use Rattle.lab_run.specs.OwnRows.{rows_by, runs_by}
 use Rattle.lab_run.specs.Phases.{is_reader}
 use Rattle.lab_run.specs.Stage.{Session}
@@ -53,7 +53,7 @@ pub record ReadsInSlices (session : Session) (capture : Option Sound) (outcome :
   pub frames : List ℕ
   pub runs : runs_by number outcome.report.runs ≡ runs_of frames
   pub samples : slice_index_or outcome.recorded number []
-      ≡ flat_map (λ frame. map (captured session capture frame)
+      ≡ flat_map (λ frame. map (captured_sample session capture frame)
       (bindings_of (slice_index_or session.readers number None))) frames
   pub after : Option ℕ
   pub slices : AreSlices None (rows_by (is_reader number) outcome.report.rows) frames after

@@ -6,7 +6,7 @@ use Rattle.lab_script.specs.declared.keys.Kind.TheVariants as kind
 use Rattle.lab_script.specs.declared.line.Actor.{Actor}
 use Rattle.lab_script.specs.declared.line.Op.{Op}
 use Rattle.lab_script.specs.Causes.{◌>>=◌, refuse_if, first_of}
-use Rattle.lab_script.specs.Draft.{State, client_of, client_allowed, client_line, reader_of, reader_allowed, reader_line, line_allowed, with_line, named, is_beside, ends_lap}
+use Rattle.lab_script.specs.Draft.{State, client_of, client_allowed, client_line, reader_of, reader_allowed, reader_line, line_allowed, with_line, actor_named, is_beside, ends_lap}
 use Rattle.lab_script.specs.Keys.{keys_from, name_of, file_of}
 use Rattle.lab_script.specs.Ops.{op_of, played_by}
 use Rattle.lab_script.specs.Script.{is_of_card, is_unplug}
@@ -38,7 +38,7 @@ unfolding client_of client_allowed client_line
 client_of_steps s number words =
     same_after (first_of words) _ _ (λ first. same_after (name_of first.0) _ _ (λ name.
     same_after (first_of first.1) _ _ (λ second. same_after (file_of second.0) _ _ (λ file.
-    after_three (keys_from kind.Client [] second.1) (refuse_if (is_some (named s first.0)) why.NameTwice)
+    after_three (keys_from kind.Client [] second.1) (refuse_if (is_some (actor_named s first.0)) why.NameTwice)
     (refuse_if (nat_le 64 (length s.clients)) why.TooMany) (λ u. client_line s.card number name file second.1)))))
 
 -- a reader's line is its name, what is allowed, and its keys
@@ -49,7 +49,7 @@ pub reader_of_steps : (s : State) (number : ℕ) (words : List (List ℕ))
 unfolding reader_of reader_allowed reader_line
 reader_of_steps s number words =
     same_after (first_of words) _ _ (λ first. same_after (name_of first.0) _ _ (λ name.
-    after_three (keys_from kind.Reader [] first.1) (refuse_if (is_some (named s first.0)) why.NameTwice)
+    after_three (keys_from kind.Reader [] first.1) (refuse_if (is_some (actor_named s first.0)) why.NameTwice)
     (refuse_if (nat_le 64 (length s.readers)) why.TooMany) (λ u. reader_line s.card.channels number name first.1)))
 
 -- the state after a line of a phase that is allowed

@@ -12,8 +12,8 @@ use Rattle.lab_script.specs.declared.script.CardLine.{CardLine}
 use Rattle.lab_script.specs.declared.script.ClientLine.{ClientLine}
 use Rattle.lab_script.specs.declared.script.ReaderLine.{ReaderLine}
 use Rattle.lab_script.specs.Causes.{refuse_if, some_or, first_of, end_of}
-use Rattle.lab_script.specs.Draft.{State, card_of, client_of, reader_of, named, divides}
-use Rattle.lab_script.specs.Keys.{row_of, number_in, keys_from, given, number_given, small_given, byte_given, name_of, file_of, file_where, bindings_where}
+use Rattle.lab_script.specs.Draft.{State, card_of, client_of, reader_of, actor_named, divides}
+use Rattle.lab_script.specs.Keys.{row_of, number_in, keys_from, word_after, number_given, small_given, byte_given, name_of, file_of, file_where, bindings_where}
 use Rattle.lab_script.specs.Limits.{IsIn, IsCardLine, IsClientLine, IsReaderLine, IsOpOf}
 use Rattle.lab_script.specs.Ops.{ops_of, with_count, op_with, op_of}
 use Rattle.lab_script.proofs.Ranges.{bind_ok, not_refused, some_is, below, number_in-range, given_number, given_where, given_stop, limited_in, name_of-is, file_of-is, file_where-is, bindings_where-is, divides-half, divides-rest}
@@ -30,7 +30,7 @@ card_of-ranges number ws card e =
     let p = number_given (codes "period") 1024 ws in
     let r = small_given (codes "ring") 8192 ws in
     let b = bind_ok (refuse_if (not (divides p r)) why.Fit) _ card a.2 in
-    let f = bind_ok (file_where (given (codes "capture") ws)) _ card b.2 in
+    let f = bind_ok (file_where (word_after (codes "capture") ws)) _ card b.2 in
     let fits : not (divides p r) ≡ false = not_refused (not (divides p r)) why.Fit b.0 b.1 in
     let channels : IsIn 1 8 (byte_given (codes "channels") 2 ws) = limited_in 255 1 8 _ (omega arith) (given_number kind.Card (codes "channels") 2 1 8 ws keys refl (record { low = omega arith; high = omega arith })) in
     let rate : IsIn 4000 192000 (small_given (codes "rate") 48000 ws) = limited_in 4294967295 4000 192000 _ (omega arith) (given_number kind.Card (codes "rate") 48000 4000 192000 ws keys refl (record { low = omega arith; high = omega arith })) in
@@ -48,13 +48,13 @@ card_of-ranges number ws card e =
       period_divides = divides-rest p r fits;
       places = places;
       lap = lap.high;
-      capture = file_where-is (given (codes "capture") ws) f.0 f.1;
+      capture = file_where-is (word_after (codes "capture") ws) f.0 f.1;
     })
 
 -- a client that is read: it is in its ranges, its name is new, and there is room for it
 pub record IsNewClient (s : State) (client : ClientLine) : Type 0 where
   pub line : IsClientLine s.card client
-  pub new : is_some (named s client.name) ≡ false
+  pub new : is_some (actor_named s client.name) ≡ false
   pub room : length s.clients < 64
 
 ok_client : (s : State) (x client : ClientLine) → ◌≡◌ {A = Result ClientLine ScriptWhy} (Ok x) (Ok client) → IsNewClient s x → IsNewClient s client
@@ -70,30 +70,30 @@ client_of-ranges s number ws client e =
     let ks = second.0.1 in
     let a = bind_ok (keys_from kind.Client [] ks) _ client file.2 in
     let keys : keys_from kind.Client [] ks ≡ Ok tt = a.1 in
-    let once = bind_ok (refuse_if (is_some (named s first.0.0)) why.NameTwice) _ client a.2 in
+    let once = bind_ok (refuse_if (is_some (actor_named s first.0.0)) why.NameTwice) _ client a.2 in
     let room = bind_ok (refuse_if (nat_le 64 (length s.clients)) why.TooMany) _ client once.2 in
     let fits = bind_ok (refuse_if (nat_le s.card.ring (number_given (codes "lead") s.card.period ks)) why.Fit) _ client room.2 in
-    let bindings = bind_ok (bindings_where s.card.channels (given (codes "bindings") ks)) _ client fits.2 in
+    let bindings = bind_ok (bindings_where s.card.channels (word_after (codes "bindings") ks)) _ client fits.2 in
     let form = name_of-is first.0.0 name.0 name.1 in
     ok_client s _ client bindings.2 (record {
       line = record {
         name = form.0;
         file = file_of-is second.0.0 file.0 file.1;
-        bindings = bindings_where-is s.card.channels (given (codes "bindings") ks) bindings.0 bindings.1;
+        bindings = bindings_where-is s.card.channels (word_after (codes "bindings") ks) bindings.0 bindings.1;
         buffer = given_where kind.Client (codes "buffer") 32 16384 ks (omega arith) keys refl;
         period = given_where kind.Client (codes "period") 16 8192 ks (omega arith) keys refl;
         start = given_number kind.Client (codes "start") 1 1 65536 ks keys refl (record { low = omega arith; high = omega arith });
         stop = given_stop kind.Client ks keys refl;
         lead = below s.card.ring (number_given (codes "lead") s.card.period ks) (not_refused _ why.Fit fits.0 fits.1);
       };
-      new = subst (λ (w : List ℕ). is_some (named s w) ≡ false) form.1 (not_refused _ why.NameTwice once.0 once.1);
+      new = subst (λ (w : List ℕ). is_some (actor_named s w) ≡ false) form.1 (not_refused _ why.NameTwice once.0 once.1);
       room = below 64 (length s.clients) (not_refused _ why.TooMany room.0 room.1);
     })
 
 -- a reader that is read: it is in its ranges, its name is new, and there is room for it
 pub record IsNewReader (s : State) (reader : ReaderLine) : Type 0 where
   pub line : IsReaderLine s.card reader
-  pub new : is_some (named s reader.name) ≡ false
+  pub new : is_some (actor_named s reader.name) ≡ false
   pub room : length s.readers < 64
 
 ok_reader : (s : State) (x reader : ReaderLine) → ◌≡◌ {A = Result ReaderLine ScriptWhy} (Ok x) (Ok reader) → IsNewReader s x → IsNewReader s reader
@@ -107,20 +107,20 @@ reader_of-ranges s number ws reader e =
     let ks = first.0.1 in
     let a = bind_ok (keys_from kind.Reader [] ks) _ reader name.2 in
     let keys : keys_from kind.Reader [] ks ≡ Ok tt = a.1 in
-    let once = bind_ok (refuse_if (is_some (named s first.0.0)) why.NameTwice) _ reader a.2 in
+    let once = bind_ok (refuse_if (is_some (actor_named s first.0.0)) why.NameTwice) _ reader a.2 in
     let room = bind_ok (refuse_if (nat_le 64 (length s.readers)) why.TooMany) _ reader once.2 in
-    let bindings = bind_ok (bindings_where s.card.channels (given (codes "bindings") ks)) _ reader room.2 in
+    let bindings = bind_ok (bindings_where s.card.channels (word_after (codes "bindings") ks)) _ reader room.2 in
     let form = name_of-is first.0.0 name.0 name.1 in
     ok_reader s _ reader bindings.2 (record {
       line = record {
         name = form.0;
-        bindings = bindings_where-is s.card.channels (given (codes "bindings") ks) bindings.0 bindings.1;
+        bindings = bindings_where-is s.card.channels (word_after (codes "bindings") ks) bindings.0 bindings.1;
         buffer = given_where kind.Reader (codes "buffer") 32 16384 ks (omega arith) keys refl;
         period = given_where kind.Reader (codes "period") 16 8192 ks (omega arith) keys refl;
         start = given_number kind.Reader (codes "start") 1 1 65536 ks keys refl (record { low = omega arith; high = omega arith });
         stop = given_stop kind.Reader ks keys refl;
       };
-      new = subst (λ (w : List ℕ). is_some (named s w) ≡ false) form.1 (not_refused _ why.NameTwice once.0 once.1);
+      new = subst (λ (w : List ℕ). is_some (actor_named s w) ≡ false) form.1 (not_refused _ why.NameTwice once.0 once.1);
       room = below 64 (length s.readers) (not_refused _ why.TooMany room.0 room.1);
     })
 

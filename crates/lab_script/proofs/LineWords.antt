@@ -7,7 +7,7 @@ use Rattle.std.proofs.lemmas.List.{drop_all, length-take, get_or-drop}
 use Rattle.std.proofs.lemmas.List.Splits.{slice_split_first, slice_split_none, slice_split-cons_yes}
 use Rattle.std.proofs.lemmas.List.Sums.{fails_before_first, passes_at_first}
 use Rattle.lab_script.specs.Word.{is_feed}
-use Rattle.lab_script.specs.Lexing.{is_blank, is_of_word, is_word, words_between, words_in, put_line, numbered, lines_from, first_and_rest}
+use Rattle.lab_script.specs.Lexing.{is_blank, is_of_word, is_word, words_between, words_in, put_line, numbered_lines, lines_from, first_and_rest}
 use Rattle.lab_script.proofs.Words.{take-drop, position_place, position_missing}
 
 -- the first line ends at the first line feed
@@ -16,14 +16,14 @@ pub lines_from-at : (text : List ℕ) (i n : ℕ) → position is_feed text ≡ 
 lines_from-at text i n e =
     let h = position_place is_feed text i e in
     rw (take-drop (i + 1) text)
-    (ap (numbered n) (slice_split_first is_feed text 0 h.0 ∙ ap (λ k. take k text ∷ slice_split is_feed (drop (k + 1) text)) h.1))
+    (ap (numbered_lines n) (slice_split_first is_feed text 0 h.0 ∙ ap (λ k. take k text ∷ slice_split is_feed (drop (k + 1) text)) h.1))
 
 -- without a line feed the text is one line
 pub lines_from-none : (text : List ℕ) (n : ℕ) → position is_feed text ≡ None
     → lines_from n text ≡ put_line n (words_in text) (lines_from (n + 1) (take (length text - length text) (drop (length text) text)))
 lines_from-none text n e =
     rw (take-drop (length text) text, drop_all (length text) text (omega arith))
-    (ap (numbered n) (slice_split_none is_feed text (λ k d h. fails_before_first is_feed text k d (position_missing is_feed text k e h))))
+    (ap (numbered_lines n) (slice_split_none is_feed text (λ k d h. fails_before_first is_feed text k d (position_missing is_feed text k e h))))
 
 -- a place of one more element
 position_or_len-blank : (b : ℕ) (bs : List ℕ) → is_blank b ≡ true → position_or_len is_of_word (b ∷ bs) ≡ suc (position_or_len is_of_word bs)

@@ -10,7 +10,7 @@ use Rattle.lab_script.specs.declared.keys.Takes.{Takes}
 use Rattle.lab_script.specs.Causes.{◌>>=◌, Refuses}
 use Rattle.lab_script.specs.Keys.{keys_from, key_of, value_of}
 use Rattle.lab_script.specs.Lexing.{first_and_rest}
-use Rattle.lab_script.specs.Reading.{refused, on_line, card_line, script_of_lines, RefusesAt}
+use Rattle.lab_script.specs.Reading.{refusal_at, on_line, card_line, script_of_lines, RefusesAt}
 
 -- a test over the values of a function
 pub list_any_map : {X Y : Type 0} (p : Y → Bool) (f : X → Y) (xs : List X) → list_any p (map f xs) ≡ list_any (λ x. p (f x)) xs
@@ -43,7 +43,7 @@ refuses_bind why.Memory r f h = tt
 refuses_bind e r f h = rw h refl
 
 -- a line that is refused, whatever follows
-pub refuses_line : {X Y : Type 0} (e : ScriptWhy) (n : ℕ) (r : Result X ScriptWhy) (f : X → Result Y ScriptError) → Refuses e r → RefusesAt e (refused n e) (on_line n r f)
+pub refuses_line : {X Y : Type 0} (e : ScriptWhy) (n : ℕ) (r : Result X ScriptWhy) (f : X → Result Y ScriptError) → Refuses e r → RefusesAt e (refusal_at n e) (on_line n r f)
 refuses_line why.Memory n r f h = tt
 refuses_line e n r f h = rw h refl
 
@@ -62,5 +62,5 @@ keys_next line earlier k word ws mid more value a b c d = rw (pair-is k word ws 
 
 -- the card's line is refused
 pub first_refused : (n : ℕ) (ws : List (List ℕ)) (rest lines : List (ℕ × List (List ℕ))) (e : ScriptWhy)
-    → Some ((n, ws), rest) ≡ first_and_rest lines → Refuses e (card_line n ws) → RefusesAt e (refused n e) (script_of_lines lines)
+    → Some ((n, ws), rest) ≡ first_and_rest lines → Refuses e (card_line n ws) → RefusesAt e (refusal_at n e) (script_of_lines lines)
 first_refused n ws rest lines e a r = rw (first-is (n, ws) rest lines a) (refuses_line e n (card_line n ws) _ r)

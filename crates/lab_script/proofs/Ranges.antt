@@ -12,7 +12,7 @@ use Rattle.lab_script.specs.declared.keys.Takes.{Takes}
 use Rattle.lab_script.specs.declared.keys.Takes.TheVariants as takes
 use Rattle.lab_script.specs.Causes.{◌>>=◌, refuse_if, some_or}
 use Rattle.lab_script.specs.Draft.{divides}
-use Rattle.lab_script.specs.Keys.{row_of, keys_of, key_of, keys_from, value_of, checked, number_in, given, number_or_zero, number_given, limited, small_where, stop_of, stop_given, name_of, file_of, file_where, bindings_where, bound, numbers_of}
+use Rattle.lab_script.specs.Keys.{row_of, keys_of, key_of, keys_from, value_of, check_of, number_in, word_after, number_or_zero, number_given, number_within, small_where, stop_of, stop_given, name_of, file_of, file_where, bindings_where, bound, numbers_of}
 use Rattle.lab_script.specs.Limits.{IsIn, IsInWhere, IsStopWhere, IsFileWhere, IsBoundWhere}
 use Rattle.lab_script.specs.Word.{number_of, is_name, is_file}
 
@@ -49,7 +49,7 @@ number_in-range least most w n e =
       },
     )
 
-pub checked-ok : {A : Type 0} (r : Result A ScriptWhy) (u : Unit {0}) → checked r ≡ Ok u → (x : A) × (r ≡ Ok x)
+pub checked-ok : {A : Type 0} (r : Result A ScriptWhy) (u : Unit {0}) → check_of r ≡ Ok u → (x : A) × (r ≡ Ok x)
 checked-ok (Ok x) u e = (x, refl)
 checked-ok (Err w) u e = absurd (cc)
 
@@ -69,14 +69,14 @@ pub record IsGiven (line : Kind) (key w : List ℕ) : Type 0 where
   pub value : value_of takes w ≡ Ok tt
 
 given_by : (line : Kind) (key k v w : List ℕ) (t : Takes) (more : List (List ℕ)) (b : Bool) → bytes_eq k key ≡ b → row_of (keys_of line) k ≡ Some t → value_of t v ≡ Ok tt
-    → (given key more ≡ Some w → IsGiven line key w) → cond b (Some v) (given key more) ≡ Some w → IsGiven line key w
+    → (word_after key more ≡ Some w → IsGiven line key w) → cond b (Some v) (word_after key more) ≡ Some w → IsGiven line key w
 given_by line key k v w t more true e row value rest g =
     let same : k ≡ key = (bytes_eq-Decides k key).0 e in
     let here : v ≡ w = cc (g) in
     record { takes = t; row = subst (λ (x : List ℕ). row_of (keys_of line) x ≡ Some t) same row; value = subst (λ (x : List ℕ). value_of t x ≡ Ok tt) here value }
 given_by line key k v w t more false e row value rest g = rest g
 
-pub given_in : (line : Kind) (earlier : List (List ℕ)) (key w : List ℕ) (ws : List (List ℕ)) → keys_from line earlier ws ≡ Ok tt → given key ws ≡ Some w → IsGiven line key w
+pub given_in : (line : Kind) (earlier : List (List ℕ)) (key w : List ℕ) (ws : List (List ℕ)) → keys_from line earlier ws ≡ Ok tt → word_after key ws ≡ Some w → IsGiven line key w
 given_in line earlier key w [] e g = absurd (cc)
 given_in line earlier key w (k ∷ []) e g = absurd (cc)
 given_in line earlier key w (k ∷ v ∷ more) e g =
@@ -86,21 +86,21 @@ given_in line earlier key w (k ∷ v ∷ more) e g =
 
 -- a word that is given is right for its key
 pub value-given : (line : Kind) (key w : List ℕ) (t : Takes) (ws : List (List ℕ)) → keys_from line [] ws ≡ Ok tt
-    → row_of (keys_of line) key ≡ Some t → given key ws ≡ Some w → value_of t w ≡ Ok tt
+    → row_of (keys_of line) key ≡ Some t → word_after key ws ≡ Some w → value_of t w ≡ Ok tt
 value-given line key w t ws keys row g =
     let d = given_in line [] key w ws keys g in
     let same : d.takes ≡ t = cc (d.row, row) in
     subst (λ (x : Takes). value_of x w ≡ Ok tt) same d.value
 
 -- the number that a word in a range means
-pub number_or_zero-in : (least most : ℕ) (w : List ℕ) → checked (number_in least most w) ≡ Ok tt → IsIn least most (number_or_zero w)
+pub number_or_zero-in : (least most : ℕ) (w : List ℕ) → check_of (number_in least most w) ≡ Ok tt → IsIn least most (number_or_zero w)
 number_or_zero-in least most w e =
     let n = checked-ok (number_in least most w) tt e in
     let r = number_in-range least most w n.0 n.1 in
     rw r.0 r.1
 
 number_by : (line : Kind) (key : List ℕ) (otherwise least most : ℕ) (ws : List (List ℕ)) (o : Option (List ℕ)) → keys_from line [] ws ≡ Ok tt
-    → row_of (keys_of line) key ≡ Some (takes.Number least most) → IsIn least most otherwise → given key ws ≡ o → IsIn least most (option_map_or number_or_zero o otherwise)
+    → row_of (keys_of line) key ≡ Some (takes.Number least most) → IsIn least most otherwise → word_after key ws ≡ o → IsIn least most (option_map_or number_or_zero o otherwise)
 number_by line key otherwise least most ws None keys row default g = default
 number_by line key otherwise least most ws (Some w) keys row default g =
     number_or_zero-in least most w (value-given line key w (takes.Number least most) ws keys row g)
@@ -108,16 +108,16 @@ number_by line key otherwise least most ws (Some w) keys row default g =
 -- a number that is given, or the one that is meant where it isn't
 pub given_number : (line : Kind) (key : List ℕ) (otherwise least most : ℕ) (ws : List (List ℕ)) → keys_from line [] ws ≡ Ok tt
     → row_of (keys_of line) key ≡ Some (takes.Number least most) → IsIn least most otherwise → IsIn least most (number_given key otherwise ws)
-given_number line key otherwise least most ws keys row default = number_by line key otherwise least most ws (given key ws) keys row default refl
+given_number line key otherwise least most ws keys row default = number_by line key otherwise least most ws (word_after key ws) keys row default refl
 
-pub limited_is : (cap n : ℕ) → n ≤ cap → limited cap n ≡ n
+pub limited_is : (cap n : ℕ) → n ≤ cap → number_within cap n ≡ n
 limited_is cap n h = grind (arith, nat_tests)
 
-pub limited_in : (cap least most n : ℕ) → most ≤ cap → IsIn least most n → IsIn least most (limited cap n)
+pub limited_in : (cap least most n : ℕ) → most ≤ cap → IsIn least most n → IsIn least most (number_within cap n)
 limited_in cap least most n h i = let e : n ≤ cap = omega (arith, i.high, h) in rw (limited_is cap n e) i
 
 where_by : (line : Kind) (key : List ℕ) (least most : ℕ) (ws : List (List ℕ)) (o : Option (List ℕ)) → most ≤ 4294967295 → keys_from line [] ws ≡ Ok tt
-    → row_of (keys_of line) key ≡ Some (takes.Number least most) → given key ws ≡ o → IsInWhere least most (option_map (λ word. limited 4294967295 (number_or_zero word)) o)
+    → row_of (keys_of line) key ≡ Some (takes.Number least most) → word_after key ws ≡ o → IsInWhere least most (option_map (λ word. number_within 4294967295 (number_or_zero word)) o)
 where_by line key least most ws None small keys row g = tt
 where_by line key least most ws (Some w) small keys row g =
     limited_in 4294967295 least most _ small (number_or_zero-in least most w (value-given line key w (takes.Number least most) ws keys row g))
@@ -125,21 +125,21 @@ where_by line key least most ws (Some w) small keys row g =
 -- a number, where it is given
 pub given_where : (line : Kind) (key : List ℕ) (least most : ℕ) (ws : List (List ℕ)) → most ≤ 4294967295 → keys_from line [] ws ≡ Ok tt
     → row_of (keys_of line) key ≡ Some (takes.Number least most) → IsInWhere least most (small_where key ws)
-given_where line key least most ws small keys row = where_by line key least most ws (given key ws) small keys row refl
+given_where line key least most ws small keys row = where_by line key least most ws (word_after key ws) small keys row refl
 
 stop_in : (w : List ℕ) (b : Bool) → bytes_eq w (codes "never") ≡ b → value_of (takes.NumberOrNever 1 65536) w ≡ Ok tt → IsStopWhere (Some (stop_of w))
 stop_in w true e v = rw e tt
 stop_in w false e v = rw e (number_or_zero-in 1 65536 w (rw e at v))
 
 stop_by : (line : Kind) (ws : List (List ℕ)) (o : Option (List ℕ)) → keys_from line [] ws ≡ Ok tt
-    → row_of (keys_of line) (codes "stop") ≡ Some (takes.NumberOrNever 1 65536) → given (codes "stop") ws ≡ o → IsStopWhere (option_map stop_of o)
+    → row_of (keys_of line) (codes "stop") ≡ Some (takes.NumberOrNever 1 65536) → word_after (codes "stop") ws ≡ o → IsStopWhere (option_map stop_of o)
 stop_by line ws None keys row g = tt
 stop_by line ws (Some w) keys row g = stop_in w _ refl (value-given line (codes "stop") w (takes.NumberOrNever 1 65536) ws keys row g)
 
 -- the stop threshold, where it is given
 pub given_stop : (line : Kind) (ws : List (List ℕ)) → keys_from line [] ws ≡ Ok tt
     → row_of (keys_of line) (codes "stop") ≡ Some (takes.NumberOrNever 1 65536) → IsStopWhere (stop_given ws)
-given_stop line ws keys row = stop_by line ws (given (codes "stop") ws) keys row refl
+given_stop line ws keys row = stop_by line ws (word_after (codes "stop") ws) keys row refl
 
 name_by : (w n : List ℕ) (b : Bool) → is_name w ≡ b → cond b (Ok w) (Err why.Name) ≡ Ok n → (is_name n ≡ true) × (w ≡ n)
 name_by w n true e g = let same : w ≡ n = cc (g) in (subst (λ (x : List ℕ). is_name x ≡ true) same e, same)

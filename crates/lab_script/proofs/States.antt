@@ -24,11 +24,11 @@ use Rattle.lab_script.specs.declared.script.ClientLine.{ClientLine}
 use Rattle.lab_script.specs.declared.script.ReaderLine.{ReaderLine}
 use Rattle.lab_script.specs.declared.script.Script.{Script}
 use Rattle.lab_script.specs.Causes.{refuse_if, some_or, first_of, end_of}
-use Rattle.lab_script.specs.Draft.{State, begun, client_of, reader_of, border_of, named, is_client, is_reader, or_else, is_beside, ends_lap, keywords, with_client, with_reader, with_open, with_close, with_phase, with_end, with_line, with_words, outside, inside, unknown_outside, unknown_inside, line_at}
+use Rattle.lab_script.specs.Draft.{State, begun, client_of, reader_of, border_of, actor_named, is_client, is_reader, or_else, is_beside, ends_lap, keywords, with_client, with_reader, with_open, with_close, with_phase, with_end, with_line, with_words, outside, inside, unknown_outside, unknown_inside, line_at}
 use Rattle.lab_script.specs.Keys.{row_of}
 use Rattle.lab_script.specs.Limits.{IsCardLine, IsClientLine, IsReaderLine, IsBorder, IsActor, IsLine, IsAlone, IsItem, IsGoneAfter, IsScript}
 use Rattle.lab_script.specs.Ops.{op_of, played_by}
-use Rattle.lab_script.specs.Reading.{on_line, card_line, first_by, after, ended, script_at, script_of_lines, Answers}
+use Rattle.lab_script.specs.Reading.{on_line, card_line, first_by, after, script_at_end, script_at, script_of_lines, Answers}
 use Rattle.std.specs.Result.{IfOk}
 use Rattle.lab_script.specs.Script.{phases_of, played_in, frames_played, first_frame, is_card_line, is_of_card, is_unplug, unplugs}
 use Rattle.lab_script.proofs.Ranges.{bind_ok, not_refused, some_is, below}
@@ -113,7 +113,7 @@ named_by m n None (Some j) actor a b e = let same : Reader j ≡ actor = cc (e) 
 named_by m n (Some i) p actor a b e = let same : Client i ≡ actor = cc (e) in subst (IsBorder m n) same a
 
 -- who is named is declared
-pub named-is : (s : State) (w : List ℕ) (actor : Actor) → named s w ≡ Some actor → IsBorder (length s.clients) (length s.readers) actor
+pub named-is : (s : State) (w : List ℕ) (actor : Actor) → actor_named s w ≡ Some actor → IsBorder (length s.clients) (length s.readers) actor
 named-is s w actor e =
     named_by (length s.clients) (length s.readers) (position (is_client w) s.clients) (position (is_reader w) s.readers) actor
     (position-in (is_client w) s.clients) (position-in (is_reader w) s.readers) e
@@ -137,12 +137,12 @@ position-none p xs k d e h =
     let past : length xs ≤ position_or_len p xs = none_by (position_or_len p xs) (length xs) (nat_lt (position_or_len p xs) (length xs)) refl e in
     fails_before_first p xs k d (omega arith)
 
-client-differs : (s : State) (w : List ℕ) → is_some (named s w) ≡ false → (k : ℕ) (d : ClientLine) → k < length s.clients → (get_or s.clients k d).name ≢ w
+client-differs : (s : State) (w : List ℕ) → is_some (actor_named s w) ≡ false → (k : ℕ) (d : ClientLine) → k < length s.clients → (get_or s.clients k d).name ≢ w
 client-differs s w e k d h =
     let none = unnamed (position (is_client w) s.clients) (position (is_reader w) s.readers) e in
     not_from_Decides _ (bytes_eq-Decides (get_or s.clients k d).name w) (position-none (is_client w) s.clients k d none.0 h)
 
-reader-differs : (s : State) (w : List ℕ) → is_some (named s w) ≡ false → (k : ℕ) (d : ReaderLine) → k < length s.readers → (get_or s.readers k d).name ≢ w
+reader-differs : (s : State) (w : List ℕ) → is_some (actor_named s w) ≡ false → (k : ℕ) (d : ReaderLine) → k < length s.readers → (get_or s.readers k d).name ≢ w
 reader-differs s w e k d h =
     let none = unnamed (position (is_client w) s.clients) (position (is_reader w) s.readers) e in
     not_from_Decides _ (bytes_eq-Decides (get_or s.readers k d).name w) (position-none (is_reader w) s.readers k d none.1 h)
@@ -281,7 +281,7 @@ border_of-is : (s : State) (ws : List (List ℕ)) (actor : Actor) → border_of 
 unfolding border_of
 border_of-is s ws actor e =
     let first = bind_ok (first_of ws) _ actor e in
-    let who = bind_ok (some_or why.Word (named s first.0.0)) _ actor first.2 in
+    let who = bind_ok (some_or why.Word (actor_named s first.0.0)) _ actor first.2 in
     let end = bind_ok (end_of first.0.1) _ actor who.2 in
     let same : who.0 ≡ actor = cc (end.2) in
     subst (IsBorder (length s.clients) (length s.readers)) same (named-is s first.0.0 who.0 (some_is why.Word _ who.0 who.1))
@@ -484,9 +484,9 @@ outside-kept s number word (Some keyword.Open) ws t none e st = with_open-kept s
 outside-kept s number word (Some keyword.Close) ws t none e st = with_close-kept s number ws t e st
 outside-kept s number word (Some keyword.Phase) ws t none e st = with_phase-kept s number ws t none e st
 outside-kept s number word (Some keyword.End) ws t none e st = absurd (cc)
-outside-kept s number word None ws t none e st = unknown_outside-kept (named s word) t (IsState t) e
+outside-kept s number word None ws t none e st = unknown_outside-kept (actor_named s word) t (IsState t) e
 
-unknown_inside-kept : (s : State) (number : ℕ) (word : List ℕ) (o : Option Actor) (ws : List (List ℕ)) (t : State) → named s word ≡ o → unknown_inside s number o ws ≡ Ok t → IsState s → IsState t
+unknown_inside-kept : (s : State) (number : ℕ) (word : List ℕ) (o : Option Actor) (ws : List (List ℕ)) (t : State) → actor_named s word ≡ o → unknown_inside s number o ws ≡ Ok t → IsState s → IsState t
 unknown_inside-kept s number word None ws t who e st = absurd (cc)
 unknown_inside-kept s number word (Some actor) ws t who e st =
     with_line-kept s number actor ws t (border-actor (length s.clients) (length s.readers) actor (named-is s word actor who)) e st
@@ -499,7 +499,7 @@ inside-kept s opened number word (Some keyword.Open) ws t some e st = absurd (cc
 inside-kept s opened number word (Some keyword.Close) ws t some e st = absurd (cc)
 inside-kept s opened number word (Some keyword.Phase) ws t some e st = absurd (cc)
 inside-kept s opened number word (Some keyword.End) ws t some e st = with_end-kept s opened ws t some e st
-inside-kept s opened number word None ws t some e st = unknown_inside-kept s number word (named s word) ws t refl e st
+inside-kept s opened number word None ws t some e st = unknown_inside-kept s number word (actor_named s word) ws t refl e st
 
 line_at-kept : (o : Option ℕ) (s : State) (number : ℕ) (word : List ℕ) (ws : List (List ℕ)) (t : State) → s.phase ≡ o → line_at o s number word ws ≡ Ok t → IsState s → IsState t
 line_at-kept None s number word ws t is e st = outside-kept s number word (row_of keywords word) ws t is e st
@@ -524,7 +524,7 @@ after-kept s (line ∷ lines) t e st =
 ok_script : (x script : Script) → ◌≡◌ {A = Result Script ScriptError} (Ok x) (Ok script) → IsScript x → IsScript script
 ok_script x script e h = let same : x ≡ script = cc (e) in subst IsScript same h
 
-ended-is : (s : State) (o : Option ℕ) (script : Script) → ended s o ≡ Ok script → IsState s → IsScript script
+ended-is : (s : State) (o : Option ℕ) (script : Script) → script_at_end s o ≡ Ok script → IsState s → IsScript script
 ended-is s (Some opened) script e st = absurd (cc)
 ended-is s None script e st =
     ok_script _ script e (record {

@@ -17,7 +17,7 @@ use Rattle.lab_script.specs.declared.script.CardLine.{CardLine}
 use Rattle.lab_script.specs.declared.script.ClientLine.{ClientLine}
 use Rattle.lab_script.specs.declared.script.ReaderLine.{ReaderLine}
 use Rattle.lab_script.specs.Causes.{◌>>=◌, refuse_if, some_or, first_of, end_of}
-use Rattle.lab_script.specs.Keys.{row_of, keys_from, given, number_given, byte_given, small_given, small_where, stop_given, share_given, name_of, file_of, file_where, bindings_where}
+use Rattle.lab_script.specs.Keys.{row_of, keys_from, word_after, number_given, byte_given, small_given, small_where, stop_given, share_given, name_of, file_of, file_where, bindings_where}
 use Rattle.lab_script.specs.Ops.{op_of, played_by}
 use Rattle.lab_script.specs.Script.{is_of_card, is_unplug}
 
@@ -77,8 +77,8 @@ or_else (Some x) other = Some x
 or_else None other = other
 
 -- the client or reader of this name, by its number among its like, from 0
-abbrev pub named : State → List ℕ → Option Actor
-named s name = or_else (option_map Client (position (is_client name) s.clients)) (option_map Reader (position (is_reader name) s.readers))
+abbrev pub actor_named : State → List ℕ → Option Actor
+actor_named s name = or_else (option_map Client (position (is_client name) s.clients)) (option_map Reader (position (is_reader name) s.readers))
 
 -- the card's period divides its ring at least twice
 abbrev pub divides : ℕ → ℕ → Bool
@@ -91,7 +91,7 @@ card_of number words = do
   let period = number_given (codes "period") 1024 words
   let ring = small_given (codes "ring") 8192 words
   fits ← refuse_if (not (divides period ring)) why.Fit
-  capture ← file_where (given (codes "capture") words)
+  capture ← file_where (word_after (codes "capture") words)
   Ok (record {
     number = number;
     channels = byte_given (codes "channels") 2 words;
@@ -112,11 +112,11 @@ client_of s number words = do
   second ← first_of first.1
   file ← file_of second.0
   keys ← keys_from kind.Client [] second.1
-  once ← refuse_if (is_some (named s first.0)) why.NameTwice
+  once ← refuse_if (is_some (actor_named s first.0)) why.NameTwice
   room ← refuse_if (nat_le 64 (length s.clients)) why.TooMany
   let lead = number_given (codes "lead") s.card.period second.1
   fits ← refuse_if (nat_le s.card.ring lead) why.Fit
-  bindings ← bindings_where s.card.channels (given (codes "bindings") second.1)
+  bindings ← bindings_where s.card.channels (word_after (codes "bindings") second.1)
   Ok (record {
     number = number;
     name = name;
@@ -127,7 +127,7 @@ client_of s number words = do
     start = number_given (codes "start") 1 second.1;
     stop = stop_given second.1;
     lead = lead;
-    plug = is_some (given (codes "plug") second.1);
+    plug = is_some (word_after (codes "plug") second.1);
   })
 
 -- the reader of the words after `reader`, on the line of this number
@@ -136,9 +136,9 @@ reader_of s number words = do
   first ← first_of words
   name ← name_of first.0
   keys ← keys_from kind.Reader [] first.1
-  once ← refuse_if (is_some (named s first.0)) why.NameTwice
+  once ← refuse_if (is_some (actor_named s first.0)) why.NameTwice
   room ← refuse_if (nat_le 64 (length s.readers)) why.TooMany
-  bindings ← bindings_where s.card.channels (given (codes "bindings") first.1)
+  bindings ← bindings_where s.card.channels (word_after (codes "bindings") first.1)
   Ok (record {
     number = number;
     name = name;
@@ -153,7 +153,7 @@ reader_of s number words = do
 unfoldable pub client_allowed : State → List ℕ → List (List ℕ) → Result (Unit {0}) ScriptWhy
 client_allowed s word keys = do
   checked ← keys_from kind.Client [] keys
-  once ← refuse_if (is_some (named s word)) why.NameTwice
+  once ← refuse_if (is_some (actor_named s word)) why.NameTwice
   refuse_if (nat_le 64 (length s.clients)) why.TooMany
 
 -- the client of this name, file and keys on a card
@@ -161,7 +161,7 @@ unfoldable pub client_line : CardLine → ℕ → List ℕ → List ℕ → List
 client_line card number name file keys = do
   let lead = number_given (codes "lead") card.period keys
   fits ← refuse_if (nat_le card.ring lead) why.Fit
-  bindings ← bindings_where card.channels (given (codes "bindings") keys)
+  bindings ← bindings_where card.channels (word_after (codes "bindings") keys)
   Ok (record {
     number = number;
     name = name;
@@ -172,20 +172,20 @@ client_line card number name file keys = do
     start = number_given (codes "start") 1 keys;
     stop = stop_given keys;
     lead = lead;
-    plug = is_some (given (codes "plug") keys);
+    plug = is_some (word_after (codes "plug") keys);
   })
 
 -- the keys of a reader's line, and whether one more reader of this name can be declared
 unfoldable pub reader_allowed : State → List ℕ → List (List ℕ) → Result (Unit {0}) ScriptWhy
 reader_allowed s word keys = do
   checked ← keys_from kind.Reader [] keys
-  once ← refuse_if (is_some (named s word)) why.NameTwice
+  once ← refuse_if (is_some (actor_named s word)) why.NameTwice
   refuse_if (nat_le 64 (length s.readers)) why.TooMany
 
 -- the reader of this name and keys, on a card of so many channels
 unfoldable pub reader_line : ℕ → ℕ → List ℕ → List (List ℕ) → Result ReaderLine ScriptWhy
 reader_line channels number name keys = do
-  bindings ← bindings_where channels (given (codes "bindings") keys)
+  bindings ← bindings_where channels (word_after (codes "bindings") keys)
   Ok (record {
     number = number;
     name = name;
@@ -214,7 +214,7 @@ with_reader s number words = do
 unfoldable pub border_of : State → List (List ℕ) → Result Actor ScriptWhy
 border_of s words = do
   first ← first_of words
-  actor ← some_or why.Word (named s first.0)
+  actor ← some_or why.Word (actor_named s first.0)
   end ← end_of first.1
   Ok actor
 
@@ -285,7 +285,7 @@ outside s number word (Some keyword.Open) words = with_open s number words
 outside s number word (Some keyword.Close) words = with_close s number words
 outside s number word (Some keyword.Phase) words = with_phase s number words
 outside s number word (Some keyword.End) words = Err why.Order
-outside s number word None words = unknown_outside (named s word)
+outside s number word None words = unknown_outside (actor_named s word)
 
 -- a line that begins with no keyword, in a phase
 abbrev pub unknown_inside : State → ℕ → Option Actor → List (List ℕ) → Result State ScriptWhy
@@ -301,7 +301,7 @@ inside s number word (Some keyword.Open) words = Err why.Order
 inside s number word (Some keyword.Close) words = Err why.Order
 inside s number word (Some keyword.Phase) words = Err why.Order
 inside s number word (Some keyword.End) words = with_end s words
-inside s number word None words = unknown_inside s number (named s word) words
+inside s number word None words = unknown_inside s number (actor_named s word) words
 
 -- a line by whether a phase is open
 abbrev pub line_at : Option ℕ → State → ℕ → List ℕ → List (List ℕ) → Result State ScriptWhy

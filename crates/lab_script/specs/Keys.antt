@@ -87,16 +87,16 @@ abbrev pub file_of : List ℕ → Result (List ℕ) ScriptWhy
 file_of word = if is_file word then Ok word else Err why.File
 
 -- a value without what it says
-abbrev pub checked : {A : Type 0} → Result A ScriptWhy → Result (Unit {0}) ScriptWhy
-checked (Ok x) = Ok tt
-checked (Err e) = Err e
+abbrev pub check_of : {A : Type 0} → Result A ScriptWhy → Result (Unit {0}) ScriptWhy
+check_of (Ok x) = Ok tt
+check_of (Err e) = Err e
 
 -- a word after a key that takes this
 abbrev pub value_of : Takes → List ℕ → Result (Unit {0}) ScriptWhy
-value_of (takes.Number least most) word = checked (number_in least most word)
-value_of (takes.NumberOrNever least most) word = if bytes_eq word (codes "never") then Ok tt else checked (number_in least most word)
-value_of takes.File word = checked (file_of word)
-value_of takes.Bindings word = checked (numbers_of word)
+value_of (takes.Number least most) word = check_of (number_in least most word)
+value_of (takes.NumberOrNever least most) word = if bytes_eq word (codes "never") then Ok tt else check_of (number_in least most word)
+value_of takes.File word = check_of (file_of word)
+value_of takes.Bindings word = check_of (numbers_of word)
 value_of takes.Share word = if bytes_eq word (codes "dmix") then Ok tt else refuse_if (not (bytes_eq word (codes "dshare"))) why.Word
 value_of takes.Plug word = refuse_if (not (bytes_eq word (codes "linear"))) why.Word
 
@@ -115,10 +115,10 @@ keys_from line earlier (key ∷ word ∷ words) =
     (key_of line earlier key) >>= (λ value. (value_of value word) >>= (λ u. keys_from line (earlier ++ key ∷ []) words))
 
 -- the word after a key, where the key is given
-abbrev pub given : List ℕ → List (List ℕ) → Option (List ℕ)
-given key [] = None
-given key (k ∷ []) = None
-given key (k ∷ word ∷ words) = if bytes_eq k key then Some word else given key words
+abbrev pub word_after : List ℕ → List (List ℕ) → Option (List ℕ)
+word_after key [] = None
+word_after key (k ∷ []) = None
+word_after key (k ∷ word ∷ words) = if bytes_eq k key then Some word else word_after key words
 
 -- the number that a word means, or 0
 abbrev pub number_or_zero : List ℕ → ℕ
@@ -126,23 +126,23 @@ number_or_zero word = option_map_or (λ n. n) (number_of word) 0
 
 -- the number after a key, or another one where it isn't given
 abbrev pub number_given : List ℕ → ℕ → List (List ℕ) → ℕ
-number_given key otherwise words = option_map_or number_or_zero (given key words) otherwise
+number_given key otherwise words = option_map_or number_or_zero (word_after key words) otherwise
 
 -- a number, or 0 where it is above a limit
-abbrev pub limited : ℕ → ℕ → ℕ
-limited most n = if nat_le n most then n else 0
+abbrev pub number_within : ℕ → ℕ → ℕ
+number_within most n = if nat_le n most then n else 0
 
 -- the number after a key, where it is given
 abbrev pub small_where : List ℕ → List (List ℕ) → Option ℕ
-small_where key words = option_map (λ word. limited 4294967295 (number_or_zero word)) (given key words)
+small_where key words = option_map (λ word. number_within 4294967295 (number_or_zero word)) (word_after key words)
 
 -- the number after a key, or another one where it isn't given
 abbrev pub small_given : List ℕ → ℕ → List (List ℕ) → ℕ
-small_given key otherwise words = limited 4294967295 (number_given key otherwise words)
+small_given key otherwise words = number_within 4294967295 (number_given key otherwise words)
 
 -- the number after a key, or another one where it isn't given
 abbrev pub byte_given : List ℕ → ℕ → List (List ℕ) → ℕ
-byte_given key otherwise words = limited 255 (number_given key otherwise words)
+byte_given key otherwise words = number_within 255 (number_given key otherwise words)
 
 -- the word after `stop`
 abbrev pub stop_of : List ℕ → Stop
@@ -150,7 +150,7 @@ stop_of word = if bytes_eq word (codes "never") then stop.Never else stop.At (nu
 
 -- the stop threshold, where it is given
 abbrev pub stop_given : List (List ℕ) → Option Stop
-stop_given words = option_map stop_of (given (codes "stop") words)
+stop_given words = option_map stop_of (word_after (codes "stop") words)
 
 -- the word after `share`
 abbrev pub share_of : List ℕ → Share
@@ -158,7 +158,7 @@ share_of word = if bytes_eq word (codes "dshare") then share.Dshare else share.D
 
 -- how clients share the card
 abbrev pub share_given : List (List ℕ) → Share
-share_given words = option_map_or share_of (given (codes "share") words) share.Dmix
+share_given words = option_map_or share_of (word_after (codes "share") words) share.Dmix
 
 -- a file, where there is one
 abbrev pub file_where : Option (List ℕ) → Result (Option (List ℕ)) ScriptWhy

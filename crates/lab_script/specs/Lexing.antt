@@ -38,14 +38,14 @@ put_line number [] lines = lines
 put_line number (word ∷ words) lines = (number, word ∷ words) ∷ lines
 
 -- those of some lines that have words, each with its number, of which the first has this
-abbrev pub numbered : ℕ → List (List ℕ) → List (ℕ × List (List ℕ))
-numbered number [] = []
-numbered number (line ∷ lines) = put_line number (words_in line) (numbered (number + 1) lines)
+abbrev pub numbered_lines : ℕ → List (List ℕ) → List (ℕ × List (List ℕ))
+numbered_lines number [] = []
+numbered_lines number (line ∷ lines) = put_line number (words_in line) (numbered_lines (number + 1) lines)
 
 -- the lines of a text that have words, each with its number and its words, where the first line has this number; lines end
 -- with a line feed, which the last may lack
 abbrev pub lines_from : ℕ → List ℕ → List (ℕ × List (List ℕ))
-lines_from number text = numbered number (slice_split is_feed text)
+lines_from number text = numbered_lines number (slice_split is_feed text)
 
 -- the lines of a text that have words, each with its number, counted from 1, and its words
 abbrev pub lines_of : List ℕ → List (ℕ × List (List ℕ))

@@ -84,15 +84,15 @@ played_by (op.Play frames) = frames
 played_by other = 0
 
 -- a word and a number
-abbrev pub counted : List ℕ → ℕ → List ℕ
-counted word n = word ++ 32 ∷ decimal n
+abbrev pub word_and_number : List ℕ → ℕ → List ℕ
+word_and_number word n = word ++ 32 ∷ decimal n
 
 -- the words of an op, as a script has them
 abbrev pub op_text : Op → List ℕ
-op_text (op.Play n) = counted (codes "play") n
+op_text (op.Play n) = word_and_number (codes "play") n
 op_text op.Unplug = codes "unplug"
-op_text (op.Write n) = counted (codes "write") n
-op_text (op.Read n) = counted (codes "read") n
+op_text (op.Write n) = word_and_number (codes "write") n
+op_text (op.Read n) = word_and_number (codes "read") n
 op_text op.Start = codes "start"
 op_text op.Sync = codes "sync"
 op_text op.Avail = codes "avail"
@@ -102,9 +102,9 @@ op_text op.Drop = codes "drop"
 op_text op.Prepare = codes "prepare"
 op_text op.Pause = codes "pause"
 op_text op.Resume = codes "resume"
-op_text (op.Rewind n) = counted (codes "rewind") n
+op_text (op.Rewind n) = word_and_number (codes "rewind") n
 op_text op.Rewindable = codes "rewindable"
-op_text (op.Die n) = counted (codes "die") n
+op_text (op.Die n) = word_and_number (codes "die") n
 op_text op.Opens = codes "open"
 op_text op.Closes = codes "close"
 

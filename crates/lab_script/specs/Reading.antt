@@ -12,13 +12,13 @@ use Rattle.lab_script.specs.Keys.{row_of}
 use Rattle.lab_script.specs.Lexing.{lines_of}
 
 -- the refusal of a line
-abbrev pub refused : ℕ → ScriptWhy → ScriptError
-refused line cause = record { line = line; why = cause }
+abbrev pub refusal_at : ℕ → ScriptWhy → ScriptError
+refusal_at line cause = record { line = line; why = cause }
 
 -- what is said on a line, or its refusal
 abbrev pub on_line : {X Y : Type 0} → ℕ → Result X ScriptWhy → (X → Result Y ScriptError) → Result Y ScriptError
 on_line line (Ok x) f = f x
-on_line line (Err cause) f = Err (refused line cause)
+on_line line (Err cause) f = Err (refusal_at line cause)
 
 -- the card's line, by what it begins with
 abbrev pub first_by : ℕ → Option Keyword → List (List ℕ) → Result CardLine ScriptWhy
@@ -37,23 +37,23 @@ after s [] = Ok s
 after s (line ∷ lines) = on_line line.0 (with_words s line.0 line.1) (λ next. after next lines)
 
 -- the script at the end of the text, where no phase is open
-abbrev pub ended : State → Option ℕ → Result Script ScriptError
-ended s None = Ok (record { card = s.card; clients = s.clients; readers = s.readers; body = s.body })
-ended s (Some opened) = Err (refused opened why.Unended)
+abbrev pub script_at_end : State → Option ℕ → Result Script ScriptError
+script_at_end s None = Ok (record { card = s.card; clients = s.clients; readers = s.readers; body = s.body })
+script_at_end s (Some opened) = Err (refusal_at opened why.Unended)
 
 -- the script of what is read
 abbrev pub script_at : Result State ScriptError → Result Script ScriptError
-script_at (Ok s) = ended s s.phase
+script_at (Ok s) = script_at_end s s.phase
 script_at (Err e) = Err e
 
 -- the script of the lines that have words
 abbrev pub script_of_lines : List (ℕ × List (List ℕ)) → Result Script ScriptError
-script_of_lines [] = Err (refused 0 why.NoCard)
+script_of_lines [] = Err (refusal_at 0 why.NoCard)
 script_of_lines (line ∷ lines) = on_line line.0 (card_line line.0 line.1) (λ card. script_at (after (begun card) lines))
 
 -- the script that a text spells, or its first refusal
 abbrev pub script_of : List ℕ → Result Script ScriptError
-script_of text = if nat_lt 1048576 (length text) then Err (refused 0 why.TooLong) else script_of_lines (lines_of text)
+script_of text = if nat_lt 1048576 (length text) then Err (refusal_at 0 why.TooLong) else script_of_lines (lines_of text)
 
 -- an error of a call is the one that is said, unless memory ran out
 abbrev pub RefusesAt : {X : Type 0} → ScriptWhy → ScriptError → Result X ScriptError → Type 0

@@ -3,7 +3,7 @@ ghost use Rattle.std.specs.Prelude.{◌≡◌, ◌<◌, ◌≤◌, [], map, opti
 ghost use Rattle.std.specs.List.{list_any};
 ghost use Rattle.std.specs.Prelude.{bytes_eq};
 ghost use Rattle.lab_script.specs.Causes.{Gives};
-ghost use Rattle.lab_script.specs.Keys.{row_of, keys_of, key_of, keys_from, given};
+ghost use Rattle.lab_script.specs.Keys.{row_of, keys_of, key_of, keys_from, word_after};
 ghost use Rattle.lab_script.specs.Lexing.{words_between};
 
 use crate::causes::refuse_if;
@@ -120,7 +120,7 @@ pub fn check_keys(alloc: Global, kind: Kind, words: &[u8]) -> Result<(), ScriptW
 
 /// The word after a key, where the key is given.
 pub fn given<'a>(key: &[u8], words: &'a [u8]) -> Option<&'a [u8]>
-    ensures { option_map (λ w. w.now) result ≡ given key.now (words_between words.now) }
+    ensures { option_map (λ w. w.now) result ≡ word_after key.now (words_between words.now) }
 {
     let mut rest = words;
     while let Some((k, behind)) = next_word(rest) {

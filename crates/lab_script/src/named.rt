@@ -1,7 +1,7 @@
 //! The names of clients and readers.
 ghost use Rattle.std.specs.Prelude.{◌≡◌};
 ghost use Rattle.std.specs.List.{position};
-ghost use Rattle.lab_script.specs.Draft.{is_client, is_reader, named, view};
+ghost use Rattle.lab_script.specs.Draft.{is_client, is_reader, actor_named, view};
 
 use crate::draft::Draft;
 use crate::line::Actor;
@@ -27,7 +27,7 @@ fn reader_at(readers: &[ReaderLine], name: &[u8]) -> Option<usize>
 
 /// The client or reader of this name.
 pub fn named(draft: &Draft, name: &[u8]) -> Option<Actor>
-    ensures { result ≡ named (view draft.now) name.now }
+    ensures { result ≡ actor_named (view draft.now) name.now }
 {
     if let Some(number) = client_at(draft.clients.as_slice(), name) {
         return Some(Actor::Client(number as u32));

@@ -4,7 +4,7 @@ ghost use Rattle.lab_script.specs.Causes.{Gives};
 ghost use Rattle.lab_script.specs.Draft.{view, begun};
 ghost use Rattle.lab_script.specs.Lexing.{words_between, lines_from};
 ghost use Rattle.lab_script.specs.Limits.{IsScript};
-ghost use Rattle.lab_script.specs.Reading.{card_line, after, ended, script_at, script_of, script_of_lines, Answers};
+ghost use Rattle.lab_script.specs.Reading.{card_line, after, script_at_end, script_at, script_of, script_of_lines, Answers};
 
 use crate::card::read_card;
 use crate::draft::Draft;
@@ -72,7 +72,7 @@ fn read_lines(alloc: Global, card: CardLine, number: u32, text: &[u8]) -> Result
 
 /// The script at the end of its text.
 fn ended(draft: Draft) -> Result<Script, ScriptError>
-    ensures { result ≡ ended (view draft) draft.phase }
+    ensures { result ≡ script_at_end (view draft) draft.phase }
 {
     match draft.phase {
         Some(line) => Err(ScriptError {

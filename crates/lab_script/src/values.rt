@@ -2,7 +2,7 @@
 ghost use Rattle.std.specs.Prelude.{◌≡◌, ◌≤◌, ◌<◌, [], IfOk, IsAscii, length, option_map, string_bytes};
 ghost use Rattle.std.specs.Option.{option_map_or};
 ghost use Rattle.lab_script.specs.Causes.{Gives};
-ghost use Rattle.lab_script.specs.Keys.{number_in, numbers_of, name_of, file_of, value_of, given, number_or_zero, number_given, limited, byte_given, small_given, small_where, stop_of, stop_given, share_of, share_given, file_where, bindings_where, why_of};
+ghost use Rattle.lab_script.specs.Keys.{number_in, numbers_of, name_of, file_of, value_of, word_after, number_or_zero, number_given, number_within, byte_given, small_given, small_where, stop_of, stop_given, share_of, share_given, file_where, bindings_where, why_of};
 ghost use Rattle.lab_script.specs.declared.keys.Takes.TheVariants as takes;
 ghost use Rattle.lab_script.specs.Lexing.{words_between};
 ghost use Rattle.lab_script.specs.Word.{parts_of};
@@ -149,14 +149,14 @@ pub fn number_given(key: &[u8], otherwise: u64, words: &[u8]) -> u64
 
 /// A number, or 0 where it is above 4294967295.
 fn in_32_bits(n: u64) -> u32
-    ensures { result ≡ limited 4294967295 n }
+    ensures { result ≡ number_within 4294967295 n }
 {
     if n <= 4_294_967_295 { n as u32 } else { 0 }
 }
 
 /// A number, or 0 where it is above 255.
 fn in_8_bits(n: u64) -> u8
-    ensures { result ≡ limited 255 n }
+    ensures { result ≡ number_within 255 n }
 {
     if n <= 255 { n as u8 } else { 0 }
 }

@@ -14,7 +14,7 @@ use Rattle.std.specs.FinMap.{from_entries, find, get-from_entries, from_entries_
 use Rattle.std.specs.List as list
 use Rattle.std.specs.Option.{option_map_or}
 use Rattle.std.specs.Ordering.{nat_cmp}
-use Rattle.lab_shelf.specs.Files.{Files, bytes_under, with_file, changed, bytes_under-with_file_same, bytes_under-with_file_other}
+use Rattle.lab_shelf.specs.Files.{Files, bytes_under, with_file, with_change, bytes_under-with_file_same, bytes_under-with_file_other}
 
 -- the entries of a list as a map's: names with bytes
 abbrev pub pairs_by : {E : Type 0} → (E → List ℕ) → (E → List ℕ) → List E → List (List ℕ × List ℕ)
@@ -148,7 +148,7 @@ push_is_with_file key content es y name bytes is named holds =
 -- a change at a name's place, which keeps the name, makes of its file's bytes what is made of the entry's
 pub set_is_changed : {E : Type 0} (key content : E → List ℕ) (make : List ℕ → List ℕ) (es : List E) (i : ℕ) (y d : E) (name : List ℕ)
     → list.position (λ e. bytes_eq name (key e)) es ≡ Some i → key y ≡ key (get_or es i d) → content y ≡ make (content (get_or es i d))
-    → from_entries (pairs_by key content (set es i y)) ≡ changed make (from_entries (pairs_by key content es)) name
+    → from_entries (pairs_by key content (set es i y)) ≡ with_change make (from_entries (pairs_by key content es)) name
 set_is_changed key content make es i y d name is same holds =
     set_is_with_file key content es i y d name (make (content (get_or es i d))) is same holds
     ∙ sym (ap (λ o. option_map_or (λ c. with_file (from_entries (pairs_by key content es)) name (make c)) o (from_entries (pairs_by key content es))) (held_found key content name es i d is))

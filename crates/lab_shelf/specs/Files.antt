@@ -35,12 +35,12 @@ abbrev pub piece : Files → List ℕ → ℕ → ℕ → Option (List ℕ)
 piece files name from most = option_map (λ content. take most (drop from content)) (bytes_under files name)
 
 -- the files, with the named one, if it is there, holding what is made of its bytes
-abbrev pub changed : (List ℕ → List ℕ) → Files → List ℕ → Files
-changed make files name = option_map_or (λ content. with_file files name (make content)) (bytes_under files name) files
+abbrev pub with_change : (List ℕ → List ℕ) → Files → List ℕ → Files
+with_change make files name = option_map_or (λ content. with_file files name (make content)) (bytes_under files name) files
 
 -- the content with as many other first bytes
-abbrev pub overwritten : List ℕ → List ℕ → List ℕ
-overwritten head content = head ++ drop (length head) content
+abbrev pub with_first_bytes : List ℕ → List ℕ → List ℕ
+with_first_bytes head content = head ++ drop (length head) content
 
 -- the files are as they were, or the named one holds the first of the bytes
 abbrev pub IsPartWritten : Option Files → Option Files → List ℕ → List ℕ → Type 0
@@ -50,12 +50,12 @@ IsPartWritten before after name bytes =
 -- the files are as they were, or the named one, if it is there, holds the first of its bytes and these behind them
 abbrev pub IsPartAppended : Option Files → Option Files → List ℕ → List ℕ → Type 0
 IsPartAppended before after name bytes =
-    (after ≡ before) ⊎ ((k : ℕ) × (after ≡ option_map (λ files. changed (λ content. take k (content ++ bytes)) files name) before))
+    (after ≡ before) ⊎ ((k : ℕ) × (after ≡ option_map (λ files. with_change (λ content. take k (content ++ bytes)) files name) before))
 
 -- the files are as they were, or the named one, if it is there, holds some first bytes of the head and otherwise what it held
 abbrev pub IsPartFinished : Option Files → Option Files → List ℕ → List ℕ → Type 0
 IsPartFinished before after name head =
-    (after ≡ before) ⊎ ((k : ℕ) × (k ≤ length head) × (after ≡ option_map (λ files. changed (overwritten (take k head)) files name) before))
+    (after ≡ before) ⊎ ((k : ℕ) × (k ≤ length head) × (after ≡ option_map (λ files. with_change (with_first_bytes (take k head)) files name) before))
 
 -- there is a file of this name, where the files are told
 abbrev pub IsHeld : Option Files → List ℕ → Type 0

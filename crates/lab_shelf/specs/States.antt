@@ -6,7 +6,7 @@ use Rattle.std.specs.Global.{Vec}
 use Rattle.std.specs.List.{list_any}
 use Rattle.lab_shelf.specs.declared.fault.ShelfFault.{ShelfFault}
 use Rattle.lab_shelf.specs.declared.fault.ShelfFault.TheVariants.{Failed, Memory}
-use Rattle.lab_shelf.specs.Files.{Files, bytes_under, with_file, changed}
+use Rattle.lab_shelf.specs.Files.{Files, bytes_under, with_file, with_change}
 use Rattle.lab_shelf.specs.Counts.{one_more}
 
 -- a shelf in memory: its files, the numbers of the calls that fail, how many calls it had, and its two counts of faults
@@ -83,6 +83,6 @@ after_put (Err Memory) s bytes = record s { calls = one_more s.calls }
 
 -- what a change of a file in place leaves: its call is counted, and a fault; the file is changed only where it works
 abbrev pub after_change : {T : Type 0} → Result T ShelfFault → ShelfState → (List ℕ → List ℕ) → List ℕ → ShelfState
-after_change (Ok x) s make name = record s { files = changed make s.files name; calls = one_more s.calls }
+after_change (Ok x) s make name = record s { files = with_change make s.files name; calls = one_more s.calls }
 after_change (Err Failed) s make name = record s { calls = one_more s.calls; write_faults = one_more s.write_faults }
 after_change (Err Memory) s make name = record s { calls = one_more s.calls }

@@ -1,7 +1,7 @@
 //! Names with their bytes, of which the first of a name stands.
 ghost use Rattle.std.specs.Prelude.{◌≡◌, ◌≤◌, ◌++◌, length, take, drop, position, bytes_eq, None, IfSome, IsSome, IfErr, IsErrOf, OnOk, OnErr, option_map};
 ghost use Rattle.std.specs.Option.{option_copied};
-ghost use Rattle.lab_shelf.specs.Files.{bytes_under, with_file, changed, overwritten};
+ghost use Rattle.lab_shelf.specs.Files.{bytes_under, with_file, with_change, with_first_bytes};
 ghost use Rattle.lab_shelf.specs.States.{files_of};
 
 use crate::fault::ShelfFault;
@@ -60,7 +60,7 @@ pub(crate) fn append_to(
     bytes: &[u8],
 ) -> Result<(), ShelfFault>
     ensures ok { OnOk result
-        (files_of entries.new ≡ changed (λ content. content ++ bytes.now) (files_of entries.old) name.now) }
+        (files_of entries.new ≡ with_change (λ content. content ++ bytes.now) (files_of entries.old) name.now) }
     ensures err { OnErr result (files_of entries.new ≡ files_of entries.old) }
     ensures held { OnOk result (IsSome (bytes_under (files_of entries.old) name.now)) }
     ensures missing { IsErrOf result ShelfFault.Failed
@@ -78,7 +78,7 @@ pub(crate) fn append_to(
 /// Replaces the first bytes by as many others.
 fn put_front(content: &mut [u8], head: &[u8])
     requires { length head.now ≤ length content.old }
-    ensures { content.new ≡ overwritten head.now content.old }
+    ensures { content.new ≡ with_first_bytes head.now content.old }
 {
     content[..head.len()].copy_from_slice(head);
 }
@@ -93,7 +93,7 @@ pub(crate) fn overwrite(
     requires room { IfSome (bytes_under (files_of entries.old) name.now)
         (λ content. length head.now ≤ length content) }
     ensures ok { OnOk result
-        (files_of entries.new ≡ changed (overwritten head.now) (files_of entries.old) name.now) }
+        (files_of entries.new ≡ with_change (with_first_bytes head.now) (files_of entries.old) name.now) }
     ensures err { OnErr result (files_of entries.new ≡ files_of entries.old) }
     ensures held { OnOk result (IsSome (bytes_under (files_of entries.old) name.now)) }
     ensures missing { OnErr result (bytes_under (files_of entries.old) name.now ≡ None) }

@@ -1,7 +1,7 @@
 //! The forms in memory, whose calls fail where the caller lists their numbers.
 ghost use Rattle.std.specs.Prelude.{◌≡◌, ◌≢◌, ◌≤◌, ◌↔◌, ◌++◌, [], None, Some, Err, IsErrOf, IsTrue, IfOk, OnOk, OnErr, vec_len};
 ghost use Rattle.std.specs.Option.{option_copied};
-ghost use Rattle.lab_shelf.specs.Files.{bytes_under, with_file, changed, overwritten, piece, IsPartWritten, IsPartAppended, IsPartFinished, IsHeld, HasRoom, TookPart};
+ghost use Rattle.lab_shelf.specs.Files.{bytes_under, with_file, with_change, with_first_bytes, piece, IsPartWritten, IsPartAppended, IsPartFinished, IsHeld, HasRoom, TookPart};
 ghost use Rattle.lab_shelf.specs.Counts.{Counted, Foreseen};
 ghost use Rattle.lab_shelf.specs.States.{files_of, fetch_answers, write_answers, after_fetch, after_store, after_change, after_put};
 
@@ -164,7 +164,7 @@ impl Shelf for MemoryShelf {
         ensures foreseen { Foreseen result (Some (fetch_answers self.old name.now)) }
         ensures after { self.new ≡ after_change result self.old (λ content. content ++ bytes.now) name.now }
         ensures ok { OnOk result (Some self.new.files
-            ≡ Some (changed (λ content. content ++ bytes.now) self.old.files name.now)) }
+            ≡ Some (with_change (λ content. content ++ bytes.now) self.old.files name.now)) }
         ensures err { OnErr result
             (IsPartAppended (Some self.old.files) (Some self.new.files) name.now bytes.now) }
         ensures faults { Counted result self.old.write_faults self.new.write_faults }
@@ -189,9 +189,9 @@ impl Shelf for MemoryShelf {
         requires room { HasRoom (Some self.old.files) name.now head.now }
         ensures held { OnOk result (IsHeld (Some self.old.files) name.now) }
         ensures foreseen { Foreseen result (Some (fetch_answers self.old name.now)) }
-        ensures after { self.new ≡ after_change result self.old (overwritten head.now) name.now }
+        ensures after { self.new ≡ after_change result self.old (with_first_bytes head.now) name.now }
         ensures ok { OnOk result
-            (Some self.new.files ≡ Some (changed (overwritten head.now) self.old.files name.now)) }
+            (Some self.new.files ≡ Some (with_change (with_first_bytes head.now) self.old.files name.now)) }
         ensures err { OnErr result
             (IsPartFinished (Some self.old.files) (Some self.new.files) name.now head.now) }
         ensures faults { Counted result self.old.write_faults self.new.write_faults }

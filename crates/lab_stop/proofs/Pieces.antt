@@ -4,7 +4,7 @@ use Rattle.std.specs.Prelude.{Bool, Option, Ok, Err}
 use Rattle.std.specs.Option.{ForSome}
 use Rattle.lab_shelf.specs.Files.{Files}
 use Rattle.lab_stop.specs.declared.stop.Stop.{Stop}
-use Rattle.lab_stop.specs.Causes.{fetched, fetched_from, piece_bytes}
+use Rattle.lab_stop.specs.Causes.{first_bytes, fetched_from, piece_bytes}
 use Rattle.lab_stop.specs.Passing.{IsCauseOf-passed, Misses-passed}
 use Rattle.lab_stop.specs.Pieces.{IsFetched, IsFetched-next, IsFetched-most, refused_alike}
 use Rattle.lab_stop.specs.Stops.{IsCauseOf, Misses}
@@ -41,22 +41,22 @@ fetched-next files now name bytes piece longer from last then_last so_far same n
 -- enough is fetched
 pub fetched-most : (files : Option Files) (name bytes first : List ℕ) (last : Bool) (most : ℕ)
     → ForSome files (λ m. IsFetched m name bytes last) → (last ≡ true) ⊎ (most ≤ length bytes) → first ≡ take most bytes
-    → ForSome files (λ m. fetched m name most ≡ Ok first)
+    → ForSome files (λ m. first_bytes m name most ≡ Ok first)
 fetched-most files name bytes first last most so_far enough is m told =
     IsFetched-most m name bytes last most (so_far m told) enough ∙ ap Ok (sym is)
 
 -- a stop at a piece is one at the bytes that are wanted
 pub stop-passed : (files now : Option Files) (name : List ℕ) (from most : ℕ) (stop : Stop) → now ≡ files
     → ForSome now (λ m. IsCauseOf stop (fetched_from m name from piece_bytes))
-    → ForSome files (λ m. IsCauseOf stop (fetched m name most))
+    → ForSome files (λ m. IsCauseOf stop (first_bytes m name most))
 stop-passed files now name from most stop same is m told =
-    IsCauseOf-passed stop (fetched_from m name from piece_bytes) (fetched m name most)
+    IsCauseOf-passed stop (fetched_from m name from piece_bytes) (first_bytes m name most)
     (refused_alike m name from piece_bytes 0 most) (is m (same ∙ told))
 
 -- over reliable files a file that is missing at a piece is missing
 pub missing-passed : (files now : Option Files) (name : List ℕ) (from most : ℕ) (stop : Stop) → now ≡ files
     → ForSome now (λ m. Misses {X = Unit {0}} (Err stop) (fetched_from m name from piece_bytes))
-    → ForSome files (λ m. Misses {X = Unit {0}} (Err stop) (fetched m name most))
+    → ForSome files (λ m. Misses {X = Unit {0}} (Err stop) (first_bytes m name most))
 missing-passed files now name from most stop same is m told =
-    Misses-passed stop (fetched_from m name from piece_bytes) (fetched m name most)
+    Misses-passed stop (fetched_from m name from piece_bytes) (first_bytes m name most)
     (refused_alike m name from piece_bytes 0 most) (is m (same ∙ told))

@@ -31,8 +31,8 @@ found name None = Err (missing name)
 found name (Some bytes) = Ok bytes
 
 -- the first bytes of a file, at most so many of them
-abbrev pub fetched : Files → List ℕ → ℕ → Result (List ℕ) Cause
-fetched files name most = found name (piece files name 0 most)
+abbrev pub first_bytes : Files → List ℕ → ℕ → Result (List ℕ) Cause
+first_bytes files name most = found name (piece files name 0 most)
 
 -- the bytes of a file from a place on, at most so many of them
 abbrev pub fetched_from : Files → List ℕ → ℕ → ℕ → Result (List ℕ) Cause

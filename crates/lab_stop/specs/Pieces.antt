@@ -13,11 +13,11 @@ use Rattle.std.proofs.Math.Seq.{take-add}
 use Rattle.std.specs.Prelude.{Bool, Option, Some, None, Ok, Err}
 use Rattle.std.specs.Option.{option_map}
 use Rattle.lab_shelf.specs.Files.{Files, bytes_under}
-use Rattle.lab_stop.specs.Causes.{Cause, found, fetched, fetched_from, content_in, piece_bytes}
+use Rattle.lab_stop.specs.Causes.{Cause, found, first_bytes, fetched_from, content_in, piece_bytes}
 
 -- the bytes so far are the first of a file, and all of it behind the last piece
 pub record IsFetched (files : Files) (name bytes : List ℕ) (last : Bool) : Type 0 where
-  pub first : fetched files name (length bytes) ≡ Ok bytes
+  pub first : first_bytes files name (length bytes) ≡ Ok bytes
   pub whole : last ≡ true → content_in files name ≡ Ok bytes
 
 -- nothing is fetched yet, or the bytes so far are the first of a file
@@ -122,7 +122,7 @@ whole_of (Some content) name bytes most whole =
 
 -- the first bytes of a file, once all or enough of them are fetched
 pub IsFetched-most : (files : Files) (name bytes : List ℕ) (last : Bool) (most : ℕ) → IsFetched files name bytes last
-    → (last ≡ true) ⊎ (most ≤ length bytes) → fetched files name most ≡ Ok (take most bytes)
+    → (last ≡ true) ⊎ (most ≤ length bytes) → first_bytes files name most ≡ Ok (take most bytes)
 IsFetched-most files name bytes last most so_far (inl all) = whole_of (bytes_under files name) name bytes most (so_far.whole all)
 IsFetched-most files name bytes last most so_far (inr enough) = most_of (bytes_under files name) name bytes most so_far.first enough
 

@@ -3,7 +3,7 @@ ghost use Rattle.std.specs.Prelude.{◌≡◌, ◌≢◌, ◌≤◌, ◌++◌, E
 ghost use Rattle.std.specs.Option.{ForSome, option_map};
 ghost use Rattle.lab_shelf.specs.Files.{TookPart};
 ghost use Rattle.lab_stop.specs.declared.stop.Stop.TheVariants as stops;
-ghost use Rattle.lab_stop.specs.Causes.{fetched, fetched_from, piece_bytes};
+ghost use Rattle.lab_stop.specs.Causes.{first_bytes, fetched_from, piece_bytes};
 ghost use Rattle.lab_stop.specs.Stops.{FetchFaults, Follows, IsWriteStop, Misses, WriteFaults};
 
 use crate::stop::Stop;
@@ -56,14 +56,14 @@ pub fn fetch_most<S: Shelf>(
     most: u64,
 ) -> Result<Vec<u8>, Stop>
     ensures bytes { ForSome (S.files shelf.old)
-        (λ files. Follows (λ v. v.items) result (fetched files name.now most)) }
+        (λ files. Follows (λ v. v.items) result (first_bytes files name.now most)) }
     ensures most { IfOk result (λ v. vec_len v ≤ most) }
     ensures files { S.files shelf.new ≡ S.files shelf.old }
     ensures faults { FetchFaults result (S.fetch_faults shelf.old) (S.fetch_faults shelf.new) }
     ensures write_faults { S.write_faults shelf.new ≡ S.write_faults shelf.old }
     ensures reliable { S.is_reliable shelf.old → S.is_reliable shelf.new }
     ensures missing { S.is_reliable shelf.old → ForSome (S.files shelf.old)
-        (λ files. Misses result (fetched files name.now most)) }
+        (λ files. Misses result (first_bytes files name.now most)) }
 {
     let mut bytes = fetch_piece(shelf, alloc, name, 0)?;
     let mut is_last = bytes.len() < PIECE_BYTES;

@@ -18,7 +18,7 @@ use Rattle.lab_script.specs.declared.error.ScriptError.{ScriptError}
 use Rattle.lab_script.specs.declared.script.CardLine.{CardLine}
 use Rattle.lab_script.specs.declared.script.Script.{Script}
 use Rattle.lab_script.specs.Reading.{script_of}
-use Rattle.lab_stop.specs.Causes.{Cause, content_in, fetched, found, ◌>>=◌}
+use Rattle.lab_stop.specs.Causes.{Cause, content_in, first_bytes, found, ◌>>=◌}
 use Rattle.lab_input.specs.Input.{RunInput, as_script, capture_in, with_byte_count, input_in, most_of_run, script_in, sound_in, sounds_in, wav_in, with_weight, within_run}
 use Rattle.lab_make.specs.declared.workload.Workload.{Workload}
 use Rattle.lab_make.specs.Files.{IsMadeSound, file_name, made_sound, made_sounds}

@@ -2,7 +2,7 @@ use Rattle.std.proofs.Common.{◌≡◌, ◌≤◌, List, ℕ, length, drop, get
 use Rattle.std.specs.Prelude.{IsSome, IfSome}
 use Rattle.std.proofs.lemmas.List.{take_at}
 use Rattle.std.specs.Vec.{with_items}
-use Rattle.lab_shelf.specs.Files.{overwritten}
+use Rattle.lab_shelf.specs.Files.{with_first_bytes}
 use Rattle.lab_shelf.proofs.EntryLists.{set_is_changed, held_found, held_nowhere}
 use Rattle.lab_shelf.proofs.entries.overwrite.Goals as goal
 
@@ -17,8 +17,8 @@ returns-in-Some-clause-ok c =
     let entry = get_or c.args.entries.now c.in-Some.place c.index-entries-place.result in
     let new = c.put_front.new.content in
     let all : length new ≡ entry.1.len = c.put_front.auto.content ∙ c.as_mut_slice.ensures.len in
-    set_is_changed (λ e. e.0.items) (λ e. e.1.items) (overwritten c.args.head.now) c.args.entries.now c.in-Some.place (entry.0, with_items entry.1 new) c.index-entries-place.result c.args.name.now (sym c.in-Some.ensures) refl
-    (take_at new (drop (length new) entry.1.items) entry.1.len all ∙ c.put_front.ensures ∙ ap (overwritten c.args.head.now) c.as_mut_slice.ensures.value)
+    set_is_changed (λ e. e.0.items) (λ e. e.1.items) (with_first_bytes c.args.head.now) c.args.entries.now c.in-Some.place (entry.0, with_items entry.1 new) c.index-entries-place.result c.args.name.now (sym c.in-Some.ensures) refl
+    (take_at new (drop (length new) entry.1.items) entry.1.len all ∙ c.put_front.ensures ∙ ap (with_first_bytes c.args.head.now) c.as_mut_slice.ensures.value)
 
 pub returns-in-Some-clause-held : goal.returns-in-Some-clause-held
 returns-in-Some-clause-held c =
