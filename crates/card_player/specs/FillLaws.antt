@@ -5,7 +5,7 @@ use Rattle.std.proofs.Math.ListN.{set}
 use Rattle.std.proofs.Math.Numerals.{suc-eq-add-one}
 use Rattle.snd_base.specs.declared.geometry.Geometry.{Geometry}
 use Rattle.snd_base.specs.declared.places.Cursor.{Cursor}
-use Rattle.snd_base.specs.Places.{behind}
+use Rattle.snd_base.specs.Places.{cursor_after}
 use Rattle.mix_core.specs.declared.event.Taken.{Taken}
 use Rattle.sum_table.specs.declared.view.Key.{Key}
 use Rattle.std.proofs.lemmas.Bool.{lt-ltb}
@@ -56,8 +56,8 @@ HasWritten-more p q r at c old new x was took channel inside =
       played = subst (λ xs. HasPlayed p r xs []) (sym values)
           (HasPlayed-joined p q r (drop at (take (at + c) new)) (x.value ∷ []) [] [] was.played (HasPlayed-taken q r x took));
       next = took.next
-          ∙ (ap (λ (k : Key). behind k.geometry (next_of_player q).frame (next_of_player q).channel) was.played.goes.key
-          ∙ ap (λ (w : Cursor). behind g w.frame w.channel) next_q);
+          ∙ (ap (λ (k : Key). cursor_after k.geometry (next_of_player q).frame (next_of_player q).channel) was.played.goes.key
+          ∙ ap (λ (w : Cursor). cursor_after g w.frame w.channel) next_q);
       before = take-set-le at new (at + c) x.value (omega arith) ∙ was.before;
       rest = drop-set-lt (at + (c + 1)) new (at + c) x.value (omega arith) ∙ drop_one_more at c new old was.rest;
     } where

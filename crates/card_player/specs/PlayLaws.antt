@@ -5,7 +5,7 @@ use Rattle.std.proofs.lemmas.Bool.{lt-ltb}
 use Rattle.std.proofs.lemmas.List.Elements.{All-append}
 use Rattle.snd_base.specs.declared.geometry.Geometry.{Geometry}
 use Rattle.snd_base.specs.declared.places.Cursor.{Cursor}
-use Rattle.snd_base.specs.Places.{behind}
+use Rattle.snd_base.specs.Places.{cursor_after}
 use Rattle.mix_core.specs.declared.event.Taken.{Taken}
 use Rattle.sum_table.specs.declared.seats.player.PlayerSeat.{PlayerSeat}
 use Rattle.sum_table.specs.declared.view.Key.{Key}
@@ -21,11 +21,11 @@ last_of-append d (x ∷ xs) ys = last_of-append x xs ys
 
 pub behind_words-append : (g : Geometry) (at : Cursor) (xs ys : List ℤ) → behind_words g at (xs ++ ys) ≡ behind_words g (behind_words g at xs) ys
 behind_words-append g at [] ys = refl
-behind_words-append g at (x ∷ xs) ys = behind_words-append g (behind g at.frame at.channel) xs ys
+behind_words-append g at (x ∷ xs) ys = behind_words-append g (cursor_after g at.frame at.channel) xs ys
 
 pub words_at-append : (g : Geometry) (at : Cursor) (xs ys : List ℤ) → words_at g at (xs ++ ys) ≡ words_at g at xs ++ words_at g (behind_words g at xs) ys
 words_at-append g at [] ys = refl
-words_at-append g at (x ∷ xs) ys = ap (λ ws. record { frame = at.frame; channel = at.channel; value = x } ∷ ws) (words_at-append g (behind g at.frame at.channel) xs ys)
+words_at-append g at (x ∷ xs) ys = ap (λ ws. record { frame = at.frame; channel = at.channel; value = x } ∷ ws) (words_at-append g (cursor_after g at.frame at.channel) xs ys)
 
 pub PlayerGoes-same : (p : PlayerSeat) → PlayerGoes p p
 PlayerGoes-same p = record { ring = refl; key = refl; history = ([], sym (append-nil (player_view p).history)) }

@@ -2,7 +2,7 @@
 use Rattle.std.specs.Prelude.{◌≡◌, ℕ, ◌+◌, ◌-◌, ◌*◌, ◌/◌, ◌%◌, ◌==◌, ◌<◌, ◌≤◌, ◌&&◌, nat_lt, Bool, zero, suc, if◌then◌else◌, min, ℤ, List, [], ◌∷◌, ◌++◌, All, length, take, drop}
 use Rattle.snd_base.specs.declared.geometry.Geometry.{Geometry}
 use Rattle.snd_base.specs.declared.places.Cursor.{Cursor}
-use Rattle.snd_base.specs.Places.{behind, end_frame, lap}
+use Rattle.snd_base.specs.Places.{cursor_after, end_frame, lap}
 use Rattle.lap_word.specs.Clamp.{clamp_of}
 use Rattle.mix_core.specs.declared.event.Taken.{Taken}
 use Rattle.mix_core.specs.History.{laid_of}
@@ -51,12 +51,12 @@ rest_of p frames out = drop (frames * (geometry_of p).channels) out
 -- the word behind so many words with these values, and the words themselves, in the order of frames and then channels
 abbrev pub behind_words : Geometry → Cursor → List ℤ → Cursor
 behind_words g at [] = at
-behind_words g at (x ∷ xs) = behind_words g (behind g at.frame at.channel) xs
+behind_words g at (x ∷ xs) = behind_words g (cursor_after g at.frame at.channel) xs
 
 abbrev pub words_at : Geometry → Cursor → List ℤ → List Taken
 words_at g at [] = []
 words_at g at (x ∷ xs) =
-    record { frame = at.frame; channel = at.channel; value = x } ∷ words_at g (behind g at.frame at.channel) xs
+    record { frame = at.frame; channel = at.channel; value = x } ∷ words_at g (cursor_after g at.frame at.channel) xs
 
 -- whether a frame number is a multiple of the period, and the list of it where it is
 abbrev pub is_multiple : ℕ → ℕ → Bool

@@ -6,7 +6,7 @@ use Rattle.std.proofs.lemmas.Bool.Decides.{nat_tests}
 use Rattle.std.specs.Prelude.{ℤ, pos, slice_index, slice_index_or}
 use Rattle.snd_base.specs.declared.geometry.Geometry.{Geometry}
 use Rattle.snd_base.specs.declared.places.Cursor.{Cursor}
-use Rattle.snd_base.specs.Places.{IsFrom, behind, first_free}
+use Rattle.snd_base.specs.Places.{IsFrom, cursor_after, first_free}
 use Rattle.mix_core.specs.declared.marks.Marks.{Marks}
 use Rattle.mix_core.specs.declared.port.Ended.{Ended}
 use Rattle.mix_core.specs.declared.port.Ended.TheVariants.{Whole, Late, Stopped}
@@ -35,7 +35,7 @@ marks-joined u v w m before later =
     later ∙ ap (λ (x : PortView). record x { marks = m }) before ∙ ap (λ (k : Marks). record u { marks = k }) (sym (ap (λ (x : PortView). x.marks) later))
 
 -- behind a channel the later channels of its frame are free, and the next frame is
-pub behind-later : (g : Geometry) (f c d : ℕ) → c < d → d < g.channels → IsFrom (behind g f c) f d
+pub behind-later : (g : Geometry) (f c d : ℕ) → c < d → d < g.channels → IsFrom (cursor_after g f c) f d
 behind-later g f c d later within = grind (arith, nat_tests)
 
 -- a cursor at a frame's channel is at its later channels

@@ -6,7 +6,7 @@ use Rattle.std.proofs.Math.Numerals.{add-one}
 use Rattle.std.proofs.lemmas.Bool.Decides.{nat_tests}
 use Rattle.std.proofs.lemmas.List.{append_assoc}
 use Rattle.snd_base.specs.declared.geometry.Geometry.{Geometry}
-use Rattle.snd_base.specs.Places.{behind, first_free}
+use Rattle.snd_base.specs.Places.{cursor_after, first_free}
 use Rattle.snd_base.specs.Relations.{Composes}
 use Rattle.mix_core.specs.declared.gate.Gate as gates
 use Rattle.mix_core.specs.declared.port.Ended.{Ended}
@@ -65,7 +65,7 @@ pub record LaysFrames {S T : Type 0} (P : mixport.Ghosts S) (G : gates.Ghosts T)
   pub free : (c : ℕ) → first_free (P.view s.0).marks.cursor c ≤ card + first
       → OnWhole x.ended (first_free (P.view t.0).marks.cursor c ≤ card + (first + x.frames))
 
-behind-next : (g : Geometry) (f c d : ℕ) → first_free (behind g f c) d ≤ f + 1
+behind-next : (g : Geometry) (f c d : ℕ) → first_free (cursor_after g f c) d ≤ f + 1
 behind-next g f c d = grind (arith, nat_tests)
 
 up_to-more : (e : Ended) (done all : ℕ) → IsUpTo e done all → IsUpTo e (suc done) (suc all)

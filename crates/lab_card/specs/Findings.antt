@@ -24,7 +24,7 @@ use Rattle.sum_table.specs.declared.view.Key.{Key}
 use Rattle.sum_table.specs.declared.view.Track.{Track}
 use Rattle.sum_table.specs.declared.view.View.{View}
 use Rattle.sum_table.specs.Players.{next_of_player, player_geometry, player_key, track_of}
-use Rattle.sum_table.specs.Seats.{SeatLoaded, key_of, seat_view, seen_of, shown, view_of}
+use Rattle.sum_table.specs.Seats.{SeatLoaded, key_of, seat_view, seen_of, noted_word, view_of}
 use Rattle.snoop_core.specs.Port as snoop_port
 use Rattle.snoop_core.specs.Word.{laps_of}
 use Rattle.snoop_table.specs.declared.seats.reader.ReaderSeat.{ReaderSeat}
@@ -76,7 +76,7 @@ pub record ClientPhase (c d : Card) (s t u v : MixSeat) (found : Findings) : Typ
   pub key : key_of u ≡ key_of t
   pub loads : SeatLoaded t u found.loads
   pub late : Each
-      (λ (place : ℕ × ℕ). (word : ℕ) × mix_port.IsPast seat_view shown u place.0 place.1 word)
+      (λ (place : ℕ × ℕ). (word : ℕ) × mix_port.IsPast seat_view noted_word u place.0 place.1 word)
       found.late
   pub overtaken : found.overtaken ≡ []
   pub same : IsSameClient u v
@@ -91,7 +91,7 @@ pub record ReaderPhase (c d : Card) (s t u v : ReaderSeat) (found : Findings) : 
   pub late : found.late ≡ []
   pub overtaken : Each
       (λ (place : ℕ × ℕ). (word : ℕ)
-      × snoop_port.IsPast readers.seat_view readers.shown u place.0 place.1 word) found.overtaken
+      × snoop_port.IsPast readers.seat_view readers.noted_word u place.0 place.1 word) found.overtaken
   pub same : IsSameReader u v
   pub knows : KnowsReader d v
 
@@ -245,7 +245,7 @@ module _ {capture : Option Sound} {phase : ℕ} (c : Card) (a b : CardActor) (d 
       (subst (λ (g : Geometry). IsPosition g (track_of (seat_of_card d)).published x) geometry-between at)) up
 
   -- a frame of which a client shows a word of a later lap is taken
-  client-late : (s t u v : MixSeat) (found : Findings) → ClientPhase c d s t u v found → (f n word : ℕ) → mix_port.IsPast seat_view shown u f n word → f < frame_of_card b.card
+  client-late : (s t u v : MixSeat) (found : Findings) → ClientPhase c d s t u v found → (f n word : ℕ) → mix_port.IsPast seat_view noted_word u f n word → f < frame_of_card b.card
   client-late s t u v found client f n word past =
       let g : Geometry = player_geometry (seat_of_card d) in
       let own : key_of u ≡ player_key (seat_of_card c) = client.key ∙ (client.informed.key ∙ client.of_ring.1) in
@@ -277,7 +277,7 @@ module _ {capture : Option Sound} {phase : ℕ} (c : Card) (a b : CardActor) (d 
             (λ i x at up. client-position x (client.knows.positions i x (ap (λ (xs : List ℕ). get_elem? xs i) positions ∙ at)) up))
             (loaded-gone (is_gone c) (view_of t).seen_gone (view_of u).seen_gone (view_of s).seen_gone found.loads client.informed.gone client.loads.gone client.loads.after_gone
             (λ is_so. sym gone-between ∙ client.knows.gone (seen ∙ is_so)));
-        late = Each-less (λ (place : ℕ × ℕ). (word : ℕ) × mix_port.IsPast seat_view shown u place.0 place.1 word) (λ (place : ℕ × ℕ). place.0 < frame_of_card b.card) found.late
+        late = Each-less (λ (place : ℕ × ℕ). (word : ℕ) × mix_port.IsPast seat_view noted_word u place.0 place.1 word) (λ (place : ℕ × ℕ). place.0 < frame_of_card b.card) found.late
             (λ place past. client-late s t u v found client place.0 place.1 past.0 past.1) client.late;
         overtaken = subst (Each (λ (place : ℕ × ℕ). place.0 + (geometry_of_card c).frames < frame_of_card b.card)) (sym client.overtaken) tt;
       }
@@ -316,7 +316,7 @@ module _ {capture : Option Sound} {phase : ℕ} (c : Card) (a b : CardActor) (d 
       (subst (λ (g : Geometry). IsPosition g (writer_track (writer_of d)).published x) same at)) up
 
   -- a frame of which a reader shows a word of a later lap is stored over
-  reader-overtaken : records_of c ≡ true → (s t u v : ReaderSeat) (found : Findings) → ReaderPhase c d s t u v found → (f n word : ℕ) → snoop_port.IsPast readers.seat_view readers.shown u f n word
+  reader-overtaken : records_of c ≡ true → (s t u v : ReaderSeat) (found : Findings) → ReaderPhase c d s t u v found → (f n word : ℕ) → snoop_port.IsPast readers.seat_view readers.noted_word u f n word
       → f + (geometry_of_card c).frames < frame_of_card b.card
   reader-overtaken records s t u v found reader f n word past =
       let g : Geometry = writer_geometry (writer_of d) in
@@ -360,7 +360,7 @@ module _ {capture : Option Sound} {phase : ℕ} (c : Card) (a b : CardActor) (d 
             (loaded-gone (is_gone c) (readers.view_of t).seen_gone (readers.view_of u).seen_gone (readers.view_of s).seen_gone found.loads informed reader.loads.gone reader.loads.after_gone
             (λ is_so. sym writer-gone ∙ reader.knows.gone (seen ∙ is_so)));
         late = subst (Each (λ (place : ℕ × ℕ). place.0 < frame_of_card b.card)) (sym reader.late) tt;
-        overtaken = Each-less (λ (place : ℕ × ℕ). (word : ℕ) × snoop_port.IsPast readers.seat_view readers.shown u place.0 place.1 word)
+        overtaken = Each-less (λ (place : ℕ × ℕ). (word : ℕ) × snoop_port.IsPast readers.seat_view readers.noted_word u place.0 place.1 word)
             (λ (place : ℕ × ℕ). place.0 + (geometry_of_card c).frames < frame_of_card b.card) found.overtaken
             (λ place past. reader-overtaken records s t u v found reader place.0 place.1 past.0 past.1) reader.overtaken;
       }

@@ -10,7 +10,7 @@ use Rattle.sum_table.specs.declared.seats.player.PlayerSeat.{PlayerSeat}
 use Rattle.sum_table.specs.Exact.{IsPublished}
 use Rattle.sum_table.specs.Joins.{OneRing}
 use Rattle.sum_table.specs.Players.{next_of_player, player_geometry, player_key, player_ring, track_of}
-use Rattle.sum_table.specs.Seats.{key_of, last_of_seat, marks_of_seat, member_of, places_of_seat, ring_of, seen_of, shown, view_of}
+use Rattle.sum_table.specs.Seats.{key_of, last_of_seat, marks_of_seat, member_of, places_of_seat, ring_of, seen_of, noted_word, view_of}
 use Rattle.snoop_table.specs.declared.seats.reader.ReaderSeat.{ReaderSeat}
 use Rattle.snoop_table.specs.declared.seats.writer.WriterSeat.{WriterSeat}
 use Rattle.snoop_table.specs.Joins.{IsBorneOut}
@@ -101,7 +101,7 @@ pub record KnowsClient (c : Card) (s : MixSeat) : Type 0 where
       → IsPublished (player_geometry (seat_of_card c)) (track_of (seat_of_card c)) x
   pub noted : (f n x : ℕ)
       → IsNow (player_geometry (seat_of_card c)) (next_of_player (seat_of_card c)) f n
-      → shown s f n ≡ Some x
+      → noted_word s f n ≡ Some x
       → lap_of x ≤ lap (player_geometry (seat_of_card c)) f
   pub gone : (view_of s).seen_gone ≡ true → is_gone c ≡ true
 

@@ -7,7 +7,7 @@ use Rattle.std.specs.Prelude.{Bool, true, false, nat_eq, nat_lt, if◌then◌els
 use Rattle.snd_base.specs.declared.errors.PcmError.{PcmError}
 use Rattle.snd_base.specs.declared.geometry.Geometry.{Geometry}
 use Rattle.snd_base.specs.declared.places.Cursor.{Cursor}
-use Rattle.snd_base.specs.Places.{behind, first_free}
+use Rattle.snd_base.specs.Places.{cursor_after, first_free}
 use Rattle.bindings.specs.Bound.{rising}
 use Rattle.mix_core.specs.declared.marks.Marks.{Marks}
 use Rattle.mix_core.specs.declared.port.Ended.{Ended}
@@ -43,7 +43,7 @@ free_frame m = first_free m.cursor 0
 abbrev pub high_end : Marks → ℕ
 high_end m = first_free m.high 0
 
-pub behind-free : (g : Geometry) (f c : ℕ) → first_free (behind g f c) 0 ≡ f + 1
+pub behind-free : (g : Geometry) (f c : ℕ) → first_free (cursor_after g f c) 0 ≡ f + 1
 behind-free g f c = by_test (nat_lt (c + 1) g.channels)
   where
     by_test : (test : Bool) → first_free (if test then record { frame = f; channel = c + 1 } else record { frame = f + 1; channel = 0 }) 0 ≡ f + 1
@@ -85,8 +85,8 @@ pub added-lies : (g : Geometry) (p x y card z e frame member channel : ℕ) (sam
     → Lies p x y card z e m → Lies p x y card z (frame + 1) (marks_after g m (an_add member frame channel sample))
 added-lies g p x y card z e frame member channel sample m past after kept lies = record {
   low = max-least x (free_frame n) p (rw is (omega (arith, past, after)));
-  top = later-most m.high (behind g frame channel);
-  high = omega (arith, lies.high, later-least m.high (behind g frame channel));
+  top = later-most m.high (cursor_after g frame channel);
+  high = omega (arith, lies.high, later-least m.high (cursor_after g frame channel));
   kept = max-first z (free_frame n) card (rw is kept);
   end = max-first (frame + 1) (free_frame n) card (rw is (omega arith));
 }

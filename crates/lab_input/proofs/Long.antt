@@ -7,7 +7,7 @@ use Rattle.wav_io.specs.declared.error.WavError.{WavError}
 use Rattle.wav_io.specs.declared.error.WavError.TheVariants.{TooLong}
 use Rattle.wav_io.specs.declared.format.Depths.{Depths}
 use Rattle.wav_io.specs.declared.format.Depths.TheVariants.{Sixteen, UpTo32}
-use Rattle.wav_io.specs.Reading.{Contents, Finding, refused, body_found, format_cut, ended, before_end, found_in, limited, contents, most_bytes, sounds}
+use Rattle.wav_io.specs.Reading.{Contents, Finding, refused, body_found, format_cut, ended, before_end, found_in, within_limit, contents, most_bytes, sounds}
 use Rattle.wav_io.specs.Readers.{raws}
 use Rattle.lab_input.specs.declared.shape.Shape.{Shape}
 use Rattle.lab_input.specs.Plug.{conversion_of, sound_file}
@@ -15,7 +15,7 @@ use Rattle.lab_input.specs.Plug.{conversion_of, sound_file}
 -- what such a file is, by its first bytes
 contents-long : (depths : Depths) (bytes : List ℕ) → most_bytes < length bytes
     → contents depths bytes ≡ before_end (found_in depths (take most_bytes bytes))
-unfolding limited
+unfolding within_limit
 contents-long depths bytes long =
     cond-false (leb (0 + length bytes) most_bytes) _ _ (lt-leb (0 + length bytes) most_bytes (omega (arith, long)))
 

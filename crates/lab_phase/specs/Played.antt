@@ -6,7 +6,7 @@ use Rattle.snd_base.specs.declared.geometry.Geometry.{Geometry}
 use Rattle.snd_base.specs.declared.places.Cursor.{Cursor}
 use Rattle.snd_base.specs.declared.places.Segment.{Segment}
 use Rattle.snd_base.specs.Places as places
-use Rattle.snd_base.specs.Places.{behind}
+use Rattle.snd_base.specs.Places.{cursor_after}
 use Rattle.lap_word.specs.Clamp.{clamp_of}
 use Rattle.mix_core.specs.declared.event.Taken.{Taken}
 use Rattle.mix_core.specs.declared.port.Entry.{Entry}
@@ -30,12 +30,12 @@ list-is-map {X = X} f from (x ∷ xs) (suc n) len each =
 
 length-words_at : (g : Geometry) (at : Cursor) (xs : List ℤ) → length (words_at g at xs) ≡ length xs
 length-words_at g at [] = refl
-length-words_at g at (x ∷ xs) = ap suc (length-words_at g (behind g at.frame at.channel) xs)
+length-words_at g at (x ∷ xs) = ap suc (length-words_at g (cursor_after g at.frame at.channel) xs)
 
 value-words_at : (g : Geometry) (at : Cursor) (xs : List ℤ) (i : ℕ) (d : ℤ) (t : Taken) → i < length xs → (slice_index_or (words_at g at xs) i t).value ≡ slice_index_or xs i d
 value-words_at g at [] i d t inside = absurd (omega (arith, inside))
 value-words_at g at (x ∷ xs) zero d t inside = refl
-value-words_at g at (x ∷ xs) (suc i) d t inside = value-words_at g (behind g at.frame at.channel) xs i d t (omega (arith, inside))
+value-words_at g at (x ∷ xs) (suc i) d t inside = value-words_at g (cursor_after g at.frame at.channel) xs i d t (omega (arith, inside))
 
 no_word : Taken
 no_word = record { frame = 0; channel = 0; value = pos 0 }

@@ -4,7 +4,7 @@ use Rattle.atomic_table.specs.Seated.{TableId}
 use Rattle.snd_base.specs.declared.geometry.Geometry.{Geometry}
 use Rattle.snoop_core.specs.declared.port.SnoopPort as snoopport
 use Rattle.snoop_table.specs.declared.seats.reader.ReaderSeat.{ReaderSeat}
-use Rattle.snoop_table.specs.Readers.{SeatFinds, SeatGot, SeatLoaded, geometry_of, ring_of, seat_view, seen_of, shown}
+use Rattle.snoop_table.specs.Readers.{SeatFinds, SeatGot, SeatLoaded, geometry_of, ring_of, seat_view, seen_of, noted_word}
 use Rattle.dsnoop_client.specs.declared.stream.CaptureStream.{CaptureStream}
 use Rattle.dsnoop_client.specs.View.{CanUse}
 use Rattle.card_sim.specs.declared.card.Card.{Card}
@@ -57,7 +57,7 @@ abbrev pub seat_port : snoopport.Ghosts ReaderSeat
 seat_port =
     record {
       view = seat_view;
-      shows = shown;
+      shows = noted_word;
       loaded = SeatLoaded;
       got = SeatGot;
       finds = SeatFinds;

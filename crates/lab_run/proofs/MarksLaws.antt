@@ -4,12 +4,12 @@ use Rattle.std.proofs.lemmas.Bool.Decides.{nat_tests}
 use Rattle.std.specs.Prelude.{Bool, true, false, nat_le, nat_lt, max, if◌then◌else◌}
 use Rattle.snd_base.specs.declared.geometry.Geometry.{Geometry}
 use Rattle.snd_base.specs.declared.places.Cursor.{Cursor}
-use Rattle.snd_base.specs.Places.{behind, first_free}
+use Rattle.snd_base.specs.Places.{cursor_after, first_free}
 use Rattle.mix_core.specs.declared.marks.Marks.{Marks}
 use Rattle.mix_core.specs.declared.port.Entry.{Entry}
 use Rattle.mix_core.specs.declared.port.Kind.{Kind}
 use Rattle.mix_core.specs.declared.port.Kind.TheVariants.{Added, Withdrawn}
-use Rattle.mix_core.specs.Laid.{marked, marks_after}
+use Rattle.mix_core.specs.Laid.{marks_with, marks_after}
 use Rattle.mix_core.specs.Marks.{floor_after, high_frame, is_before, last_before, later_of, start_of}
 use Rattle.lab_run.specs.Alike.{SameFrom}
 use Rattle.lab_run.specs.Places.{last_of}
@@ -40,17 +40,17 @@ floor-same ring from before own port (laid same high past (inl floor)) = equal-s
 floor-same ring from before own port (laid same high past (inr floor)) = low-same from own.floor port.floor floor.0 floor.1
 
 -- a cursor that isn't past a frame is before the one behind a sample at that frame or past it
-before-behind : (ring : Geometry) (from frame channel : ℕ) (at : Cursor) → IsLow from at → from ≤ frame → is_before at (behind ring frame channel) ≡ true
+before-behind : (ring : Geometry) (from frame channel : ℕ) (at : Cursor) → IsLow from at → from ≤ frame → is_before at (cursor_after ring frame channel) ≡ true
 before-behind ring from frame channel at low after = by_end (nat_lt (channel + 1) ring.channels) refl (nat_lt 0 at.channel) refl low
   where
     by_end : (more : Bool) → nat_lt (channel + 1) ring.channels ≡ more → (part : Bool) → nat_lt 0 at.channel ≡ part
-        → (if part then at.frame + 1 else at.frame) ≤ from → is_before at (behind ring frame channel) ≡ true
+        → (if part then at.frame + 1 else at.frame) ≤ from → is_before at (cursor_after ring frame channel) ≡ true
     by_end true is true part less = rw is (grind (arith, nat_tests))
     by_end true is false part less = rw is (grind (arith, nat_tests))
     by_end false is true part less = rw is (grind (arith, nat_tests))
     by_end false is false part less = rw is (grind (arith, nat_tests))
 
-low-later : (ring : Geometry) (from frame channel : ℕ) (at : Cursor) → IsLow from at → from ≤ frame → later_of at (behind ring frame channel) ≡ behind ring frame channel
+low-later : (ring : Geometry) (from frame channel : ℕ) (at : Cursor) → IsLow from at → from ≤ frame → later_of at (cursor_after ring frame channel) ≡ cursor_after ring frame channel
 low-later ring from frame channel at low after = rw (before-behind ring from frame channel at low after) refl
 
 -- the floor after an add, of marks that are low
@@ -62,15 +62,15 @@ low-floor from cursor floor high low_floor low_high = by_test (is_before cursor 
     by_test false = low_floor
 
 -- the high after an add at the frame or past it
-behind-past_frame : (ring : Geometry) (from frame channel : ℕ) → from ≤ frame → from < first_free (behind ring frame channel) 0
+behind-past_frame : (ring : Geometry) (from frame channel : ℕ) → from ≤ frame → from < first_free (cursor_after ring frame channel) 0
 behind-past_frame ring from frame channel after = grind (arith, nat_tests)
 
 first-past : (ring : Geometry) (from frame channel : ℕ) (high : Cursor) → high ≡ start_of ring → IsLow from high → from ≤ frame
-    → IsPastFrame ring from (later_of high (behind ring frame channel))
+    → IsPastFrame ring from (later_of high (cursor_after ring frame channel))
 first-past ring from frame channel high is low after =
     subst (IsPastFrame ring from) (sym (low-later ring from frame channel high low after))
     (record {
-      after_start = subst (λ (at : Cursor). is_before at (behind ring frame channel) ≡ true) is (before-behind ring from frame channel high low after);
+      after_start = subst (λ (at : Cursor). is_before at (cursor_after ring frame channel) ≡ true) is (before-behind ring from frame channel high low after);
       after_frame = behind-past_frame ring from frame channel after;
     })
 
@@ -79,30 +79,30 @@ before-later : (a b c : Cursor) → is_before a b ≡ true → is_before b c ≡
 before-later a b c first second = grind (arith, nat_tests)
 
 later-past : (ring : Geometry) (from frame channel : ℕ) (high : Cursor) → IsPastFrame ring from high → from ≤ frame
-    → IsPastFrame ring from (later_of high (behind ring frame channel))
-later-past ring from frame channel high past after = by_test (is_before high (behind ring frame channel)) refl
+    → IsPastFrame ring from (later_of high (cursor_after ring frame channel))
+later-past ring from frame channel high past after = by_test (is_before high (cursor_after ring frame channel)) refl
   where
-    by_test : (test : Bool) → is_before high (behind ring frame channel) ≡ test → IsPastFrame ring from (if test then behind ring frame channel else high)
+    by_test : (test : Bool) → is_before high (cursor_after ring frame channel) ≡ test → IsPastFrame ring from (if test then cursor_after ring frame channel else high)
     by_test true is = record {
-      after_start = before-later (start_of ring) high (behind ring frame channel) past.after_start is;
+      after_start = before-later (start_of ring) high (cursor_after ring frame channel) past.after_start is;
       after_frame = behind-past_frame ring from frame channel after;
     }
     by_test false is = past
 
 -- an add by an actor that laid nothing before
 first-laid : (ring : Geometry) (from frame channel : ℕ) (before : Cursor) (own port : Marks) → from ≤ frame → HasLaidNone ring from before own port
-    → MarksAlike ring from before (marked Added ring own frame channel) (marked Added ring port frame channel)
+    → MarksAlike ring from before (marks_with Added ring own frame channel) (marks_with Added ring port frame channel)
 first-laid ring from frame channel before own port after none =
     laid refl (low-later ring from frame channel own.high none.own_low after ∙ sym (low-later ring from frame channel port.high none.port_low after))
     (first-past ring from frame channel own.high none.own_high none.own_low after)
     (inr (low-floor from own.cursor own.floor own.high none.own_floor none.own_low, low-floor from port.cursor port.floor port.high none.port_floor none.port_low))
 
 added : (ring : Geometry) (from frame channel : ℕ) (before : Cursor) (own port : Marks) → from ≤ frame → MarksAlike ring from before own port
-    → MarksAlike ring from before (marked Added ring own frame channel) (marked Added ring port frame channel)
+    → MarksAlike ring from before (marks_with Added ring own frame channel) (marks_with Added ring port frame channel)
 added ring from frame channel before own port after (untouched none low low_port) = first-laid ring from frame channel before own port after none
 added ring from frame channel before own port after (moved none same) = first-laid ring from frame channel before own port after none
 added ring from frame channel before own port after (laid same high past floor) =
-    laid refl (ap (λ (at : Cursor). later_of at (behind ring frame channel)) high) (later-past ring from frame channel own.high past after)
+    laid refl (ap (λ (at : Cursor). later_of at (cursor_after ring frame channel)) high) (later-past ring from frame channel own.high past after)
     (rw (sym same, sym high) (by_test (is_before own.cursor own.high) floor))
   where
     by_test : (test : Bool) → (own.floor ≡ port.floor) ⊎ (IsLow from own.floor × IsLow from port.floor)
@@ -111,7 +111,7 @@ added ring from frame channel before own port after (laid same high past floor) 
     by_test false floors = floors
 
 withdrawn-none : (ring : Geometry) (from frame channel : ℕ) (before : Cursor) (own port : Marks) → HasLaidNone ring from before own port
-    → HasLaidNone ring from before (marked Withdrawn ring own frame channel) (marked Withdrawn ring port frame channel)
+    → HasLaidNone ring from before (marks_with Withdrawn ring own frame channel) (marks_with Withdrawn ring port frame channel)
 withdrawn-none ring from frame channel before own port none = record {
   own_high = none.own_high;
   port_high = none.port_high;
@@ -122,7 +122,7 @@ withdrawn-none ring from frame channel before own port none = record {
 }
 
 withdrawn : (ring : Geometry) (from frame channel : ℕ) (before : Cursor) (own port : Marks) → MarksAlike ring from before own port
-    → MarksAlike ring from before (marked Withdrawn ring own frame channel) (marked Withdrawn ring port frame channel)
+    → MarksAlike ring from before (marks_with Withdrawn ring own frame channel) (marks_with Withdrawn ring port frame channel)
 withdrawn ring from frame channel before own port (untouched none low low_port) = moved (withdrawn-none ring from frame channel before own port none) refl
 withdrawn ring from frame channel before own port (moved none same) = moved (withdrawn-none ring from frame channel before own port none) refl
 withdrawn ring from frame channel before own port (laid same high past floor) = laid refl high past floor
@@ -132,7 +132,7 @@ pub entry-alike : (ring : Geometry) (from : ℕ) (before : Cursor) (e : Entry) (
     → MarksAlike ring from before (marks_after ring own e) (marks_after ring port e)
 entry-alike ring from before e own port after alike = by_kind e.kind
   where
-    by_kind : (kind : Kind) → MarksAlike ring from before (marked kind ring own e.frame e.channel) (marked kind ring port e.frame e.channel)
+    by_kind : (kind : Kind) → MarksAlike ring from before (marks_with kind ring own e.frame e.channel) (marks_with kind ring port e.frame e.channel)
     by_kind Added = added ring from e.frame e.channel before own port after alike
     by_kind Withdrawn = withdrawn ring from e.frame e.channel before own port alike
 

@@ -17,7 +17,7 @@ use Rattle.mix_core.specs.declared.port.Entry.{Entry}
 use Rattle.mix_core.specs.declared.port.MixPort as mixport
 use Rattle.mix_core.specs.declared.port.Position as positions
 use Rattle.mix_core.specs.Gate.{placing}
-use Rattle.mix_core.specs.Laid.{marked, marks_after, without_last}
+use Rattle.mix_core.specs.Laid.{marks_with, marks_after, without_last}
 use Rattle.mix_core.specs.Port.{IsPast, PortView, ShowsFrom, entry_if}
 use Rattle.course.specs.AtPort.{LaysAt, LoadsAt, NoGet, TakesAt}
 use Rattle.course.specs.Course.{Course}
@@ -144,7 +144,7 @@ module _ {S T : Type 0} (P : mixport.Ghosts S) (G : gates.Ghosts T) (shown_laid 
 
   -- the marks after an entry at the same place
   marks-same : (marks : Marks) (g : Geometry) (e d : Entry) → IsSamePlace e d → g ≡ ring → marks_after g marks e ≡ marks_after ring marks d
-  marks-same marks g e d place same = λ i. marked (place.kind i) (same i) marks (place.frame i) (place.channel i)
+  marks-same marks g e d place same = λ i. marks_with (place.kind i) (same i) marks (place.frame i) (place.channel i)
 
   lay-part : (s t : S × T) (w : Doing) (e d : Entry) (ended : Ended) → IsSamePlace e d → IsAtPort P left by_gate first ring from s w → LaysAt P G s e ended t
       → (v : Doing) × DoesLay ring w d (without_word ended) v × IsAtPort P left by_gate first ring from t v

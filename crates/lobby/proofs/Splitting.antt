@@ -6,7 +6,7 @@ use Rattle.std.proofs.lemmas.List.{get_or_append_left, get_or_push, length-appen
 use Rattle.std.proofs.lemmas.Option.{none-some, same_Some}
 use Rattle.sum_table.specs.declared.seats.mix.MixSeat.{MixSeat}
 use Rattle.sum_table.specs.declared.view.View.{View}
-use Rattle.sum_table.specs.Cuts.{part_of, with_places, without}
+use Rattle.sum_table.specs.Cuts.{part_of, with_places, without_places}
 use Rattle.sum_table.specs.Joins.{HasSplit, Stays}
 use Rattle.sum_table.specs.Seats.{key_of, places_of_seat, ring_of, view_of}
 use Rattle.lobby.specs.Lobbies.{IsPart}
@@ -15,17 +15,17 @@ use Rattle.lobby.specs.Seats.{ArePlaces, IsPlace, seat_at}
 -- so many seats of one place were split off
 pub record IsSplitting (whole rest : MixSeat) (seats : List (Option MixSeat)) (n : ℕ) : Type 0 where
   pub stays : Stays whole rest
-  pub view : view_of rest ≡ without (view_of whole) n
+  pub view : view_of rest ≡ without_places (view_of whole) n
   pub laid : (view_of rest).laid ≡ []
   pub part : part_of (view_of rest) 1 ≡ part_of (view_of whole) 1
   pub places : places_of_seat rest + n ≡ places_of_seat whole
   pub count : length seats ≡ n
   pub each : (place : ℕ) → place < n → (s : MixSeat) × (seat_at seats place ≡ Some s) × IsPart whole place s
 
-without-none : (v : View) → without v 0 ≡ v
+without-none : (v : View) → without_places v 0 ≡ v
 without-none v = let same : v.places - 0 ≡ v.places = omega arith in ap (λ (n : ℕ). with_places v n) same
 
-without-more : (v : View) (n : ℕ) → without (without v n) 1 ≡ without v (n + 1)
+without-more : (v : View) (n : ℕ) → without_places (without_places v n) 1 ≡ without_places v (n + 1)
 without-more v n = let same : v.places - n - 1 ≡ v.places - (n + 1) = omega arith in ap (λ (k : ℕ). with_places v k) same
 
 Stays-joined : (s t u : MixSeat) → Stays s t → Stays t u → Stays s u
@@ -55,7 +55,7 @@ pub IsSplitting-more : (whole rest after one : MixSeat) (seats : List (Option Mi
     → IsSplitting whole after (seats ++ Some one ∷ []) (n + 1)
 IsSplitting-more whole rest after one seats n is split = record {
   stays = Stays-joined whole rest after is.stays split.stays;
-  view = split.view ∙ (ap (λ (v : View). without v 1) is.view ∙ without-more (view_of whole) n);
+  view = split.view ∙ (ap (λ (v : View). without_places v 1) is.view ∙ without-more (view_of whole) n);
   laid = ap (λ (v : View). v.laid) split.view ∙ is.laid;
   part = ap (λ v. part_of v 1) split.view ∙ is.part;
   places = omega (arith, split.places, is.places);

@@ -9,7 +9,7 @@ use Rattle.std.proofs.lemmas.List.Elements.{All-push}
 use Rattle.std.proofs.lemmas.List.Folds.{list_any_at}
 use Rattle.snd_base.specs.declared.geometry.Geometry.{Geometry}
 use Rattle.snd_base.specs.PlaceLaws.{next_word-suc, nat_lt-behind}
-use Rattle.snd_base.specs.Places.{behind, first_frame, first_free, lap, next_word, word_index}
+use Rattle.snd_base.specs.Places.{cursor_after, first_frame, first_free, lap, next_word, word_index}
 use Rattle.lap_word.specs.Clamp.{clamp_of}
 use Rattle.lap_word.specs.Word.{StandsFor, StandsFor-fields, count_of, lap_of, sum_of}
 use Rattle.mix_core.specs.declared.port.Entry.{Entry}
@@ -27,7 +27,7 @@ use Rattle.std.proofs.lemmas.Bool.{cases_eq}
 
 -- a core after the next word was taken, and after an entry was laid, with a new word there
 abbrev pub taken_view : View → ℕ → View
-taken_view v word = record v { words = set v.words (word_index v.geometry v.next.frame v.next.channel) word; next = behind v.geometry v.next.frame v.next.channel }
+taken_view v word = record v { words = set v.words (word_index v.geometry v.next.frame v.next.channel) word; next = cursor_after v.geometry v.next.frame v.next.channel }
 
 abbrev pub laid_view : View → Entry → ℕ → View
 laid_view v e word = record v { words = set v.words (word_index v.geometry e.frame e.channel) word; marks = set v.marks e.member (marks_after v.geometry (marks_at v e.member) e) }
@@ -94,7 +94,7 @@ Agrees-taken v es ts word s stands a =
     let P : ℕ → ℕ → ℕ → Type 0 = λ w f c. StandsFor w (lap g f) (length (at es f c)) (total es f c) in
     let here : P word (nf + g.frames) nc = rw (far, next_lap, ← lap_is) stands in
     record {
-      next = ap (λ x. behind g x.frame x.channel) a.next ∙ (sym (next_word-suc g (length ts)) ∙ ap (next_word g) (sym (length-append ts (taking v es ∷ []))));
+      next = ap (λ x. cursor_after g x.frame x.channel) a.next ∙ (sym (next_word-suc g (length ts)) ∙ ap (next_word g) (sym (length-append ts (taking v es ∷ []))));
       marks = a.marks;
       taken = λ f c in_range least.
           is_taken-more ts (taking v es) f c

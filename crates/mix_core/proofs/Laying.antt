@@ -11,7 +11,7 @@ use Rattle.mix_core.specs.declared.port.Entry.{Entry}
 use Rattle.mix_core.specs.declared.port.Kind.{Kind}
 use Rattle.mix_core.specs.declared.port.Kind.TheVariants.{Added, Withdrawn}
 use Rattle.mix_core.specs.Calls.{IsLaidBy}
-use Rattle.mix_core.specs.Laid.{marked, marks_after, signed, value_of}
+use Rattle.mix_core.specs.Laid.{marks_with, marks_after, signed_sample, value_of}
 use Rattle.mix_core.specs.Port.{IsNotBefore}
 use Rattle.mix_core.specs.PortLaws.{IsNotBefore-refl}
 use Rattle.mix_core.specs.Sound.{AreWithin, IsNow, IsSound}
@@ -49,18 +49,18 @@ can_add v w e same s sample kind member channel from untaken ahead fits =
     let now : IsNow v.geometry v.next e.frame e.channel = IsNow-of v e.frame e.channel s channel_in not_before near in
     let least : first_frame v.geometry ≤ e.frame = grind (arith, nat_tests, not_before, s.next_least) in
     let own : AreWithin v.geometry (marks_at v e.member) = marks_within v e.member s member_in in
-    let low : negsuc 32767 ≤ℤ signed Added e.sample = omega (arith, ints, sample) in
-    let high : signed Added e.sample ≤ℤ pos 32768 = omega (arith, ints, sample) in
+    let low : negsuc 32767 ≤ℤ signed_sample Added e.sample = omega (arith, ints, sample) in
+    let high : signed_sample Added e.sample ≤ℤ pos 32768 = omega (arith, ints, sample) in
     record {
       member = member_in;
       now = now;
       ahead = near;
-      more = subst (λ k. HoldsMoreAt v.geometry (marks_at v e.member) (marked k v.geometry (marks_at v e.member) e.frame e.channel) e.frame e.channel) (sym kind)
+      more = subst (λ k. HoldsMoreAt v.geometry (marks_at v e.member) (marks_with k v.geometry (marks_at v e.member) e.frame e.channel) e.frame e.channel) (sym kind)
           (holds-added v.geometry (marks_at v e.member) e.frame e.channel own channel_in from_v);
-      within = subst (λ k. AreWithin v.geometry (marked k v.geometry (marks_at v e.member) e.frame e.channel)) (sym kind)
+      within = subst (λ k. AreWithin v.geometry (marks_with k v.geometry (marks_at v e.member) e.frame e.channel)) (sym kind)
           (AreWithin-added v.geometry (marks_at v e.member) e.frame e.channel own least (suc-le-end_frame v.geometry e.frame fits_v));
-      low = subst (λ k. negsuc 32767 ≤ℤ signed k e.sample) (sym kind) low;
-      high = subst (λ k. signed k e.sample ≤ℤ pos 32768) (sym kind) high;
+      low = subst (λ k. negsuc 32767 ≤ℤ signed_sample k e.sample) (sym kind) low;
+      high = subst (λ k. signed_sample k e.sample ≤ℤ pos 32768) (sym kind) high;
     }
 
 pub can_withdraw : (v w : View) (e : Entry) → v ≡ w → IsSound v → SFits w16 e.sample → e.kind ≡ Withdrawn
@@ -77,18 +77,18 @@ can_withdraw v w e same s sample kind member channel from before untaken ahead =
     let now : IsNow v.geometry v.next e.frame e.channel = IsNow-of v e.frame e.channel s channel_in not_before near in
     let least : first_frame v.geometry ≤ e.frame = grind (arith, nat_tests, not_before, s.next_least) in
     let own : AreWithin v.geometry (marks_at v e.member) = marks_within v e.member s member_in in
-    let low : negsuc 32767 ≤ℤ signed Withdrawn e.sample = omega (arith, ints, sample) in
-    let high : signed Withdrawn e.sample ≤ℤ pos 32768 = omega (arith, ints, sample) in
+    let low : negsuc 32767 ≤ℤ signed_sample Withdrawn e.sample = omega (arith, ints, sample) in
+    let high : signed_sample Withdrawn e.sample ≤ℤ pos 32768 = omega (arith, ints, sample) in
     record {
       member = member_in;
       now = now;
       ahead = near;
-      more = subst (λ k. HoldsMoreAt v.geometry (marks_at v e.member) (marked k v.geometry (marks_at v e.member) e.frame e.channel) e.frame e.channel) (sym kind)
+      more = subst (λ k. HoldsMoreAt v.geometry (marks_at v e.member) (marks_with k v.geometry (marks_at v e.member) e.frame e.channel) e.frame e.channel) (sym kind)
           (holds-withdrawn v.geometry (marks_at v e.member) e.frame e.channel own channel_in from_v before_v);
-      within = subst (λ k. AreWithin v.geometry (marked k v.geometry (marks_at v e.member) e.frame e.channel)) (sym kind)
+      within = subst (λ k. AreWithin v.geometry (marks_with k v.geometry (marks_at v e.member) e.frame e.channel)) (sym kind)
           (AreWithin-withdrawn v.geometry (marks_at v e.member) e.frame e.channel own least before_v);
-      low = subst (λ k. negsuc 32767 ≤ℤ signed k e.sample) (sym kind) low;
-      high = subst (λ k. signed k e.sample ≤ℤ pos 32768) (sym kind) high;
+      low = subst (λ k. negsuc 32767 ≤ℤ signed_sample k e.sample) (sym kind) low;
+      high = subst (λ k. signed_sample k e.sample ≤ℤ pos 32768) (sym kind) high;
     }
 
 -- a word whose count rose on its own lap is not before what it was, and no other word changed
@@ -127,14 +127,14 @@ word_is v i w f c read index within = subst (λ k. w ≡ get_or v.words k 0) ind
 pub marks_is : (v : View) (m : ℕ) (x : Marks) → x ≡ get_or v.marks m x → m < length v.marks → x ≡ marks_at v m
 marks_is v m x read within = get_or_read v.marks m x within read _
 
-minus_is : (a b : ℤ) → a -ℤ b ≡ a +ℤ signed Withdrawn b
+minus_is : (a b : ℤ) → a -ℤ b ≡ a +ℤ signed_sample Withdrawn b
 minus_is a b = omega (arith, ints)
 
-pub stands_by : (k : Kind) (e : Entry) (word l c : ℕ) (a : ℤ) → e.kind ≡ k → StandsFor word l c (a +ℤ signed k e.sample) → StandsFor word l c (a +ℤ value_of e)
-stands_by k e word l c a kind stands = subst (λ x. StandsFor word l c (a +ℤ signed x e.sample)) (sym kind) stands
+pub stands_by : (k : Kind) (e : Entry) (word l c : ℕ) (a : ℤ) → e.kind ≡ k → StandsFor word l c (a +ℤ signed_sample k e.sample) → StandsFor word l c (a +ℤ value_of e)
+stands_by k e word l c a kind stands = subst (λ x. StandsFor word l c (a +ℤ signed_sample x e.sample)) (sym kind) stands
 
 pub stands_back : (e : Entry) (word l c : ℕ) (a : ℤ) → e.kind ≡ Withdrawn → StandsFor word l c (a -ℤ e.sample) → StandsFor word l c (a +ℤ value_of e)
 stands_back e word l c a kind stands = stands_by Withdrawn e word l c a kind (subst (StandsFor word l c) (minus_is a e.sample) stands)
 
-pub value_by : (k : Kind) (e : Entry) → e.kind ≡ k → value_of e ≡ signed k e.sample
-value_by k e kind = ap (λ x. signed x e.sample) kind
+pub value_by : (k : Kind) (e : Entry) → e.kind ≡ k → value_of e ≡ signed_sample k e.sample
+value_by k e kind = ap (λ x. signed_sample x e.sample) kind

@@ -9,7 +9,7 @@ use Rattle.std.proofs.lemmas.List.Sums.{sum_by-le, sum_by-set}
 use Rattle.std.proofs.lemmas.Bool.{cases_Bool}
 use Rattle.snd_base.specs.declared.geometry.Geometry.{Geometry}
 use Rattle.snd_base.specs.PlaceLaws.{first_free-behind_grows, first_free-behind_low, suc-le-end_frame}
-use Rattle.snd_base.specs.Places.{IsFrom, behind, end_frame, first_frame, first_free, lap, word_index}
+use Rattle.snd_base.specs.Places.{IsFrom, cursor_after, end_frame, first_frame, first_free, lap, word_index}
 use Rattle.lap_word.specs.Word.{StandsFor, StandsFor-fields, count_of, lap_of, sum_of}
 use Rattle.mix_core.specs.declared.port.Entry.{Entry}
 use Rattle.mix_core.specs.Sound.{AreWithin, HoldsAtMost, IsNow, IsSound, all_hold, hold_at, may_hold}
@@ -56,18 +56,18 @@ own-back f a b c x af fb bc xf = grind (arith, nat_tests)
 
 pub holds-added : (g : Geometry) (m : Marks) (f c : ℕ) → AreWithin g m → c < g.channels → IsFrom m.cursor f c → HoldsMoreAt g m (added_at g m f c) f c
 holds-added g m f c x channel from =
-    let here : first_free (behind g f c) c ≡ f + 1 = first_free-behind_low g f c c channel (omega arith) in
+    let here : first_free (cursor_after g f c) c ≡ f + 1 = first_free-behind_low g f c c channel (omega arith) in
     elim (cases_Bool (is_before m.cursor m.high)) [
       | inl before ↦ rw before (record {
-        own = own-true f (first_free m.floor c) (first_free m.cursor c) (first_free m.high c) (first_free (behind g f c) c) (first_free (later_of m.high (behind g f c)) c) from here (later_up_to m.high (behind g f c) c);
-        others = λ k d d_in. hold-true k (first_free m.floor d) (first_free m.cursor d) (first_free m.high d) (first_free (behind g f c) d) (first_free (later_of m.high (behind g f c)) d)
-            (first_free-behind_grows g m.cursor f c d from d_in) (up_to_later m.high (behind g f c) d) (later_up_to m.high (behind g f c) d) (x.cursor_high d);
+        own = own-true f (first_free m.floor c) (first_free m.cursor c) (first_free m.high c) (first_free (cursor_after g f c) c) (first_free (later_of m.high (cursor_after g f c)) c) from here (later_up_to m.high (cursor_after g f c) c);
+        others = λ k d d_in. hold-true k (first_free m.floor d) (first_free m.cursor d) (first_free m.high d) (first_free (cursor_after g f c) d) (first_free (later_of m.high (cursor_after g f c)) d)
+            (first_free-behind_grows g m.cursor f c d from d_in) (up_to_later m.high (cursor_after g f c) d) (later_up_to m.high (cursor_after g f c) d) (x.cursor_high d);
       })
       | inr level ↦ rw level (record {
-        own = own-false f (first_free m.floor c) (first_free m.cursor c) (first_free m.high c) (first_free (behind g f c) c) (first_free (later_of m.high (behind g f c)) c)
-            from (up_to m.high m.cursor c level) (x.floor_high c) here (later_up_to m.high (behind g f c) c);
-        others = λ k d d_in. hold-false k (first_free m.floor d) (first_free m.cursor d) (first_free m.high d) (first_free (behind g f c) d) (first_free (later_of m.high (behind g f c)) d)
-            (first_free-behind_grows g m.cursor f c d from d_in) (up_to_later m.high (behind g f c) d) (up_to m.high m.cursor d level) (x.floor_high d);
+        own = own-false f (first_free m.floor c) (first_free m.cursor c) (first_free m.high c) (first_free (cursor_after g f c) c) (first_free (later_of m.high (cursor_after g f c)) c)
+            from (up_to m.high m.cursor c level) (x.floor_high c) here (later_up_to m.high (cursor_after g f c) c);
+        others = λ k d d_in. hold-false k (first_free m.floor d) (first_free m.cursor d) (first_free m.high d) (first_free (cursor_after g f c) d) (first_free (later_of m.high (cursor_after g f c)) d)
+            (first_free-behind_grows g m.cursor f c d from d_in) (up_to_later m.high (cursor_after g f c) d) (up_to m.high m.cursor d level) (x.floor_high d);
       })
     ]
 
@@ -86,10 +86,10 @@ AreWithin-added g m f c x least end = record {
   cursor = record { least = grind (arith, nat_tests); most = grind (arith, nat_tests) };
   floor = record { least = grind (arith, nat_tests, x.floor.least, x.high.least); most = grind (arith, nat_tests, x.floor.most, x.high.most) };
   high = record { least = grind (arith, nat_tests, x.high.least); most = grind (arith, nat_tests, x.high.most, end) };
-  cursor_high = λ d. later_up_to m.high (behind g f c) d;
+  cursor_high = λ d. later_up_to m.high (cursor_after g f c) d;
   floor_high = λ d. elim (cases_Bool (is_before m.cursor m.high)) [
-    | inl before ↦ rw before (up_to_later m.high (behind g f c) d)
-    | inr level ↦ rw level (omega (arith, x.floor_high d, up_to_later m.high (behind g f c) d))
+    | inl before ↦ rw before (up_to_later m.high (cursor_after g f c) d)
+    | inr level ↦ rw level (omega (arith, x.floor_high d, up_to_later m.high (cursor_after g f c) d))
   ];
 }
 

@@ -19,7 +19,7 @@ use Rattle.mix_core.specs.Calls.{IsLaidBy}
 use Rattle.mix_core.specs.History.{IsHeld, IsReply, IsSample, Row, entry_of, is_taken, laid_of}
 use Rattle.mix_core.specs.HeldLaws.{HeldPlace, held-at, last_is, missed-back}
 use Rattle.mix_core.specs.KeptLaws.{AreAlike-kept, IsReply-alike, laid_of-kept}
-use Rattle.mix_core.specs.Laid.{a_withdrawal, last_entry, marks_of, own, stand_after, standing, standing_of, stood, without_last}
+use Rattle.mix_core.specs.Laid.{a_withdrawal, last_entry, marks_of, own_entries, stand_after, standing, standing_of, stood, without_last}
 use Rattle.mix_core.specs.LegalLaws.{AreLeast, marks_of-least}
 use Rattle.mix_core.specs.MarkLaws.{without_last-more}
 use Rattle.mix_core.specs.OwnLaws.{last_entry-more, own-more, own-more_other, standing_of-other, standing_of-own}
@@ -33,7 +33,7 @@ keeps-nothing st rows r none k =
     let same : laid_of (rows ++ r ∷ []) ≡ laid_of rows = filter_map-append entry_of rows (r ∷ []) ∙ rw none (append-nil (laid_of rows)) in
     record {
       holds = λ m. k.holds m ∙ ap (standing_of m) (sym same);
-      backed = λ m before. subst (λ es. fold stand_after before (own m es) ≡ before ++ standing_of m es) (sym same) (k.backed m before);
+      backed = λ m before. subst (λ es. fold stand_after before (own_entries m es) ≡ before ++ standing_of m es) (sym same) (k.backed m before);
     }
 
 -- a take lays nothing, whatever its reply
@@ -57,15 +57,15 @@ keeps-add st rows r e some kind k =
     let more : laid_of (rows ++ r ∷ []) ≡ es ++ e ∷ [] = laid_of-more rows r e some in
     let put : (held : List Entry) → stand_after held e ≡ held ++ e ∷ [] = λ held. ap (λ d. stood d held e) kind in
     record {
-      holds = λ m. subst (λ xs. own m (st ++ e ∷ []) ≡ standing_of m xs) (sym more) (elim (cases_eq e.member m) [
+      holds = λ m. subst (λ xs. own_entries m (st ++ e ∷ []) ≡ standing_of m xs) (sym more) (elim (cases_eq e.member m) [
         | inl same ↦ own-more m st e same ∙ (ap (λ xs. xs ++ e ∷ []) (k.holds m) ∙ sym (standing_of-own m es e same ∙ put (standing_of m es)))
         | inr other ↦ own-more_other m st e other ∙ (k.holds m ∙ sym (standing_of-other m es e other))
       ]);
-      backed = λ m before. subst (λ xs. fold stand_after before (own m xs) ≡ before ++ standing_of m xs) (sym more) (elim (cases_eq e.member m) [
+      backed = λ m before. subst (λ xs. fold stand_after before (own_entries m xs) ≡ before ++ standing_of m xs) (sym more) (elim (cases_eq e.member m) [
         | inl same ↦
             ap (fold stand_after before) (own-more m es e same)
-            ∙ (fold_push stand_after before (own m es) e
-            ∙ (put (fold stand_after before (own m es))
+            ∙ (fold_push stand_after before (own_entries m es) e
+            ∙ (put (fold stand_after before (own_entries m es))
             ∙ (ap (λ xs. xs ++ e ∷ []) (k.backed m before)
             ∙ (append_assoc before (standing_of m es) (e ∷ []) ∙ ap (λ xs. before ++ xs) (sym (standing_of-own m es e same ∙ put (standing_of m es)))))))
         | inr other ↦
@@ -77,9 +77,9 @@ keeps-add st rows r e some kind k =
 pub record AtLast (st : List Entry) (m i : ℕ) (x : Entry) : Type 0 where
   pub early : List Entry
   pub of_member : x.member ≡ m
-  pub own_is : own m st ≡ early ++ x ∷ []
-  pub own_left : own m (take i st ++ drop (i + 1) st) ≡ early
-  pub own_other : (k : ℕ) → k ≢ m → own k (take i st ++ drop (i + 1) st) ≡ own k st
+  pub own_is : own_entries m st ≡ early ++ x ∷ []
+  pub own_left : own_entries m (take i st ++ drop (i + 1) st) ≡ early
+  pub own_other : (k : ℕ) → k ≢ m → own_entries k (take i st ++ drop (i + 1) st) ≡ own_entries k st
 
 split_at : (st : List Entry) (i : ℕ) (d : Entry) → i < length st → st ≡ take i st ++ slice_index_or st i d ∷ drop (i + 1) st
 split_at [] i d within = absurd (omega (arith, within))
@@ -88,17 +88,17 @@ split_at (x ∷ xs) (Rattle.std.proofs.Common.suc i) d within =
     let next : Rattle.std.proofs.Common.suc i + 1 ≡ Rattle.std.proofs.Common.suc (i + 1) = omega arith in
     rw next (ap (λ ys. x ∷ ys) (split_at xs i d (omega (arith, within))))
 
-own-cons : (m : ℕ) (x : Entry) (xs : List Entry) → x.member ≡ m → own m (x ∷ xs) ≡ x ∷ own m xs
+own-cons : (m : ℕ) (x : Entry) (xs : List Entry) → x.member ≡ m → own_entries m (x ∷ xs) ≡ x ∷ own_entries m xs
 own-cons m x xs same =
     let test : (nat_eq x.member m) ≡ true = grind (arith, nat_tests) in
     rw test refl
 
-pub own-cons_other : (m : ℕ) (x : Entry) (xs : List Entry) → x.member ≢ m → own m (x ∷ xs) ≡ own m xs
+pub own-cons_other : (m : ℕ) (x : Entry) (xs : List Entry) → x.member ≢ m → own_entries m (x ∷ xs) ≡ own_entries m xs
 own-cons_other m x xs other =
     let test : (nat_eq x.member m) ≡ false = grind (arith, nat_tests) in
     rw test refl
 
-own-append : (m : ℕ) (xs ys : List Entry) → own m (xs ++ ys) ≡ own m xs ++ own m ys
+own-append : (m : ℕ) (xs ys : List Entry) → own_entries m (xs ++ ys) ≡ own_entries m xs ++ own_entries m ys
 own-append m xs ys = filter-append _ xs ys
 
 pub at_last : (st : List Entry) (m i : ℕ) (d : Entry) → IsLastOf st m i → AtLast st m i (slice_index_or st i d)
@@ -106,17 +106,17 @@ at_last st m i d last =
     let x : Entry = slice_index_or st i d in
     let is : st ≡ take i st ++ x ∷ drop (i + 1) st = split_at st i d last.within in
     record {
-      early = own m (take i st);
+      early = own_entries m (take i st);
       of_member = last.of_member d;
       own_is =
-          ap (own m) is
+          ap (own_entries m) is
           ∙ (own-append m (take i st) (x ∷ drop (i + 1) st)
-          ∙ ap (λ xs. own m (take i st) ++ xs) (own-cons m x (drop (i + 1) st) (last.of_member d) ∙ ap (λ xs. x ∷ xs) last.none_later));
-      own_left = own-append m (take i st) (drop (i + 1) st) ∙ (ap (λ xs. own m (take i st) ++ xs) last.none_later ∙ append-nil (own m (take i st)));
+          ∙ ap (λ xs. own_entries m (take i st) ++ xs) (own-cons m x (drop (i + 1) st) (last.of_member d) ∙ ap (λ xs. x ∷ xs) last.none_later));
+      own_left = own-append m (take i st) (drop (i + 1) st) ∙ (ap (λ xs. own_entries m (take i st) ++ xs) last.none_later ∙ append-nil (own_entries m (take i st)));
       own_other = λ k other.
           own-append k (take i st) (drop (i + 1) st)
-          ∙ (ap (λ xs. own k (take i st) ++ xs) (sym (own-cons_other k x (drop (i + 1) st) (λ same. other (sym same ∙ last.of_member d))))
-          ∙ (sym (own-append k (take i st) (x ∷ drop (i + 1) st)) ∙ ap (own k) (sym is)));
+          ∙ (ap (λ xs. own_entries k (take i st) ++ xs) (sym (own-cons_other k x (drop (i + 1) st) (λ same. other (sym same ∙ last.of_member d))))
+          ∙ (sym (own-append k (take i st) (x ∷ drop (i + 1) st)) ∙ ap (own_entries k) (sym is)));
     }
 
 -- a withdrawal takes the last standing add of its member away
@@ -130,15 +130,15 @@ keeps-withdrawal st rows r e x i some kind last k =
     let was : standing_of m es ≡ last.early ++ x ∷ [] = sym (k.holds m) ∙ last.own_is in
     let left : standing_of m (es ++ e ∷ []) ≡ last.early = standing_of-own m es e refl ∙ (back (standing_of m es) ∙ (ap without_last was ∙ without_last-more last.early x)) in
     record {
-      holds = λ n. subst (λ xs. own n (take i st ++ drop (i + 1) st) ≡ standing_of n xs) (sym more) (elim (cases_eq m n) [
-        | inl same ↦ subst (λ j. own j (take i st ++ drop (i + 1) st) ≡ standing_of j (es ++ e ∷ [])) same (last.own_left ∙ sym left)
+      holds = λ n. subst (λ xs. own_entries n (take i st ++ drop (i + 1) st) ≡ standing_of n xs) (sym more) (elim (cases_eq m n) [
+        | inl same ↦ subst (λ j. own_entries j (take i st ++ drop (i + 1) st) ≡ standing_of j (es ++ e ∷ [])) same (last.own_left ∙ sym left)
         | inr other ↦ last.own_other n (λ same. other (sym same)) ∙ (k.holds n ∙ sym (standing_of-other n es e other))
       ]);
-      backed = λ n before. subst (λ xs. fold stand_after before (own n xs) ≡ before ++ standing_of n xs) (sym more) (elim (cases_eq m n) [
-        | inl same ↦ subst (λ j. fold stand_after before (own j (es ++ e ∷ [])) ≡ before ++ standing_of j (es ++ e ∷ [])) same
+      backed = λ n before. subst (λ xs. fold stand_after before (own_entries n xs) ≡ before ++ standing_of n xs) (sym more) (elim (cases_eq m n) [
+        | inl same ↦ subst (λ j. fold stand_after before (own_entries j (es ++ e ∷ [])) ≡ before ++ standing_of j (es ++ e ∷ [])) same
             (ap (fold stand_after before) (own-more m es e refl)
-            ∙ (fold_push stand_after before (own m es) e
-            ∙ (back (fold stand_after before (own m es))
+            ∙ (fold_push stand_after before (own_entries m es) e
+            ∙ (back (fold stand_after before (own_entries m es))
             ∙ (ap without_last (k.backed m before ∙ (ap (λ xs. before ++ xs) was ∙ sym (append_assoc before last.early (x ∷ []))))
             ∙ (without_last-more (before ++ last.early) x ∙ ap (λ xs. before ++ xs) (sym left))))))
         | inr other ↦
@@ -156,7 +156,7 @@ last-since h rows st m f c s k is =
     let whole : standing_of m (laid_of (h ++ kept_rows rows)) ≡ (standing_of m (laid_of h) ++ last.0) ++ last.1 ∷ [] =
     ap (standing_of m) laid
     ∙ (ap standing (own-append m (laid_of h) es)
-    ∙ (fold-append stand_after [] (own m (laid_of h)) (own m es)
+    ∙ (fold-append stand_after [] (own_entries m (laid_of h)) (own_entries m es)
     ∙ (k.backed m (standing_of m (laid_of h))
     ∙ (ap (λ xs. standing_of m (laid_of h) ++ xs) last.2 ∙ sym (append_assoc (standing_of m (laid_of h)) last.0 (last.1 ∷ [])))))) in
     subst (λ o. IsSample o f c s) (sym (ap last_entry whole ∙ last_entry-more (standing_of m (laid_of h) ++ last.0) last.1)) (last.3, last.4, last.5)
@@ -201,7 +201,7 @@ may-since v h rows st e x i k last s held =
     }
 
 -- a withdrawal of a member that has no standing add
-pub answered-none : (v : View) (st : List Entry) (m f c : ℕ) (s : ℤ) → own m st ≡ [] → IsAnswered v v st st (Withdraw m f c s) Outside
+pub answered-none : (v : View) (st : List Entry) (m f c : ℕ) (s : ℤ) → own_entries m st ≡ [] → IsAnswered v v st st (Withdraw m f c s) Outside
 answered-none v st m f c s none = record {
   geometry = refl;
   members = refl;

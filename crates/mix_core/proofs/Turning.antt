@@ -8,7 +8,7 @@ use Rattle.mix_core.specs.declared.port.Ended.TheVariants.{Late, Stopped, Whole}
 use Rattle.mix_core.specs.declared.port.Entry.{Entry}
 use Rattle.mix_core.specs.declared.turn.Turn.{Turn}
 use Rattle.mix_core.specs.Port.{Lays}
-use Rattle.mix_core.specs.Turn.{TurnFinds, TurnLaid, TurnLoaded, TurnMissed, core_of, shown, view_of_turn}
+use Rattle.mix_core.specs.Turn.{TurnFinds, TurnLaid, TurnLoaded, TurnMissed, core_of, word_of_turn, view_of_turn}
 use Rattle.mix_core.specs.View.{IsLateWord, IsUntaken, word_at}
 
 -- a turn as it was, but for how its core is borrowed
@@ -43,7 +43,7 @@ MayMiss t e = TurnMissed t t e
 -- the look finds the word of a later lap
 pub lays-late : {T : Type 0} (stops : T → ℕ) (asked : T → T → List StepKind → Pass → Type 0) (t u : Turn) (g h : T) (e : Entry) (word : ℕ)
     → IsSame t u → e.channel < (core_of t).geometry.channels → IsLateWord (core_of t) e.frame e.channel word → MayMiss t e
-    → asked g h (Look ∷ []) Go → stops h ≡ stops g → Lays view_of_turn TurnLaid TurnLoaded shown TurnFinds stops asked t g e (Late word) u h
+    → asked g h (Look ∷ []) Go → stops h ≡ stops g → Lays view_of_turn TurnLaid TurnLoaded word_of_turn TurnFinds stops asked t g e (Late word) u h
 lays-late stops asked t u g h e word same channel late missed asks told = record {
   view_is = view_stays t u same;
   laid_it = laid_nothing t u same;
@@ -62,7 +62,7 @@ lays-late stops asked t u g h e word same channel late missed asks told = record
 
 -- the gate stops the look
 pub lays-unseen : {T : Type 0} (stops : T → ℕ) (asked : T → T → List StepKind → Pass → Type 0) (t u : Turn) (g h : T) (e : Entry)
-    → IsSame t u → asked g h (Look ∷ []) Stop → stops h ≡ stops g + 1 → Lays view_of_turn TurnLaid TurnLoaded shown TurnFinds stops asked t g e Stopped u h
+    → IsSame t u → asked g h (Look ∷ []) Stop → stops h ≡ stops g + 1 → Lays view_of_turn TurnLaid TurnLoaded word_of_turn TurnFinds stops asked t g e Stopped u h
 lays-unseen stops asked t u g h e same asks told = record {
   view_is = view_stays t u same;
   laid_it = laid_nothing t u same;
@@ -82,7 +82,7 @@ lays-unseen stops asked t u g h e same asks told = record {
 -- the gate stops the exchange
 pub lays-unmade : {T : Type 0} (stops : T → ℕ) (asked : T → T → List StepKind → Pass → Type 0) (t u : Turn) (g h : T) (e : Entry)
     → IsSame t u → IsUntaken (core_of t) e.frame e.channel → asked g h (Look ∷ Exchange ∷ []) Stop → stops h ≡ stops g + 1
-    → Lays view_of_turn TurnLaid TurnLoaded shown TurnFinds stops asked t g e Stopped u h
+    → Lays view_of_turn TurnLaid TurnLoaded word_of_turn TurnFinds stops asked t g e Stopped u h
 lays-unmade stops asked t u g h e same untaken asks told = record {
   view_is = view_stays t u same;
   laid_it = laid_nothing t u same;
@@ -102,7 +102,7 @@ lays-unmade stops asked t u g h e same untaken asks told = record {
 -- the look finds the frame's own lap, and the exchange is made
 pub lays-whole : {T : Type 0} (stops : T → ℕ) (asked : T → T → List StepKind → Pass → Type 0) (t u : Turn) (g h : T) (e : Entry)
     → TurnLaid t u (e ∷ []) → IsUntaken (core_of t) e.frame e.channel → asked g h (Look ∷ Exchange ∷ []) Go → stops h ≡ stops g
-    → Lays view_of_turn TurnLaid TurnLoaded shown TurnFinds stops asked t g e Whole u h
+    → Lays view_of_turn TurnLaid TurnLoaded word_of_turn TurnFinds stops asked t g e Whole u h
 lays-whole stops asked t u g h e laid untaken asks told = record {
   view_is = rw (laid.rest.geometry, laid.marks, laid.same_member, laid.rest.position) refl;
   laid_it = laid;

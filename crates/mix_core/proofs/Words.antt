@@ -8,7 +8,7 @@ use Rattle.std.proofs.lemmas.Bool.Decides.{nat_tests}
 use Rattle.snd_base.specs.declared.geometry.Geometry.{Geometry}
 use Rattle.snd_base.specs.declared.places.Cursor.{Cursor}
 use Rattle.snd_base.specs.PlaceLaws.{div-lt_same, first_free-behind_grows, first_free-behind_low, mod-same, mod-window, word_index-lt, word_index-same}
-use Rattle.snd_base.specs.Places.{behind, first_free, lap, slot, word_index}
+use Rattle.snd_base.specs.Places.{cursor_after, first_free, lap, slot, word_index}
 use Rattle.lap_word.specs.Word.{lap_of}
 use Rattle.mix_core.specs.Sound.{IsNow, IsSound}
 use Rattle.mix_core.specs.View.{View, word_at}
@@ -51,7 +51,7 @@ word_index-wrapped g f c k d same later =
 
 -- the next word's channel alone goes on with the next frame
 pub first_free-behind_other : (g : Geometry) (at : Cursor) (d : ℕ) → d < g.channels → at.channel < g.channels → d ≢ at.channel
-    → first_free (behind g at.frame at.channel) d ≡ first_free at d
+    → first_free (cursor_after g at.frame at.channel) d ≡ first_free at d
 first_free-behind_other g at d asked in_range other = grind (arith, nat_tests)
 
 -- the next word was taken: its slot has the next lap's word now, and every other word stays
@@ -60,7 +60,7 @@ pub words-taken : (P : ℕ → ℕ → ℕ → Type 0) (g : Geometry) (at : Curs
     → at.channel < g.channels
     → P word (at.frame + g.frames) at.channel
     → ((k d : ℕ) → IsNow g at k d → P (get_or words (word_index g k d) 0) k d)
-    → (k d : ℕ) → IsNow g (behind g at.frame at.channel) k d
+    → (k d : ℕ) → IsNow g (cursor_after g at.frame at.channel) k d
     → P (get_or (set words (word_index g at.frame at.channel) word) (word_index g k d) 0) k d
 words-taken P g at words word room in_range here old k d asked =
     let start : first_free at at.channel ≡ at.frame = grind (arith, nat_tests) in
@@ -68,7 +68,7 @@ words-taken P g at words word room in_range here old k d asked =
     elim (cases_eq (word_index g k d) (word_index g at.frame at.channel)) [
       | inl same ↦
           let parts : (slot g k ≡ slot g at.frame) × (d ≡ at.channel) = word_index-same g k d at.frame at.channel asked.channel in_range same in
-          let next : first_free (behind g at.frame at.channel) d ≡ at.frame + 1 = first_free-behind_low g at.frame at.channel d in_range (omega arith) in
+          let next : first_free (cursor_after g at.frame at.channel) d ≡ at.frame + 1 = first_free-behind_low g at.frame at.channel d in_range (omega arith) in
           let wrapped : (at.frame + g.frames) % g.frames ≡ at.frame % g.frames = add-mod_right at.frame g.frames in
           let frame : k ≡ at.frame + g.frames = mod-same g.frames (at.frame + 1) k (at.frame + g.frames) (omega (arith, asked.low)) (omega (arith, asked.high)) (omega (arith, g.frames_least)) (omega arith) (parts.0 ∙ sym wrapped) in
           let written : get_or (set words (word_index g at.frame at.channel) word) (word_index g at.frame at.channel) 0 ≡ word = get_or-set_same words (word_index g at.frame at.channel) word 0 (subst (λ n. word_index g at.frame at.channel < n) (sym room) (word_index-lt g at.frame at.channel in_range)) in
@@ -76,11 +76,11 @@ words-taken P g at words word room in_range here old k d asked =
           (subst (λ w. P w k d) (sym written) (subst (λ x. P word x d) (sym frame) (subst (λ x. P word (at.frame + g.frames) x) (sym parts.1) here)))
       | inr other ↦
           let kept : get_or (set words (word_index g at.frame at.channel) word) (word_index g k d) 0 ≡ get_or words (word_index g k d) 0 = get_or-set_other words (word_index g at.frame at.channel) (word_index g k d) word 0 other in
-          let grows : first_free at d ≤ first_free (behind g at.frame at.channel) d = first_free-behind_grows g at at.frame at.channel d from asked.channel in
+          let grows : first_free at d ≤ first_free (cursor_after g at.frame at.channel) d = first_free-behind_grows g at at.frame at.channel d from asked.channel in
           let low : first_free at d ≤ k = omega (arith, grows, asked.low) in
           let high : k < first_free at d + g.frames = elim (cases_eq d at.channel) [
             | inl own ↦
-                let next : first_free (behind g at.frame at.channel) d ≡ at.frame + 1 = first_free-behind_low g at.frame at.channel d in_range (omega arith) in
+                let next : first_free (cursor_after g at.frame at.channel) d ≡ at.frame + 1 = first_free-behind_low g at.frame at.channel d in_range (omega arith) in
                 let here_is : first_free at d ≡ at.frame = subst (λ x. first_free at x ≡ at.frame) (sym own) start in
                 let not_last : k ≢ at.frame + g.frames = λ e. other (word_index-wrapped g at.frame at.channel k d own e) in
                 omega (arith, asked.high)

@@ -1,7 +1,7 @@
 -- What each call of a core does to it, and to every history that it represents.
 use Rattle.std.specs.Prelude.{◌≡◌, ◌≢◌, ℕ, ◌<◌, true, false, List, [], ◌∷◌, ◌++◌, length, slice_index, slice_index_or}
 use Rattle.snd_base.specs.declared.geometry.Geometry.{Geometry}
-use Rattle.snd_base.specs.Places.{behind, first_frame}
+use Rattle.snd_base.specs.Places.{cursor_after, first_frame}
 use Rattle.lap_word.specs.Clamp.{clamp_of}
 use Rattle.mix_core.specs.declared.port.Entry.{Entry}
 use Rattle.mix_core.specs.declared.event.Event.TheVariants.{Publish, Take}
@@ -48,7 +48,7 @@ pub record IsTaken (v w : View) (t : Taken) : Type 0 where
   pub gone : w.gone ≡ v.gone
   pub frame : t.frame ≡ v.next.frame
   pub channel : t.channel ≡ v.next.channel
-  pub next : w.next ≡ behind v.geometry v.next.frame v.next.channel
+  pub next : w.next ≡ cursor_after v.geometry v.next.frame v.next.channel
   pub value : (h : List Row) → Stands v h → t.value ≡ clamp_of (total (laid_of h) t.frame t.channel)
   pub stands : (h : List Row) → Stands v h → Stands w (h ++ (Take, Took t.frame t.channel t.value) ∷ [])
 

@@ -16,7 +16,7 @@ use Rattle.mix_core.specs.declared.turn.Turn.{Turn}
 use Rattle.mix_core.specs.Calls.{IsLaidBy}
 use Rattle.mix_core.specs.History.{IsHeld, IsInside, IsLegal, IsReply, IsSample, Row, entry_of, event_by, is_taken, laid_of, row_of, taken_of}
 use Rattle.mix_core.specs.HistoryLaws.{laid_of-append_rows}
-use Rattle.mix_core.specs.Laid.{EndsIn, a_withdrawal, an_add, count, last_entry, marked, marks_after, marks_of, own, stand_after, standing_of, stood, without_last}
+use Rattle.mix_core.specs.Laid.{EndsIn, a_withdrawal, an_add, count, last_entry, marks_with, marks_after, marks_of, own_entries, stand_after, standing_of, stood, without_last}
 use Rattle.mix_core.specs.LegalLaws.{AreLeast, AreReplies-keep, entry_of-cases, marks_of-least, may_lay}
 use Rattle.mix_core.specs.MarkLaws.{Each, Each-right, IsBehind, IsHolding, IsHolding-add, IsHolding-withdraw, each_counted, each_filter, last_cases, later_up_to, place_up_to, standing-each, without_last-more}
 use Rattle.mix_core.specs.Marks.{withdrawn_at}
@@ -50,7 +50,7 @@ holds-laid g members h e may x = by_kind e.kind may where
   held : List Entry
   held = standing_of e.member (laid_of h)
 
-  by_kind : (k : Kind) → may_lay k g members h e.member e.frame e.channel e.sample → Holds g (marked k g (marks_of g e.member (laid_of h)) e.frame e.channel) (stood k (standing_of e.member (laid_of h)) e)
+  by_kind : (k : Kind) → may_lay k g members h e.member e.frame e.channel e.sample → Holds g (marks_with k g (marks_of g e.member (laid_of h)) e.frame e.channel) (stood k (standing_of e.member (laid_of h)) e)
   by_kind Added may = record {
     cursor_high = λ d. later_up_to (marks_of g e.member (laid_of h)).high _ d;
     holding = (_, IsHolding-add g (marks_of g e.member (laid_of h)) (standing_of e.member (laid_of h)) x.holding.0 e x.holding.1 x.cursor_high may.channel_in_range may.from_cursor);
@@ -111,7 +111,7 @@ held-entry v h m early x st inside is =
     let b : Each (IsBehind g (marks_of g m (laid_of h)).cursor) (x ∷ []) =
     Each-right (IsBehind g (marks_of g m (laid_of h)).cursor) early (x ∷ []) (subst (Each (IsBehind g (marks_of g m (laid_of h)).cursor)) is holds.holding.1.before) in
     let Counted : Entry → Type 0 = λ e. 1 ≤ count (laid_of h) e.frame e.channel in
-    let counted : Each Counted (standing_of m (laid_of h)) = standing-each Counted (own m (laid_of h)) (each_filter Counted (λ (e : Entry). e.member == m) (laid_of h) (each_counted (laid_of h))) in
+    let counted : Each Counted (standing_of m (laid_of h)) = standing-each Counted (own_entries m (laid_of h)) (each_filter Counted (λ (e : Entry). e.member == m) (laid_of h) (each_counted (laid_of h))) in
     let one : Each Counted (x ∷ []) = Each-right Counted early (x ∷ []) (subst (Each Counted) is counted) in
     record {
       channel = b.0.0;

@@ -16,12 +16,12 @@ abbrev pub a_withdrawal : ℕ → ℕ → ℕ → ℤ → Entry
 a_withdrawal m f c s = record { member = m; frame = f; channel = c; sample = s; kind = Withdrawn }
 
 -- what an entry of a kind gives to the sum: its sample, or, where it is withdrawn, the negated one
-abbrev pub signed : Kind → ℤ → ℤ
-signed Added s = s
-signed Withdrawn s = pos 0 -ℤ s
+abbrev pub signed_sample : Kind → ℤ → ℤ
+signed_sample Added s = s
+signed_sample Withdrawn s = pos 0 -ℤ s
 
 abbrev pub value_of : Entry → ℤ
-value_of e = signed e.kind e.sample
+value_of e = signed_sample e.kind e.sample
 
 -- whether an entry was laid at a frame and channel
 abbrev pub is_at : ℕ → ℕ → Entry → Bool
@@ -70,16 +70,16 @@ abbrev pub EndsIn : {X : Type 0} → List X → List X → Type 0
 EndsIn {X} xs ys = (early : List X) × (xs ≡ early ++ ys)
 
 -- the entries of one member
-abbrev pub own : ℕ → List Entry → List Entry
-own m es = filter (λ (e : Entry). e.member == m) es
+abbrev pub own_entries : ℕ → List Entry → List Entry
+own_entries m es = filter (λ (e : Entry). e.member == m) es
 
 -- the marks after one more entry
-abbrev pub marked : Kind → Geometry → Marks → ℕ → ℕ → Marks
-marked Added g at f c = added_at g at f c
-marked Withdrawn g at f c = withdrawn_at at f c
+abbrev pub marks_with : Kind → Geometry → Marks → ℕ → ℕ → Marks
+marks_with Added g at f c = added_at g at f c
+marks_with Withdrawn g at f c = withdrawn_at at f c
 
 abbrev pub marks_after : Geometry → Marks → Entry → Marks
-marks_after g at e = marked e.kind g at e.frame e.channel
+marks_after g at e = marks_with e.kind g at e.frame e.channel
 
 -- the marks behind some entries of one member
 abbrev pub marks_from : Geometry → Marks → List Entry → Marks
@@ -90,13 +90,13 @@ marks_by g es = marks_from g (start_marks g) es
 
 -- a member's marks, its cursor, and its standing adds
 abbrev pub marks_of : Geometry → ℕ → List Entry → Marks
-marks_of g m es = marks_by g (own m es)
+marks_of g m es = marks_by g (own_entries m es)
 
 abbrev pub cursor_of : Geometry → ℕ → List Entry → Cursor
 cursor_of g m es = (marks_of g m es).cursor
 
 abbrev pub standing_of : ℕ → List Entry → List Entry
-standing_of m es = standing (own m es)
+standing_of m es = standing (own_entries m es)
 
 -- all of a list's entries are adds
 abbrev pub AreAdds : List Entry → Type 0

@@ -9,7 +9,7 @@ use Rattle.std.proofs.lemmas.List.Elements.{filter_map-append}
 use Rattle.snd_base.specs.declared.geometry.Geometry.{Geometry}
 use Rattle.snd_base.specs.declared.places.Cursor.{Cursor}
 use Rattle.snd_base.specs.PlaceLaws.{next_word-suc}
-use Rattle.snd_base.specs.Places.{behind, end_frame, first_frame, first_free, lap, next_word}
+use Rattle.snd_base.specs.Places.{cursor_after, end_frame, first_frame, first_free, lap, next_word}
 use Rattle.mix_core.specs.declared.port.Entry.{Entry}
 use Rattle.mix_core.specs.declared.event.Event.TheVariants.{Add, Withdraw, Take, Publish}
 use Rattle.mix_core.specs.declared.event.Reply.TheVariants.{In, Late, Outside, Took, Published, LapEnd}
@@ -18,7 +18,7 @@ use Rattle.mix_core.specs.History.{AreReplies, IsHeld, IsInside, IsLegal, IsRepl
 use Rattle.mix_core.specs.declared.marks.Marks.{Marks}
 use Rattle.mix_core.specs.declared.port.Kind.{Kind}
 use Rattle.mix_core.specs.declared.port.Kind.TheVariants.{Added, Withdrawn}
-use Rattle.mix_core.specs.Laid.{a_withdrawal, an_add, cursor_of, marked, marks_of}
+use Rattle.mix_core.specs.Laid.{a_withdrawal, an_add, cursor_of, marks_with, marks_of}
 use Rattle.mix_core.specs.OwnLaws.{marks_of-other, marks_of-own}
 
 -- one more row at the end
@@ -90,7 +90,7 @@ pub record AreLeast (g : Geometry) (m : Marks) : Type 0 where
   pub floor : first_frame g ≤ m.floor.frame
   pub high : first_frame g ≤ m.high.frame
 
-AreLeast-marked : (g : Geometry) (k : Kind) (m : Marks) (f c : ℕ) → first_frame g ≤ f → AreLeast g m → AreLeast g (marked k g m f c)
+AreLeast-marked : (g : Geometry) (k : Kind) (m : Marks) (f c : ℕ) → first_frame g ≤ f → AreLeast g m → AreLeast g (marks_with k g m f c)
 AreLeast-marked g Added m f c least l = record {
   cursor = grind (arith, nat_tests);
   floor = grind (arith, nat_tests, l.floor, l.high);
@@ -137,11 +137,11 @@ frame-before_end g f within other =
     (div-lt_iff_lt-mul some).0 (omega (arith, other, fits))
 
 -- the word behind one before the end is none past it
-behind-within : (g : Geometry) (at : Cursor) (c : ℕ) → at.frame < end_frame g → first_free (behind g at.frame at.channel) c ≤ end_frame g
+behind-within : (g : Geometry) (at : Cursor) (c : ℕ) → at.frame < end_frame g → first_free (cursor_after g at.frame at.channel) c ≤ end_frame g
 behind-within g at c before = grind (arith, nat_tests)
 
 -- after one more take the next word is the one right behind it, and after any other row it is the same
-pub next_of-took : (g : Geometry) (h : List Row) (r : Row) (t : Taken) → taking_of r ≡ Some t → next_of g (h ++ r ∷ []) ≡ behind g (next_of g h).frame (next_of g h).channel
+pub next_of-took : (g : Geometry) (h : List Row) (r : Row) (t : Taken) → taking_of r ≡ Some t → next_of g (h ++ r ∷ []) ≡ cursor_after g (next_of g h).frame (next_of g h).channel
 next_of-took g h r t one =
     let more : taken_of (h ++ r ∷ []) ≡ taken_of h ++ t ∷ [] = rw (filter_map-append taking_of h (r ∷ []), one) refl in
     ap (λ ts. next_word g (length ts)) more ∙ (ap (next_word g) (length-append (taken_of h) (t ∷ [])) ∙ next_word-suc g (length (taken_of h)))

@@ -7,7 +7,7 @@ use Rattle.std.proofs.lemmas.List.{append-nil, length-append}
 use Rattle.snd_base.specs.declared.geometry.Geometry.{Geometry}
 use Rattle.snd_base.specs.declared.places.Cursor.{Cursor}
 use Rattle.snd_base.specs.PlaceLaws.{first_free-behind_grows, first_free-behind_low}
-use Rattle.snd_base.specs.Places.{IsFrom, behind, first_free}
+use Rattle.snd_base.specs.Places.{IsFrom, cursor_after, first_free}
 use Rattle.mix_core.specs.declared.marks.Marks.{Marks}
 use Rattle.mix_core.specs.declared.port.Entry.{Entry}
 use Rattle.mix_core.specs.HistoryLaws.{at-append}
@@ -76,16 +76,16 @@ IsMarked-add g m es e x channel from =
     let f : ℕ = e.frame in
     let c : ℕ = e.channel in
     let own : count (es ++ e ∷ []) f c ≡ count es f c + 1 = count-here es e in
-    let behind_it : first_free (behind g f c) c ≡ f + 1 = first_free-behind_low g f c c channel (omega arith) in
-    let grows : (d : ℕ) → d < g.channels → first_free m.cursor d ≤ first_free (behind g f c) d = λ d d_in. first_free-behind_grows g m.cursor f c d from d_in in
-    let apart : (k d : ℕ) → first_free (behind g f c) d ≤ k → ¬ ((f ≡ k) × (c ≡ d)) = λ k d past same. omega (arith, subst (λ y. first_free (behind g f c) y ≤ k) (sym same.1) past, behind_it, same.0) in
+    let behind_it : first_free (cursor_after g f c) c ≡ f + 1 = first_free-behind_low g f c c channel (omega arith) in
+    let grows : (d : ℕ) → d < g.channels → first_free m.cursor d ≤ first_free (cursor_after g f c) d = λ d d_in. first_free-behind_grows g m.cursor f c d from d_in in
+    let apart : (k d : ℕ) → first_free (cursor_after g f c) d ≤ k → ¬ ((f ≡ k) × (c ≡ d)) = λ k d past same. omega (arith, subst (λ y. first_free (cursor_after g f c) y ≤ k) (sym same.1) past, behind_it, same.0) in
     elim (cases_Bool (is_before m.cursor m.high)) [
       | inl before ↦ rw before (record {
-        floor_high = λ d. up_to_later m.high (behind g f c) d;
-        cursor_high = λ d. later_up_to m.high (behind g f c) d;
+        floor_high = λ d. up_to_later m.high (cursor_after g f c) d;
+        cursor_high = λ d. later_up_to m.high (cursor_after g f c) d;
         past_high = λ k d d_in past.
-            let elsewhere = apart k d (omega (arith, later_up_to m.high (behind g f c) d, past)) in
-            count-elsewhere es e k d elsewhere ∙ x.past_high k d d_in (omega (arith, up_to_later m.high (behind g f c) d, past));
+            let elsewhere = apart k d (omega (arith, later_up_to m.high (cursor_after g f c) d, past)) in
+            count-elsewhere es e k d elsewhere ∙ x.past_high k d d_in (omega (arith, up_to_later m.high (cursor_after g f c) d, past));
         past_cursor = λ k d d_in past. omega (arith, count-elsewhere es e k d (apart k d past), x.past_cursor k d d_in (omega (arith, grows d d_in, past)));
         past_floor = λ k d d_in past near. elim (place_cases f c k d) [
           | inl same ↦
@@ -98,11 +98,11 @@ IsMarked-add g m es e x channel from =
       | inr level ↦
           let at_high : (d : ℕ) → first_free m.high d ≤ first_free m.cursor d = λ d. up_to m.high m.cursor d level in
           rw level (record {
-            floor_high = λ d. omega (arith, x.floor_high d, up_to_later m.high (behind g f c) d);
-            cursor_high = λ d. later_up_to m.high (behind g f c) d;
+            floor_high = λ d. omega (arith, x.floor_high d, up_to_later m.high (cursor_after g f c) d);
+            cursor_high = λ d. later_up_to m.high (cursor_after g f c) d;
             past_high = λ k d d_in past.
-                let elsewhere = apart k d (omega (arith, later_up_to m.high (behind g f c) d, past)) in
-                count-elsewhere es e k d elsewhere ∙ x.past_high k d d_in (omega (arith, up_to_later m.high (behind g f c) d, past));
+                let elsewhere = apart k d (omega (arith, later_up_to m.high (cursor_after g f c) d, past)) in
+                count-elsewhere es e k d elsewhere ∙ x.past_high k d d_in (omega (arith, up_to_later m.high (cursor_after g f c) d, past));
             past_cursor = λ k d d_in past. omega (arith, count-elsewhere es e k d (apart k d past), x.past_cursor k d d_in (omega (arith, grows d d_in, past)));
             past_floor = λ k d d_in past near. elim (place_cases f c k d) [
               | inl same ↦
@@ -230,11 +230,11 @@ pub IsHolding-add : (g : Geometry) (m : Marks) (held free : List Entry) (e : Ent
 IsHolding-add g m held free e x cursor_high channel from =
     let f : ℕ = e.frame in
     let c : ℕ = e.channel in
-    let behind_it : first_free (behind g f c) c ≡ f + 1 = first_free-behind_low g f c c channel (omega arith) in
-    let grows : (d : ℕ) → d < g.channels → first_free m.cursor d ≤ first_free (behind g f c) d = λ d d_in. first_free-behind_grows g m.cursor f c d from d_in in
-    let self : IsBehind g (behind g f c) e = (channel, omega (arith, behind_it)) in
-    let all : Each (IsBehind g (behind g f c)) (held ++ e ∷ []) =
-    Each-append (IsBehind g (behind g f c)) held (e ∷ []) (Each-of (IsBehind g m.cursor) (IsBehind g (behind g f c)) held (behind_up g m.cursor (behind g f c) grows) x.before) (self, tt) in
+    let behind_it : first_free (cursor_after g f c) c ≡ f + 1 = first_free-behind_low g f c c channel (omega arith) in
+    let grows : (d : ℕ) → d < g.channels → first_free m.cursor d ≤ first_free (cursor_after g f c) d = λ d d_in. first_free-behind_grows g m.cursor f c d from d_in in
+    let self : IsBehind g (cursor_after g f c) e = (channel, omega (arith, behind_it)) in
+    let all : Each (IsBehind g (cursor_after g f c)) (held ++ e ∷ []) =
+    Each-append (IsBehind g (cursor_after g f c)) held (e ∷ []) (Each-of (IsBehind g m.cursor) (IsBehind g (cursor_after g f c)) held (behind_up g m.cursor (cursor_after g f c) grows) x.before) (self, tt) in
     elim (cases_Bool (is_before m.cursor m.high)) [
       | inl before ↦ rw before (record {
         before = all;

@@ -2,7 +2,7 @@
 use Rattle.std.specs.Prelude.{ℕ, ◌-◌, Bool, ◌==◌, ◌&&◌, ◌||◌, nat_eq, nat_lt, if◌then◌else◌, Option, Some, None}
 use Rattle.snd_base.specs.declared.geometry.Geometry.{Geometry}
 use Rattle.snd_base.specs.declared.places.Cursor.{Cursor}
-use Rattle.snd_base.specs.Places.{behind, first_frame}
+use Rattle.snd_base.specs.Places.{cursor_after, first_frame}
 use Rattle.mix_core.specs.declared.marks.Marks.{Marks}
 
 -- a cursor is before another, by frame and then by channel
@@ -26,7 +26,7 @@ floor_after cursor floor high = if is_before cursor high then high else floor
 
 -- the marks after an add at a frame and channel, and after a withdrawal there
 abbrev pub added_at : Geometry → Marks → ℕ → ℕ → Marks
-added_at g m f c = record { cursor = behind g f c; floor = floor_after m.cursor m.floor m.high; high = later_of m.high (behind g f c) }
+added_at g m f c = record { cursor = cursor_after g f c; floor = floor_after m.cursor m.floor m.high; high = later_of m.high (cursor_after g f c) }
 
 abbrev pub withdrawn_at : Marks → ℕ → ℕ → Marks
 withdrawn_at m f c = record { cursor = record { frame = f; channel = c }; floor = m.floor; high = m.high }

@@ -10,7 +10,7 @@ use Rattle.mix_core.specs.declared.event.Reply.{Reply}
 use Rattle.mix_core.specs.declared.event.Reply.TheVariants.{In, Late, Outside}
 use Rattle.mix_core.specs.declared.port.Entry.{Entry}
 use Rattle.mix_core.specs.History.{IsReply, IsSample, Row, is_taken, laid_of, taken_of}
-use Rattle.mix_core.specs.Laid.{last_entry, marks_of, own, stand_after, standing_of}
+use Rattle.mix_core.specs.Laid.{last_entry, marks_of, own_entries, stand_after, standing_of}
 use Rattle.mix_core.specs.Stands.{Stands}
 use Rattle.mix_core.specs.View.{View, cursor_at, marks_at}
 
@@ -53,8 +53,8 @@ pub record IsRun (v w : View) (es : List Event) (rs : List Reply) : Type 0 where
 
 -- a list holds the standing adds of all members after some rows, and these follow whatever stood before the rows
 pub record Keeps (st : List Entry) (rows : List Row) : Type 0 where
-  pub holds : (m : ℕ) → own m st ≡ standing_of m (laid_of rows)
-  pub backed : (m : ℕ) (before : List Entry) → fold stand_after before (own m (laid_of rows)) ≡ before ++ standing_of m (laid_of rows)
+  pub holds : (m : ℕ) → own_entries m st ≡ standing_of m (laid_of rows)
+  pub backed : (m : ℕ) (before : List Entry) → fold stand_after before (own_entries m (laid_of rows)) ≡ before ++ standing_of m (laid_of rows)
 
 -- an event got its reply: the one that each history determines, which goes on with this row if it is kept
 pub record IsReplied (v w : View) (e : Event) (r : Reply) : Type 0 where
@@ -77,7 +77,7 @@ pub record IsAnswered (v w : View) (st su : List Entry) (e : Event) (r : Reply) 
 pub record IsLastOf (st : List Entry) (m i : ℕ) : Type 0 where
   pub within : i < length st
   pub of_member : (d : Entry) → (slice_index_or st i d).member ≡ m
-  pub none_later : own m (drop (i + 1) st) ≡ []
+  pub none_later : own_entries m (drop (i + 1) st) ≡ []
 
 -- a withdrawal's member has this standing add last: it is the sample that is withdrawn, from the floor on, and before the cursor and
 -- the ring's length past the position, as everything that stands is

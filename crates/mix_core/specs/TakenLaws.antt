@@ -6,7 +6,7 @@ use Rattle.std.proofs.lemmas.Bool.Decides.{nat_tests}
 use Rattle.std.proofs.lemmas.List.Sums.{fold_push}
 use Rattle.snd_base.specs.declared.geometry.Geometry.{Geometry}
 use Rattle.snd_base.specs.declared.places.Cursor.{Cursor}
-use Rattle.snd_base.specs.Places.{behind, first_frame, first_free, lap, next_word}
+use Rattle.snd_base.specs.Places.{cursor_after, first_frame, first_free, lap, next_word}
 use Rattle.lap_word.specs.Word.{StandsFor-fields, lap_of}
 use Rattle.mix_core.specs.declared.event.Event.TheVariants.{Add, Withdraw, Take, Publish}
 use Rattle.mix_core.specs.declared.event.Reply.TheVariants.{In, Late, Outside, Took, Published, LapEnd}
@@ -16,11 +16,11 @@ use Rattle.mix_core.specs.LegalLaws.{AreReplies-keep, next_of-kept, next_of-took
 use Rattle.mix_core.specs.Port.{IsPast}
 use Rattle.mix_core.specs.Sound.{IsNow}
 use Rattle.mix_core.specs.Stands.{Stands}
-use Rattle.mix_core.specs.Turn.{core_of, shown, view_of_turn}
+use Rattle.mix_core.specs.Turn.{core_of, word_of_turn, view_of_turn}
 use Rattle.mix_core.specs.View.{View, word_at}
 
 -- the cursor behind a frame and channel is of no earlier frame
-behind-frame : (g : Geometry) (f c : ℕ) → f ≤ (behind g f c).frame
+behind-frame : (g : Geometry) (f c : ℕ) → f ≤ (cursor_after g f c).frame
 behind-frame g f c = grind (arith, nat_tests)
 
 -- the next word's frame never falls
@@ -84,7 +84,7 @@ taken-shown v h f c word s in_range ahead shown later =
 -- so the word that a turn shows for an add that was late says that its frame and channel were taken
 pub taken-late : (t : Turn) (h : List Row) (f c word : ℕ) → Stands (core_of t) h → c < (core_of t).geometry.channels
     → f < (core_of t).position + (core_of t).geometry.frames
-    → IsPast view_of_turn shown t f c word
+    → IsPast view_of_turn word_of_turn t f c word
     → f < first_free (core_of t).next c
 taken-late t h f c word s in_range ahead late =
     let shown : word_at (core_of t) f c ≡ word = cc late.shown in

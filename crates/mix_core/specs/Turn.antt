@@ -38,8 +38,8 @@ abbrev pub view_of_turn : Turn → PortView
 view_of_turn t = record { geometry = t.core.now.geometry; member = t.member; can_add = true; marks = marks_of_turn t; seen = t.core.now.position }
 
 -- the word that the core has at a frame and channel
-abbrev pub shown : Turn → ℕ → ℕ → Option ℕ
-shown t f c = Some (word_at t.core.now f c)
+abbrev pub word_of_turn : Turn → ℕ → ℕ → Option ℕ
+word_of_turn t f c = Some (word_at t.core.now f c)
 
 -- the member's standing adds end in a list, in a history that the core stands for
 abbrev pub TurnEndsIn : Turn → List Entry → Type 0

@@ -18,12 +18,12 @@ use Rattle.mix_core.specs.declared.marks.Marks.{Marks}
 use Rattle.mix_core.specs.declared.port.Kind.{Kind}
 use Rattle.mix_core.specs.declared.port.Kind.TheVariants.{Added, Withdrawn}
 use Rattle.snd_base.specs.declared.geometry.Geometry.{Geometry}
-use Rattle.mix_core.specs.Laid.{AreAdds, cursor_of, marks_after, marks_from, own, standing, standing_of}
+use Rattle.mix_core.specs.Laid.{AreAdds, cursor_of, marks_after, marks_from, own_entries, standing, standing_of}
 use Rattle.mix_core.specs.Port.{AreRisingFrom, ShowsFrom, last_frame}
 use Rattle.mix_core.specs.PortLaws.{IsNotBefore-refl, IsNotBefore-trans, standing-append_adds}
 use Rattle.mix_core.specs.LegalLaws.{IsLegal-more, MayLay, cursor_of-least, lap-taken, may_lay}
 use Rattle.mix_core.specs.Stands.{Agrees, Stands}
-use Rattle.mix_core.specs.Turn.{AllContinue, KeepsRest, TurnEndsIn, TurnLaid, TurnLoaded, TurnMissed, continues, core_of, cursor_of_turn, marks_of_turn, shown}
+use Rattle.mix_core.specs.Turn.{AllContinue, KeepsRest, TurnEndsIn, TurnLaid, TurnLoaded, TurnMissed, continues, core_of, cursor_of_turn, marks_of_turn, word_of_turn}
 use Rattle.mix_core.specs.View.{View, cursor_at, word_at}
 
 pub KeepsRest-joined : (u v w : View) → KeepsRest u v → KeepsRest v w → KeepsRest u w
@@ -175,7 +175,7 @@ pub TurnEndsIn-part : (t : Turn) (xs ys : List Entry) → TurnEndsIn t (xs ++ ys
 TurnEndsIn-part t xs ys ends = (ends.0, (ends.1.0, (ends.1.1.0 ++ xs, ends.1.1.1 ∙ sym (append_assoc ends.1.1.0 xs ys))))
 
 -- what a turn laid moves the marks, and no word that it shows falls
-pub TurnLaid-shown : (t u : Turn) (es : List Entry) (f c word : ℕ) → TurnLaid t u es → shown t f c ≡ Some word → ShowsFrom shown u f c word
+pub TurnLaid-shown : (t u : Turn) (es : List Entry) (f c word : ℕ) → TurnLaid t u es → word_of_turn t f c ≡ Some word → ShowsFrom word_of_turn u f c word
 TurnLaid-shown t u es f c word laid is = record {
   now = word_at (core_of u) f c;
   shown = refl;
@@ -183,7 +183,7 @@ TurnLaid-shown t u es f c word laid is = record {
       (subst (λ g. word_at (core_of t) f c / 16777216 ≤ slice_index (core_of u).words (word_index g f c) / 16777216) (sym laid.rest.geometry)
       (laid.words (word_index (core_of t).geometry f c)));
 } where
-  the_word : shown t f c ≡ Some word → word_at (core_of t) f c ≡ word
+  the_word : word_of_turn t f c ≡ Some word → word_at (core_of t) f c ≡ word
   the_word some = cc some
 
 -- the positions that a turn loaded are all the core's
@@ -207,7 +207,7 @@ all_continue g members h (e ∷ es) adds =
     (subst (λ k. continues k g members h e.member e.frame e.channel e.sample) (sym adds.0) tt, all_continue g members (h ++ row_of e ∷ []) es adds.1)
 
 -- entries that are all of a member are its own
-own-all : (m : ℕ) (es : List Entry) → All (λ (e : Entry). e.member ≡ m) es → own m es ≡ es
+own-all : (m : ℕ) (es : List Entry) → All (λ (e : Entry). e.member ≡ m) es → own_entries m es ≡ es
 own-all m [] all = refl
 own-all m (e ∷ es) all =
     let is : e.member ≡ m = all 0 e (omega arith) in
@@ -216,7 +216,7 @@ own-all m (e ∷ es) all =
 
 standing_of-append_adds : (m : ℕ) (xs es : List Entry) → AreAdds es → All (λ (e : Entry). e.member ≡ m) es → standing_of m (xs ++ es) ≡ standing_of m xs ++ es
 standing_of-append_adds m xs es adds all =
-    ap standing (filter-append (λ (e : Entry). e.member == m) xs es ∙ ap (λ ys. own m xs ++ ys) (own-all m es all)) ∙ standing-append_adds (own m xs) es adds
+    ap standing (filter-append (λ (e : Entry). e.member == m) xs es ∙ ap (λ ys. own_entries m xs ++ ys) (own-all m es all)) ∙ standing-append_adds (own_entries m xs) es adds
 
 -- the standing adds of a turn that added have its adds at their end
 pub TurnEndsIn-laid : (t u : Turn) (xs es : List Entry) → AreAdds es → TurnLaid t u es → TurnEndsIn t xs → TurnEndsIn u (xs ++ es)

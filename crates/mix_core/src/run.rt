@@ -1,6 +1,6 @@
 //! Events of a core, one after the other.
 ghost use Rattle.std.specs.Prelude.{◌≡◌, ◌<◌, ◌≤◌, ◌+◌, ◌++◌, [], ◌∷◌, ◌↔◌, IsTrue, IfOk, IfErr, OnErr, MatchOption, vec_len, vec_capacity};
-ghost use Rattle.mix_core.specs.Laid.{own};
+ghost use Rattle.mix_core.specs.Laid.{own_entries};
 ghost use Rattle.mix_core.specs.Run.{IsAnswered, IsLastOf, IsReplied, IsRun, MayWithdraw};
 ghost use Rattle.mix_core.specs.declared.event.Event.TheVariants.{Add, Take, Withdraw};
 ghost use Rattle.mix_core.specs.View.{MayAdd};
@@ -177,7 +177,7 @@ fn keep(standing: &mut Vec<Entry>, entry: Entry)
 
 /// The place of a member's last standing add.
 fn last_of(standing: &[Entry], member: u32) -> Option<usize>
-    ensures { MatchOption result (own member standing.now ≡ []) (λ i. IsLastOf standing.now member i) }
+    ensures { MatchOption result (own_entries member standing.now ≡ []) (λ i. IsLastOf standing.now member i) }
 {
     for i in (0..standing.len()).rev() {
         if standing[i].member == member {

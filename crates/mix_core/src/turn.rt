@@ -39,12 +39,12 @@ impl Core {
 impl MixPort for Turn<'_> {
     ghost use Rattle.snd_base.specs.Relations.{Composes-none_after, Composes-none_before};
     ghost use Rattle.mix_core.specs.HeldLaws.{TurnEndsIn-back};
-    ghost use Rattle.mix_core.specs.Turn.{TurnEndsIn, TurnFinds, TurnLaid, TurnLoaded, shown, view_of_turn};
+    ghost use Rattle.mix_core.specs.Turn.{TurnEndsIn, TurnFinds, TurnLaid, TurnLoaded, word_of_turn, view_of_turn};
     ghost use Rattle.mix_core.specs.TurnLaws.{TurnEndsIn-laid, TurnEndsIn-nothing, TurnEndsIn-part, TurnLaid-composes, TurnLaid-shown, TurnLoaded-composes, TurnLoaded-last, TurnLoaded-rising};
 
     ghost view = { view_of_turn };
 
-    ghost shows = { shown };
+    ghost shows = { word_of_turn };
 
     ghost ends_in = { TurnEndsIn };
 

@@ -41,8 +41,8 @@ abbrev pub high_part : ℤ → ℤ
 high_part sample = int_div_euclid sample (pos 256)
 
 -- the bytes that a sample of 16 bits is written as
-abbrev pub printed : Format → ℤ → List ℕ
-printed S8 sample = cast_unsigned w8 (high_part sample) ∷ []
-printed U8 sample = cast_unsigned w8 (high_part sample +ℤ pos 128) ∷ []
-printed S16Le sample = to_le_bytes w16 (cast_unsigned w16 sample)
-printed S16Be sample = to_be_bytes w16 (cast_unsigned w16 sample)
+abbrev pub bytes_of_sample : Format → ℤ → List ℕ
+bytes_of_sample S8 sample = cast_unsigned w8 (high_part sample) ∷ []
+bytes_of_sample U8 sample = cast_unsigned w8 (high_part sample +ℤ pos 128) ∷ []
+bytes_of_sample S16Le sample = to_le_bytes w16 (cast_unsigned w16 sample)
+bytes_of_sample S16Be sample = to_be_bytes w16 (cast_unsigned w16 sample)

@@ -1,6 +1,6 @@
 //! The bytes of one sample.
 ghost use Rattle.std.specs.Prelude.{◌≡◌, length};
-ghost use Rattle.pcm_format.specs.Samples.{bytes_of, sample_of, printed};
+ghost use Rattle.pcm_format.specs.Samples.{bytes_of, sample_of, bytes_of_sample};
 
 use crate::format::Format;
 
@@ -28,7 +28,7 @@ pub fn read_sample(format: Format, bytes: &[u8]) -> i16
 /// of alsa/pcm.h.
 pub fn print_sample(format: Format, sample: i16, bytes: &mut [u8])
     requires { length bytes.old ≡ bytes_of format }
-    ensures { bytes.new ≡ printed format sample }
+    ensures { bytes.new ≡ bytes_of_sample format sample }
 {
     match format {
         Format::S8 => bytes[0] = ((sample >> 8) as i8).cast_unsigned(),

@@ -7,7 +7,7 @@ use Rattle.plug_chain.specs.declared.interpolation.Course.{Course}
 use Rattle.plug_chain.specs.Courses.{IsAdvance}
 use Rattle.plug_chain.specs.Growth.{Appends, Extends}
 use Rattle.plug_chain.specs.Held.{samples_of}
-use Rattle.plug_chain.specs.Rates.{AreRates, IsAt, IsUnderway, RatePair, known, known_count, output_count, output_frame, output_frames, resampled, silence}
+use Rattle.plug_chain.specs.Rates.{AreRates, IsAt, IsUnderway, RatePair, known_samples, known_count, output_count, output_frame, output_frames, resampled_samples, silence}
 use Rattle.plug_chain.proofs.Places.{known_count-is, output_count-is, output_frame-known}
 use Rattle.plug_chain.proofs.Ranges.{flat_map-range_add, flat_map-range_one, flat_map-range_same}
 
@@ -49,7 +49,7 @@ output_frames-more r frames m k =
     ∙ ap (λ ys. output_frames r frames m k ++ ys) (flat_map-range_one (output_frame r frames) (m + k))
 
 output_frames-known : (r : RatePair) (frames : List (List ℤ)) (x : List ℤ) → AreRates r
-    → output_frames r (frames ++ x ∷ []) 0 (known_count r (length frames)) ≡ known r frames
+    → output_frames r (frames ++ x ∷ []) 0 (known_count r (length frames)) ≡ known_samples r frames
 unfolding output_frames
 output_frames-known r frames x rates =
     flat_map-range_same (output_frame r (frames ++ x ∷ [])) (output_frame r frames) 0 (known_count r (length frames))
@@ -104,7 +104,7 @@ IsAdvance-one r channels frames x course place old new rates underway past near 
 
 -- all that lies behind the last frame is appended
 pub Appends-end : (r : RatePair) (frames : List (List ℤ)) (place : ℕ) (old new : List ℤ) → AreRates r → IsUnderway r frames (length frames) place old new
-    → r.output ≤ place → place < r.input + r.output → Appends (known r frames) (resampled r frames) old new
+    → r.output ≤ place → place < r.input + r.output → Appends (known_samples r frames) (resampled_samples r frames) old new
 Appends-end r frames place old new rates underway past near =
     let count : output_count r (length frames) ≡ known_count r (length frames) + underway.count =
     output_count-is r (length frames) (known_count r (length frames) + underway.count) rates.some_input (omega (arith, underway.place_is)) (omega (arith, underway.place_is))
@@ -118,11 +118,11 @@ Appends-end r frames place old new rates underway past near =
 -- no frame more, and some frames more after others
 pub IsAdvance-none : (r : RatePair) (channels : ℕ) (frames : List (List ℤ)) (course : Course) (old : List ℤ) → IsAt r channels frames (samples_of course.last) course.place
     → IsAdvance r channels frames frames course old old
-IsAdvance-none r channels frames course old at = record { at = at; appends = Appends-none (known r frames) old }
+IsAdvance-none r channels frames course old at = record { at = at; appends = Appends-none (known_samples r frames) old }
 
 pub IsAdvance-trans : (r : RatePair) (channels : ℕ) (a b c : List (List ℤ)) (start course : Course) (old mid new : List ℤ) → IsAdvance r channels a b start old mid → IsAdvance r channels b c course mid new
     → IsAdvance r channels a c course old new
 IsAdvance-trans r channels a b c start course old mid new first second = record {
   at = second.at;
-  appends = Appends-trans (known r a) (known r b) (known r c) old mid new first.appends second.appends;
+  appends = Appends-trans (known_samples r a) (known_samples r b) (known_samples r c) old mid new first.appends second.appends;
 }

@@ -7,14 +7,14 @@ use Rattle.std.specs.List.{flat_map, range_with_len}
 use Rattle.std.specs.Prelude.{min}
 use Rattle.plug_chain.specs.Frames.{Conversion, frame_bytes, frame_count, frame_of, frames_in, frames_of, samples_in}
 use Rattle.plug_chain.specs.Plugs.{known_of, plug_of}
-use Rattle.plug_chain.specs.Rates.{AreRates, RatePair, between, frame_at, known, output_count, output_frame, output_frames}
+use Rattle.plug_chain.specs.Rates.{AreRates, RatePair, frame_between, frame_at, known_samples, output_count, output_frame, output_frames}
 use Rattle.plug_chain.specs.Tables.{IsTable}
 use Rattle.plug_chain.proofs.Places.{output_count-is}
 use Rattle.plug_chain.proofs.Stages.{frame_bytes-some, length-output_samples}
 
 -- ---- frames
 
-length-between : (part parts : ℕ) (xs ys : List ℤ) → length (between part parts xs ys) ≡ length xs
+length-between : (part parts : ℕ) (xs ys : List ℤ) → length (frame_between part parts xs ys) ≡ length xs
 length-between part parts [] ys = refl
 length-between part parts (x ∷ xs) [] = ap (λ (n : ℕ). suc n) (length-between part parts xs [])
 length-between part parts (x ∷ xs) (y ∷ ys) = ap (λ (n : ℕ). suc n) (length-between part parts xs ys)
@@ -96,7 +96,7 @@ frames_of-nil c = ap (λ (n : ℕ). frames_in c n []) (frame_count-nil c)
 
 pub known_of-nil : (c : Conversion) → known_of c [] ≡ []
 unfolding output_frames
-known_of-nil c = ap (known c.rates) (frames_of-nil c)
+known_of-nil c = ap (known_samples c.rates) (frames_of-nil c)
 
 pub plug_of-nil : (c : Conversion) → AreRates c.rates → plug_of c [] ≡ []
 plug_of-nil c rates = nil_from_length (plug_of c []) (length-plug_of_by 0 c [] rates (frame_count-nil c) ∙ (let none : output_count c.rates 0 * c.table.outputs ≡ 0 = omega (arith, ap (λ (n : ℕ). n * c.table.outputs) (output_count-none c.rates rates)) in none))

@@ -9,7 +9,7 @@ use Rattle.std.proofs.Math.Seq.{drop-cons}
 use Rattle.std.proofs.lemmas.Int.{by_lt_z, ints}
 use Rattle.std.proofs.lemmas.Nat.{div-add-mod', div-mul-add, div_below, mod-mul-add, mod_below}
 use Rattle.std.specs.Int.{w16, div_ceil, int_div_euclid}
-use Rattle.plug_chain.specs.Rates.{on_line, between}
+use Rattle.plug_chain.specs.Rates.{on_line, frame_between}
 
 -- a part of a number is at most the number
 part_of-le : (n part parts : ℕ) → 1 ≤ parts → part ≤ parts → n * part / parts ≤ n
@@ -86,33 +86,33 @@ div_euclid-whole (negsuc n) parts some =
 pub on_line-whole : (parts : ℕ) (x y : ℤ) → 1 ≤ parts → on_line parts parts x y ≡ y
 on_line-whole parts x y some = ap (λ z. x +ℤ z) (div_euclid-whole (y -ℤ x) parts some) ∙ omega (arith, ints)
 
-pub between-none : (parts : ℕ) (xs ys : List ℤ) → 1 ≤ parts → between 0 parts xs ys ≡ xs
+pub between-none : (parts : ℕ) (xs ys : List ℤ) → 1 ≤ parts → frame_between 0 parts xs ys ≡ xs
 between-none parts [] ys some = refl
-between-none parts (x ∷ xs) [] some = ap (λ z. z ∷ between 0 parts xs []) (on_line-none parts x (pos 0) some) ∙ ap (λ zs. x ∷ zs) (between-none parts xs [] some)
-between-none parts (x ∷ xs) (y ∷ ys) some = ap (λ z. z ∷ between 0 parts xs ys) (on_line-none parts x y some) ∙ ap (λ zs. x ∷ zs) (between-none parts xs ys some)
+between-none parts (x ∷ xs) [] some = ap (λ z. z ∷ frame_between 0 parts xs []) (on_line-none parts x (pos 0) some) ∙ ap (λ zs. x ∷ zs) (between-none parts xs [] some)
+between-none parts (x ∷ xs) (y ∷ ys) some = ap (λ z. z ∷ frame_between 0 parts xs ys) (on_line-none parts x y some) ∙ ap (λ zs. x ∷ zs) (between-none parts xs ys some)
 
-pub between-same : (part parts : ℕ) (xs : List ℤ) → 1 ≤ parts → between part parts xs xs ≡ xs
+pub between-same : (part parts : ℕ) (xs : List ℤ) → 1 ≤ parts → frame_between part parts xs xs ≡ xs
 between-same part parts [] some = refl
-between-same part parts (x ∷ xs) some = ap (λ z. z ∷ between part parts xs xs) (on_line-same part parts x some) ∙ ap (λ zs. x ∷ zs) (between-same part parts xs some)
+between-same part parts (x ∷ xs) some = ap (λ z. z ∷ frame_between part parts xs xs) (on_line-same part parts x some) ∙ ap (λ zs. x ∷ zs) (between-same part parts xs some)
 
-pub between-whole : (parts : ℕ) (xs ys : List ℤ) → 1 ≤ parts → length xs ≡ length ys → between parts parts xs ys ≡ ys
+pub between-whole : (parts : ℕ) (xs ys : List ℤ) → 1 ≤ parts → length xs ≡ length ys → frame_between parts parts xs ys ≡ ys
 between-whole parts [] [] some same = refl
 between-whole parts [] (y ∷ ys) some same = absurd (omega arith)
 between-whole parts (x ∷ xs) [] some same = absurd (omega arith)
-between-whole parts (x ∷ xs) (y ∷ ys) some same = ap (λ z. z ∷ between parts parts xs ys) (on_line-whole parts x y some) ∙ ap (λ zs. y ∷ zs) (between-whole parts xs ys some (omega arith))
+between-whole parts (x ∷ xs) (y ∷ ys) some same = ap (λ z. z ∷ frame_between parts parts xs ys) (on_line-whole parts x y some) ∙ ap (λ zs. y ∷ zs) (between-whole parts xs ys some (omega arith))
 
 -- the numbers on a line, one more
 pub between-step : (part parts i : ℕ) (xs ys out all : List ℤ) (z : ℤ) → i < length xs → length xs ≡ length ys
-    → z ≡ on_line part parts (get_or xs i (pos 0)) (get_or ys i (pos 0)) → out ++ between part parts (drop i xs) (drop i ys) ≡ all
-    → (out ++ z ∷ []) ++ between part parts (drop (i + 1) xs) (drop (i + 1) ys) ≡ all
+    → z ≡ on_line part parts (get_or xs i (pos 0)) (get_or ys i (pos 0)) → out ++ frame_between part parts (drop i xs) (drop i ys) ≡ all
+    → (out ++ z ∷ []) ++ frame_between part parts (drop (i + 1) xs) (drop (i + 1) ys) ≡ all
 between-step part parts i xs ys out all z within same is so_far =
     let within_too : i < length ys = omega arith in
     let next : i + 1 ≡ suc i = omega arith in
-    append_assoc out (z ∷ []) (between part parts (drop (i + 1) xs) (drop (i + 1) ys))
-    ∙ (ap (λ w. out ++ w ∷ between part parts (drop (i + 1) xs) (drop (i + 1) ys)) is
-    ∙ (ap (λ (k : ℕ). out ++ on_line part parts (get_or xs i (pos 0)) (get_or ys i (pos 0)) ∷ between part parts (drop k xs) (drop k ys)) next
-    ∙ (ap (λ us. out ++ between part parts us (get_or ys i (pos 0) ∷ drop (suc i) ys)) (sym (drop-cons xs i (pos 0) within))
-    ∙ (ap (λ us. out ++ between part parts (drop i xs) us) (sym (drop-cons ys i (pos 0) within_too))
+    append_assoc out (z ∷ []) (frame_between part parts (drop (i + 1) xs) (drop (i + 1) ys))
+    ∙ (ap (λ w. out ++ w ∷ frame_between part parts (drop (i + 1) xs) (drop (i + 1) ys)) is
+    ∙ (ap (λ (k : ℕ). out ++ on_line part parts (get_or xs i (pos 0)) (get_or ys i (pos 0)) ∷ frame_between part parts (drop k xs) (drop k ys)) next
+    ∙ (ap (λ us. out ++ frame_between part parts us (get_or ys i (pos 0) ∷ drop (suc i) ys)) (sym (drop-cons xs i (pos 0) within))
+    ∙ (ap (λ us. out ++ frame_between part parts (drop i xs) us) (sym (drop-cons ys i (pos 0) within_too))
     ∙ so_far))))
 
 -- a number between two samples is one

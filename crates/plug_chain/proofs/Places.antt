@@ -6,7 +6,7 @@ use Rattle.std.proofs.lemmas.Bool.{cases_lt}
 use Rattle.std.proofs.lemmas.List.{get_or_append_left, get_or_default}
 use Rattle.std.proofs.lemmas.Nat.{div-add-mod', div-mul-add, div_below, le-div, mod-mul-add, mod_below}
 use Rattle.std.specs.Prelude.{min}
-use Rattle.plug_chain.specs.Rates.{AreRates, IsAt, RatePair, between, frame_at, known_count, output_count, output_frame, silence}
+use Rattle.plug_chain.specs.Rates.{AreRates, IsAt, RatePair, frame_between, frame_at, known_count, output_count, output_frame, silence}
 use Rattle.plug_chain.proofs.Lines.{between-none, between-same, between-whole}
 
 -- the number of the first frame past n frames, counted by output frames
@@ -45,13 +45,13 @@ frame_at-seam frames x i past =
 
 -- an output frame that lies `part` parts behind frame i
 pub output_frame-at : (r : RatePair) (frames : List (List ℤ)) (j i part : ℕ) → part < r.output → j * r.input ≡ i * r.output + part
-    → output_frame r frames j ≡ between part r.output (frame_at frames i) (frame_at frames (i + 1))
+    → output_frame r frames j ≡ frame_between part r.output (frame_at frames i) (frame_at frames (i + 1))
 unfolding output_frame
 output_frame-at r frames j i part low is =
     let place_is : j * r.input / r.output ≡ i = ap (λ (m : ℕ). m / r.output) is ∙ div-mul-add i r.output part low in
     let part_is : j * r.input % r.output ≡ part = ap (λ (m : ℕ). m % r.output) is ∙ mod-mul-add i r.output part low in
-    ap (λ (k : ℕ). between (j * r.input % r.output) r.output (frame_at frames k) (frame_at frames (k + 1))) place_is
-    ∙ ap (λ (k : ℕ). between k r.output (frame_at frames i) (frame_at frames (i + 1))) part_is
+    ap (λ (k : ℕ). frame_between (j * r.input % r.output) r.output (frame_at frames k) (frame_at frames (k + 1))) place_is
+    ∙ ap (λ (k : ℕ). frame_between k r.output (frame_at frames i) (frame_at frames (i + 1))) part_is
 
 -- what the last frame is
 last_is : (r : RatePair) (channels : ℕ) (frames : List (List ℤ)) (last : List ℤ) (place m : ℕ) → IsAt r channels frames last place → length frames ≡ suc m → get_or frames m [] ≡ last
@@ -66,8 +66,8 @@ known_before r frames x j i part m many low is before =
     let here : i < length frames = omega (arith, many) in
     let next : i + 1 < length frames = omega (arith, many) in
     output_frame-at r (frames ++ x ∷ []) j i part low is
-    ∙ (ap (λ f. between part r.output f (frame_at (frames ++ x ∷ []) (i + 1))) (frame_at-append frames (x ∷ []) i here ∙ sym (frame_at-within frames i here))
-    ∙ (ap (λ f. between part r.output (frame_at frames i) f) (frame_at-append frames (x ∷ []) (i + 1) next ∙ sym (frame_at-within frames (i + 1) next))
+    ∙ (ap (λ f. frame_between part r.output f (frame_at (frames ++ x ∷ []) (i + 1))) (frame_at-append frames (x ∷ []) i here ∙ sym (frame_at-within frames i here))
+    ∙ (ap (λ f. frame_between part r.output (frame_at frames i) f) (frame_at-append frames (x ∷ []) (i + 1) next ∙ sym (frame_at-within frames (i + 1) next))
     ∙ sym (output_frame-at r frames j i part low is)))
 
 -- nor the one at it
@@ -105,19 +105,19 @@ output_frame-known r frames x j rates known = known_by (length frames) r frames 
 -- the next output frame, where it lies before the frame that came
 next_before : (n : ℕ) (r : RatePair) (channels : ℕ) (frames : List (List ℤ)) (x last : List ℤ) (start place j : ℕ) → IsAt r channels frames last start
     → length frames ≡ n → place < r.output → j * r.input + r.output ≡ n * r.output + place
-    → output_frame r (frames ++ x ∷ []) j ≡ between place r.output last x
+    → output_frame r (frames ++ x ∷ []) j ≡ frame_between place r.output last x
 next_before zero r channels frames x last start place j at many low is = absurd (omega arith)
 next_before (suc m) r channels frames x last start place j at many low is =
     let here : m < length frames = omega (arith, many) in
     let lies : j * r.input ≡ m * r.output + place = omega (arith, is) in
     output_frame-at r (frames ++ x ∷ []) j m place low lies
-    ∙ (ap (λ f. between place r.output f (frame_at (frames ++ x ∷ []) (m + 1))) (frame_at-append frames (x ∷ []) m here ∙ last_is r channels frames last start m at many)
-    ∙ ap (λ f. between place r.output last f) (frame_at-seam frames x (m + 1) (omega (arith, many))))
+    ∙ (ap (λ f. frame_between place r.output f (frame_at (frames ++ x ∷ []) (m + 1))) (frame_at-append frames (x ∷ []) m here ∙ last_is r channels frames last start m at many)
+    ∙ ap (λ f. frame_between place r.output last f) (frame_at-seam frames x (m + 1) (omega (arith, many))))
 
 -- the next output frame, where one more frame came
 pub output_frame-next : (r : RatePair) (channels : ℕ) (frames : List (List ℤ)) (x last : List ℤ) (start place j : ℕ) → AreRates r → IsAt r channels frames last start
     → length last ≡ length x → place ≤ r.output → j * r.input + r.output ≡ length frames * r.output + place
-    → output_frame r (frames ++ x ∷ []) j ≡ between place r.output last x
+    → output_frame r (frames ++ x ∷ []) j ≡ frame_between place r.output last x
 output_frame-next r channels frames x last start place j rates at same within is = elim (cases_lt place r.output) [
   | inl low ↦ next_before (length frames) r channels frames x last start place j at refl low is
   | inr whole ↦
@@ -127,7 +127,7 @@ output_frame-next r channels frames x last start place j rates at same within is
       ∙ (between-none r.output (frame_at (frames ++ x ∷ []) (length frames)) (frame_at (frames ++ x ∷ []) (length frames + 1)) rates.some_output
       ∙ (frame_at-seam frames x (length frames) (omega arith)
       ∙ (sym (between-whole r.output last x rates.some_output same)
-      ∙ ap (λ (k : ℕ). between k r.output last x) (sym place_is))))
+      ∙ ap (λ (k : ℕ). frame_between k r.output last x) (sym place_is))))
 ]
 
 last_by : (n : ℕ) (r : RatePair) (channels : ℕ) (frames : List (List ℤ)) (last : List ℤ) (start place j : ℕ) → AreRates r → IsAt r channels frames last start
@@ -138,8 +138,8 @@ last_by (suc m) r channels frames last start place j rates at many low is =
     let here : m < length frames = omega (arith, many) in
     let lies : j * r.input ≡ m * r.output + place = omega (arith, is) in
     output_frame-at r frames j m place low lies
-    ∙ (ap (λ f. between place r.output f (frame_at frames (m + 1))) (frame_at-within frames m here ∙ last_is r channels frames last start m at many)
-    ∙ (ap (λ f. between place r.output last f) (frame_at-past frames (m + 1) m many (omega arith) ∙ last_is r channels frames last start m at many)
+    ∙ (ap (λ f. frame_between place r.output f (frame_at frames (m + 1))) (frame_at-within frames m here ∙ last_is r channels frames last start m at many)
+    ∙ (ap (λ f. frame_between place r.output last f) (frame_at-past frames (m + 1) m many (omega arith) ∙ last_is r channels frames last start m at many)
     ∙ between-same place r.output last rates.some_output))
 
 -- the next output frame, behind the last frame

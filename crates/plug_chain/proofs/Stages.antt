@@ -15,7 +15,7 @@ use Rattle.plug_chain.specs.Frames.{Conversion, frame_bytes, frame_of, frames_of
 use Rattle.plug_chain.specs.Growth.{Appends}
 use Rattle.plug_chain.specs.Held.{part_of, samples_of}
 use Rattle.plug_chain.specs.Plugs.{Continues, HasTaken}
-use Rattle.plug_chain.specs.Rates.{IsAt, RatePair, known}
+use Rattle.plug_chain.specs.Rates.{IsAt, RatePair, known_samples}
 use Rattle.plug_chain.specs.Samples.{bytes_of}
 use Rattle.plug_chain.specs.Tables.{ChannelTable, IsTable, output_channel, output_samples}
 use Rattle.plug_chain.specs.Views.{conversion_of, stage_of}
@@ -89,7 +89,7 @@ Continues-by v p q bytes old new table advances part =
         course = subst (λ (xs : List (List ℤ)). IsAt v.rates v.table.outputs xs (samples_of q.course.last) q.course.place) (sym (all fed taken)) (advances (frames_of (conversion_of v) fed) taken.course).at;
       };
       appends = λ fed taken.
-          subst (λ (xs : List (List ℤ)). Appends (known v.rates (frames_of (conversion_of v) fed)) (known v.rates xs) old new) (sym (all fed taken)) (advances (frames_of (conversion_of v) fed) taken.course).appends;
+          subst (λ (xs : List (List ℤ)). Appends (known_samples v.rates (frames_of (conversion_of v) fed)) (known_samples v.rates xs) old new) (sym (all fed taken)) (advances (frames_of (conversion_of v) fed) taken.course).appends;
     }
 
 -- bytes from the beginning of a frame on

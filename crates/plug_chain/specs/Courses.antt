@@ -3,13 +3,13 @@ use Rattle.std.specs.Prelude.{◌++◌, List, ℕ, ℤ}
 use Rattle.plug_chain.specs.declared.interpolation.Course.{Course}
 use Rattle.plug_chain.specs.Growth.{Appends}
 use Rattle.plug_chain.specs.Held.{samples_of}
-use Rattle.plug_chain.specs.Rates.{RatePair, IsAt, IsCourse, known, resampled}
+use Rattle.plug_chain.specs.Rates.{RatePair, IsAt, IsCourse, known_samples, resampled_samples}
 
 -- whichever frames came before, after these frames more the course is that of them all, and what is known grew by what was appended
 pub record IsAdvance (r : RatePair) (channels : ℕ) (before after : List (List ℤ))
     (course : Course) (old new : List ℤ) : Type 0 where
   pub at : IsAt r channels after (samples_of course.last) course.place
-  pub appends : Appends (known r before) (known r after) old new
+  pub appends : Appends (known_samples r before) (known_samples r after) old new
 
 -- a course lies where one can lie at these rates and with so many channels
 abbrev pub IsOn : RatePair → ℕ → Course → Type 0
@@ -29,4 +29,4 @@ Advances r channels more start course old new =
 abbrev pub Ends : RatePair → ℕ → Course → List ℤ → List ℤ → Type 0
 Ends r channels course old new =
     (frames : List (List ℤ)) → IsAfter r channels frames course
-    → Appends (known r frames) (resampled r frames) old new
+    → Appends (known_samples r frames) (resampled_samples r frames) old new

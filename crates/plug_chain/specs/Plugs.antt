@@ -2,16 +2,16 @@
 use Rattle.std.specs.Prelude.{◌≡◌, ℕ, ◌<◌, List, [], ◌++◌, length, ℤ}
 use Rattle.plug_chain.specs.Frames.{Conversion, frame_bytes, frames_of, rest_of}
 use Rattle.plug_chain.specs.Growth.{Appends}
-use Rattle.plug_chain.specs.Rates.{AreRates, IsAt, IsCourse, known, resampled}
+use Rattle.plug_chain.specs.Rates.{AreRates, IsAt, IsCourse, known_samples, resampled_samples}
 use Rattle.plug_chain.specs.Tables.{IsTable}
 
 -- the interleaved samples that bytes are converted to
 abbrev pub plug_of : Conversion → List ℕ → List ℤ
-plug_of c bytes = resampled c.rates (frames_of c bytes)
+plug_of c bytes = resampled_samples c.rates (frames_of c bytes)
 
 -- those that no later bytes change
 abbrev pub known_of : Conversion → List ℕ → List ℤ
-known_of c bytes = known c.rates (frames_of c bytes)
+known_of c bytes = known_samples c.rates (frames_of c bytes)
 
 -- how far a conversion has come: the begun frame, the last whole frame, and where the next output frame lies
 pub record Stage : Type 0 where

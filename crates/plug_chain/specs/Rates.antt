@@ -24,10 +24,10 @@ pub record IsRise (rise : ℤ) : Type 0 where
   pub high : rise ≤ℤ pos 65535
 
 -- the number on the line, for each channel of two frames
-abbrev pub between : ℕ → ℕ → List ℤ → List ℤ → List ℤ
-between part parts [] to = []
-between part parts (x ∷ from) [] = on_line part parts x (pos 0) ∷ between part parts from []
-between part parts (x ∷ from) (y ∷ to) = on_line part parts x y ∷ between part parts from to
+abbrev pub frame_between : ℕ → ℕ → List ℤ → List ℤ → List ℤ
+frame_between part parts [] to = []
+frame_between part parts (x ∷ from) [] = on_line part parts x (pos 0) ∷ frame_between part parts from []
+frame_between part parts (x ∷ from) (y ∷ to) = on_line part parts x y ∷ frame_between part parts from to
 
 -- the frame at a place; the last one stays behind the end
 abbrev pub frame_at : List (List ℤ) → ℕ → List ℤ
@@ -37,7 +37,7 @@ frame_at frames i = slice_index_or frames (min i (length frames - 1)) []
 unfoldable pub output_frame : RatePair → List (List ℤ) → ℕ → List ℤ
 output_frame r frames j =
     let i = j * r.input / r.output in
-    between (j * r.input % r.output) r.output (frame_at frames i) (frame_at frames (i + 1))
+    frame_between (j * r.input % r.output) r.output (frame_at frames i) (frame_at frames (i + 1))
 
 -- the samples of so many output frames from one on
 unfoldable pub output_frames : RatePair → List (List ℤ) → ℕ → ℕ → List ℤ
@@ -53,12 +53,12 @@ known_count r zero = 0
 known_count r (suc n) = n * r.output / r.input + 1
 
 -- all samples that go out
-abbrev pub resampled : RatePair → List (List ℤ) → List ℤ
-resampled r frames = output_frames r frames 0 (output_count r (length frames))
+abbrev pub resampled_samples : RatePair → List (List ℤ) → List ℤ
+resampled_samples r frames = output_frames r frames 0 (output_count r (length frames))
 
 -- those that are known before the end
-abbrev pub known : RatePair → List (List ℤ) → List ℤ
-known r frames = output_frames r frames 0 (known_count r (length frames))
+abbrev pub known_samples : RatePair → List (List ℤ) → List ℤ
+known_samples r frames = output_frames r frames 0 (known_count r (length frames))
 
 -- a frame of zeros
 abbrev pub silence : ℕ → List ℤ

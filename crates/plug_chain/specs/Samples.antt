@@ -21,8 +21,8 @@ low_first [] = 0
 low_first (b ∷ bytes) = b + 256 * low_first bytes
 
 -- the signed number of so many bits that a number below 2 ^ bits stands for
-abbrev pub signed : ℕ → ℕ → ℤ
-signed bits n = if nat_lt n (2 ^ (bits - 1)) then pos n else pos n -ℤ pos (2 ^ bits)
+abbrev pub signed_number : ℕ → ℕ → ℤ
+signed_number bits n = if nat_lt n (2 ^ (bits - 1)) then pos n else pos n -ℤ pos (2 ^ bits)
 
 -- the sample of 16 bits that bytes stand for: a number of more bits is divided and rounded down
 abbrev pub wide_sample : Wide → List ℕ → ℤ
@@ -30,5 +30,5 @@ wide_sample S8 bytes = sample_of formats.S8 bytes
 wide_sample U8 bytes = sample_of formats.U8 bytes
 wide_sample S16Le bytes = sample_of formats.S16Le bytes
 wide_sample S16Be bytes = sample_of formats.S16Be bytes
-wide_sample S24Packed bytes = int_div_euclid (signed 24 (low_first bytes)) (pos (2 ^ 8))
-wide_sample S32Le bytes = int_div_euclid (signed 32 (low_first bytes)) (pos (2 ^ 16))
+wide_sample S24Packed bytes = int_div_euclid (signed_number 24 (low_first bytes)) (pos (2 ^ 8))
+wide_sample S32Le bytes = int_div_euclid (signed_number 32 (low_first bytes)) (pos (2 ^ 16))

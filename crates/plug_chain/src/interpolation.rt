@@ -3,7 +3,7 @@ ghost use Rattle.std.specs.Prelude.{◌≡◌, ◌≤◌, [], ◌∷◌, ◌++�
 ghost use Rattle.std.specs.Int.{int_div_euclid};
 ghost use Rattle.plug_chain.specs.Held.{samples_of};
 ghost use Rattle.plug_chain.specs.Growth.{Extends};
-ghost use Rattle.plug_chain.specs.Rates.{AreRates, IsRise, between, on_line};
+ghost use Rattle.plug_chain.specs.Rates.{AreRates, IsRise, frame_between, on_line};
 ghost use Rattle.plug_chain.specs.Courses.{Advances, Ends, IsAfter, IsOn};
 
 use crate::frame::Frame;
@@ -55,7 +55,7 @@ fn push_between(
     requires some { 1 ≤ parts }
     requires within { part ≤ parts }
     requires channels { length from.now ≡ length to.now }
-    ensures ok { OnOk result (out.new.items ≡ out.old.items ++ between part parts from.now to.now) }
+    ensures ok { OnOk result (out.new.items ≡ out.old.items ++ frame_between part parts from.now to.now) }
     ensures grows { Extends out.old.items out.new.items }
 {
     for (channel, start) in from.iter().enumerate() {
@@ -93,7 +93,7 @@ impl Rates {
     fn push_frame(self, course: &Course, next: &Frame, out: &mut Vec<i16>) -> Result<(), AllocError>
         requires within { course.now.place ≤ self.output }
         requires channels { length (samples_of course.now.last) ≡ length (samples_of next.now) }
-        ensures ok { OnOk result (out.new.items ≡ out.old.items ++ between course.now.place
+        ensures ok { OnOk result (out.new.items ≡ out.old.items ++ frame_between course.now.place
             self.output (samples_of course.now.last) (samples_of next.now)) }
         ensures grows { Extends out.old.items out.new.items }
     {

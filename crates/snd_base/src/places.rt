@@ -1,6 +1,6 @@
 //! Places in a ring: a frame and a channel, ordered by frame and then by channel.
 ghost use Rattle.std.specs.Prelude.{◌≡◌, ◌<◌, ◌^◌, ◌+◌};
-ghost use Rattle.snd_base.specs.Places.{behind, first_free};
+ghost use Rattle.snd_base.specs.Places.{cursor_after, first_free};
 
 use crate::geometry::Geometry;
 
@@ -17,7 +17,7 @@ impl Cursor {
     pub fn behind(geometry: &Geometry, frame: u64, channel: u8) -> Cursor
         requires channel { channel < geometry.now.channels }
         requires frame { frame + 1 < 2 ^ 64 }
-        ensures { result ≡ behind geometry.now frame channel }
+        ensures { result ≡ cursor_after geometry.now frame channel }
     {
         if channel + 1 < geometry.channels {
             Cursor {

@@ -7,7 +7,7 @@ use Rattle.std.proofs.Math.Nat.{div-lt_iff_lt-mul, mod-lt}
 use Rattle.snd_base.specs.declared.geometry.Geometry.{Geometry}
 use Rattle.snd_base.specs.declared.places.Cursor.{Cursor}
 use Rattle.snd_base.specs.PlaceLaws.{suc-le-end_frame, word_index-lt, word_index-same}
-use Rattle.snd_base.specs.Places.{behind, end_frame, lap, slot, word_index}
+use Rattle.snd_base.specs.Places.{cursor_after, end_frame, lap, slot, word_index}
 use Rattle.snoop_core.specs.Ring.{ArePartStored, HoldsSamples, IsFrameStored, IsSampleStored, IsSoundRing, RingView, after_samples, word_in}
 use Rattle.snoop_core.specs.Stored.{next_at}
 use Rattle.snoop_core.specs.StoredLaws.{HaveLaps-written, HoldLast-written, IsWritten, next_at-more}
@@ -32,7 +32,7 @@ abbrev pub stored_view : RingView → ℕ → RingView
 stored_view v new = record {
   geometry = v.geometry;
   words = set v.words (word_index v.geometry v.next.frame v.next.channel) new;
-  next = behind v.geometry v.next.frame v.next.channel;
+  next = cursor_after v.geometry v.next.frame v.next.channel;
 }
 
 pub IsSoundRing-stored : (v : RingView) (new : ℕ) (x : ℤ) → IsSoundRing v → lap v.geometry v.next.frame < 4294967295
@@ -61,7 +61,7 @@ IsSampleStored-stored v new x s fits holds =
           let at_next : (y : Cursor) → y ≡ v.next → v.next ≡ next_at g xs → IsWritten g (next_at g xs) new (word_in g v.words) (word_in g (set v.words at new)) =
           λ y e is. subst (λ (n : Cursor). IsWritten g n new (word_in g v.words) (word_in g (set v.words at new))) is (written g v.next v.words new s.room s.next_channel) in
           record {
-            next = ap (λ (n : Cursor). behind g n.frame n.channel) h.next ∙ sym (next_at-more g xs x);
+            next = ap (λ (n : Cursor). cursor_after g n.frame n.channel) h.next ∙ sym (next_at-more g xs x);
             words = HoldLast-written g new x (word_in g v.words) (word_in g (set v.words at new)) xs (at_next v.next refl h.next)
                 (subst (λ (n : Cursor). HoldsSample new (lap g n.frame + 1) x) h.next holds) h.words;
           };
@@ -82,9 +82,9 @@ ArePartStored-more u v w xs x few part one =
     let g : Geometry = u.geometry in
     let n : ℕ = length xs in
     let more : length (xs ++ x ∷ []) ≡ n + 1 = Rattle.std.proofs.lemmas.List.length-append xs (x ∷ []) in
-    let moved : w.next ≡ behind g (after_samples g u.next.frame n).frame (after_samples g u.next.frame n).channel =
-    one.next ∙ (ap (λ (k : Geometry). behind k v.next.frame v.next.channel) part.geometry ∙ ap (λ (y : Cursor). behind g y.frame y.channel) part.next) in
-    let step : behind g (after_samples g u.next.frame n).frame (after_samples g u.next.frame n).channel ≡ after_samples g u.next.frame (n + 1) = grind (arith, nat_tests, few) in
+    let moved : w.next ≡ cursor_after g (after_samples g u.next.frame n).frame (after_samples g u.next.frame n).channel =
+    one.next ∙ (ap (λ (k : Geometry). cursor_after k v.next.frame v.next.channel) part.geometry ∙ ap (λ (y : Cursor). cursor_after g y.frame y.channel) part.next) in
+    let step : cursor_after g (after_samples g u.next.frame n).frame (after_samples g u.next.frame n).channel ≡ after_samples g u.next.frame (n + 1) = grind (arith, nat_tests, few) in
     record {
       geometry = one.geometry ∙ part.geometry;
       next = moved ∙ (step ∙ ap (after_samples g u.next.frame) (sym more));

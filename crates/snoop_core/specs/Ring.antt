@@ -2,7 +2,7 @@
 use Rattle.std.specs.Prelude.{◌≡◌, ℕ, ◌+◌, ◌*◌, ◌<◌, List, [], ◌∷◌, ◌++◌, length, slice_index, ℤ, nat_lt, if◌then◌else◌}
 use Rattle.snd_base.specs.declared.geometry.Geometry.{Geometry}
 use Rattle.snd_base.specs.declared.places.Cursor.{Cursor}
-use Rattle.snd_base.specs.Places.{IsWithin, behind, first_frame, word_index}
+use Rattle.snd_base.specs.Places.{IsWithin, cursor_after, first_frame, word_index}
 use Rattle.snoop_core.specs.Stored.{HaveLaps, HoldLast, next_at}
 
 -- a ring: its geometry, the words slot by slot, and the frame and channel that are stored next
@@ -40,7 +40,7 @@ pub record IsNewRing (v : RingView) (g : Geometry) : Type 0 where
 -- the next sample was stored
 pub record IsSampleStored (v w : RingView) (x : ℤ) : Type 0 where
   pub geometry : w.geometry ≡ v.geometry
-  pub next : w.next ≡ behind v.geometry v.next.frame v.next.channel
+  pub next : w.next ≡ cursor_after v.geometry v.next.frame v.next.channel
   pub sound : IsSoundRing w
   pub holds : (xs : List ℤ) → HoldsSamples v xs → HoldsSamples w (xs ++ x ∷ [])
 

@@ -9,7 +9,7 @@ use Rattle.std.proofs.lemmas.Nat.{div-add-mod', le-div}
 use Rattle.snd_base.specs.declared.geometry.Geometry.{Geometry}
 use Rattle.snd_base.specs.declared.places.Cursor.{Cursor}
 use Rattle.snd_base.specs.PlaceLaws.{div-lt_same, first_free-behind_low, mod-same, mod-window, next_word-suc}
-use Rattle.snd_base.specs.Places.{behind, first_frame, first_free, lap, next_word, slot}
+use Rattle.snd_base.specs.Places.{cursor_after, first_frame, first_free, lap, next_word, slot}
 use Rattle.snoop_core.specs.Stored.{HaveLaps, HoldLast, IsCaptured, IsLast, IsUnused, next_at, place_of, sample_at}
 use Rattle.snoop_core.specs.Word.{HoldsSample, HoldsSample-fields, laps_of, sample_of}
 use Rattle.snoop_core.specs.declared.port.Frame.{Frame}
@@ -101,7 +101,7 @@ own_sample g word xs f c holds by in_range least stored own =
 
 -- the next cursor's channel alone goes on with the next frame
 first_free-behind_other : (g : Geometry) (next : Cursor) (d : ℕ) → d < g.channels → next.channel < g.channels → d ≢ next.channel
-    → first_free (behind g next.frame next.channel) d ≡ first_free next d
+    → first_free (cursor_after g next.frame next.channel) d ≡ first_free next d
 first_free-behind_other g next d asked in_range other = grind (arith, nat_tests)
 
 -- a word was stored over at the next frame and channel
@@ -115,10 +115,10 @@ pub last-written : (P Q : ℕ → ℕ → ℕ → Type 0) (g : Geometry) (next :
     → Q new next.frame next.channel
     → ((w f c : ℕ) → c < g.channels → first_frame g ≤ f → f < first_free next c → P w f c → Q w f c)
     → ((f c : ℕ) → IsLast g next f c → P (before f c) f c)
-    → (f c : ℕ) → IsLast g (behind g next.frame next.channel) f c → Q (after f c) f c
+    → (f c : ℕ) → IsLast g (cursor_after g next.frame next.channel) f c → Q (after f c) f c
 last-written P Q g next new before after in_range written fresh keep old f c is = elim (slot_cases g f c next.frame next.channel) [
   | inl same ↦
-      let moved : first_free (behind g next.frame next.channel) c ≡ next.frame + 1 = first_free-behind_low g next.frame next.channel c in_range (omega (arith, same.1)) in
+      let moved : first_free (cursor_after g next.frame next.channel) c ≡ next.frame + 1 = first_free-behind_low g next.frame next.channel c in_range (omega (arith, same.1)) in
       let stored : f ≤ next.frame = omega (arith, moved, is.stored) in
       let near : next.frame < f + g.frames = omega (arith, moved, is.last) in
       let one : f ≡ next.frame = sym (mod-same g.frames f next.frame f stored near (omega arith) (omega (arith, g.frames_least)) (sym same.0)) in
@@ -127,7 +127,7 @@ last-written P Q g next new before after in_range written fresh keep old f c is 
   | inr apart ↦
       let was : IsLast g next f c = elim (cases_eq c next.channel) [
         | inl own ↦
-            let moved : first_free (behind g next.frame next.channel) c ≡ next.frame + 1 = first_free-behind_low g next.frame next.channel c in_range (omega (arith, own)) in
+            let moved : first_free (cursor_after g next.frame next.channel) c ≡ next.frame + 1 = first_free-behind_low g next.frame next.channel c in_range (omega (arith, own)) in
             let start : first_free next c ≡ next.frame = grind (arith, nat_tests, own) in
             let other : f ≢ next.frame = λ e. apart (ap (slot g) e, own) in
             record {
@@ -137,7 +137,7 @@ last-written P Q g next new before after in_range written fresh keep old f c is 
               last = omega (arith, moved, is.last, start);
             }
         | inr other ↦
-            let stays : first_free (behind g next.frame next.channel) c ≡ first_free next c = first_free-behind_other g next c is.channel in_range other in
+            let stays : first_free (cursor_after g next.frame next.channel) c ≡ first_free next c = first_free-behind_other g next c is.channel in_range other in
             record { channel = is.channel; least = is.least; stored = omega (arith, stays, is.stored); last = omega (arith, stays, is.last) }
       ] in
       subst (λ w. Q w f c) (sym (written.elsewhere f c is.channel apart)) (keep (before f c) f c is.channel is.least was.stored (old f c was))
@@ -146,24 +146,24 @@ last-written P Q g next new before after in_range written fresh keep old f c is 
 -- a word that was not used was not used before, and is the same
 pub unused-written : (g : Geometry) (next : Cursor) (new : ℕ) (before after : ℕ → ℕ → ℕ) (f c : ℕ)
     → next.channel < g.channels → first_frame g ≤ next.frame → IsWritten g next new before after
-    → IsUnused g (behind g next.frame next.channel) f c → IsUnused g next f c × (after f c ≡ before f c)
+    → IsUnused g (cursor_after g next.frame next.channel) f c → IsUnused g next f c × (after f c ≡ before f c)
 unused-written g next new before after f c in_range least written is = elim (cases_eq c next.channel) [
   | inl own ↦
-      let moved : first_free (behind g next.frame next.channel) c ≡ next.frame + 1 = first_free-behind_low g next.frame next.channel c in_range (omega (arith, own)) in
+      let moved : first_free (cursor_after g next.frame next.channel) c ≡ next.frame + 1 = first_free-behind_low g next.frame next.channel c in_range (omega (arith, own)) in
       let start : first_free next c ≡ next.frame = grind (arith, nat_tests, own) in
       let later : next.frame < f = omega (arith, moved, is.unstored) in
       let apart : ¬ ((slot g f ≡ slot g next.frame) × (c ≡ next.channel)) = λ same.
       omega (arith, later, mod-same g.frames next.frame f next.frame (omega (arith, later)) (omega (arith, is.first_lap, least)) (omega arith) (omega (arith, g.frames_least)) same.0) in
       (record { channel = is.channel; unstored = omega (arith, start, later); first_lap = is.first_lap }, written.elsewhere f c is.channel apart)
   | inr other ↦
-      let stays : first_free (behind g next.frame next.channel) c ≡ first_free next c = first_free-behind_other g next c is.channel in_range other in
+      let stays : first_free (cursor_after g next.frame next.channel) c ≡ first_free next c = first_free-behind_other g next c is.channel in_range other in
       (record { channel = is.channel; unstored = omega (arith, stays, is.unstored); first_lap = is.first_lap }, written.elsewhere f c is.channel (λ same. other same.1))
 ]
 
 -- the laps go on
 pub HaveLaps-written : (g : Geometry) (next : Cursor) (new : ℕ) (x : ℤ) (before after : ℕ → ℕ → ℕ)
     → next.channel < g.channels → IsWritten g next new before after → HoldsSample new (lap g next.frame + 1) x
-    → HaveLaps g next before → HaveLaps g (behind g next.frame next.channel) after
+    → HaveLaps g next before → HaveLaps g (cursor_after g next.frame next.channel) after
 HaveLaps-written g next new x before after in_range written holds laps =
     last-written (λ w f c. laps_of w ≡ lap g f + 1) (λ w f c. laps_of w ≡ lap g f + 1) g next new before after in_range written
     (HoldsSample-fields new _ x holds).0 (λ w f c d l s is. is) laps
@@ -196,7 +196,7 @@ place_of-stored g xs f c in_range least stored =
     ]
 
 -- one more sample
-pub next_at-more : (g : Geometry) (xs : List ℤ) (x : ℤ) → next_at g (xs ++ x ∷ []) ≡ behind g (next_at g xs).frame (next_at g xs).channel
+pub next_at-more : (g : Geometry) (xs : List ℤ) (x : ℤ) → next_at g (xs ++ x ∷ []) ≡ cursor_after g (next_at g xs).frame (next_at g xs).channel
 next_at-more g xs x =
     ap (next_word g) (Rattle.std.proofs.lemmas.List.length-append xs (x ∷ [])) ∙ next_word-suc g (length xs)
 
@@ -214,7 +214,7 @@ pub HoldLast-written : (g : Geometry) (new : ℕ) (x : ℤ) (before after : ℕ 
 HoldLast-written g new x before after xs written holds old =
     let next : Cursor = next_at g xs in
     let ys : List ℤ = xs ++ x ∷ [] in
-    let moved : next_at g ys ≡ behind g next.frame next.channel = next_at-more g xs x in
+    let moved : next_at g ys ≡ cursor_after g next.frame next.channel = next_at-more g xs x in
     let in_range = next_at-channel g xs in
     record {
       last = λ f c is.

@@ -22,8 +22,8 @@ abbrev pub view_of_turn : SnoopTurn → SnoopView
 view_of_turn t = record { geometry = t.core.now.ring.geometry; seen = t.core.now.position }
 
 -- the word that the core has at a frame and channel
-abbrev pub shown : SnoopTurn → ℕ → ℕ → Option ℕ
-shown t f c = Some (word_at t.core.now f c)
+abbrev pub word_of_turn : SnoopTurn → ℕ → ℕ → Option ℕ
+word_of_turn t f c = Some (word_at t.core.now f c)
 
 -- a later state of a turn, whose core is as it was
 pub record IsSame (t u : SnoopTurn) : Type 0 where

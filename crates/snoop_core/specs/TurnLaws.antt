@@ -9,7 +9,7 @@ use Rattle.snoop_core.specs.declared.port.Frame.{Frame}
 use Rattle.snoop_core.specs.declared.turn.SnoopTurn.{SnoopTurn}
 use Rattle.snoop_core.specs.Port.{ShowsFrom}
 use Rattle.snoop_core.specs.Stored.{IsCaptured}
-use Rattle.snoop_core.specs.Turn.{IsSame, TurnGot, TurnLoaded, core_of, shown}
+use Rattle.snoop_core.specs.Turn.{IsSame, TurnGot, TurnLoaded, core_of, word_of_turn}
 use Rattle.snoop_core.specs.View.{Represents, View, geometry_of, word_at}
 
 pub IsSame-joined : (p q r : SnoopTurn) → IsSame p q → IsSame q r → IsSame p r
@@ -53,7 +53,7 @@ TurnLoaded-last t u ps loaded =
     ap (λ (v : View). v.position) loaded.same.core ∙ sym (loaded-each (core_of t).position ps (λ k d within. (loaded.each k d within).0)).1
 
 -- the words that a turn shows stay
-pub TurnGot-shown : (t u : SnoopTurn) (fs : List Frame) (f c word : ℕ) → TurnGot t u fs → shown t f c ≡ Some word → ShowsFrom shown u f c word
+pub TurnGot-shown : (t u : SnoopTurn) (fs : List Frame) (f c word : ℕ) → TurnGot t u fs → word_of_turn t f c ≡ Some word → ShowsFrom word_of_turn u f c word
 TurnGot-shown t u fs f c word got is = record {
   now = word;
   shown = ap (λ (v : View). Some (word_at v f c)) got.same.core ∙ is;

@@ -31,12 +31,12 @@ impl SnoopCore {
 
 impl SnoopPort for SnoopTurn<'_> {
     ghost use Rattle.snd_base.specs.Relations.{Composes-none_after, Composes-none_before};
-    ghost use Rattle.snoop_core.specs.Turn.{TurnFinds, TurnGot, TurnLoaded, shown, view_of_turn};
+    ghost use Rattle.snoop_core.specs.Turn.{TurnFinds, TurnGot, TurnLoaded, word_of_turn, view_of_turn};
     ghost use Rattle.snoop_core.specs.TurnLaws.{TurnGot-composes, TurnGot-shown, TurnLoaded-composes, TurnLoaded-last, TurnLoaded-rising};
 
     ghost view = { view_of_turn };
 
-    ghost shows = { shown };
+    ghost shows = { word_of_turn };
 
     ghost loaded = { TurnLoaded };
 

@@ -17,7 +17,7 @@ use Rattle.snoop_core.specs.Port.{Gets, SnoopView, frame_of}
 use Rattle.snoop_core.specs.Word.{laps_of, sample_of}
 use Rattle.snoop_table.specs.declared.seats.reader.ReaderSeat.{ReaderSeat}
 use Rattle.snoop_table.specs.declared.view.View.{View}
-use Rattle.snoop_table.specs.Readers.{IsLaterSeat, IsLaterSeat-joined, HasLooked, SeatFinds, SeatGot, SeatLoaded, seat_view, shown, view_of}
+use Rattle.snoop_table.specs.Readers.{IsLaterSeat, IsLaterSeat-joined, HasLooked, SeatFinds, SeatGot, SeatLoaded, seat_view, noted_word, view_of}
 use Rattle.snoop_table.specs.Steps.{IsNext, samples_before, with_note, with_sample}
 
 -- the channels of a frame before one were loaded, each with the frame's own lap
@@ -128,7 +128,7 @@ view-same s t geometry seen =
 pub gets-whole : {T : Type 0} (stops : T → ℕ) (asked : T → T → List StepKind → Pass → Type 0) (s t : ReaderSeat) (g h : T) (f : ℕ) (out : List ℤ)
     → IsFetching s t f s.geometry.channels out
     → asked g h (replicate s.geometry.channels Look) Go → stops h ≡ stops g
-    → Gets seat_view shown SeatLoaded SeatGot SeatFinds stops asked s g (frame_of f out) Whole t h
+    → Gets seat_view noted_word SeatLoaded SeatGot SeatFinds stops asked s g (frame_of f out) Whole t h
 gets-whole stops asked s t g h f out l asks told = record {
   view_is = view-same s t l.goes.geometry l.seen;
   got_it = record { goes = l.goes; got = l.whole refl };
@@ -150,7 +150,7 @@ at_first c none = omega (arith, none)
 pub gets-overtaken : {T : Type 0} (stops : T → ℕ) (asked : T → T → List StepKind → Pass → Type 0) (s t u : ReaderSeat) (g h : T) (f c n : ℕ) (out : List ℤ)
     → IsFetching s t f c out → c < s.geometry.channels → HasLooked t u f c n → laps_of n ≢ lap s.geometry f + 1
     → asked g h (replicate (c + 1) Look) Go → stops h ≡ stops g
-    → Gets seat_view shown SeatLoaded SeatGot SeatFinds stops asked s g (frame_of f out) (Overtaken c n) u h
+    → Gets seat_view noted_word SeatLoaded SeatGot SeatFinds stops asked s g (frame_of f out) (Overtaken c n) u h
 gets-overtaken stops asked s t u g h f c n out l in_range looked other asks told =
     let lap_is : lap t.geometry f ≡ lap s.geometry f = ap (λ (k : Geometry). lap k f) l.goes.geometry in
     let view = looked.other (λ e. other (e ∙ ap (λ k. k + 1) lap_is)) in
@@ -181,7 +181,7 @@ gets-overtaken stops asked s t u g h f c n out l in_range looked other asks told
 pub gets-stopped : {T : Type 0} (stops : T → ℕ) (asked : T → T → List StepKind → Pass → Type 0) (s t : ReaderSeat) (g h : T) (f c : ℕ) (out : List ℤ)
     → IsFetching s t f c out → c < s.geometry.channels
     → asked g h (replicate (c + 1) Look) Stop → stops h ≡ stops g + 1
-    → Gets seat_view shown SeatLoaded SeatGot SeatFinds stops asked s g (frame_of f out) Stopped t h
+    → Gets seat_view noted_word SeatLoaded SeatGot SeatFinds stops asked s g (frame_of f out) Stopped t h
 gets-stopped stops asked s t g h f c out l in_range asks told = record {
   view_is = view-same s t l.goes.geometry l.seen;
   got_it = record { goes = l.goes; got = l.got in_range ∙ sym (append-nil (view_of s).got) };

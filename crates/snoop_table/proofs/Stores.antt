@@ -12,7 +12,7 @@ use Rattle.atomic_table.proofs.Lists.{at_snoc}
 use Rattle.snd_base.specs.declared.geometry.Geometry.{Geometry}
 use Rattle.snd_base.specs.declared.places.Cursor.{Cursor}
 use Rattle.snd_base.specs.PlaceLaws.{div-lt_same, suc-le-end_frame}
-use Rattle.snd_base.specs.Places.{behind, end_frame, first_frame, first_free, lap}
+use Rattle.snd_base.specs.Places.{cursor_after, end_frame, first_frame, first_free, lap}
 use Rattle.lap_word.specs.Position.{word_of}
 use Rattle.ring_rule.specs.PositionLaws.{IsPosition-last, IsPosition-more, Rising-more, last_of-more}
 use Rattle.ring_rule.specs.Positions.{IsPosition}
@@ -85,7 +85,7 @@ ring_stored g words t word x r fits holds =
     let at : ℕ = index_of g next.frame next.channel in
     let in_range = next_at-channel g t.stored in
     let inside : at < length words = omega (arith, index_of-lt g next.frame next.channel in_range, r.room) in
-    let moved : next_of g (track_stored t x) ≡ behind g next.frame next.channel = next_at-more g t.stored x in
+    let moved : next_of g (track_stored t x) ≡ cursor_after g next.frame next.channel = next_at-more g t.stored x in
     let end : next.frame + 1 ≤ end_frame g = suc-le-end_frame g next.frame fits in
     record {
       room = length-set words at word ∙ r.room;

@@ -9,7 +9,7 @@ use Rattle.atomic_table.specs.Table.{Allows, Me, step}
 use Rattle.snd_base.specs.declared.geometry.Geometry.{Geometry}
 use Rattle.snd_base.specs.declared.places.Cursor.{Cursor}
 use Rattle.snd_base.specs.PlaceLaws.{div-suc_high, div-suc_low, mod-suc_high, mod-suc_low, suc-le-end_frame}
-use Rattle.snd_base.specs.Places.{behind, end_frame, first_frame, lap, slot}
+use Rattle.snd_base.specs.Places.{cursor_after, end_frame, first_frame, lap, slot}
 use Rattle.lap_word.specs.Position.{word_of}
 use Rattle.ring_rule.specs.PositionLaws.{has_all-published, last_of-more}
 use Rattle.ring_rule.specs.Positions.{has_all}
@@ -104,7 +104,7 @@ may_unplug d slots word is =
 -- the fields after a sample was stored
 pub known_stored : (g : Geometry) (next : Cursor) (position : ℕ) (gone : Bool) (slots i word n : ℕ) (m r : Me (Unit {0}) View)
     → IsWriter m.0 g next position gone → lap g next.frame < 4294967295
-    → stored (step slots i word 0 none) m n r → IsWriter r.0 g (behind g next.frame next.channel) position gone
+    → stored (step slots i word 0 none) m n r → IsWriter r.0 g (cursor_after g next.frame next.channel) position gone
 known_stored g next position gone slots i word n m r is fits told =
     let t : Track = told.0 in
     let x : ℤ = sample_of word in
@@ -112,7 +112,7 @@ known_stored g next position gone slots i word n m r is fits told =
     let same : the_track m.0.track ≡ t = track_is m.0 t told.1 in
     let end : next.frame + 1 ≤ end_frame g = suc-le-end_frame g next.frame fits in
     let next_t : next ≡ next_of g t = is.next_is ∙ ap (next_of g) same in
-    let known : IsWriter w g (behind g next.frame next.channel) position gone = record {
+    let known : IsWriter w g (cursor_after g next.frame next.channel) position gone = record {
       same_geometry = is.same_geometry;
       same_seen = is.same_seen;
       same_gone = is.same_gone;
@@ -121,12 +121,12 @@ known_stored g next position gone slots i word n m r is fits told =
       next_channel = grind (arith, nat_tests, is.next_channel, g.channels_least);
       next_within = record { least = grind (arith, nat_tests, is.next_within.least); most = grind (arith, nat_tests, is.next_within.most, end) };
       position_within = is.position_within;
-      next_is = ap (λ (y : Cursor). behind g y.frame y.channel) next_t ∙ sym (next_at-more g t.stored x);
+      next_is = ap (λ (y : Cursor). cursor_after g y.frame y.channel) next_t ∙ sym (next_at-more g t.stored x);
       position_is = is.position_is ∙ ap (position_of g) same;
       gone_is = is.gone_is ∙ ap (λ (y : Track). y.gone) same;
       saw_all = ap (λ (y : Track). has_all m.0.positions y.published) (sym same) ∙ is.saw_all;
     } in
-    subst (λ (y : Me (Unit {0}) View). IsWriter y.0 g (behind g next.frame next.channel) position gone) (sym told.2) known
+    subst (λ (y : Me (Unit {0}) View). IsWriter y.0 g (cursor_after g next.frame next.channel) position gone) (sym told.2) known
 
 -- after a publication
 pub known_published : (g : Geometry) (next : Cursor) (position : ℕ) (gone : Bool) (slots word n : ℕ) (m r : Me (Unit {0}) View)
@@ -179,7 +179,7 @@ known_unplugged g next position gone slots word n m r is told =
 
 -- the writer's seat after it stored a sample
 pub has_stored : (d e : Desk) (slots i word n : ℕ) (x : ℤ) → e.seat.table_id ≡ d.seat.table_id → e.geometry ≡ d.geometry
-    → e.place.next ≡ behind d.geometry d.place.next.frame d.place.next.channel → e.position ≡ d.position → e.gone ≡ d.gone
+    → e.place.next ≡ cursor_after d.geometry d.place.next.frame d.place.next.channel → e.position ≡ d.position → e.gone ≡ d.gone
     → HoldsSample word (lap d.geometry d.place.next.frame + 1) x
     → stored (step slots i word 0 none) d.seat.me n e.seat.me → HasStoredSample d e x
 has_stored d e slots i word n x ring geometry next position gone holds told =
@@ -258,9 +258,9 @@ part-more d e h xs x few part one =
     let g : Geometry = d.geometry in
     let n : ℕ = length xs in
     let more : length (xs ++ x ∷ []) ≡ n + 1 = length-append xs (x ∷ []) in
-    let moved : h.place.next ≡ behind g (after_samples g d.place.next.frame n).frame (after_samples g d.place.next.frame n).channel =
-    one.next ∙ (ap (λ (k : Geometry). behind k e.place.next.frame e.place.next.channel) part.geometry ∙ ap (λ (y : Cursor). behind g y.frame y.channel) part.next) in
-    let next : behind g (after_samples g d.place.next.frame n).frame (after_samples g d.place.next.frame n).channel ≡ after_samples g d.place.next.frame (n + 1) = grind (arith, nat_tests, few) in
+    let moved : h.place.next ≡ cursor_after g (after_samples g d.place.next.frame n).frame (after_samples g d.place.next.frame n).channel =
+    one.next ∙ (ap (λ (k : Geometry). cursor_after k e.place.next.frame e.place.next.channel) part.geometry ∙ ap (λ (y : Cursor). cursor_after g y.frame y.channel) part.next) in
+    let next : cursor_after g (after_samples g d.place.next.frame n).frame (after_samples g d.place.next.frame n).channel ≡ after_samples g d.place.next.frame (n + 1) = grind (arith, nat_tests, few) in
     let v : View = desk_view d in
     let t : Track = desk_track d in
     let after : desk_track e ≡ track_more t xs = ap (λ (y : View). the_track y.track) part.view in

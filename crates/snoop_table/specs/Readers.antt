@@ -44,8 +44,8 @@ abbrev pub seat_view : ReaderSeat → SnoopView
 seat_view s = record { geometry = s.geometry; seen = s.seen }
 
 -- the word that a seat noted last at a frame and channel
-abbrev pub shown : ReaderSeat → ℕ → ℕ → Option ℕ
-shown s f c = slice_index_or (view_of s).noted (index_of s.geometry f c) None
+abbrev pub noted_word : ReaderSeat → ℕ → ℕ → Option ℕ
+noted_word s f c = slice_index_or (view_of s).noted (index_of s.geometry f c) None
 
 -- a seat of the same ring
 abbrev pub SameReader : ReaderSeat → ReaderSeat → Type 0
@@ -91,7 +91,7 @@ pub record HasLooked (s t : ReaderSeat) (f c n : ℕ) : Type 0 where
   pub own : laps_of n ≡ lap s.geometry f + 1 → view_of t ≡ with_sample (with_note (view_of s) (index_of s.geometry f c) n) f c (sample_of n)
   pub other : laps_of n ≢ lap s.geometry f + 1 → view_of t ≡ with_note (view_of s) (index_of s.geometry f c) n
   pub seen : t.seen ≡ s.seen
-  pub shows : shown t f c ≡ Some n
+  pub shows : noted_word t f c ≡ Some n
   pub found : Finds (view_of s) f c n
 
 pub IsLaterSeat-same : (s : ReaderSeat) → IsLaterSeat s s
@@ -147,7 +147,7 @@ SeatLoaded-composes = record {
 }
 
 -- no word that a seat shows falls, by its lap
-pub SeatGot-shown : (p q : ReaderSeat) (fs : List Frame) (f c word : ℕ) → SeatGot p q fs → shown p f c ≡ Some word → ShowsFrom shown q f c word
+pub SeatGot-shown : (p q : ReaderSeat) (fs : List Frame) (f c word : ℕ) → SeatGot p q fs → noted_word p f c ≡ Some word → ShowsFrom noted_word q f c word
 SeatGot-shown p q fs f c word got is =
     let later = got.goes.notes (index_of p.geometry f c) word is in
     record {

@@ -3,7 +3,7 @@ use Rattle.std.specs.Prelude.{◌≡◌, ℕ, ◌+◌, true, Some, List, ◌++�
 use Rattle.atomic_table.specs.Seated.{TableId}
 use Rattle.snd_base.specs.declared.geometry.Geometry.{Geometry}
 use Rattle.snd_base.specs.declared.places.Cursor.{Cursor}
-use Rattle.snd_base.specs.Places.{behind}
+use Rattle.snd_base.specs.Places.{cursor_after}
 use Rattle.snoop_core.specs.Ring.{after_samples}
 use Rattle.snoop_table.specs.declared.seats.desk.Desk.{Desk}
 use Rattle.snoop_table.specs.declared.seats.writer.WriterSeat.{WriterSeat}
@@ -38,7 +38,7 @@ pub record HasStoredSample (d e : Desk) (x : ℤ) : Type 0 where
   pub ring : desk_ring e ≡ desk_ring d
   pub geometry : e.geometry ≡ d.geometry
   pub view : desk_view e ≡ with_stored (desk_view d) (desk_track d) x
-  pub next : e.place.next ≡ behind d.geometry d.place.next.frame d.place.next.channel
+  pub next : e.place.next ≡ cursor_after d.geometry d.place.next.frame d.place.next.channel
   pub position : e.position ≡ d.position
   pub gone : e.gone ≡ d.gone
 

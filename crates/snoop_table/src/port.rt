@@ -7,11 +7,11 @@ use snoop_core::{Loaded, SnoopPort, laps, sample};
 
 impl SnoopPort for ReaderSeat<'_> {
     ghost use Rattle.snd_base.specs.Relations.{Composes-none_after, Composes-none_before};
-    ghost use Rattle.snoop_table.specs.Readers.{SeatFinds, SeatGot, SeatGot-composes, SeatGot-shown, SeatLoaded, SeatLoaded-composes, seat_view, shown};
+    ghost use Rattle.snoop_table.specs.Readers.{SeatFinds, SeatGot, SeatGot-composes, SeatGot-shown, SeatLoaded, SeatLoaded-composes, seat_view, noted_word};
 
     ghost view = { seat_view };
 
-    ghost shows = { shown };
+    ghost shows = { noted_word };
 
     ghost loaded = { SeatLoaded };
 

@@ -19,7 +19,7 @@ use Rattle.sum_table.specs.declared.view.Track.{Track}
 use Rattle.sum_table.specs.declared.view.View.{View}
 use Rattle.sum_table.specs.Cuts.{start_marks, both_of, either_track, part_of, spent_view, with_places}
 use Rattle.sum_table.specs.Exact.{Exact, IsHistory, IsView}
-use Rattle.sum_table.specs.Laid.{SameSums, all_laid, by_member, count, own, places_of}
+use Rattle.sum_table.specs.Laid.{SameSums, all_laid, by_member, count, own_entries, places_of}
 use Rattle.sum_table.specs.Steps.{Knows, learned, with_history}
 use Rattle.ring_rule.specs.Words.{NotPast, index_of}
 use Rattle.sum_table.proofs.Kept.{kept_join, kept_none, kept_places}
@@ -109,7 +109,7 @@ splits k id v left right of_ring all few s x here =
         owns = λ i u there lasts. elim (parts i u there) [
           | inl this ↦
               let was : v.ended ≡ false = ap (λ (z : View). z.ended) this.1 ∙ lasts in
-              subst (λ n. own n (laid_of h) ≡ map (by_member n) u.mine) (sym this.0) (x.5.owns id v here was ∙ ap (λ (z : View). map (by_member id) z.mine) this.1)
+              subst (λ n. own_entries n (laid_of h) ≡ map (by_member n) u.mine) (sym this.0) (x.5.owns id v here was ∙ ap (λ (z : View). map (by_member id) z.mine) this.1)
           | inr rest ↦ elim rest [
             | inl other ↦ x.5.owns i u other.1 lasts
             | inr new ↦ x.5.no_more i (omega (arith, new.0)) ∙ ap (λ (z : View). map (by_member i) z.mine) new.1
@@ -203,7 +203,7 @@ joins k id v other w s x here apart there =
         | inr rest ↦ elim rest [
           | inl this ↦
               let was : v.ended ≡ false = ap (λ (z : View). z.ended) this.1 ∙ lasts in
-              subst (λ n. own n (laid_of h) ≡ map (by_member n) u.mine) (sym this.0) (x.5.owns id v here was ∙ ap (λ (z : View). map (by_member id) z.mine) this.1)
+              subst (λ n. own_entries n (laid_of h) ≡ map (by_member n) u.mine) (sym this.0) (x.5.owns id v here was ∙ ap (λ (z : View). map (by_member id) z.mine) this.1)
           | inr else_one ↦ x.5.owns i u else_one.2 lasts
         ]
       ];

@@ -7,7 +7,7 @@ use Rattle.std.proofs.lemmas.Bool.Decides.{nat_tests}
 use Rattle.std.proofs.lemmas.Option.{none-some, same_Some}
 use Rattle.snd_base.specs.declared.geometry.Geometry.{Geometry}
 use Rattle.snd_base.specs.declared.places.Cursor.{Cursor}
-use Rattle.snd_base.specs.Places.{IsFrom, behind, first_frame, first_free}
+use Rattle.snd_base.specs.Places.{IsFrom, cursor_after, first_frame, first_free}
 use Rattle.mix_core.specs.declared.marks.Marks.{Marks}
 use Rattle.mix_core.specs.declared.port.Entry.{Entry}
 use Rattle.mix_core.specs.Marks.{added_at, high_frame, is_before, last_before, later_of, start_marks, start_of, withdrawn_at}
@@ -46,10 +46,10 @@ later-frame start a b = by_tests (is_before a b) refl (is_before start a) refl (
     by_tests false ab false sa true sb = absurd (false≢true (sym sa ∙ first-past start a b ab sb))
     by_tests false ab false sa false sb = ap (λ past. frame_if past a) sa
 
-behind-past : (g : Geometry) (f c : ℕ) → c < g.channels → first_frame g ≤ f → is_before (start_of g) (behind g f c) ≡ true
+behind-past : (g : Geometry) (f c : ℕ) → c < g.channels → first_frame g ≤ f → is_before (start_of g) (cursor_after g f c) ≡ true
 behind-past g f c channel low = grind (arith, nat_tests)
 
-behind-last : (g : Geometry) (f c : ℕ) → last_before (behind g f c) ≡ f
+behind-last : (g : Geometry) (f c : ℕ) → last_before (cursor_after g f c) ≡ f
 behind-last g f c = grind (arith, nat_tests)
 
 start-frame : (at : Cursor) → frame_before at at ≡ None
@@ -64,8 +64,8 @@ high_frame-start g = start-frame (start_of g)
 high_frame-added : (g : Geometry) (m : Marks) (f c : ℕ) → c < g.channels → first_frame g ≤ f
     → high_frame g (added_at g m f c) ≡ greater (high_frame g m) (Some f)
 high_frame-added g m f c channel low =
-    later-frame (start_of g) m.high (behind g f c)
-    ∙ ap (greater (high_frame g m)) (ap (λ past. frame_if past (behind g f c)) (behind-past g f c channel low) ∙ ap Some (behind-last g f c))
+    later-frame (start_of g) m.high (cursor_after g f c)
+    ∙ ap (greater (high_frame g m)) (ap (λ past. frame_if past (cursor_after g f c)) (behind-past g f c channel low) ∙ ap Some (behind-last g f c))
 
 pub greater_none : (o : Option ℕ) → greater o None ≡ o
 greater_none None = refl
@@ -130,7 +130,7 @@ IsReach-added g m places last f c is placed channel low =
       none = λ none_left. absurd (omega (arith, none_left, placed));
     }
   where
-    behind_free : first_free (behind g f c) 0 ≤ f + 1
+    behind_free : first_free (cursor_after g f c) 0 ≤ f + 1
     behind_free = grind (arith, nat_tests)
 
     grows : (o : Option ℕ) → free_from g o ≤ free_from g (greater o (Some f))

@@ -21,7 +21,7 @@ use Rattle.sum_table.specs.declared.seats.player.PlayerSeat.{PlayerSeat}
 use Rattle.sum_table.specs.declared.view.Key.{Key}
 use Rattle.sum_table.specs.declared.view.Track.{Track}
 use Rattle.sum_table.specs.declared.view.View.{View}
-use Rattle.sum_table.specs.Cuts.{joined_marks, both_of, either_track, later_of, part_of, without}
+use Rattle.sum_table.specs.Cuts.{joined_marks, both_of, either_track, later_of, part_of, without_places}
 use Rattle.sum_table.specs.Exact.{start_marks, BeginsWith, Exact, IsPublished, is_tracked, next_at, position_at, the_track}
 use Rattle.sum_table.specs.Joins.{HasClosed, HasHeard, HasJoined, HasMet, HasPlayerNote, note_view}
 use Rattle.sum_table.specs.Known.{IsKnown, IsNoted, IsPlayer, greater, last_frame}
@@ -46,7 +46,7 @@ learns_at k slots id m same lasts = subst (λ x. Allows (Exact x) slots id m 0 (
 
 -- places that a seat has, and that laid nothing, can move
 pub may_cut : (s : MixSeat) (amount n : ℕ) → amount ≡ n → n ≤ s.places → (view_of s).laid ≡ []
-    → Splits (Exact s.ring.now.key) s.seat.id (view_of s) (without (view_of s) amount) (part_of (view_of s) amount)
+    → Splits (Exact s.ring.now.key) s.seat.id (view_of s) (without_places (view_of s) amount) (part_of (view_of s) amount)
 may_cut s amount n is has nothing =
     let v : View = view_of s in
     splits s.ring.now.key s.seat.id v (v.places - amount) amount (s.known.same_key ∙ s.same_ring.1) (omega (arith, is, has, s.known.same_places)) (inl nothing)
@@ -60,7 +60,7 @@ start_within g = record { least = omega arith; most = first_frame-le g }
 
 -- the fields of the two seats after a split
 pub known_without : (k : Key) (places : ℕ) (marks : Marks) (seen : ℕ) (last : Option ℕ) (v : View) (amount n : ℕ)
-    → IsKnown v k places marks seen last → amount ≡ n → n ≤ places → v.laid ≡ [] → IsKnown (without v amount) k (places - n) marks seen last
+    → IsKnown v k places marks seen last → amount ≡ n → n ≤ places → v.laid ≡ [] → IsKnown (without_places v amount) k (places - n) marks seen last
 known_without k places marks seen last v amount n is same has nothing = record {
   same_key = is.same_key;
   same_places = omega (arith, is.same_places, same);

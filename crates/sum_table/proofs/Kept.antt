@@ -9,7 +9,7 @@ use Rattle.std.proofs.lemmas.List.Sums.{fold-append, fold_push}
 use Rattle.atomic_table.proofs.Lists.{at_snoc}
 use Rattle.snd_base.specs.declared.geometry.Geometry.{Geometry}
 use Rattle.snd_base.specs.declared.places.Cursor.{Cursor}
-use Rattle.snd_base.specs.Places.{IsFrom, behind, first_frame, first_free, lap}
+use Rattle.snd_base.specs.Places.{IsFrom, cursor_after, first_frame, first_free, lap}
 use Rattle.mix_core.specs.declared.marks.Marks.{Marks}
 use Rattle.mix_core.specs.declared.port.Entry.{Entry}
 use Rattle.mix_core.specs.declared.port.Kind.{Kind}
@@ -158,9 +158,9 @@ held_place g places es mine free marks seen ended f c s x y =
     omega (arith, one, x.few_held y.last.frame y.last.channel)
 
 -- a cursor from which on a place stands is before what is behind the place
-later_of-behind : (g : Geometry) (at : Cursor) (f c : ℕ) → c < g.channels → IsFrom at f c → later_of at (behind g f c) ≡ behind g f c
+later_of-behind : (g : Geometry) (at : Cursor) (f c : ℕ) → c < g.channels → IsFrom at f c → later_of at (cursor_after g f c) ≡ cursor_after g f c
 later_of-behind g at f c c_in from =
-    let test : is_before at (behind g f c) ≡ true = grind (arith, nat_tests) in
+    let test : is_before at (cursor_after g f c) ≡ true = grind (arith, nat_tests) in
     rw test refl
 
 -- a seat's own marks stay within its marks
@@ -172,7 +172,7 @@ within_add g a b f c x c_in from = elim x.tops [
       | inr level ↦ rw (same.cursor, same.high, level) (x.floor d)
     ];
     cursor = λ d. omega arith;
-    tops = inl (record { cursor = refl; high = ap (λ (y : Cursor). later_of y (behind g f c)) same.high });
+    tops = inl (record { cursor = refl; high = ap (λ (y : Cursor). later_of y (cursor_after g f c)) same.high });
   }
   | inr level ↦
       let at_high : IsFrom b.high f c = subst (λ (y : Cursor). IsFrom y f c) level.cursor_is from in
@@ -243,9 +243,9 @@ pub kept_add : (g : Geometry) (places : ℕ) (es mine free : List Entry) (marks 
 kept_add g places es mine free marks seen ended e x kind laid from has =
     let held : standing (es ++ e ∷ []) ≡ standing es ++ e ∷ [] = standing-more es e ∙ ap (λ k. Rattle.mix_core.specs.Laid.stood k (standing es) e) kind in
     let own_held : standing (mine ++ e ∷ []) ≡ standing mine ++ e ∷ [] = standing-more mine e ∙ ap (λ k. Rattle.mix_core.specs.Laid.stood k (standing mine) e) kind in
-    let marks_is : marks_after g marks e ≡ added_at g marks e.frame e.channel = ap (λ k. Rattle.mix_core.specs.Laid.marked k g marks e.frame e.channel) kind in
+    let marks_is : marks_after g marks e ≡ added_at g marks e.frame e.channel = ap (λ k. Rattle.mix_core.specs.Laid.marks_with k g marks e.frame e.channel) kind in
     let own_marks : marks_by g (mine ++ e ∷ []) ≡ added_at g (marks_by g mine) e.frame e.channel =
-    marks_by-more g mine e ∙ ap (λ k. Rattle.mix_core.specs.Laid.marked k g (marks_by g mine) e.frame e.channel) kind in
+    marks_by-more g mine e ∙ ap (λ k. Rattle.mix_core.specs.Laid.marks_with k g (marks_by g mine) e.frame e.channel) kind in
     let free_is : freed e.kind marks free e ≡ free_after (is_before marks.cursor marks.high) free e = ap (λ k. freed k marks free e) kind in
     let none : count (standing es) e.frame e.channel ≡ 0 = count_before g marks.cursor (standing es) e.frame e.channel x.holding.before from in
     record {
@@ -291,9 +291,9 @@ kept_withdraw g places es mine free marks seen ended e x kind y =
     let held : standing (es ++ e ∷ []) ≡ y.early =
     standing-more es e ∙ (ap (λ k. Rattle.mix_core.specs.Laid.stood k (standing es) e) kind ∙ (ap without_last y.ends ∙ without_last-more y.early y.last)) in
     let own_held : standing (mine ++ e ∷ []) ≡ without_last (standing mine) = standing-more mine e ∙ ap (λ k. Rattle.mix_core.specs.Laid.stood k (standing mine) e) kind in
-    let marks_is : marks_after g marks e ≡ withdrawn_at marks e.frame e.channel = ap (λ k. Rattle.mix_core.specs.Laid.marked k g marks e.frame e.channel) kind in
+    let marks_is : marks_after g marks e ≡ withdrawn_at marks e.frame e.channel = ap (λ k. Rattle.mix_core.specs.Laid.marks_with k g marks e.frame e.channel) kind in
     let own_marks : marks_by g (mine ++ e ∷ []) ≡ withdrawn_at (marks_by g mine) e.frame e.channel =
-    marks_by-more g mine e ∙ ap (λ k. Rattle.mix_core.specs.Laid.marked k g (marks_by g mine) e.frame e.channel) kind in
+    marks_by-more g mine e ∙ ap (λ k. Rattle.mix_core.specs.Laid.marks_with k g (marks_by g mine) e.frame e.channel) kind in
     let free_is : freed e.kind marks free e ≡ without_last free = ap (λ k. freed k marks free e) kind in
     let from_last : IsFrom marks.floor y.last.frame y.last.channel =
     subst (λ d. IsFrom marks.floor y.last.frame d) (sym y.channel) (subst (λ k. IsFrom marks.floor k e.channel) (sym y.frame) y.from_floor) in

@@ -6,7 +6,7 @@ use Rattle.std.proofs.lemmas.Bool.Decides.{nat_tests}
 use Rattle.snd_base.specs.declared.geometry.Geometry.{Geometry}
 use Rattle.snd_base.specs.declared.places.Cursor.{Cursor}
 use Rattle.snd_base.specs.PlaceLaws.{first_free-behind_grows, first_free-behind_low, mod-same, mod-window}
-use Rattle.snd_base.specs.Places.{behind, first_free, next_word, slot}
+use Rattle.snd_base.specs.Places.{cursor_after, first_free, next_word, slot}
 use Rattle.mix_core.specs.Sound.{IsNow}
 use Rattle.ring_rule.specs.Words.{index_of, words_of}
 use Rattle.ring_rule.specs.WordLaws.{index_of-lt, index_of-same}
@@ -61,7 +61,7 @@ index_of-wrapped g f c k d same later =
 
 -- the next word's channel alone goes on with the next frame
 first_free-behind_other : (g : Geometry) (next : Cursor) (d : ℕ) → d < g.channels → next.channel < g.channels → d ≢ next.channel
-    → first_free (behind g next.frame next.channel) d ≡ first_free next d
+    → first_free (cursor_after g next.frame next.channel) d ≡ first_free next d
 first_free-behind_other g next d asked in_range other = grind (arith, nat_tests)
 
 -- the next word was taken: its slot has the next lap's word now, and every other word stays
@@ -70,7 +70,7 @@ pub words-taken : (P : ℕ → ℕ → ℕ → Type 0) (g : Geometry) (next : Cu
     → next.channel < g.channels
     → P word (next.frame + g.frames) next.channel
     → ((k d : ℕ) → IsNow g next k d → P (get_or words (index_of g k d) 0) k d)
-    → (k d : ℕ) → IsNow g (behind g next.frame next.channel) k d
+    → (k d : ℕ) → IsNow g (cursor_after g next.frame next.channel) k d
     → P (get_or (set words (index_of g next.frame next.channel) word) (index_of g k d) 0) k d
 words-taken P g next words word room in_range here old k d asked =
     let start : first_free next next.channel ≡ next.frame = grind (arith, nat_tests) in
@@ -78,7 +78,7 @@ words-taken P g next words word room in_range here old k d asked =
     elim (cases_eq (index_of g k d) (index_of g next.frame next.channel)) [
       | inl same ↦
           let parts : (slot g k ≡ slot g next.frame) × (d ≡ next.channel) = index_of-same g k d next.frame next.channel asked.channel in_range same in
-          let after : first_free (behind g next.frame next.channel) d ≡ next.frame + 1 = first_free-behind_low g next.frame next.channel d in_range (omega arith) in
+          let after : first_free (cursor_after g next.frame next.channel) d ≡ next.frame + 1 = first_free-behind_low g next.frame next.channel d in_range (omega arith) in
           let wrapped : (next.frame + g.frames) % g.frames ≡ next.frame % g.frames = add-mod_right next.frame g.frames in
           let frame : k ≡ next.frame + g.frames = mod-same g.frames (next.frame + 1) k (next.frame + g.frames) (omega (arith, asked.low)) (omega (arith, asked.high)) (omega (arith, g.frames_least)) (omega arith) (parts.0 ∙ sym wrapped) in
           let written : get_or (set words (index_of g next.frame next.channel) word) (index_of g next.frame next.channel) 0 ≡ word = get_or-set_same words (index_of g next.frame next.channel) word 0 (subst (λ n. index_of g next.frame next.channel < n) (sym room) (index_of-lt g next.frame next.channel in_range)) in
@@ -86,11 +86,11 @@ words-taken P g next words word room in_range here old k d asked =
           (subst (λ w. P w k d) (sym written) (subst (λ x. P word x d) (sym frame) (subst (λ x. P word (next.frame + g.frames) x) (sym parts.1) here)))
       | inr other ↦
           let kept : get_or (set words (index_of g next.frame next.channel) word) (index_of g k d) 0 ≡ get_or words (index_of g k d) 0 = get_or-set_other words (index_of g next.frame next.channel) (index_of g k d) word 0 other in
-          let grows : first_free next d ≤ first_free (behind g next.frame next.channel) d = first_free-behind_grows g next next.frame next.channel d from asked.channel in
+          let grows : first_free next d ≤ first_free (cursor_after g next.frame next.channel) d = first_free-behind_grows g next next.frame next.channel d from asked.channel in
           let low : first_free next d ≤ k = omega (arith, grows, asked.low) in
           let high : k < first_free next d + g.frames = elim (cases_eq d next.channel) [
             | inl own ↦
-                let after : first_free (behind g next.frame next.channel) d ≡ next.frame + 1 = first_free-behind_low g next.frame next.channel d in_range (omega arith) in
+                let after : first_free (cursor_after g next.frame next.channel) d ≡ next.frame + 1 = first_free-behind_low g next.frame next.channel d in_range (omega arith) in
                 let here_is : first_free next d ≡ next.frame = subst (λ x. first_free next x ≡ next.frame) (sym own) start in
                 let not_last : k ≢ next.frame + g.frames = λ e. other (index_of-wrapped g next.frame next.channel k d own e) in
                 omega (arith, asked.high)

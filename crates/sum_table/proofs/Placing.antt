@@ -25,7 +25,7 @@ use Rattle.sum_table.specs.declared.view.Key.{Key}
 use Rattle.sum_table.specs.declared.view.View.{View}
 use Rattle.sum_table.specs.Exact.{BeginsWith}
 use Rattle.sum_table.specs.Laid.{by_member}
-use Rattle.sum_table.specs.Seats.{IsLaterSeat, IsLaterSeat-joined, IsLaterSeat-same, HasLaid, HasLost, HasNoted, LaysCounted, MakesIn, MakesLate, MayLay, SeatLaid, SeatLays, SeatLoaded, SeatLoaded-composes, entry_by, seat_view, shown, view_of}
+use Rattle.sum_table.specs.Seats.{IsLaterSeat, IsLaterSeat-joined, IsLaterSeat-same, HasLaid, HasLost, HasNoted, LaysCounted, MakesIn, MakesLate, MayLay, SeatLaid, SeatLays, SeatLoaded, SeatLoaded-composes, entry_by, seat_view, noted_word, view_of}
 use Rattle.sum_table.specs.Steps.{HoldsLast, IsLateAt, IsLateHeld, IsStep, Makes, MakesLook, MayStand, Tells, in_row, sighting}
 use Rattle.ring_rule.specs.Words.{index_of, rank}
 use Rattle.sum_table.proofs.Rows.{BeginsWith-same}
@@ -245,7 +245,7 @@ pub record IsTrying (s t : MixSeat) (f c word i before ticks : ℕ) : Type 0 whe
   pub words : List ℕ
   pub found : HasFound s t f c words
   pub number : length words ≡ i + 1
-  pub noted : shown t f c ≡ Some word
+  pub noted : noted_word t f c ≡ Some word
   pub of_lap : lap_of word ≡ lap s.key.geometry f
   pub not_before : s.seen ≤ f
   pub counted : i ≤ count_of word

@@ -6,7 +6,7 @@ use Rattle.atomic_table.specs.Table.{Allows, Me, step}
 use Rattle.snd_base.specs.declared.geometry.Geometry.{Geometry}
 use Rattle.snd_base.specs.declared.places.Cursor.{Cursor}
 use Rattle.snd_base.specs.PlaceLaws.{suc-le-end_frame}
-use Rattle.snd_base.specs.Places.{behind, end_frame, first_frame, lap}
+use Rattle.snd_base.specs.Places.{cursor_after, end_frame, first_frame, lap}
 use Rattle.lap_word.specs.Clamp.{clamp_of}
 use Rattle.lap_word.specs.Position.{word_of}
 use Rattle.lap_word.specs.Word.{StandsFor, sum_of}
@@ -83,7 +83,7 @@ or_right false b is = is
 -- the fields after a word was taken
 pub known_taken : (k : Key) (next : Cursor) (position : ℕ) (gone : Bool) (slots i word n : ℕ) (m r : Me Entry View)
     → IsPlayer m.0 k next position gone → lap k.geometry next.frame < 4294967295
-    → taken (step slots i word 0 none) m n r → IsPlayer r.0 k (behind k.geometry next.frame next.channel) position gone
+    → taken (step slots i word 0 none) m n r → IsPlayer r.0 k (cursor_after k.geometry next.frame next.channel) position gone
 known_taken k next position gone slots i word n m r is fits told =
     let h : List Row = told.0 in
     let t : Track = told.1 in
@@ -92,7 +92,7 @@ known_taken k next position gone slots i word n m r is fits told =
     let same : the_track m.0.track ≡ t = track_is m.0 t told.3 in
     let end : next.frame + 1 ≤ end_frame k.geometry = suc-le-end_frame k.geometry next.frame fits in
     let next_t : next ≡ next_at k.geometry t = is.next_is ∙ ap (next_at k.geometry) same in
-    let known : IsPlayer w k (behind k.geometry next.frame next.channel) position gone = record {
+    let known : IsPlayer w k (cursor_after k.geometry next.frame next.channel) position gone = record {
       same_key = is.same_key;
       no_places = is.no_places;
       laid_nothing = is.laid_nothing;
@@ -104,12 +104,12 @@ known_taken k next position gone slots i word n m r is fits told =
       next_channel = grind (arith, nat_tests, is.next_channel, k.geometry.channels_least);
       next_within = record { least = grind (arith, nat_tests, is.next_within.least); most = grind (arith, nat_tests, is.next_within.most, end) };
       position_within = is.position_within;
-      next_is = ap (λ (y : Cursor). behind k.geometry y.frame y.channel) next_t ∙ sym (next_at-taken k.geometry t x);
+      next_is = ap (λ (y : Cursor). cursor_after k.geometry y.frame y.channel) next_t ∙ sym (next_at-taken k.geometry t x);
       position_is = is.position_is ∙ ap (position_at k.geometry) same;
       gone_is = is.gone_is ∙ ap (λ (y : Track). y.gone) same;
       saw_all = ap (λ (y : Track). has_all m.0.positions y.published) (sym same) ∙ is.saw_all;
     } in
-    subst (λ (y : Me Entry View). IsPlayer y.0 k (behind k.geometry next.frame next.channel) position gone) (sym told.6) known
+    subst (λ (y : Me Entry View). IsPlayer y.0 k (cursor_after k.geometry next.frame next.channel) position gone) (sym told.6) known
 
 -- after a publication
 pub known_published : (k : Key) (next : Cursor) (position : ℕ) (gone : Bool) (slots word n : ℕ) (m r : Me Entry View)
@@ -170,7 +170,7 @@ known_unplugged k next position gone slots word n m r is told =
 
 -- the player's seat after it took a word
 pub has_taken : (p q : PlayerSeat) (slots i word n : ℕ) (z : ℤ) → q.seat.table_id ≡ p.seat.table_id → q.key ≡ p.key
-    → q.next ≡ behind p.key.geometry p.next.frame p.next.channel → q.position ≡ p.position → q.gone ≡ p.gone
+    → q.next ≡ cursor_after p.key.geometry p.next.frame p.next.channel → q.position ≡ p.position → q.gone ≡ p.gone
     → z ≡ clamp_of (sum_of n) → taken (step slots i word 0 none) p.seat.me n q.seat.me
     → HasTaken p q (record { frame = p.next.frame; channel = p.next.channel; value = z })
 has_taken p q slots i word n z ring key next position gone value told =
@@ -230,8 +230,8 @@ turned_taken p q r x is has = record {
   channel = has.channel ∙ ap (λ (y : Cursor). y.channel) is.next;
   value = has.value;
   next = has.next
-      ∙ (ap (λ (k : Key). behind k.geometry q.next.frame q.next.channel) is.key
-      ∙ ap (λ (y : Cursor). behind p.key.geometry y.frame y.channel) is.next);
+      ∙ (ap (λ (k : Key). cursor_after k.geometry q.next.frame q.next.channel) is.key
+      ∙ ap (λ (y : Cursor). cursor_after p.key.geometry y.frame y.channel) is.next);
   position = has.position ∙ is.position;
   gone = has.gone ∙ is.gone;
   event = subst (λ (v : View). Makes v (player_view r) (λ _. (Take, Took x.frame x.channel x.value) ∷ [])) is.view has.event;

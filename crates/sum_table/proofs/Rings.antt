@@ -11,7 +11,7 @@ use Rattle.std.proofs.lemmas.List.Folds.{list_any_at}
 use Rattle.snd_base.specs.declared.geometry.Geometry.{Geometry}
 use Rattle.snd_base.specs.declared.places.Cursor.{Cursor}
 use Rattle.snd_base.specs.PlaceLaws.{nat_lt-behind, next_word-suc, suc-le-end_frame}
-use Rattle.snd_base.specs.Places.{behind, end_frame, first_frame, first_free, lap, next_word}
+use Rattle.snd_base.specs.Places.{cursor_after, end_frame, first_frame, first_free, lap, next_word}
 use Rattle.lap_word.specs.Clamp.{clamp_of}
 use Rattle.lap_word.specs.Position.{word_of}
 use Rattle.lap_word.specs.Word.{StandsFor}
@@ -118,7 +118,7 @@ AreInOrder-more g ts x in_order here i d inside =
     ]
 
 -- the next word stands behind the one that is taken
-pub next_at-taken : (g : Geometry) (t : Track) (x : Taken) → next_at g (track_taken t x) ≡ behind g (next_at g t).frame (next_at g t).channel
+pub next_at-taken : (g : Geometry) (t : Track) (x : Taken) → next_at g (track_taken t x) ≡ cursor_after g (next_at g t).frame (next_at g t).channel
 next_at-taken g t x = ap (next_word g) (length-append t.taken (x ∷ [])) ∙ next_word-suc g (length t.taken)
 
 -- the next word was taken
@@ -141,7 +141,7 @@ IsRing-take g words es t z word r fits far stands value =
     let no_sum : total es (nf + g.frames) nc ≡ pos 0 = omega (arith, ints, none, r.low (nf + g.frames) nc, r.high (nf + g.frames) nc) in
     let P : ℕ → ℕ → ℕ → Type 0 = λ w f c. StandsFor w (lap g f) (count es f c) (total es f c) in
     let here : P word (nf + g.frames) nc = rw (none, no_sum, next_lap) stands in
-    let behind_it : next_at g (track_taken t x) ≡ behind g nf nc = next_at-taken g t x in
+    let behind_it : next_at g (track_taken t x) ≡ cursor_after g nf nc = next_at-taken g t x in
     let end : nf + 1 ≤ end_frame g = suc-le-end_frame g nf fits in
     record {
       room = length-set words (index_of g nf nc) word ∙ r.room;

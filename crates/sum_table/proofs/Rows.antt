@@ -25,7 +25,7 @@ use Rattle.mix_core.specs.LegalLaws.{IsLegal-more}
 use Rattle.sum_table.specs.declared.view.Track.{Track}
 use Rattle.sum_table.specs.declared.view.View.{View}
 use Rattle.sum_table.specs.Exact.{BeginsWith, IsHistory, IsKept, IsOwn, next_at, position_at}
-use Rattle.sum_table.specs.Laid.{SameSums, all_laid, by_member, own}
+use Rattle.sum_table.specs.Laid.{SameSums, all_laid, by_member, own_entries}
 use Rattle.sum_table.specs.Steps.{IsStep, in_row, taking, track_gone, track_published, track_taken}
 use Rattle.sum_table.proofs.Kept.{HeldFacts, IsHeldAt, held_facts, marks_by-member, standing-member}
 use Rattle.ring_rule.specs.PositionLaws.{last_of-more}
@@ -43,15 +43,15 @@ pub BeginsWith-more : (h early rows : List Row) → BeginsWith h early → Begin
 BeginsWith-more h early rows begins = (begins.0 ++ rows, ap (λ x. x ++ rows) begins.1 ∙ append_assoc early begins.0 rows)
 
 -- the adds of a member, when one more was made
-pub own-more : (m : ℕ) (es : List Entry) (e : Entry) → own m (es ++ by_member m e ∷ []) ≡ own m es ++ by_member m e ∷ []
+pub own-more : (m : ℕ) (es : List Entry) (e : Entry) → own_entries m (es ++ by_member m e ∷ []) ≡ own_entries m es ++ by_member m e ∷ []
 own-more m es e =
     let test : (m == m) ≡ true = grind (arith, nat_tests) in
     rw (filter-append (λ (x : Entry). x.member == m) es (by_member m e ∷ []), test) refl
 
-pub own-more_other : (m n : ℕ) (es : List Entry) (e : Entry) → n ≢ m → own n (es ++ by_member m e ∷ []) ≡ own n es
+pub own-more_other : (m n : ℕ) (es : List Entry) (e : Entry) → n ≢ m → own_entries n (es ++ by_member m e ∷ []) ≡ own_entries n es
 own-more_other m n es e other =
     let test : (m == n) ≡ false = grind (arith, nat_tests) in
-    rw (filter-append (λ (x : Entry). x.member == n) es (by_member m e ∷ []), test) (append-nil (own n es))
+    rw (filter-append (λ (x : Entry). x.member == n) es (by_member m e ∷ []), test) (append-nil (own_entries n es))
 
 -- a step of no event
 pub history_same : (g : Geometry) (views : List View) (t : Track) (h : List Row) (id : ℕ) (v w : View)
@@ -66,7 +66,7 @@ history_same g views t h id v w y here laid mine ended = record {
   owns = λ i u there lasts. elim (at_set views id i w u there) [
     | inl own_one ↦
         let was : v.ended ≡ false = sym ended ∙ (ap (λ (x : View). x.ended) own_one.1 ∙ lasts) in
-        subst (λ n. own n (laid_of h) ≡ map (by_member n) u.mine) (sym own_one.0)
+        subst (λ n. own_entries n (laid_of h) ≡ map (by_member n) u.mine) (sym own_one.0)
         (y.owns id v here was ∙ ap (map (by_member id)) (sym mine ∙ ap (λ (x : View). x.mine) own_one.1))
     | inr other ↦ y.owns i u other.1 lasts
   ];
@@ -105,8 +105,8 @@ history_take g views t h z y fits value =
       taken = taken_of-append_took h f c z ∙ ap (λ ts. ts ++ taking g t z ∷ []) y.taken;
       position = fold_push position_after (first_frame g) h r ∙ y.position;
       sums = subst (λ es. SameSums es (all_laid views)) (sym laid) y.sums;
-      owns = λ i u there lasts. ap (own i) laid ∙ y.owns i u there lasts;
-      no_more = λ i up. ap (own i) laid ∙ y.no_more i up;
+      owns = λ i u there lasts. ap (own_entries i) laid ∙ y.owns i u there lasts;
+      no_more = λ i up. ap (own_entries i) laid ∙ y.no_more i up;
     }
 
 -- a position was published
@@ -123,8 +123,8 @@ history_publish g views t h y =
       taken = taken_of-append_published h f ∙ y.taken;
       position = fold_push position_after (first_frame g) h r ∙ sym (last_of-more (first_frame g) t.published f);
       sums = subst (λ es. SameSums es (all_laid views)) (sym laid) y.sums;
-      owns = λ i u there lasts. ap (own i) laid ∙ y.owns i u there lasts;
-      no_more = λ i up. ap (own i) laid ∙ y.no_more i up;
+      owns = λ i u there lasts. ap (own_entries i) laid ∙ y.owns i u there lasts;
+      no_more = λ i up. ap (own_entries i) laid ∙ y.no_more i up;
     }
 
 -- a member's marks in the history are those behind the entries that its seat laid itself
@@ -196,9 +196,9 @@ history_put g views t h id v w e y here lasts laid mine reply =
       taken = taken_of-append_rows h (m ∷ []) ∙ y.taken;
       position = fold_push position_after (first_frame g) h r ∙ (position_after-row (position_of g h) m In ∙ y.position);
       sums = subst (λ es. SameSums es (all_laid (set views id w))) (sym more) sums_more;
-      owns = λ i u there stays. ap (own i) more ∙ elim (at_set views id i w u there) [
+      owns = λ i u there stays. ap (own_entries i) more ∙ elim (at_set views id i w u there) [
         | inl own_one ↦
-            subst (λ n. own n (laid_of h ++ m ∷ []) ≡ map (by_member n) u.mine) (sym own_one.0)
+            subst (λ n. own_entries n (laid_of h ++ m ∷ []) ≡ map (by_member n) u.mine) (sym own_one.0)
             (own-more id (laid_of h) e
             ∙ (ap (λ es. es ++ m ∷ []) (y.owns id v here lasts)
             ∙ (sym (map-append (by_member id) v.mine (e ∷ []))
@@ -207,7 +207,7 @@ history_put g views t h id v w e y here lasts laid mine reply =
       ];
       no_more = λ i up.
           let apart : i ≢ id = λ same. omega (arith, within views id v here, same_count) in
-          ap (own i) more ∙ (own-more_other id i (laid_of h) e apart ∙ y.no_more i (omega (arith, same_count)));
+          ap (own_entries i) more ∙ (own-more_other id i (laid_of h) e apart ∙ y.no_more i (omega (arith, same_count)));
     }
 
 -- what a seat is told of its step
@@ -221,5 +221,5 @@ step_of g views t early id v w rows y here lasts history of_ring begins =
       legal = subst (λ x. IsLegal x (length views) w.history) (sym of_ring)
           (subst (λ x. IsLegal g (length views) x) (sym history) (y.legal (length views) (omega (arith, length-set views id w))));
       in_range = within views id v here;
-      own_adds = ap (λ x. own id (laid_of x)) history ∙ y.owns id w (set_here views id w (within views id v here)) lasts;
+      own_adds = ap (λ x. own_entries id (laid_of x)) history ∙ y.owns id w (set_here views id w (within views id v here)) lasts;
     }

@@ -21,7 +21,7 @@ use Rattle.mix_core.specs.declared.port.Entry.{Entry}
 use Rattle.mix_core.specs.declared.port.Kind.{Kind}
 use Rattle.mix_core.specs.declared.port.Position.{Position}
 use Rattle.mix_core.specs.declared.port.Kind.TheVariants.{Added, Withdrawn}
-use Rattle.mix_core.specs.Laid.{EndsIn, an_add, marked, marks_after, signed, standing}
+use Rattle.mix_core.specs.Laid.{EndsIn, an_add, marks_with, marks_after, signed_sample, standing}
 use Rattle.mix_core.specs.Marks.{added_at, withdrawn_at}
 use Rattle.mix_core.specs.History.{Row}
 use Rattle.sum_table.specs.declared.seats.mix.MixSeat.{MixSeat}
@@ -217,8 +217,8 @@ pub record MayExchange (s : MixSeat) (k : Kind) (f c old : ℕ) (sample : ℤ) :
   pub channel : c < s.key.geometry.channels
   pub noted : get_or (view_of s).noted (index_of s.key.geometry f c) None ≡ Some old
   pub of_lap : lap_of old ≡ lap s.key.geometry f
-  pub low : negsuc 32767 ≤ℤ signed k sample
-  pub high : signed k sample ≤ℤ pos 32768
+  pub low : negsuc 32767 ≤ℤ signed_sample k sample
+  pub high : signed_sample k sample ≤ℤ pos 32768
 
 -- a seat's last standing add is a sample at a frame and channel that are not before its floor, at its fields
 pub holds_of : (s : MixSeat) (f c : ℕ) (sample : ℤ) → EndsIn (standing (view_of s).laid) (an_add s.member f c sample ∷ []) → IsFrom s.reach.marks.floor f c → HoldsLast (view_of s) f c sample
@@ -292,10 +292,10 @@ lay_facts s Added f c sample lay =
     record { channel = lay.1; low = omega (arith, s.known.cursor_within.least, start, lay.2); ahead = omega (arith, s.known.same_seen, lay.3); fits = lay.4 }
 lay_facts s Withdrawn f c sample lay = holds_facts s f c sample (holds_of s f c sample lay.0 lay.1)
 
-pub room_there : (s : MixSeat) (k : Kind) (f c old : ℕ) (sample : ℤ) → MayExchange s k f c old sample → HasRoom old (signed k sample)
-room_there s k f c old sample may = HasRoom-of old s.key.places (signed k sample) (s.known.noted.words (index_of s.key.geometry f c) old may.noted) s.key.most may.low may.high
+pub room_there : (s : MixSeat) (k : Kind) (f c old : ℕ) (sample : ℤ) → MayExchange s k f c old sample → HasRoom old (signed_sample k sample)
+room_there s k f c old sample may = HasRoom-of old s.key.places (signed_sample k sample) (s.known.noted.words (index_of s.key.geometry f c) old may.noted) s.key.most may.low may.high
 
-pub to_put : (s : MixSeat) (k : Kind) (f c old new : ℕ) (sample : ℤ) → MayExchange s k f c old sample → StandsFor new (lap_of old) (count_of old + 1) (sum_of old +ℤ signed k sample)
+pub to_put : (s : MixSeat) (k : Kind) (f c old new : ℕ) (sample : ℤ) → MayExchange s k f c old sample → StandsFor new (lap_of old) (count_of old + 1) (sum_of old +ℤ signed_sample k sample)
     → MayPut (view_of s) (entry_by s k f c sample) old new
 to_put s k f c old new sample may stands =
     let same : s.key ≡ (view_of s).key = sym s.known.same_key in
@@ -309,7 +309,7 @@ to_put s k f c old new sample may stands =
       stands = stands;
     }
 
-pub may_exchange : (s : MixSeat) (kind : Kind) (slots i f c old new : ℕ) (sample : ℤ) → MayExchange s kind f c old sample → StandsFor new (lap_of old) (count_of old + 1) (sum_of old +ℤ signed kind sample)
+pub may_exchange : (s : MixSeat) (kind : Kind) (slots i f c old new : ℕ) (sample : ℤ) → MayExchange s kind f c old sample → StandsFor new (lap_of old) (count_of old + 1) (sum_of old +ℤ signed_sample kind sample)
     → i ≡ index_of s.key.geometry f c
     → Allows (Exact s.ring.now.key) slots s.seat.id s.seat.me i (λ n. either (n == old) new n) (exchanged (step slots i old new (some (entry_by s kind f c sample))) s.seat.me)
 may_exchange s kind slots i f c old new sample may stands index =
@@ -318,7 +318,7 @@ may_exchange s kind slots i f c old new sample may stands index =
     let at_key : Goes s.key (index_of s.key.geometry f c) = subst (λ (k : Key). Goes k (index_of k.geometry f c)) s.known.same_key at_own in
     subst (λ k. Goes k i) s.same_ring.1 (subst (Goes s.key) (sym index) at_key)
 
-pub ring_spot_exchanges : (s : MixSeat) (r : RingSpot) (kind : Kind) (f c old new : ℕ) (sample : ℤ) → IsRingSpot s f c r → MayExchange s kind f c old sample → StandsFor new (lap_of old) (count_of old + 1) (sum_of old +ℤ signed kind sample)
+pub ring_spot_exchanges : (s : MixSeat) (r : RingSpot) (kind : Kind) (f c old new : ℕ) (sample : ℤ) → IsRingSpot s f c r → MayExchange s kind f c old sample → StandsFor new (lap_of old) (count_of old + 1) (sum_of old +ℤ signed_sample kind sample)
     → Allows (Exact r.ring.now.key) r.ring.now.table_id.slots s.seat.id s.seat.me r.spot.index (λ n. either (n == old) new n) (exchanged (step r.ring.now.table_id.slots r.spot.index old new (some (entry_by s kind f c sample))) s.seat.me)
 ring_spot_exchanges s r kind f c old new sample is may stands =
     subst (λ x. Allows (Exact x) r.ring.now.table_id.slots s.seat.id s.seat.me r.spot.index (λ n. either (n == old) new n) (exchanged (step r.ring.now.table_id.slots r.spot.index old new (some (entry_by s kind f c sample))) s.seat.me))
@@ -380,7 +380,7 @@ leaves k v e key within laid may = by_kind e.kind refl may where
       let fits : lap k.geometry e.frame < 4294967295 = subst (λ (x : Key). lap x.geometry e.frame < 4294967295) key may.4 in
       let start : v.marks.cursor.frame ≤ first_free v.marks.cursor e.channel = grind (arith, nat_tests) in
       record {
-        within = subst (λ x. MarksWithin k.geometry (marked x k.geometry v.marks e.frame e.channel)) (sym kind) (within_added k.geometry v.marks e.frame e.channel within may.1 fits);
+        within = subst (λ x. MarksWithin k.geometry (marks_with x k.geometry v.marks e.frame e.channel)) (sym kind) (within_added k.geometry v.marks e.frame e.channel within may.1 fits);
         laid = record {
           channel = subst (λ (x : Key). e.channel < x.geometry.channels) key may.0;
           low = omega (arith, within.cursor.least, start, may.1);
@@ -394,7 +394,7 @@ leaves k v e key within laid may = by_kind e.kind refl may where
       let low : first_frame k.geometry ≤ e.frame = subst (λ f. first_frame k.geometry ≤ f) may.frame l.low in
       let fits : lap k.geometry e.frame < 4294967295 = subst (λ f. lap k.geometry f < 4294967295) may.frame l.fits in
       record {
-        within = subst (λ x. MarksWithin k.geometry (marked x k.geometry v.marks e.frame e.channel)) (sym kind) (within_withdrawn k.geometry v.marks e.frame e.channel within low fits);
+        within = subst (λ x. MarksWithin k.geometry (marks_with x k.geometry v.marks e.frame e.channel)) (sym kind) (within_withdrawn k.geometry v.marks e.frame e.channel within low fits);
         laid = record { channel = subst (λ d. d < k.geometry.channels) may.channel l.channel; low = low; ahead = subst (λ f. f < v.seen + k.geometry.frames) may.frame l.ahead; fits = fits };
       }
 
@@ -404,7 +404,7 @@ last_laid : (k : Key) (places : ℕ) (marks : Marks) (seen : ℕ) (last : Option
     → IsReach k.geometry (marks_after k.geometry marks e) places (greater last (Some e.frame))
 last_laid k places marks seen last v e is may in_ring = by_kind e.kind may where
   Goal : Kind → Type 0
-  Goal kind = IsReach k.geometry (marked kind k.geometry marks e.frame e.channel) places (greater last (Some e.frame))
+  Goal kind = IsReach k.geometry (marks_with kind k.geometry marks e.frame e.channel) places (greater last (Some e.frame))
 
   by_kind : (kind : Kind) → may_put kind v e.frame e.channel e.sample → Goal kind
   by_kind Added may = IsReach-added k.geometry marks places last e.frame e.channel is.reach_is (omega (arith, is.same_places, may.3)) in_ring.channel in_ring.low
@@ -510,7 +510,7 @@ known_won k places marks seen last slots i old new n e m r is may same told =
     subst (λ (x : Me Entry View). IsKnown x.0 k places (marks_after k.geometry marks e) seen (greater last (Some e.frame))) (sym lays.1) (known_laid k places marks seen last m.0 lays.0 e is may)
 
 -- the sample is the one that was handed in
-pub has_laid_as : (s t : MixSeat) (k : Kind) (f c : ℕ) (z x : ℤ) → z ≡ x → SameFields s t → t.reach.marks ≡ marked k s.key.geometry s.reach.marks f c → t.reach.last ≡ greater s.reach.last (Some f)
+pub has_laid_as : (s t : MixSeat) (k : Kind) (f c : ℕ) (z x : ℤ) → z ≡ x → SameFields s t → t.reach.marks ≡ marks_with k s.key.geometry s.reach.marks f c → t.reach.last ≡ greater s.reach.last (Some f)
     → Lays s.seat.me.0 s.seat.me.1 (entry_by s k f c z) t.seat.me → HasLaid s t (entry_by s k f c x)
 has_laid_as s t k f c z x is same marks last told = subst (λ y. HasLaid s t (entry_by s k f c y)) is (has_laid s t (entry_by s k f c z) same marks last told)
 

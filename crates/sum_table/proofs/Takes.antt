@@ -8,7 +8,7 @@ use Rattle.atomic_table.specs.Table.{Act, Allows, Me, State, Valid, carried_afte
 use Rattle.atomic_table.proofs.Lists.{at_snoc, at_longer}
 use Rattle.snd_base.specs.declared.geometry.Geometry.{Geometry}
 use Rattle.snd_base.specs.declared.places.Cursor.{Cursor}
-use Rattle.snd_base.specs.Places.{behind, first_frame, first_free, lap}
+use Rattle.snd_base.specs.Places.{cursor_after, first_frame, first_free, lap}
 use Rattle.lap_word.specs.Clamp.{clamp_of}
 use Rattle.lap_word.specs.Position.{word_of}
 use Rattle.lap_word.specs.Word.{StandsFor, StandsFor-fields, count_of, lap_of, sum_of}
@@ -42,7 +42,7 @@ track_or t None = t
 track_or t (Some u) = u
 
 -- the next word's cursor moves back for no channel
-grows : (g : Geometry) (next : Cursor) (c : ℕ) → first_free next c ≤ first_free (behind g next.frame next.channel) c
+grows : (g : Geometry) (next : Cursor) (c : ℕ) → first_free next c ≤ first_free (cursor_after g next.frame next.channel) c
 grows g next c = grind (arith, nat_tests)
 
 -- a position that was published stays one
@@ -82,7 +82,7 @@ took s slots id m at t h word lasts tracks player x here fits stands =
     let u : Track = track_taken t (taking g t z) in
     let w : View = with_taken v late t (taking g t z) in
     let own : IsView k s.words t h v = x.views_ok.each id v here in
-    let behind_it : next_at g u ≡ behind g next.frame next.channel = next_at-taken g t (taking g t z) in
+    let behind_it : next_at g u ≡ cursor_after g next.frame next.channel = next_at-taken g t (taking g t z) in
     let up : rank n < rank word = omega (arith, rank-of n _ _ _ stood, stood.count_fits, rank-of word _ _ _ stands) in
     let in_words : i < length s.words = omega (arith, index_of-lt g next.frame next.channel channel, x.ring.room) in
     let later : Later g s.words (set s.words i word) t u h late = record {

@@ -14,8 +14,8 @@ abbrev pub with_places : View → ℕ → View
 with_places v n = record v { places = n }
 
 -- a view without some of its places
-abbrev pub without : View → ℕ → View
-without v n = with_places v (v.places - n)
+abbrev pub without_places : View → ℕ → View
+without_places v n = with_places v (v.places - n)
 
 -- the view of a new seat that gets some places of a view: it has seen as much, and laid nothing
 abbrev pub part_of : View → ℕ → View

@@ -21,7 +21,7 @@ use Rattle.mix_core.specs.Sound.{IsNow}
 use Rattle.sum_table.specs.declared.view.Key.{Key}
 use Rattle.sum_table.specs.declared.view.Track.{Track}
 use Rattle.sum_table.specs.declared.view.View.{View}
-use Rattle.sum_table.specs.Laid.{SameSums, all_laid, by_member, count, own, places_of}
+use Rattle.sum_table.specs.Laid.{SameSums, all_laid, by_member, count, own_entries, places_of}
 use Rattle.ring_rule.specs.Words.{NotPast, index_of, words_of}
 use Rattle.ring_rule.specs.Positions.{IsPosition, Rising, last_position}
 
@@ -126,8 +126,8 @@ pub record IsHistory (g : Geometry) (views : List View) (t : Track) (h : List Ro
   pub taken : taken_of h ≡ t.taken
   pub position : position_of g h ≡ position_at g t
   pub sums : SameSums (laid_of h) (all_laid views)
-  pub owns : (i : ℕ) (v : View) → get_elem? views i ≡ some v → v.ended ≡ false → own i (laid_of h) ≡ map (by_member i) v.mine
-  pub no_more : (i : ℕ) → length views ≤ i → own i (laid_of h) ≡ []
+  pub owns : (i : ℕ) (v : View) → get_elem? views i ≡ some v → v.ended ≡ false → own_entries i (laid_of h) ≡ map (by_member i) v.mine
+  pub no_more : (i : ℕ) → length views ≤ i → own_entries i (laid_of h) ≡ []
 
 -- the rule: there is a player's track and a legal history for which all this holds
 abbrev pub Exact : Key → State Entry View → Type 0

@@ -2,10 +2,10 @@
 use Rattle.std.specs.Prelude.{ℕ, Option, None, Some}
 use Rattle.snd_base.specs.declared.geometry.Geometry.{Geometry}
 use Rattle.snd_base.specs.declared.places.Cursor.{Cursor}
-use Rattle.snd_base.specs.Places.{behind}
+use Rattle.snd_base.specs.Places.{cursor_after}
 use Rattle.mix_core.specs.declared.marks.Marks.{Marks}
 use Rattle.mix_core.specs.declared.port.Kind.{Kind}
-use Rattle.mix_core.specs.Laid.{marked}
+use Rattle.mix_core.specs.Laid.{marks_with}
 use Rattle.mix_core.specs.Marks.{start_marks}
 use Rattle.sum_table.specs.declared.seats.reach.Apart.{Apart}
 use Rattle.sum_table.specs.Cuts.{joined_marks}
@@ -23,7 +23,7 @@ start_extent g = record { geometry = g; marks = start_marks g; last = None }
 
 -- after an entry of a kind at a frame and channel
 abbrev pub extent_after : Kind → Extent → ℕ → ℕ → Extent
-extent_after k e f c = record { geometry = e.geometry; marks = marked k e.geometry e.marks f c; last = greater e.last (Some f) }
+extent_after k e f c = record { geometry = e.geometry; marks = marks_with k e.geometry e.marks f c; last = greater e.last (Some f) }
 
 -- of two seats that are joined, the second with so many places
 abbrev pub joined_extent : Extent → Extent → ℕ → Extent
@@ -31,5 +31,5 @@ joined_extent e d n = record { geometry = e.geometry; marks = joined_marks e.mar
 
 -- of a frame and channel that were laid last, the floor, and the other marks where they aren't right behind that frame and channel
 abbrev pub extent_of : Geometry → ℕ → ℕ → Cursor → Option Apart → Extent
-extent_of g f c floor None = record { geometry = g; marks = record { cursor = behind g f c; floor = floor; high = behind g f c }; last = Some f }
+extent_of g f c floor None = record { geometry = g; marks = record { cursor = cursor_after g f c; floor = floor; high = cursor_after g f c }; last = Some f }
 extent_of g f c floor (Some a) = record { geometry = g; marks = record { cursor = a.cursor; floor = floor; high = a.high }; last = a.last }

@@ -14,7 +14,7 @@ use Rattle.sum_table.specs.declared.seats.note.SeatNote.{SeatNote}
 use Rattle.sum_table.specs.declared.seats.player.PlayerSeat.{PlayerSeat}
 use Rattle.sum_table.specs.declared.view.Key.{Key}
 use Rattle.sum_table.specs.declared.view.View.{View}
-use Rattle.sum_table.specs.Cuts.{both_of, joined_marks, part_of, without}
+use Rattle.sum_table.specs.Cuts.{both_of, joined_marks, part_of, without_places}
 use Rattle.sum_table.specs.Exact.{BeginsWith, IsPublished, next_at, position_at, start_marks}
 use Rattle.sum_table.specs.Known.{greater}
 use Rattle.sum_table.specs.Laid.{SameSums}
@@ -52,7 +52,7 @@ pub record Stays (s t : MixSeat) : Type 0 where
 -- some places moved to a new seat, which has seen as much and laid nothing
 pub record HasSplit (s t new : MixSeat) (n m : ℕ) : Type 0 where
   pub stays : Stays s t
-  pub view : view_of t ≡ without (view_of s) n
+  pub view : view_of t ≡ without_places (view_of s) n
   pub places : t.places + n ≡ s.places
   pub new_ring : ring_of new ≡ ring_of s
   pub new_key : new.key ≡ s.key

@@ -1,7 +1,7 @@
 -- What all seats laid, what one member laid, and which places the seats have.
 use Rattle.std.specs.Prelude.{◌≡◌, ℕ, ◌+◌, List, [], ◌∷◌, ◌++◌}
 use Rattle.mix_core.specs.declared.port.Entry.{Entry}
-pub use Rattle.mix_core.specs.Laid.{count, own, total}
+pub use Rattle.mix_core.specs.Laid.{count, own_entries, total}
 use Rattle.sum_table.specs.declared.view.View.{View}
 
 -- two lists have equally many samples, of one sum, at each frame and channel

@@ -3,7 +3,7 @@ use Rattle.std.specs.Prelude.{◌≡◌, ℕ, Bool, true, [], ◌∷◌}
 use Rattle.atomic_table.specs.Seated.{TableId}
 use Rattle.snd_base.specs.declared.geometry.Geometry.{Geometry}
 use Rattle.snd_base.specs.declared.places.Cursor.{Cursor}
-use Rattle.snd_base.specs.Places.{behind, lap}
+use Rattle.snd_base.specs.Places.{cursor_after, lap}
 use Rattle.lap_word.specs.Clamp.{clamp_of}
 use Rattle.mix_core.specs.declared.event.Event.TheVariants.{Take, Publish}
 use Rattle.mix_core.specs.declared.event.Reply.TheVariants.{Took, Published}
@@ -70,7 +70,7 @@ pub record HasTaken (p q : PlayerSeat) (x : Taken) : Type 0 where
   pub frame : x.frame ≡ p.next.frame
   pub channel : x.channel ≡ p.next.channel
   pub value : x.value ≡ clamp_of (total (laid_of (player_view q).history) x.frame x.channel)
-  pub next : q.next ≡ behind p.key.geometry p.next.frame p.next.channel
+  pub next : q.next ≡ cursor_after p.key.geometry p.next.frame p.next.channel
   pub position : q.position ≡ p.position
   pub gone : q.gone ≡ p.gone
   pub event : Makes (player_view p) (player_view q) (λ _. (Take, Took x.frame x.channel x.value) ∷ [])

@@ -32,7 +32,7 @@ use Rattle.sum_table.specs.declared.view.Key.{Key}
 use Rattle.sum_table.specs.declared.view.View.{View}
 use Rattle.sum_table.specs.Exact.{BeginsWith}
 use Rattle.sum_table.specs.Known.{greater}
-use Rattle.sum_table.specs.Laid.{by_member, own}
+use Rattle.sum_table.specs.Laid.{by_member, own_entries}
 use Rattle.sum_table.specs.Steps.{Finds, IsStep, IsSumOf, Makes, MakesLook, in_row, sighting, with_entry, with_note, with_position}
 use Rattle.ring_rule.specs.Spots.{IsSpot}
 use Rattle.ring_rule.specs.Words.{index_of, rank}
@@ -119,8 +119,8 @@ MayLay Added s f c x =
 MayLay Withdrawn s f c x = SeatEndsIn s (an_add s.member f c x ∷ []) × IsFrom s.reach.marks.floor f c
 
 -- the word that a seat noted last at a frame and channel
-abbrev pub shown : MixSeat → ℕ → ℕ → Option ℕ
-shown s f c = slice_index_or (view_of s).noted (index_of s.key.geometry f c) None
+abbrev pub noted_word : MixSeat → ℕ → ℕ → Option ℕ
+noted_word s f c = slice_index_or (view_of s).noted (index_of s.key.geometry f c) None
 
 -- no noted word is followed by an earlier one, by lap and then by count
 abbrev pub NotesRise : View → View → Type 0
@@ -145,7 +145,7 @@ Adds g h mine (e ∷ es) later =
     (by : ℕ) × (members : ℕ) × (between : List Row) × (j : List Row)
     × (j ≡ (h ++ between) ++ in_row by e ∷ [])
     × IsLegal g members j
-    × (own by (laid_of j) ≡ map (by_member by) (mine ++ e ∷ []))
+    × (own_entries by (laid_of j) ≡ map (by_member by) (mine ++ e ∷ []))
     × Adds g j (mine ++ e ∷ []) es later
 
 -- a seat laid some entries: its laid list, and the list of what it laid itself, have them at their end, and so has the
@@ -175,7 +175,7 @@ pub record HasNoted (s t : MixSeat) (f c n : ℕ) : Type 0 where
   pub marks : t.reach.marks ≡ s.reach.marks
   pub seen : t.seen ≡ s.seen
   pub last : t.reach.last ≡ s.reach.last
-  pub shows : shown t f c ≡ Some n
+  pub shows : noted_word t f c ≡ Some n
   pub found : Finds (view_of s) (index_of s.key.geometry f c) n
   pub sum : IsSumOf s.key.geometry (view_of t).history f c n
   pub event : MakesLook (view_of s) (view_of t) (index_of s.key.geometry f c) n
@@ -226,7 +226,7 @@ pub record SeatFinds (s t : MixSeat) (e : Entry) (ended : Ended) (words : List �
 
 -- a placement or withdrawal of one entry by a seat
 abbrev pub SeatLays : {T : Type 0} → (T → ℕ) → (T → T → List StepKind → Pass → Type 0) → MixSeat → T → Entry → Ended → MixSeat → T → Type 0
-SeatLays stops asked s g e ended t h = Lays seat_view SeatLaid SeatLoaded shown SeatFinds stops asked s g e ended t h
+SeatLays stops asked s g e ended t h = Lays seat_view SeatLaid SeatLoaded noted_word SeatFinds stops asked s g e ended t h
 
 -- how many of its asks were passed
 abbrev pub pass_count : Ended → ℕ → ℕ
@@ -382,7 +382,7 @@ SeatEndsIn-back p q xs f c x from laid ends =
     (ends.0, ap standing laid.laid ∙ (standing-more (view_of p).laid (a_withdrawal p.member f c x) ∙ (ap without_last was ∙ without_last-more (ends.0 ++ xs) a)))
 
 -- the words that a seat shows never fall
-pub SeatLaid-shows : (p q : MixSeat) (es : List Entry) (f c word : ℕ) → SeatLaid p q es → shown p f c ≡ Some word → ShowsFrom shown q f c word
+pub SeatLaid-shows : (p q : MixSeat) (es : List Entry) (f c word : ℕ) → SeatLaid p q es → noted_word p f c ≡ Some word → ShowsFrom noted_word q f c word
 SeatLaid-shows p q es f c word laid is =
     let later = laid.goes.notes (index_of p.key.geometry f c) word is in
     record {

@@ -25,7 +25,7 @@ use Rattle.sum_table.specs.declared.view.Sighting.{Sighting}
 use Rattle.sum_table.specs.declared.view.Track.{Track}
 use Rattle.sum_table.specs.declared.view.View.{View}
 use Rattle.sum_table.specs.Exact.{BeginsWith, IsPublished, next_at, position_at}
-use Rattle.sum_table.specs.Laid.{SameSums, by_member, count, own}
+use Rattle.sum_table.specs.Laid.{SameSums, by_member, count, own_entries}
 use Rattle.ring_rule.specs.Words.{NotPast, index_of}
 
 -- a seat saw the history so far
@@ -94,7 +94,7 @@ pub record IsStep (v w : View) (by members : ℕ) (between rows : List Row) : Ty
   pub history : w.history ≡ (v.history ++ between) ++ rows
   pub legal : IsLegal v.key.geometry members w.history
   pub in_range : by < members
-  pub own_adds : own by (laid_of w.history) ≡ map (by_member by) w.mine
+  pub own_adds : own_entries by (laid_of w.history) ≡ map (by_member by) w.mine
 
 -- a step that is these events, of the seat that makes it
 abbrev pub Makes : View → View → (ℕ → List Row) → Type 0

@@ -7,11 +7,11 @@ use std::sync::ledger::Blank;
 
 impl MixPort for MixSeat<'_> {
     ghost use Rattle.snd_base.specs.Relations.{Composes-none_after, Composes-none_before};
-    ghost use Rattle.sum_table.specs.Seats.{SeatEndsIn, SeatEndsIn-back, SeatEndsIn-laid, SeatEndsIn-nothing, SeatEndsIn-part, SeatFinds, SeatLaid, SeatLaid-composes, SeatLaid-shows, SeatLoaded, SeatLoaded-composes, seat_view, shown};
+    ghost use Rattle.sum_table.specs.Seats.{SeatEndsIn, SeatEndsIn-back, SeatEndsIn-laid, SeatEndsIn-nothing, SeatEndsIn-part, SeatFinds, SeatLaid, SeatLaid-composes, SeatLaid-shows, SeatLoaded, SeatLoaded-composes, seat_view, noted_word};
 
     ghost view = { seat_view };
 
-    ghost shows = { shown };
+    ghost shows = { noted_word };
 
     ghost ends_in = { SeatEndsIn };
 

@@ -3,7 +3,7 @@ ghost use Rattle.sum_table.specs.Rings.{GaveNone, key_of_ring};
 ghost use Rattle.std.specs.Prelude.{[], ◌∷◌, Ok};
 ghost use Rattle.mix_core.specs.Laid.{an_add};
 ghost use Rattle.mix_core.specs.Port.{OnWhole, ended_of};
-ghost use Rattle.sum_table.specs.Seats.{CanAdd, IsLaterSeat, SeatLaid, member_of, shown};
+ghost use Rattle.sum_table.specs.Seats.{CanAdd, IsLaterSeat, SeatLaid, member_of, noted_word};
 
 mod threads;
 
@@ -69,8 +69,8 @@ fn try_exchange<L: Ledger>(
     sample: i16,
     steps: &mut Steps<L>,
 ) -> Result<Result<(), u64>, Fail>
-    requires noted { shown seat.old frame 0 ≡ Some old }
-    ensures noted { IfOk result (λ answer. IfErr answer (λ found. shown seat.new frame 0 ≡ Some found)) }
+    requires noted { noted_word seat.old frame 0 ≡ Some old }
+    ensures noted { IfOk result (λ answer. IfErr answer (λ found. noted_word seat.new frame 0 ≡ Some found)) }
 {
     let geometry = seat.geometry();
     let its_lap = geometry.lap(frame);

@@ -7,8 +7,8 @@ use Rattle.wav_io.specs.declared.format.Depths.{Depths}
 use Rattle.wav_io.specs.declared.format.Format.{Format}
 use Rattle.wav_io.specs.Chunks.{Chunk, size_at, first_chunk, after_chunk, chunks_in, chunks}
 use Rattle.wav_io.specs.Fields.{number_at}
-use Rattle.wav_io.specs.Pieces.{sized, bytes_after}
-use Rattle.wav_io.specs.Reading.{Finding, ended, Verdict, decides, goes_on, verdict_of, followed, scan_of}
+use Rattle.wav_io.specs.Pieces.{chunk_of_size, bytes_after}
+use Rattle.wav_io.specs.Reading.{Finding, ended, Verdict, decides, goes_on, verdict_of, finding_after, scan_of}
 
 pub length-after_chunk : (bytes : List ℕ) → 8 ≤ length bytes → length (after_chunk bytes) + 8 ≤ length bytes
 length-after_chunk bytes long = omega (arith, length-drop (size_at bytes + size_at bytes % 2) (drop 8 bytes), length-drop 8 bytes)
@@ -48,9 +48,9 @@ chunks-none bytes short = chunks_in-none (length bytes) bytes short
 
 -- ---- the walk over the chunks
 
-verdict_of-first : (depths : Depths) (format : Option Format) (bytes : List ℕ) (v : Verdict) → 8 ≤ length bytes → verdict_of depths format (first_chunk bytes) ≡ v → scan_of depths format (chunks bytes) ≡ followed v (λ kept. scan_of depths kept (chunks (after_chunk bytes)))
+verdict_of-first : (depths : Depths) (format : Option Format) (bytes : List ℕ) (v : Verdict) → 8 ≤ length bytes → verdict_of depths format (first_chunk bytes) ≡ v → scan_of depths format (chunks bytes) ≡ finding_after v (λ kept. scan_of depths kept (chunks (after_chunk bytes)))
 verdict_of-first depths format bytes v long e =
-    ap (scan_of depths format) (chunks-some bytes long) ∙ ap (λ (w : Verdict). followed w (λ kept. scan_of depths kept (chunks (after_chunk bytes)))) e
+    ap (scan_of depths format) (chunks-some bytes long) ∙ ap (λ (w : Verdict). finding_after w (λ kept. scan_of depths kept (chunks (after_chunk bytes)))) e
 
 pub scan_of-decides : (depths : Depths) (format : Option Format) (bytes : List ℕ) (f : Finding) → 8 ≤ length bytes → verdict_of depths format (first_chunk bytes) ≡ decides f → scan_of depths format (chunks bytes) ≡ f
 scan_of-decides depths format bytes f long e = verdict_of-first depths format bytes (decides f) long e
@@ -65,15 +65,15 @@ scan_of-ended depths format bytes short = ap (scan_of depths format) (chunks-non
 
 -- the chunk of a head, and the bytes behind it
 abbrev pub headed : List ℕ → List ℕ → Chunk
-headed head bytes = sized (take 4 head) (number_at w32 4 head) bytes
+headed head bytes = chunk_of_size (take 4 head) (number_at w32 4 head) bytes
 
 by_cells : (a b c d e f g h : ℕ) (depths : Depths) (format : Option Format) (bytes : List ℕ)
     → let head : List ℕ = a ∷ b ∷ c ∷ d ∷ e ∷ f ∷ g ∷ h ∷ [] in
-    scan_of depths format (chunks (head ++ bytes)) ≡ followed (verdict_of depths format (headed head bytes)) (λ kept. scan_of depths kept (chunks (bytes_after (number_at w32 4 head) bytes)))
+    scan_of depths format (chunks (head ++ bytes)) ≡ finding_after (verdict_of depths format (headed head bytes)) (λ kept. scan_of depths kept (chunks (bytes_after (number_at w32 4 head) bytes)))
 by_cells a b c d e f g h depths format bytes =
     verdict_of-first depths format (a ∷ b ∷ c ∷ d ∷ e ∷ f ∷ g ∷ h ∷ bytes) _ (omega arith) refl
 
 pub scan_of-headed : (depths : Depths) (format : Option Format) (head bytes : List ℕ) → length head ≡ 8
-    → scan_of depths format (chunks (head ++ bytes)) ≡ followed (verdict_of depths format (headed head bytes)) (λ kept. scan_of depths kept (chunks (bytes_after (number_at w32 4 head) bytes)))
+    → scan_of depths format (chunks (head ++ bytes)) ≡ finding_after (verdict_of depths format (headed head bytes)) (λ kept. scan_of depths kept (chunks (bytes_after (number_at w32 4 head) bytes)))
 scan_of-headed depths format (a ∷ b ∷ c ∷ d ∷ e ∷ f ∷ g ∷ h ∷ []) bytes eight = by_cells a b c d e f g h depths format bytes
 scan_of-headed depths format _ bytes eight = absurd (omega arith)

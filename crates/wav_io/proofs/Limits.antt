@@ -3,15 +3,15 @@ use Rattle.std.proofs.Common.{◌≡◌, ℕ, ◌+◌, ◌-◌, ◌<◌, ◌≤�
 use Rattle.std.proofs.lemmas.Bool.{cases_lt, le-leb, lt-leb, cond-true, cond-false}
 use Rattle.std.proofs.Math.Seq.{take-append-add}
 use Rattle.wav_io.specs.Pieces.{with_front}
-use Rattle.wav_io.specs.Reading.{Finding, refused, body_found, format_cut, ended, at_end, before_end, limited, most_bytes}
+use Rattle.wav_io.specs.Reading.{Finding, refused, body_found, format_cut, ended, at_end, before_end, within_limit, most_bytes}
 use Rattle.wav_io.specs.Scans.{with_body}
 
-pub limited-short : (seen : ℕ) (find : List ℕ → Finding) (bytes : List ℕ) → seen + length bytes ≤ most_bytes → limited seen find bytes ≡ at_end (find bytes)
-unfolding limited
+pub limited-short : (seen : ℕ) (find : List ℕ → Finding) (bytes : List ℕ) → seen + length bytes ≤ most_bytes → within_limit seen find bytes ≡ at_end (find bytes)
+unfolding within_limit
 limited-short seen find bytes short = cond-true _ _ _ (le-leb _ _ short)
 
-pub limited-long : (seen : ℕ) (find : List ℕ → Finding) (bytes : List ℕ) → most_bytes < seen + length bytes → limited seen find bytes ≡ before_end (find (take (most_bytes - seen) bytes))
-unfolding limited
+pub limited-long : (seen : ℕ) (find : List ℕ → Finding) (bytes : List ℕ) → most_bytes < seen + length bytes → within_limit seen find bytes ≡ before_end (find (take (most_bytes - seen) bytes))
+unfolding within_limit
 limited-long seen find bytes long = cond-false _ _ _ (lt-leb _ _ long)
 
 at_end-with_body : (front : List ℕ) (f : Finding) → at_end (with_body front f) ≡ with_front front (at_end f)
@@ -30,7 +30,7 @@ before_end-with_body front (ended format) = refl
 -- a piece that doesn't pass the limit, and what follows it
 pub limited-append : (seen : ℕ) (old new : List ℕ → Finding) (front piece : List ℕ) → seen + length piece ≤ most_bytes
     → ((more : List ℕ) → old (piece ++ more) ≡ with_body front (new more))
-    → (more : List ℕ) → limited seen old (piece ++ more) ≡ with_front front (limited (seen + length piece) new more)
+    → (more : List ℕ) → within_limit seen old (piece ++ more) ≡ with_front front (within_limit (seen + length piece) new more)
 limited-append seen old new front piece short same more =
     elim (cases_lt most_bytes (seen + length piece + length more)) [
       | inr within ↦

@@ -17,8 +17,8 @@ use Rattle.wav_io.specs.declared.place.Place.TheVariants.{Opening, Head, FormatB
 use Rattle.wav_io.specs.Chunks.{Chunk, chunks}
 use Rattle.wav_io.specs.Fields.{number_at}
 use Rattle.wav_io.specs.Formats.{IsFormat, format_of}
-use Rattle.wav_io.specs.Pieces.{found_from, sized, bytes_after, LeadsTo, GoesOn}
-use Rattle.wav_io.specs.Reading.{Finding, refused, body_found, format_cut, Verdict, decides, goes_on, verdict_of_format, format_chunk, data_chunk, verdict_of, followed, scan_of, found_in}
+use Rattle.wav_io.specs.Pieces.{found_from, chunk_of_size, bytes_after, LeadsTo, GoesOn}
+use Rattle.wav_io.specs.Reading.{Finding, refused, body_found, format_cut, Verdict, decides, goes_on, verdict_of_format, format_chunk, data_chunk, verdict_of, finding_after, scan_of, found_in}
 use Rattle.wav_io.proofs.Cutting.{scan_of-headed, headed}
 
 -- ---- places with no byte kept
@@ -39,7 +39,7 @@ leads_data depths f size find same in_order = record { same = same; place = in_o
 -- the result of scanning a format chunk of which the head is known
 abbrev format_found : Depths → ℕ → List ℕ → Finding
 format_found depths size more =
-    cond (ltb (length more) size) format_cut (followed (verdict_of_format (format_of depths (take 40 (take size more)))) (λ f. scan_of depths f (chunks (drop (size + size % 2) more))))
+    cond (ltb (length more) size) format_cut (finding_after (verdict_of_format (format_of depths (take 40 (take size more)))) (λ f. scan_of depths f (chunks (drop (size + size % 2) more))))
 
 short_body : (size : ℕ) (more : List ℕ) → length more < size → length (take size more) < size
 short_body size more short = omega (arith, length-take size more)
@@ -48,23 +48,23 @@ long_body : (size : ℕ) (more : List ℕ) → size ≤ length more → size ≤
 long_body size more long = omega (arith, length-take size more)
 
 format_found-is : (depths : Depths) (name : List ℕ) (size : ℕ) (more : List ℕ) → 16 ≤ size
-    → format_found depths size more ≡ followed (format_chunk depths None (sized name size more)) (λ f. scan_of depths f (chunks (bytes_after size more)))
+    → format_found depths size more ≡ finding_after (format_chunk depths None (chunk_of_size name size more)) (λ f. scan_of depths f (chunks (bytes_after size more)))
 format_found-is depths name size more big =
     let next : Option Format → Finding = λ f. scan_of depths f (chunks (bytes_after size more)) in
     let rest : Verdict = cond (ltb (length (take size more)) size) (decides format_cut) (verdict_of_format (format_of depths (take 40 (take size more)))) in
     elim (cases_lt (length more) size) [
       | inl short ↦
-          cond-true (ltb (length more) size) format_cut (followed (verdict_of_format (format_of depths (take 40 (take size more)))) next) (lt-ltb _ _ short)
-          ∙ ap (λ (v : Verdict). followed v next) (sym (cond-true (ltb (length (take size more)) size) (decides format_cut) (verdict_of_format (format_of depths (take 40 (take size more)))) (lt-ltb _ _ (short_body size more short))))
-          ∙ ap (λ (v : Verdict). followed v next) (sym (cond-false (ltb size 16) (decides (refused ShortFormat)) rest (le-ltb _ _ big)))
+          cond-true (ltb (length more) size) format_cut (finding_after (verdict_of_format (format_of depths (take 40 (take size more)))) next) (lt-ltb _ _ short)
+          ∙ ap (λ (v : Verdict). finding_after v next) (sym (cond-true (ltb (length (take size more)) size) (decides format_cut) (verdict_of_format (format_of depths (take 40 (take size more)))) (lt-ltb _ _ (short_body size more short))))
+          ∙ ap (λ (v : Verdict). finding_after v next) (sym (cond-false (ltb size 16) (decides (refused ShortFormat)) rest (le-ltb _ _ big)))
       | inr long ↦
-          cond-false (ltb (length more) size) format_cut (followed (verdict_of_format (format_of depths (take 40 (take size more)))) next) (le-ltb _ _ long)
-          ∙ ap (λ (v : Verdict). followed v next) (sym (cond-false (ltb (length (take size more)) size) (decides format_cut) (verdict_of_format (format_of depths (take 40 (take size more)))) (le-ltb _ _ (long_body size more long))))
-          ∙ ap (λ (v : Verdict). followed v next) (sym (cond-false (ltb size 16) (decides (refused ShortFormat)) rest (le-ltb _ _ big)))
+          cond-false (ltb (length more) size) format_cut (finding_after (verdict_of_format (format_of depths (take 40 (take size more)))) next) (le-ltb _ _ long)
+          ∙ ap (λ (v : Verdict). finding_after v next) (sym (cond-false (ltb (length (take size more)) size) (decides format_cut) (verdict_of_format (format_of depths (take 40 (take size more)))) (le-ltb _ _ (long_body size more long))))
+          ∙ ap (λ (v : Verdict). finding_after v next) (sym (cond-false (ltb size 16) (decides (refused ShortFormat)) rest (le-ltb _ _ big)))
     ]
 
 pub leads_format : (depths : Depths) (name : List ℕ) (size : ℕ) → 16 ≤ size
-    → LeadsTo depths (FormatBody size (size % 2)) (λ more. followed (format_chunk depths None (sized name size more)) (λ f. scan_of depths f (chunks (bytes_after size more))))
+    → LeadsTo depths (FormatBody size (size % 2)) (λ more. finding_after (format_chunk depths None (chunk_of_size name size more)) (λ f. scan_of depths f (chunks (bytes_after size more))))
 unfolding found_from
 leads_format depths name size big = record {
   same = λ more. format_found-is depths name size more big;
@@ -73,22 +73,22 @@ leads_format depths name size big = record {
 }
 
 pub leads_short : (depths : Depths) (name : List ℕ) (size : ℕ) → size < 16
-    → LeadsTo depths (Refused ShortFormat) (λ more. followed (format_chunk depths None (sized name size more)) (λ f. scan_of depths f (chunks (bytes_after size more))))
+    → LeadsTo depths (Refused ShortFormat) (λ more. finding_after (format_chunk depths None (chunk_of_size name size more)) (λ f. scan_of depths f (chunks (bytes_after size more))))
 leads_short depths name size small =
-    leads_refused depths ShortFormat _ (λ more. ap (λ (v : Verdict). followed v (λ f. scan_of depths f (chunks (bytes_after size more)))) (sym (cond-true (ltb size 16) (decides (refused ShortFormat)) _ (lt-ltb _ _ small)))) (λ e. cc)
+    leads_refused depths ShortFormat _ (λ more. ap (λ (v : Verdict). finding_after v (λ f. scan_of depths f (chunks (bytes_after size more)))) (sym (cond-true (ltb size 16) (decides (refused ShortFormat)) _ (lt-ltb _ _ small)))) (λ e. cc)
 
 pub leads_twice : (depths : Depths) (format : Option Format) (name : List ℕ) (size : ℕ) → is_some format ≡ true
-    → LeadsTo depths (Refused FormatTwice) (λ more. followed (format_chunk depths format (sized name size more)) (λ f. scan_of depths f (chunks (bytes_after size more))))
+    → LeadsTo depths (Refused FormatTwice) (λ more. finding_after (format_chunk depths format (chunk_of_size name size more)) (λ f. scan_of depths f (chunks (bytes_after size more))))
 leads_twice depths None name size is = absurd (cc)
 leads_twice depths (Some f) name size is = leads_refused depths FormatTwice _ (λ more. refl) (λ e. cc)
 
 pub leads_first_short : (depths : Depths) (format : Option Format) (name : List ℕ) (size : ℕ) → is_some format ≡ false → size < 16
-    → LeadsTo depths (Refused ShortFormat) (λ more. followed (format_chunk depths format (sized name size more)) (λ f. scan_of depths f (chunks (bytes_after size more))))
+    → LeadsTo depths (Refused ShortFormat) (λ more. finding_after (format_chunk depths format (chunk_of_size name size more)) (λ f. scan_of depths f (chunks (bytes_after size more))))
 leads_first_short depths None name size is small = leads_short depths name size small
 leads_first_short depths (Some f) name size is small = absurd (cc)
 
 pub leads_first : (depths : Depths) (format : Option Format) (name : List ℕ) (size : ℕ) → is_some format ≡ false → 16 ≤ size
-    → LeadsTo depths (FormatBody size (size % 2)) (λ more. followed (format_chunk depths format (sized name size more)) (λ f. scan_of depths f (chunks (bytes_after size more))))
+    → LeadsTo depths (FormatBody size (size % 2)) (λ more. finding_after (format_chunk depths format (chunk_of_size name size more)) (λ f. scan_of depths f (chunks (bytes_after size more))))
 leads_first depths None name size is big = leads_format depths name size big
 leads_first depths (Some f) name size is big = absurd (cc)
 
@@ -115,22 +115,22 @@ abbrev after : Depths → Option Format → List ℕ → List ℕ → Finding
 after depths format head more = scan_of depths format (chunks (head ++ more))
 
 after-verdict_of : (depths : Depths) (format : Option Format) (head : List ℕ) → length head ≡ 8 → (v : List ℕ → Verdict) → ((more : List ℕ) → verdict_of depths format (headed head more) ≡ v more)
-    → (more : List ℕ) → followed (v more) (λ f. scan_of depths f (chunks (bytes_after (number_at w32 4 head) more))) ≡ after depths format head more
+    → (more : List ℕ) → finding_after (v more) (λ f. scan_of depths f (chunks (bytes_after (number_at w32 4 head) more))) ≡ after depths format head more
 after-verdict_of depths format head eight v is more =
-    sym (scan_of-headed depths format head more eight ∙ ap (λ (w : Verdict). followed w (λ f. scan_of depths f (chunks (bytes_after (number_at w32 4 head) more)))) (is more))
+    sym (scan_of-headed depths format head more eight ∙ ap (λ (w : Verdict). finding_after w (λ f. scan_of depths f (chunks (bytes_after (number_at w32 4 head) more)))) (is more))
 
 pub leads_by_format : (depths : Depths) (format : Option Format) (head : List ℕ) (place : Place) → length head ≡ 8 → bytes_eq (take 4 head) (codes "fmt ") ≡ true
-    → LeadsTo depths place (λ more. followed (format_chunk depths format (headed head more)) (λ f. scan_of depths f (chunks (bytes_after (number_at w32 4 head) more))))
+    → LeadsTo depths place (λ more. finding_after (format_chunk depths format (headed head more)) (λ f. scan_of depths f (chunks (bytes_after (number_at w32 4 head) more))))
     → LeadsTo depths place (λ more. scan_of depths format (chunks (head ++ more)))
 leads_by_format depths format head place eight is leads =
     leads_as depths place _ _ leads (after-verdict_of depths format head eight (λ more. format_chunk depths format (headed head more)) (λ more. verdict_of-format depths format (headed head more) is))
 
 -- the size as the head gives it
 pub leads_at_size : (depths : Depths) (format : Option Format) (head : List ℕ) (size : ℕ) (place : Place) → size ≡ number_at w32 4 head
-    → LeadsTo depths place (λ more. followed (format_chunk depths format (sized (take 4 head) size more)) (λ f. scan_of depths f (chunks (bytes_after size more))))
-    → LeadsTo depths place (λ more. followed (format_chunk depths format (headed head more)) (λ f. scan_of depths f (chunks (bytes_after (number_at w32 4 head) more))))
+    → LeadsTo depths place (λ more. finding_after (format_chunk depths format (chunk_of_size (take 4 head) size more)) (λ f. scan_of depths f (chunks (bytes_after size more))))
+    → LeadsTo depths place (λ more. finding_after (format_chunk depths format (headed head more)) (λ f. scan_of depths f (chunks (bytes_after (number_at w32 4 head) more))))
 leads_at_size depths format head size place is leads =
-    subst (λ (n : ℕ). LeadsTo depths place (λ more. followed (format_chunk depths format (sized (take 4 head) n more)) (λ f. scan_of depths f (chunks (bytes_after n more))))) is leads
+    subst (λ (n : ℕ). LeadsTo depths place (λ more. finding_after (format_chunk depths format (chunk_of_size (take 4 head) n more)) (λ f. scan_of depths f (chunks (bytes_after n more))))) is leads
 
 pub leads_by_data : (depths : Depths) (f : Format) (head : List ℕ) → length head ≡ 8 → bytes_eq (take 4 head) (codes "fmt ") ≡ false → bytes_eq (take 4 head) (codes "data") ≡ true → IsFormat f
     → LeadsTo depths (DataBody f (number_at w32 4 head)) (λ more. scan_of depths (Some f) (chunks (head ++ more)))
@@ -186,14 +186,14 @@ leads_opened depths bytes twelve is also =
 -- ---- the body of a format chunk
 
 pub leads_in_order : (depths : Depths) (pad : ℕ) (body : List ℕ) (f : Format) → format_of depths body ≡ Ok f → IsFormat f
-    → LeadsTo depths (Head (Some f) pad) (λ more. followed (verdict_of_format (format_of depths body)) (λ g. scan_of depths g (chunks (drop pad more))))
+    → LeadsTo depths (Head (Some f) pad) (λ more. finding_after (verdict_of_format (format_of depths body)) (λ g. scan_of depths g (chunks (drop pad more))))
 leads_in_order depths pad body f is in_order =
-    leads_head depths (Some f) pad _ (λ more. sym (ap (λ (r : Result Format WavError). followed (verdict_of_format r) (λ g. scan_of depths g (chunks (drop pad more)))) is)) in_order
+    leads_head depths (Some f) pad _ (λ more. sym (ap (λ (r : Result Format WavError). finding_after (verdict_of_format r) (λ g. scan_of depths g (chunks (drop pad more)))) is)) in_order
 
 pub leads_out_of_order : (depths : Depths) (pad : ℕ) (body : List ℕ) (e : WavError) → format_of depths body ≡ Err e → e ≢ Memory
-    → LeadsTo depths (Refused e) (λ more. followed (verdict_of_format (format_of depths body)) (λ g. scan_of depths g (chunks (drop pad more))))
+    → LeadsTo depths (Refused e) (λ more. finding_after (verdict_of_format (format_of depths body)) (λ g. scan_of depths g (chunks (drop pad more))))
 leads_out_of_order depths pad body e is other =
-    leads_refused depths e _ (λ more. sym (ap (λ (r : Result Format WavError). followed (verdict_of_format r) (λ g. scan_of depths g (chunks (drop pad more)))) is)) other
+    leads_refused depths e _ (λ more. sym (ap (λ (r : Result Format WavError). finding_after (verdict_of_format r) (λ g. scan_of depths g (chunks (drop pad more)))) is)) other
 
 -- ---- steps
 
@@ -288,7 +288,7 @@ take-take_front n a b =
     ]
 
 abbrev judged_body : Depths → ℕ → List ℕ → List ℕ → Finding
-judged_body depths pad body more = followed (verdict_of_format (format_of depths body)) (λ f. scan_of depths f (chunks (drop pad more)))
+judged_body depths pad body more = finding_after (verdict_of_format (format_of depths body)) (λ f. scan_of depths f (chunks (drop pad more)))
 
 pub body-stays : (depths : Depths) (missing pad : ℕ) (before bytes after : List ℕ) → after ≡ take 40 (before ++ bytes) → length bytes < missing → (length before ≤ 40) × (16 ≤ length before + missing)
     → GoesOn depths (FormatBody missing pad) before bytes (FormatBody (missing - length bytes) pad) after []
@@ -321,13 +321,13 @@ body-stays depths missing pad before bytes after kept few place =
               ∙ sym (cond-true (ltb (length (bytes ++ more)) missing) format_cut _ (lt-ltb _ _ (omega (arith, length-append bytes more))))
           | inr long ↦
               cond-false (ltb (length more) (missing - length bytes)) format_cut _ (le-ltb _ _ long)
-              ∙ ap (λ (b : List ℕ). followed (verdict_of_format (format_of depths b)) (λ f. scan_of depths f (chunks (drop ((missing - length bytes) + pad) more)))) (body more)
-              ∙ ap (λ (b : List ℕ). followed (verdict_of_format (format_of depths (take 40 (before ++ take missing (bytes ++ more))))) (λ f. scan_of depths f (chunks b))) (later more)
+              ∙ ap (λ (b : List ℕ). finding_after (verdict_of_format (format_of depths b)) (λ f. scan_of depths f (chunks (drop ((missing - length bytes) + pad) more)))) (body more)
+              ∙ ap (λ (b : List ℕ). finding_after (verdict_of_format (format_of depths (take 40 (before ++ take missing (bytes ++ more))))) (λ f. scan_of depths f (chunks b))) (later more)
               ∙ sym (cond-false (ltb (length (bytes ++ more)) missing) format_cut _ (le-ltb _ _ (omega (arith, length-append bytes more))))
         ]
 
 pub body-leads : (depths : Depths) (missing pad : ℕ) (before bytes body : List ℕ) (new : Place) → body ≡ take 40 (before ++ take missing bytes) → missing ≤ length bytes
-    → LeadsTo depths new (λ more. followed (verdict_of_format (format_of depths body)) (λ f. scan_of depths f (chunks (drop pad more))))
+    → LeadsTo depths new (λ more. finding_after (verdict_of_format (format_of depths body)) (λ f. scan_of depths f (chunks (drop pad more))))
     → GoesOn depths (FormatBody missing pad) before bytes new [] (drop missing bytes)
 unfolding found_from
 body-leads depths missing pad before bytes body new kept whole leads =
@@ -336,8 +336,8 @@ body-leads depths missing pad before bytes body new kept whole leads =
     later : (more : List ℕ) → drop pad (drop missing bytes ++ more) ≡ drop (missing + pad) (bytes ++ more)
     later more = ap (drop pad) (sym (drop-append-le missing bytes more whole)) ∙ drop-drop pad missing (bytes ++ more)
 
-    same : (more : List ℕ) → followed (verdict_of_format (format_of depths body)) (λ f. scan_of depths f (chunks (drop pad (drop missing bytes ++ more)))) ≡ found_from depths (FormatBody missing pad) before (bytes ++ more)
+    same : (more : List ℕ) → finding_after (verdict_of_format (format_of depths body)) (λ f. scan_of depths f (chunks (drop pad (drop missing bytes ++ more)))) ≡ found_from depths (FormatBody missing pad) before (bytes ++ more)
     same more =
-        ap (λ (b : List ℕ). followed (verdict_of_format (format_of depths b)) (λ f. scan_of depths f (chunks (drop pad (drop missing bytes ++ more))))) (kept ∙ ap (λ (b : List ℕ). take 40 (before ++ b)) (sym (take-append-le missing bytes more whole)))
-        ∙ ap (λ (b : List ℕ). followed (verdict_of_format (format_of depths (take 40 (before ++ take missing (bytes ++ more))))) (λ f. scan_of depths f (chunks b))) (later more)
+        ap (λ (b : List ℕ). finding_after (verdict_of_format (format_of depths b)) (λ f. scan_of depths f (chunks (drop pad (drop missing bytes ++ more))))) (kept ∙ ap (λ (b : List ℕ). take 40 (before ++ b)) (sym (take-append-le missing bytes more whole)))
+        ∙ ap (λ (b : List ℕ). finding_after (verdict_of_format (format_of depths (take 40 (before ++ take missing (bytes ++ more))))) (λ f. scan_of depths f (chunks b))) (later more)
         ∙ sym (cond-false (ltb (length (bytes ++ more)) missing) format_cut _ (le-ltb _ _ (omega (arith, length-append bytes more))))

@@ -16,7 +16,7 @@ use Rattle.wav_io.specs.Fields.{whole}
 use Rattle.wav_io.specs.Formats.{IsFormat, is_accepted}
 use Rattle.wav_io.specs.Frames.{IsCut}
 use Rattle.wav_io.specs.Pieces.{found_from, with_front}
-use Rattle.wav_io.specs.Reading.{Contents, limited, most_bytes}
+use Rattle.wav_io.specs.Reading.{Contents, within_limit, most_bytes}
 use Rattle.wav_io.specs.Readers.{Reader, IsOfHead, IsPart, Raw, error_of, rest_of, raw_to_come, raw_frame, raws, with_bytes}
 use Rattle.wav_io.specs.Scans.{IsScan, refusal_of, to_come}
 use Rattle.wav_io.proofs.Limits.{limited-short, limited-long}
@@ -78,8 +78,8 @@ ends_raw r f n fed is part come =
 of_data : (r : Reader) (f : Format) (n : ℕ) → r.scan.place ≡ DataBody f n → r.starved ≡ false → (more : List ℕ) → IsOfHead f.channels f.rate f.bits (raw_to_come r more)
 unfolding found_from
 of_data r f n is fed more =
-    let come : to_come UpTo32 r.scan more ≡ limited r.scan.seen (found_from UpTo32 (DataBody f n) r.scan.kept) more =
-    ap (λ (q : Place). limited r.scan.seen (found_from UpTo32 q r.scan.kept) more) is in
+    let come : to_come UpTo32 r.scan more ≡ within_limit r.scan.seen (found_from UpTo32 (DataBody f n) r.scan.kept) more =
+    ap (λ (q : Place). within_limit r.scan.seen (found_from UpTo32 q r.scan.kept) more) is in
     elim (cases_lt most_bytes (r.scan.seen + length more)) [
       | inl long ↦
           subst (λ (a : Result Contents WavError). IsOfHead f.channels f.rate f.bits (raws a))

@@ -17,7 +17,7 @@ use Rattle.wav_io.specs.declared.scan.Scan.{Scan}
 use Rattle.wav_io.specs.Fields.{whole, samples_of}
 use Rattle.wav_io.specs.Frames.{IsCut}
 use Rattle.wav_io.specs.Pieces.{with_front, found_from}
-use Rattle.wav_io.specs.Reading.{Contents, contents, limited, most_bytes, sound_of, sounds, wav_file, IsRefusal}
+use Rattle.wav_io.specs.Reading.{Contents, contents, within_limit, most_bytes, sound_of, sounds, wav_file, IsRefusal}
 use Rattle.wav_io.specs.Readers.{Reader, IsPart, error_of, rest_of, sound_to_come, wav_frame, with_samples}
 use Rattle.wav_io.specs.Scans.{to_come, refusal_of, IsScan}
 use Rattle.wav_io.specs.Sound.{Sound}
@@ -114,7 +114,7 @@ sounds-cut f part body bytes rest items (Ok c) cut some same =
 pub format_comes : (depths : Depths) (s : Scan) (f : Format) (n : ℕ) → s.place ≡ DataBody f n → (more : List ℕ) (c : Contents) → to_come depths s more ≡ Ok c → c.format ≡ f
 unfolding found_from
 format_comes depths s f n is more c come =
-    let at : limited s.seen (found_from depths (DataBody f n) s.kept) more ≡ Ok c = sym (ap (λ (q : Place). limited s.seen (found_from depths q s.kept) more) is) ∙ come in
+    let at : within_limit s.seen (found_from depths (DataBody f n) s.kept) more ≡ Ok c = sym (ap (λ (q : Place). within_limit s.seen (found_from depths q s.kept) more) is) ∙ come in
     elim (cases_lt most_bytes (s.seen + length more)) [
       | inl long ↦ absurd (let e = sym (limited-long s.seen (found_from depths (DataBody f n) s.kept) more long) ∙ at in cc)
       | inr short ↦

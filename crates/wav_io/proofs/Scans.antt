@@ -15,7 +15,7 @@ use Rattle.wav_io.specs.declared.scan.Scan.{Scan}
 use Rattle.wav_io.specs.declared.scan.Part.{Part}
 use Rattle.wav_io.specs.Chunks.{chunks}
 use Rattle.wav_io.specs.Pieces.{found_from, IsPlace, HasSeen, GoesOn, IsWalked, with_front}
-use Rattle.wav_io.specs.Reading.{Finding, refused, body_found, format_cut, ended, scan_of, found_in, at_end, before_end, limited, most_bytes}
+use Rattle.wav_io.specs.Reading.{Finding, refused, body_found, format_cut, ended, scan_of, found_in, at_end, before_end, within_limit, most_bytes}
 use Rattle.wav_io.specs.Scans.{IsScan, to_come, part_of, with_body, IsBehind, Continues, GoesThrough, Follows}
 use Rattle.wav_io.proofs.Bodies.{no_room}
 use Rattle.wav_io.proofs.Cutting.{scan_of-ended}
@@ -135,11 +135,11 @@ pub piece_through : (depths : Depths) (old mid : Scan) (near : List ℕ) (part :
     → (more : List ℕ) → to_come depths old (near ++ more) ≡ with_front (part_of part) (to_come depths (counted_on mid near) more)
 piece_through depths old mid near part through short more =
     limited-append old.seen (found_from depths old.place old.kept) (found_from depths mid.place mid.kept) (part_of part) near short through.same more
-    ∙ ap (λ (n : ℕ). with_front (part_of part) (limited (n + length near) (found_from depths mid.place mid.kept) more)) (sym through.counted)
+    ∙ ap (λ (n : ℕ). with_front (part_of part) (within_limit (n + length near) (found_from depths mid.place mid.kept) more)) (sym through.counted)
 
 -- ---- refusals
 
-refused-limited : (depths : Depths) (e : WavError) (kept : List ℕ) (seen : ℕ) (more : List ℕ) → limited seen (found_from depths (Refused e) kept) more ≡ Err e
+refused-limited : (depths : Depths) (e : WavError) (kept : List ℕ) (seen : ℕ) (more : List ℕ) → within_limit seen (found_from depths (Refused e) kept) more ≡ Err e
 unfolding found_from
 refused-limited depths e kept seen more =
     elim (cases_lt most_bytes (seen + length more)) [
@@ -148,7 +148,7 @@ refused-limited depths e kept seen more =
     ]
 
 pub refused_comes : (depths : Depths) (s : Scan) (e : WavError) → s.place ≡ Refused e → (more : List ℕ) → to_come depths s more ≡ Err e
-refused_comes depths s e is more = ap (λ (q : Place). limited s.seen (found_from depths q s.kept) more) is ∙ refused-limited depths e s.kept s.seen more
+refused_comes depths s e is more = ap (λ (q : Place). within_limit s.seen (found_from depths q s.kept) more) is ∙ refused-limited depths e s.kept s.seen more
 
 -- a refusal within the limit
 pub refused_through : (depths : Depths) (old mid : Scan) (near : List ℕ) (part : Option Part) (e : WavError) → GoesThrough depths old near part mid → old.seen + length near ≤ most_bytes → mid.place ≡ Refused e

@@ -12,7 +12,7 @@ use Rattle.wav_io.specs.declared.format.Format.{Format}
 use Rattle.wav_io.specs.Chunks.{Chunk, size_at, first_chunk, after_chunk, chunks_in, chunks}
 use Rattle.wav_io.specs.Fields.{whole}
 use Rattle.wav_io.specs.Formats.{format_of}
-use Rattle.wav_io.specs.Reading.{Contents, Finding, refused, body_found, format_cut, ended, Verdict, decides, goes_on, verdict_of_format, format_chunk, data_chunk, verdict_of, followed, scan_of, found_in, at_end, before_end, contents, limited, most_bytes}
+use Rattle.wav_io.specs.Reading.{Contents, Finding, refused, body_found, format_cut, ended, Verdict, decides, goes_on, verdict_of_format, format_chunk, data_chunk, verdict_of, finding_after, scan_of, found_in, at_end, before_end, contents, within_limit, most_bytes}
 use Rattle.wav_io.specs.Readers.{Raw, raw_file, raw_frame, raws}
 use Rattle.wav_io.proofs.Limits.{limited-long, limited-short}
 
@@ -31,33 +31,33 @@ HasAtMost-more n m (ended format) low few = tt
 
 -- ---- one chunk
 
-verdict_of_format-few : (n : ℕ) (r : Result Format WavError) (next : Option Format → Finding) → ((kept : Option Format) → HasAtMost n (next kept)) → HasAtMost n (followed (verdict_of_format r) next)
+verdict_of_format-few : (n : ℕ) (r : Result Format WavError) (next : Option Format → Finding) → ((kept : Option Format) → HasAtMost n (next kept)) → HasAtMost n (finding_after (verdict_of_format r) next)
 verdict_of_format-few n (Ok f) next few = few (Some f)
 verdict_of_format-few n (Err e) next few = tt
 
 format_chunk-few : (n : ℕ) (depths : Depths) (format : Option Format) (chunk : Chunk) (next : Option Format → Finding) → ((kept : Option Format) → HasAtMost n (next kept))
-    → HasAtMost n (followed (format_chunk depths format chunk) next)
+    → HasAtMost n (finding_after (format_chunk depths format chunk) next)
 format_chunk-few n depths (Some f) chunk next few = tt
 format_chunk-few n depths None chunk next few =
-    elim (ltb chunk.size 16) as (λ b. HasAtMost n (followed (cond b (decides (refused ShortFormat)) (cond (ltb (length chunk.body) chunk.size) (decides format_cut) (verdict_of_format (format_of depths (take 40 chunk.body))))) next)) [
+    elim (ltb chunk.size 16) as (λ b. HasAtMost n (finding_after (cond b (decides (refused ShortFormat)) (cond (ltb (length chunk.body) chunk.size) (decides format_cut) (verdict_of_format (format_of depths (take 40 chunk.body))))) next)) [
       | true ↦ tt
-      | false ↦ elim (ltb (length chunk.body) chunk.size) as (λ b. HasAtMost n (followed (cond b (decides format_cut) (verdict_of_format (format_of depths (take 40 chunk.body)))) next)) [
+      | false ↦ elim (ltb (length chunk.body) chunk.size) as (λ b. HasAtMost n (finding_after (cond b (decides format_cut) (verdict_of_format (format_of depths (take 40 chunk.body)))) next)) [
         | true ↦ tt
         | false ↦ verdict_of_format-few n (format_of depths (take 40 chunk.body)) next few
       ]
     ]
 
-data_chunk-few : (n : ℕ) (format : Option Format) (chunk : Chunk) (next : Option Format → Finding) → length chunk.body ≤ n → HasAtMost n (followed (data_chunk format chunk) next)
+data_chunk-few : (n : ℕ) (format : Option Format) (chunk : Chunk) (next : Option Format → Finding) → length chunk.body ≤ n → HasAtMost n (finding_after (data_chunk format chunk) next)
 data_chunk-few n (Some f) chunk next low = low
 data_chunk-few n None chunk next low = tt
 
 verdict_of-few : (n : ℕ) (depths : Depths) (format : Option Format) (chunk : Chunk) (next : Option Format → Finding) → length chunk.body ≤ n → ((kept : Option Format) → HasAtMost n (next kept))
-    → HasAtMost n (followed (verdict_of depths format chunk) next)
+    → HasAtMost n (finding_after (verdict_of depths format chunk) next)
 unfolding verdict_of
 verdict_of-few n depths format chunk next low few =
-    elim (bytes_eq chunk.name (codes "fmt ")) as (λ b. HasAtMost n (followed (cond b (format_chunk depths format chunk) (cond (bytes_eq chunk.name (codes "data")) (data_chunk format chunk) (goes_on format))) next)) [
+    elim (bytes_eq chunk.name (codes "fmt ")) as (λ b. HasAtMost n (finding_after (cond b (format_chunk depths format chunk) (cond (bytes_eq chunk.name (codes "data")) (data_chunk format chunk) (goes_on format))) next)) [
       | true ↦ format_chunk-few n depths format chunk next few
-      | false ↦ elim (bytes_eq chunk.name (codes "data")) as (λ b. HasAtMost n (followed (cond b (data_chunk format chunk) (goes_on format)) next)) [
+      | false ↦ elim (bytes_eq chunk.name (codes "data")) as (λ b. HasAtMost n (finding_after (cond b (data_chunk format chunk) (goes_on format)) next)) [
         | true ↦ data_chunk-few n format chunk next low
         | false ↦ few format
       ]

@@ -7,7 +7,7 @@ use Rattle.wav_io.specs.declared.place.Place.{Place}
 use Rattle.wav_io.specs.declared.place.Place.TheVariants.{Opening, Head, FormatBody, DataBody, Refused}
 use Rattle.wav_io.specs.Chunks.{Chunk, chunks}
 use Rattle.wav_io.specs.Formats.{IsFormat, format_of}
-use Rattle.wav_io.specs.Reading.{Finding, refused, body_found, format_cut, verdict_of_format, followed, scan_of, found_in, Contents}
+use Rattle.wav_io.specs.Reading.{Finding, refused, body_found, format_cut, verdict_of_format, finding_after, scan_of, found_in, Contents}
 
 -- the result of scanning a file from a place on, with the kept bytes and the bytes that follow
 unfoldable pub found_from : Depths → Place → List ℕ → List ℕ → Finding
@@ -15,13 +15,13 @@ found_from depths Opening kept bytes = found_in depths (kept ++ bytes)
 found_from depths (Head format skip) kept bytes = scan_of depths format (chunks (kept ++ drop skip bytes))
 found_from depths (FormatBody missing pad) kept bytes =
     if nat_lt (length bytes) missing then format_cut
-    else followed (verdict_of_format (format_of depths (take 40 (kept ++ take missing bytes)))) (λ f. scan_of depths f (chunks (drop (missing + pad) bytes)))
+    else finding_after (verdict_of_format (format_of depths (take 40 (kept ++ take missing bytes)))) (λ f. scan_of depths f (chunks (drop (missing + pad) bytes)))
 found_from depths (DataBody format missing) kept bytes = body_found format (take missing bytes)
 found_from depths (Refused e) kept bytes = refused e
 
 -- a chunk of which the head is known, and the bytes behind it
-abbrev pub sized : List ℕ → ℕ → List ℕ → Chunk
-sized name size bytes = record { name = name; size = size; body = take size bytes }
+abbrev pub chunk_of_size : List ℕ → ℕ → List ℕ → Chunk
+chunk_of_size name size bytes = record { name = name; size = size; body = take size bytes }
 
 abbrev pub bytes_after : ℕ → List ℕ → List ℕ
 bytes_after size bytes = drop (size + size % 2) bytes

@@ -65,14 +65,14 @@ verdict_of depths format chunk =
     else goes_on format
 
 -- the first chunk that decides
-abbrev pub followed : Verdict → (Option Format → Finding) → Finding
-followed (decides f) next = f
-followed (goes_on format) next = next format
+abbrev pub finding_after : Verdict → (Option Format → Finding) → Finding
+finding_after (decides f) next = f
+finding_after (goes_on format) next = next format
 
 -- the result of scanning the chunks, after the format that was before them
 abbrev pub scan_of : Depths → Option Format → List Chunk → Finding
 scan_of depths format [] = ended format
-scan_of depths format (chunk ∷ behind) = followed (verdict_of depths format chunk) (λ kept. scan_of depths kept behind)
+scan_of depths format (chunk ∷ behind) = finding_after (verdict_of depths format chunk) (λ kept. scan_of depths kept behind)
 
 -- the chunks behind `RIFF`, the RIFF size, which isn't looked at, and `WAVE`
 unfoldable pub found_in : Depths → List ℕ → Finding
@@ -102,13 +102,13 @@ before_end format_cut = Err TooLong
 before_end (ended format) = Err TooLong
 
 -- what is found in the bytes that follow so many, where a file has no more than it may have
-unfoldable pub limited : ℕ → (List ℕ → Finding) → List ℕ → Result Contents WavError
-limited seen find bytes =
+unfoldable pub within_limit : ℕ → (List ℕ → Finding) → List ℕ → Result Contents WavError
+within_limit seen find bytes =
     if nat_le (seen + length bytes) most_bytes then at_end (find bytes) else before_end (find (take (most_bytes - seen) bytes))
 
 -- the format and the data of a file of bytes, of samples with bits that are taken
 abbrev pub contents : Depths → List ℕ → Result Contents WavError
-contents depths bytes = limited 0 (found_in depths) bytes
+contents depths bytes = within_limit 0 (found_in depths) bytes
 
 -- the sound of a body: whole frames, without a rest
 abbrev pub sound_of : Format → List ℕ → Sound

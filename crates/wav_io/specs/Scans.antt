@@ -7,7 +7,7 @@ use Rattle.wav_io.specs.declared.place.Place.TheVariants.{Opening, Head, FormatB
 use Rattle.wav_io.specs.declared.scan.Scan.{Scan}
 use Rattle.wav_io.specs.declared.scan.Part.{Part}
 use Rattle.wav_io.specs.Pieces.{found_from, IsPlace, HasSeen}
-use Rattle.wav_io.specs.Reading.{Finding, refused, body_found, format_cut, ended, limited, most_bytes, Contents}
+use Rattle.wav_io.specs.Reading.{Finding, refused, body_found, format_cut, ended, within_limit, most_bytes, Contents}
 
 -- a place in a file of which no more bytes came than it may have
 pub record IsScan (s : Scan) : Type 0 where
@@ -17,7 +17,7 @@ pub record IsScan (s : Scan) : Type 0 where
 
 -- the result of scanning a file with the bytes that follow: its format, and the data that is still to be given
 abbrev pub to_come : Depths → Scan → List ℕ → Result Contents WavError
-to_come depths s more = limited s.seen (found_from depths s.place s.kept) more
+to_come depths s more = within_limit s.seen (found_from depths s.place s.kept) more
 
 -- the bytes of a part of the data
 abbrev pub part_of : Option Part → List ℕ

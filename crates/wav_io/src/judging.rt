@@ -7,8 +7,8 @@ ghost use Rattle.wav_io.specs.declared.error.WavError.TheVariants.{Memory};
 ghost use Rattle.wav_io.specs.declared.format.Depths.{Depths};
 ghost use Rattle.wav_io.specs.Chunks.{chunks};
 ghost use Rattle.wav_io.specs.Formats.{IsFormat, terms_of, extensible_of, format_of};
-ghost use Rattle.wav_io.specs.Pieces.{LeadsTo, sized, bytes_after};
-ghost use Rattle.wav_io.specs.Reading.{scan_of, found_in, followed, verdict_of_format, format_chunk};
+ghost use Rattle.wav_io.specs.Pieces.{LeadsTo, chunk_of_size, bytes_after};
+ghost use Rattle.wav_io.specs.Reading.{scan_of, found_in, finding_after, verdict_of_format, format_chunk};
 
 use crate::error::WavError;
 use crate::fields::{u16_at, u32_at};
@@ -81,7 +81,7 @@ fn read_format(depths: Depths, body: &[u8]) -> Result<Format, WavError>
 /// The place after the body of a format chunk, of which these are the first 40 bytes or all.
 pub fn after_format(depths: Depths, pad: usize, body: &[u8]) -> Place
     requires { 16 ≤ length body.now }
-    ensures { LeadsTo depths result (λ more. followed (verdict_of_format (format_of depths body.now)) (λ f. scan_of depths f (chunks (drop pad more)))) }
+    ensures { LeadsTo depths result (λ more. finding_after (verdict_of_format (format_of depths body.now)) (λ f. scan_of depths f (chunks (drop pad more)))) }
 {
     match read_format(depths, body) {
         Ok(format) => Place::Head {
@@ -95,7 +95,7 @@ pub fn after_format(depths: Depths, pad: usize, body: &[u8]) -> Place
 /// The place after the head of a format chunk with a body of this size, behind a format or not.
 fn after_format_head(format: Option<Format>, size: usize) -> Place
     ensures { (depths : Depths) (name : List ℕ) → LeadsTo depths result
-        (λ more. followed (format_chunk depths format (sized name size more)) (λ f. scan_of depths f (chunks (bytes_after size more)))) }
+        (λ more. finding_after (format_chunk depths format (chunk_of_size name size more)) (λ f. scan_of depths f (chunks (bytes_after size more)))) }
 {
     if format.is_some() {
         return Place::Refused(WavError::FormatTwice);

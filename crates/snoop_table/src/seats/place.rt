@@ -1,6 +1,6 @@
 //! Where the writer stores next.
 ghost use Rattle.std.specs.Prelude.{◌≡◌, ◌+◌, ◌<◌, ◌^◌};
-ghost use Rattle.snd_base.specs.Places.{behind};
+ghost use Rattle.snd_base.specs.Places.{cursor_after};
 ghost use Rattle.snoop_table.specs.Known.{IsPlace};
 
 use snd_base::{Cursor, Geometry};
@@ -36,7 +36,7 @@ impl WritePlace {
         requires channel { self.now.next.channel < geometry.now.channels }
         requires frame { self.now.next.frame + 1 < 2 ^ 63 }
         ensures place { IsPlace geometry.now result }
-        ensures next { result.next ≡ behind geometry.now self.now.next.frame self.now.next.channel }
+        ensures next { result.next ≡ cursor_after geometry.now self.now.next.frame self.now.next.channel }
     {
         let Cursor { frame, channel } = self.next;
         if channel + 1 < geometry.channels {

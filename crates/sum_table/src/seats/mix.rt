@@ -1,7 +1,7 @@
 //! The seat of a client at the sum ring, and its single steps.
 ghost use Rattle.std.specs.Prelude.{◌≡◌, ◌+◌, ◌<◌, negsuc, pos, ◌+ℤ◌, ◌≤ℤ◌};
 ghost use Rattle.lap_word.specs.Word.{StandsFor, count_of, lap_of, sum_of};
-ghost use Rattle.mix_core.specs.Laid.{signed};
+ghost use Rattle.mix_core.specs.Laid.{signed_sample};
 ghost use Rattle.sum_table.specs.Known.{IsKnown, SitsAt};
 ghost use Rattle.ring_rule.specs.Spots.{IsLapStart};
 
@@ -50,7 +50,7 @@ impl<'a> MixSeat<'a> {
     ghost use Rattle.mix_core.specs.Laid.{a_withdrawal, an_add};
     ghost use Rattle.sum_table.specs.Known.{free_from, last_frame};
     ghost use Rattle.mix_core.specs.Marks.{high_frame};
-    ghost use Rattle.sum_table.specs.Seats.{CanAdd, HasLaid, HasLocated, HasLost, HasNoted, IsRingSpot, IsTurned, MayLay, SeatEndsIn, cursor_of_seat, entry_by, geometry_of, history_of, last_of_seat, marks_of_seat, member_of, places_of_seat, seen_of, shown, view_of};
+    ghost use Rattle.sum_table.specs.Seats.{CanAdd, HasLaid, HasLocated, HasLost, HasNoted, IsRingSpot, IsTurned, MayLay, SeatEndsIn, cursor_of_seat, entry_by, geometry_of, history_of, last_of_seat, marks_of_seat, member_of, places_of_seat, seen_of, noted_word, view_of};
     ghost use Rattle.sum_table.specs.Steps.{IsSumOf};
 
     /// How many places the seat has.
@@ -183,7 +183,7 @@ impl<'a> MixSeat<'a> {
     ) -> Result<(), u64>
         requires can_add { CanAdd self.old }
         requires channel { channel < (geometry_of self.old).channels }
-        requires noted { shown self.old frame channel ≡ Some old }
+        requires noted { noted_word self.old frame channel ≡ Some old }
         requires of_lap { lap_of old ≡ lap (geometry_of self.old) frame }
         requires from_cursor { IsFrom (cursor_of_seat self.old) frame channel }
         requires ahead { frame < seen_of self.old + (geometry_of self.old).frames }
@@ -211,7 +211,7 @@ impl<'a> MixSeat<'a> {
     ) -> Result<(), u64>
         requires last { SeatEndsIn self.old
             (an_add (member_of self.old) frame channel sample ∷ []) }
-        requires noted { shown self.old frame channel ≡ Some old }
+        requires noted { noted_word self.old frame channel ≡ Some old }
         requires of_lap { lap_of old ≡ lap (geometry_of self.old) frame }
         requires from_floor { IsFrom (marks_of_seat self.old).floor frame channel }
         ensures ok { OnOk result
@@ -244,7 +244,7 @@ impl<'a> MixSeat<'a> {
         steps: &mut Steps<L>,
     ) -> Result<(), u64>
         requires may { MayLay kind self.old frame channel sample }
-        requires noted { shown self.old frame channel ≡ Some old }
+        requires noted { noted_word self.old frame channel ≡ Some old }
         requires of_lap { lap_of old ≡ lap (geometry_of self.old) frame }
         requires spot { IsRingSpot self.old frame channel ring_spot }
         ensures ok { OnOk result
@@ -277,10 +277,10 @@ impl<'a> MixSeat<'a> {
 // silent word, since the exchange waits for it.
 fn changed(kind: Kind, word: u64, sample: i16) -> u64
     requires room { count_of word < 255 }
-    requires low { negsuc 8388607 ≤ℤ (sum_of word +ℤ signed kind sample) }
-    requires high { (sum_of word +ℤ signed kind sample) ≤ℤ pos 8388607 }
+    requires low { negsuc 8388607 ≤ℤ (sum_of word +ℤ signed_sample kind sample) }
+    requires high { (sum_of word +ℤ signed_sample kind sample) ≤ℤ pos 8388607 }
     ensures { StandsFor result (lap_of word) (count_of word + 1)
-        (sum_of word +ℤ signed kind sample) }
+        (sum_of word +ℤ signed_sample kind sample) }
 {
     let value = signed(kind, sample);
     word + (lap_word::pack(0, 1, value) - lap_word::pack(0, 0, 0))
@@ -288,7 +288,7 @@ fn changed(kind: Kind, word: u64, sample: i16) -> u64
 
 // What a sample changes in the sum: it is added, or withdrawn.
 fn signed(kind: Kind, sample: i16) -> i32
-    ensures value { result ≡ signed kind sample }
+    ensures value { result ≡ signed_sample kind sample }
     ensures low { negsuc 32767 ≤ℤ result }
     ensures high { result ≤ℤ pos 32768 }
 {

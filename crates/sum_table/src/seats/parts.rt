@@ -1,6 +1,6 @@
 //! How a seat's view is cut in two, and how two views are made one.
 ghost use Rattle.std.specs.Prelude.{ℕ};
-ghost use Rattle.sum_table.specs.Cuts.{both_of, part_of, spent_view, with_places, without};
+ghost use Rattle.sum_table.specs.Cuts.{both_of, part_of, spent_view, with_places, without_places};
 
 use crate::view::View;
 use atomic_table::{Join, Split};
@@ -30,7 +30,7 @@ pub(super) struct Part<B> {
 }
 
 impl<B: Amount> Split<View> for Part<B> {
-    ghost left = { λ v. without v B.amount };
+    ghost left = { λ v. without_places v B.amount };
 
     ghost right = { λ v. part_of v B.amount };
 }

@@ -1,6 +1,6 @@
 //! How far a seat has laid, and what it may still withdraw.
 ghost use Rattle.std.specs.Prelude.{◌≡◌, ◌+◌, ◌<◌, ◌^◌};
-ghost use Rattle.snd_base.specs.Places.{IsFrom, behind};
+ghost use Rattle.snd_base.specs.Places.{IsFrom, cursor_after};
 ghost use Rattle.mix_core.specs.declared.port.Kind.TheVariants.{Added, Withdrawn};
 ghost use Rattle.sum_table.specs.Cuts.{joined_marks};
 ghost use Rattle.sum_table.specs.Extent.{Extent, extent_after, joined_extent, start_extent};
@@ -163,7 +163,7 @@ impl Reach {
     fn behind(geometry: Geometry, frame: u64, channel: u8, marks: Marks, last: Option<u64>) -> Reach
         requires channel { channel < geometry.channels }
         requires frame { frame + 1 < 2 ^ 64 }
-        requires cursor { marks.cursor ≡ behind geometry frame channel }
+        requires cursor { marks.cursor ≡ cursor_after geometry frame channel }
         ensures geometry { result.geometry ≡ geometry }
         ensures marks { result.marks ≡ marks }
         ensures last { result.last ≡ last }

@@ -1,7 +1,7 @@
 use Rattle.std.proofs.Common.{◌≡◌, ◌+◌, arith, rules, [], ◌∷◌, ◌++◌, pos, get_or, ap, ◌∙◌, FitsSigned, drop}
 use Rattle.std.proofs.lemmas.Int.{to_z-of_z}
 use Rattle.std.specs.Int.{w16}
-use Rattle.plug_chain.specs.Rates.{between, on_line}
+use Rattle.plug_chain.specs.Rates.{frame_between, on_line}
 use Rattle.plug_chain.proofs.Courses.{Extends-more}
 use Rattle.plug_chain.proofs.Lines.{between-step}
 use Rattle.plug_chain.proofs.interpolation.push_between.Goals as goal
@@ -14,8 +14,8 @@ loop-channel-preserved c =
     let sample : c.sample_between.result ≡ on_line c.args.part c.args.parts (get_or c.args.from.now c.loop-channel.channel (pos 0)) (get_or c.args.to.now c.loop-channel.channel (pos 0)) = simp to_z-of_z at c.sample_between.ensures in
     let grown : c.push.new.self.items ≡ c.loop-channel.out.items ++ c.sample_between.result ∷ [] = simp to_z-of_z at c.in_ok-push.ensures.items in
     record {
-      rest = ap (λ xs. xs ++ between c.args.part c.args.parts (drop (c.loop-channel.channel + 1) c.args.from.now) (drop (c.loop-channel.channel + 1) c.args.to.now)) grown
-          ∙ between-step c.args.part c.args.parts c.loop-channel.channel c.args.from.now c.args.to.now c.loop-channel.out.items (c.args.out.now.items ++ between c.args.part c.args.parts c.args.from.now c.args.to.now)
+      rest = ap (λ xs. xs ++ frame_between c.args.part c.args.parts (drop (c.loop-channel.channel + 1) c.args.from.now) (drop (c.loop-channel.channel + 1) c.args.to.now)) grown
+          ∙ between-step c.args.part c.args.parts c.loop-channel.channel c.args.from.now c.args.to.now c.loop-channel.out.items (c.args.out.now.items ++ frame_between c.args.part c.args.parts c.args.from.now c.args.to.now)
           c.sample_between.result (omega arith) c.requires.channels sample c.loop-channel.invariant.rest;
       grows = Extends-more c.args.out.now.items c.loop-channel.out.items c.push.new.self.items (c.sample_between.result ∷ []) c.loop-channel.invariant.grows grown;
     }

@@ -4,7 +4,7 @@ use Rattle.wav_io.specs.declared.place.Place.TheVariants.{FormatBody}
 use Rattle.wav_io.specs.Chunks.{chunks}
 use Rattle.wav_io.specs.Formats.{format_of}
 use Rattle.wav_io.specs.Pieces.{LeadsTo, GoesOn}
-use Rattle.wav_io.specs.Reading.{scan_of, followed, verdict_of_format}
+use Rattle.wav_io.specs.Reading.{scan_of, finding_after, verdict_of_format}
 use Rattle.wav_io.proofs.Places.{body-stays, body-leads, front_is}
 use Rattle.wav_io.proofs.steps.format_body.Goals as goal
 
@@ -27,8 +27,8 @@ returns-clause-goes_on c =
     let front : c.split_at.result.0.now ≡ take missing bytes = c.split_at.ensures.front ∙ ap (λ (n : ℕ). take n bytes) whole in
     let back : c.split_at.result.1.now ≡ drop missing bytes = c.split_at.ensures.back ∙ ap (λ (n : ℕ). drop n bytes) whole in
     let kept = front_is 40 c.fill.new.self c.fill.result.now c.args.kept.now c.split_at.result.0.now c.fill.ensures.all c.fill.ensures.len in
-    let leads : LeadsTo c.args.depths place (λ more. followed (verdict_of_format (format_of c.args.depths c.fill.new.self)) (λ f. scan_of c.args.depths f (chunks (drop c.args.pad more)))) =
-    subst (λ (b : List ℕ). LeadsTo c.args.depths place (λ more. followed (verdict_of_format (format_of c.args.depths b)) (λ f. scan_of c.args.depths f (chunks (drop c.args.pad more))))) c.as_slice.ensures c.after_format-place.ensures in
+    let leads : LeadsTo c.args.depths place (λ more. finding_after (verdict_of_format (format_of c.args.depths c.fill.new.self)) (λ f. scan_of c.args.depths f (chunks (drop c.args.pad more)))) =
+    subst (λ (b : List ℕ). LeadsTo c.args.depths place (λ more. finding_after (verdict_of_format (format_of c.args.depths b)) (λ f. scan_of c.args.depths f (chunks (drop c.args.pad more))))) c.as_slice.ensures c.after_format-place.ensures in
     subst (λ (b : List ℕ). GoesOn c.args.depths (FormatBody missing c.args.pad) c.args.kept.now bytes place c.clear.new.self b) (sym back)
     (subst (λ (b : List ℕ). GoesOn c.args.depths (FormatBody missing c.args.pad) c.args.kept.now bytes place b (drop missing bytes)) (sym c.clear.ensures)
     (body-leads c.args.depths missing c.args.pad c.args.kept.now bytes c.fill.new.self place (kept ∙ ap (λ (b : List ℕ). take 40 (c.args.kept.now ++ b)) front) (omega arith) leads))

@@ -48,7 +48,7 @@ returns-then-eq-clause-keeps g c =
     rw (← c.self.view_is, back, c.few_frames.ensures, ← c.whole_frames-frames.ensures.value, ← c.as_mut_slice-ring.ensures.value) c.write_running-answer.ensures.keeps
 
 pub returns-then-eq-clause-again : goal.returns-then-eq-clause-again
-returns-then-eq-clause-again g c if_admitted running =
+returns-then-eq-clause-again g c admitted running =
     let back = take-written c.self.inside.ring.len c.write_running-answer.new.ring c.self.inside.ring.items (omega (arith, c.as_mut_slice-ring.ensures.len)) in
     rw (← c.self.view_is, back, c.few_frames.ensures, ← c.whole_frames-frames.ensures.value, ← c.as_mut_slice-ring.ensures.value) c.write_running-answer.ensures.explains
 
@@ -58,7 +58,7 @@ returns-clause-keeps g c =
     rw (← c.self.view_is, back, c.few_frames-2.ensures, ← c.whole_frames-frames.ensures.value, ← c.as_mut_slice-ring.ensures.value) c.write_prepared-answer.ensures.keeps
 
 pub returns-clause-starts : goal.returns-clause-starts
-returns-clause-starts g c if_admitted waits starts =
+returns-clause-starts g c admitted waits starts =
     let back = take-written c.self.inside.ring.len c.write_prepared-answer.new.ring c.self.inside.ring.items (omega (arith, c.as_mut_slice-ring.ensures.len)) in
     let begins : starts_with c.self.inside.stream c.whole_frames-frames.result ≡ true =
     subst (λ (k : ℕ). starts_with c.self.inside.stream k ≡ true) (sym c.whole_frames-frames.ensures.value) (subst (λ (v : ClientView). starts_with v.stream (frames_in v.stream c.args.samples.now) ≡ true) (sym c.self.view_is) starts) in

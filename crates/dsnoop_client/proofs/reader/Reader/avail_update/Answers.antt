@@ -23,6 +23,6 @@ returns-clause-takes g c =
     (c.sync_call-answer.new.stream, c.with_avail.result) c.sync_call-answer.ensures.takes c.with_avail.ensures)))
 
 pub returns-clause-causes : goal.returns-clause-causes
-returns-clause-causes g c if_admitted runs =
+returns-clause-causes g c admitted runs =
     subst (λ (v : CaptureStream). Explains {X = ℕ} g.P.SnoopPort c.args.port.now c.sync_call-answer.new.port v c.sync_call-answer.new.stream c.with_avail.result) c.self.view_is
     (why-avail g.P.SnoopPort c.args.port.now c.sync_call-answer.new.port c.self.inside.stream c.sync_call-answer.new.stream c.sync_call-answer.result c.with_avail.result c.with_avail.ensures c.sync_call-answer.ensures.causes)

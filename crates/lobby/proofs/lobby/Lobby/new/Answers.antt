@@ -2,7 +2,7 @@ use Rattle.std.proofs.Common.{◌+◌, ◌<◌, ◌≡◌, ◌∙◌, ℕ, List,
 use Rattle.snd_base.specs.Places.{first_frame}
 use Rattle.sum_table.specs.declared.view.Key.{Key}
 use Rattle.sum_table.specs.declared.seats.mix.MixSeat.{MixSeat}
-use Rattle.sum_table.specs.Cuts.{without}
+use Rattle.sum_table.specs.Cuts.{without_places}
 use Rattle.sum_table.specs.Seats.{places_of_seat, view_of}
 use Rattle.lobby.proofs.Splitting.{ArePlaces-split, IsSplitting, IsSplitting-more, IsSplitting-none}
 use Rattle.lobby.proofs.lobby.Lobby.new.Goals as goal
@@ -35,7 +35,7 @@ returns-clause-ok c =
     let all : c.loop-place.place ≡ places_of_seat c.args.seat = omega (arith, c.loop-place-test.false, c.loop-place.auto.place-end, c.places-places.ensures.value) in
     record {
       base = is.stays;
-      base_view = is.view ∙ ap (λ (n : ℕ). without (view_of c.args.seat) n) all;
+      base_view = is.view ∙ ap (λ (n : ℕ). without_places (view_of c.args.seat) n) all;
       ring = is.stays.ring;
       key = is.stays.key;
       places = is.count ∙ all;

@@ -3,7 +3,7 @@ use Rattle.std.proofs.lemmas.Int.{ints, to_z-of_z}
 use Rattle.lap_word.specs.Word.{StandsFor, count_of, lap_of, sum_of}
 use Rattle.mix_core.specs.declared.port.Entry.{Entry}
 use Rattle.mix_core.specs.declared.port.Kind.TheVariants.{Added}
-use Rattle.mix_core.specs.Laid.{marked, marks_after, value_of}
+use Rattle.mix_core.specs.Laid.{marks_with, marks_after, value_of}
 use Rattle.mix_core.specs.Marks.{added_at}
 use Rattle.mix_core.specs.View.{View, marks_at, word_at}
 use Rattle.mix_core.proofs.Laying.{CanLay, can_add, laid, marks_is, stands_by, value_by, word_is}
@@ -58,7 +58,7 @@ invariant_of-self c =
     let stands : StandsFor c.add.result (lap_of c.index-word.result.now) (count_of c.index-word.result.now + 1) (sum_of c.index-word.result.now +ℤ e.sample) = simp to_z-of_z at c.add.ensures.stands in
     let stands_there = stands_by Added e _ _ _ _ c.requires.kind (subst (λ w. StandsFor c.add.result (lap_of w) (count_of w + 1) (sum_of w +ℤ e.sample)) word stands) in
     let moved : c.added.result ≡ marks_after v.geometry (marks_at v e.member) e =
-    c.added.ensures ∙ (ap (λ m. added_at v.geometry m e.frame e.channel) (marks_is v e.member c.index.result.now c.index.ensures can.member) ∙ ap (λ k. marked k v.geometry (marks_at v e.member) e.frame e.channel) (sym c.requires.kind)) in
+    c.added.ensures ∙ (ap (λ m. added_at v.geometry m e.frame e.channel) (marks_is v e.member c.index.result.now c.index.ensures can.member) ∙ ap (λ k. marks_with k v.geometry (marks_at v e.member) e.frame e.channel) (sym c.requires.kind)) in
     rw (c.word_index-at.ensures.value, moved) (IsSound-laid v e c.add.result c.self.invariant can.member can.now can.more can.within can.low can.high stands_there)
 
 pub returns : goal.returns
@@ -72,5 +72,5 @@ returns c =
     let stands : StandsFor c.add.result (lap_of c.index-word.result.now) (count_of c.index-word.result.now + 1) (sum_of c.index-word.result.now +ℤ e.sample) = simp to_z-of_z at c.add.ensures.stands in
     let stands_there = stands_by Added e _ _ _ _ c.requires.kind (subst (λ w. StandsFor c.add.result (lap_of w) (count_of w + 1) (sum_of w +ℤ e.sample)) word stands) in
     let moved : c.added.result ≡ marks_after v.geometry (marks_at v e.member) e =
-    c.added.ensures ∙ (ap (λ m. added_at v.geometry m e.frame e.channel) (marks_is v e.member c.index.result.now c.index.ensures can.member) ∙ ap (λ k. marked k v.geometry (marks_at v e.member) e.frame e.channel) (sym c.requires.kind)) in
+    c.added.ensures ∙ (ap (λ m. added_at v.geometry m e.frame e.channel) (marks_is v e.member c.index.result.now c.index.ensures can.member) ∙ ap (λ k. marks_with k v.geometry (marks_at v e.member) e.frame e.channel) (sym c.requires.kind)) in
     rw (← c.self.view_is, c.word_index-at.ensures.value, moved) (laid v e c.add.result c.self.invariant can stands_there)

@@ -5,7 +5,7 @@ use Rattle.snd_base.specs.Places.{first_free}
 use Rattle.mix_core.specs.declared.port.Entry.{Entry}
 use Rattle.mix_core.specs.declared.port.Kind.{Kind}
 use Rattle.mix_core.specs.Calls.{IsLaidBy}
-use Rattle.mix_core.specs.Laid.{own}
+use Rattle.mix_core.specs.Laid.{own_entries}
 use Rattle.mix_core.specs.Run.{IsLastOf, MayWithdraw}
 use Rattle.mix_core.specs.View.{IsLateWord, IsUntaken, View}
 use Rattle.mix_core.proofs.Standing.{AtLast, answered-in, answered-late, answered-none, answered-outside, at_last}
@@ -14,7 +14,7 @@ use Rattle.mix_core.proofs.ring.Core.reply_to_withdrawal.Goals as goal
 pub returns-in_default-clause-answer : goal.returns-in_default-clause-answer
 returns-in_default-clause-answer c =
     answered-none c.args.self.now c.args.standing.now.items c.args.entry.member c.args.entry.frame c.args.entry.channel c.args.entry.sample
-    (subst (λ xs. own c.args.entry.member xs ≡ []) c.deref.ensures.value c.in_default.ensures)
+    (subst (λ xs. own_entries c.args.entry.member xs ≡ []) c.deref.ensures.value c.in_default.ensures)
 
 -- the standing add that was read is the member's last
 at_read : (st xs : List Entry) (m i : ℕ) (x : Entry) → xs ≡ st → IsLastOf xs m i → x ≡ get_or st i x → AtLast st m i x

@@ -1,6 +1,6 @@
 use Rattle.std.proofs.Common.{◌≡◌, ◌≤◌, ◌+◌, ◌-◌, ◌++◌, [], ◌∷◌, refl, ap, ◌∙◌, arith, length}
 use Rattle.plug_chain.specs.Held.{samples_of}
-use Rattle.plug_chain.specs.Rates.{between}
+use Rattle.plug_chain.specs.Rates.{frame_between}
 use Rattle.plug_chain.proofs.Courses.{Extends-refl, Extends-trans, IsAdvance-one, IsUnderway-more, IsUnderway-start}
 use Rattle.plug_chain.proofs.Places.{output_frame-next}
 use Rattle.plug_chain.proofs.rates.Rates.advance.Goals as goal
@@ -19,8 +19,8 @@ loop-course-preserved c =
     let moved : c.from.result ≡ c.args.self.input = c.from.ensures ∙ c.input.ensures.value in
     let within : c.loop-course.course.place ≤ c.args.self.output = omega (arith, c.output.ensures.value, c.from-parts.ensures) in
     let last : samples_of c.loop-course.course.last ≡ samples_of c.args.course.now.last = ap samples_of c.loop-course.invariant.same in
-    let grown : c.push_frame.new.out.items ≡ c.loop-course.out.items ++ between c.loop-course.course.place c.args.self.output (samples_of c.args.course.now.last) (samples_of c.args.next.now) =
-    c.in_ok-push_frame.ensures.ok ∙ ap (λ xs. c.loop-course.out.items ++ between c.loop-course.course.place c.args.self.output xs (samples_of c.args.next.now)) last
+    let grown : c.push_frame.new.out.items ≡ c.loop-course.out.items ++ frame_between c.loop-course.course.place c.args.self.output (samples_of c.args.course.now.last) (samples_of c.args.next.now) =
+    c.in_ok-push_frame.ensures.ok ∙ ap (λ xs. c.loop-course.out.items ++ frame_between c.loop-course.course.place c.args.self.output xs (samples_of c.args.next.now)) last
     in
     record {
       same = c.loop-course.invariant.same;
@@ -28,7 +28,7 @@ loop-course-preserved c =
       near = omega arith;
       underway = λ frames at.
           IsUnderway-more c.args.self (frames ++ samples_of c.args.next.now ∷ []) (length frames) c.loop-course.course.place (c.loop-course.course.place + c.from.result) c.args.out.now.items c.loop-course.out.items c.push_frame.new.out.items
-          (between c.loop-course.course.place c.args.self.output (samples_of c.args.course.now.last) (samples_of c.args.next.now)) (c.loop-course.invariant.underway frames at)
+          (frame_between c.loop-course.course.place c.args.self.output (samples_of c.args.course.now.last) (samples_of c.args.next.now)) (c.loop-course.invariant.underway frames at)
           (λ j is. output_frame-next c.args.self (length (samples_of c.args.next.now)) frames (samples_of c.args.next.now) (samples_of c.args.course.now.last) c.args.course.now.place c.loop-course.course.place j
           c.output.ensures.bound at c.requires.same_channels within is)
           grown (omega arith);

@@ -1,5 +1,5 @@
 use Rattle.std.proofs.Common.{◌≡◌, ap, ◌∙◌, rules, arith}
-use Rattle.plug_chain.specs.Rates.{between}
+use Rattle.plug_chain.specs.Rates.{frame_between}
 use Rattle.plug_chain.specs.Held.{samples_of}
 use Rattle.plug_chain.proofs.Lines.{between-whole}
 use Rattle.plug_chain.proofs.rates.Rates.push_frame.Goals as goal
@@ -7,8 +7,8 @@ use Rattle.plug_chain.proofs.rates.Rates.push_frame.Goals as goal
 pub returns-then-part-parts-clause-ok : goal.returns-then-part-parts-clause-ok
 returns-then-part-parts-clause-ok c =
     let whole : c.args.course.now.place ≡ c.args.self.output = omega (arith, c.output-parts.ensures.value) in
-    let e : between c.args.course.now.place c.args.self.output (samples_of c.args.course.now.last) (samples_of c.args.next.now) ≡ samples_of c.args.next.now =
-    ap (λ k. between k c.args.self.output (samples_of c.args.course.now.last) (samples_of c.args.next.now)) whole
+    let e : frame_between c.args.course.now.place c.args.self.output (samples_of c.args.course.now.last) (samples_of c.args.next.now) ≡ samples_of c.args.next.now =
+    ap (λ k. frame_between k c.args.self.output (samples_of c.args.course.now.last) (samples_of c.args.next.now)) whole
     ∙ between-whole c.args.self.output (samples_of c.args.course.now.last) (samples_of c.args.next.now) c.output-parts.ensures.bound.some_output c.requires.channels
     in
     rw e (search rules)

@@ -4,7 +4,7 @@ use Rattle.atomic_table.specs.Table.{Me}
 use mir.Syntax.{w16}
 use Rattle.snd_base.specs.declared.geometry.Geometry.{Geometry}
 use Rattle.mix_core.specs.declared.port.Entry.{Entry}
-use Rattle.mix_core.specs.Laid.{marked}
+use Rattle.mix_core.specs.Laid.{marks_with}
 use Rattle.sum_table.specs.declared.seats.mix.MixSeat.{MixSeat}
 use Rattle.sum_table.specs.declared.view.View.{View}
 use Rattle.sum_table.specs.Extent.{Extent}
@@ -76,7 +76,7 @@ invariant_of-self-2 g c =
     record {
       same_ring = (c.compare_exchange_with-found.ensures.0 ∙ s.same_ring.0, s.same_ring.1, ap (λ (x : Me Entry View). x.1) lays.1 ∙ s.same_ring.2, s.same_ring.3);
       known = subst (λ (x : Extent). IsKnown c.compare_exchange_with-found.new.seat.me.0 s.key s.places x.marks s.seen x.last) (sym c.lay.ensures)
-          (subst (λ (x : Geometry). IsKnown c.compare_exchange_with-found.new.seat.me.0 s.key s.places (marked c.args.kind x s.reach.marks c.args.frame c.args.channel) s.seen (greater s.reach.last (Some c.args.frame))) (sym s.one_geometry) known);
+          (subst (λ (x : Geometry). IsKnown c.compare_exchange_with-found.new.seat.me.0 s.key s.places (marks_with c.args.kind x s.reach.marks c.args.frame c.args.channel) s.seen (greater s.reach.last (Some c.args.frame))) (sym s.one_geometry) known);
       one_geometry = ap (λ (x : Extent). x.geometry) c.lay.ensures ∙ s.one_geometry;
       lap_start = s.lap_start;
     }
@@ -90,4 +90,4 @@ returns-clause-ok g c =
     let lays = won_lays c.args.ring_spot.ring.now.table_id.slots c.args.ring_spot.spot.index c.args.old c.changed-new.result c.compare_exchange_with-found.result e s.seat.me c.compare_exchange_with-found.new.seat.me same c.compare_exchange_with-found.ensures.2 in
     has_laid_as s _ c.args.kind c.args.frame c.args.channel z c.args.sample (to_z-of_z w16 c.args.sample c.ranges.sample)
     (record { ring = c.compare_exchange_with-found.ensures.0; key = refl; member = refl; places = refl; seen = refl })
-    (ap (λ (x : Extent). x.marks) c.lay.ensures ∙ ap (λ (x : Geometry). marked c.args.kind x s.reach.marks c.args.frame c.args.channel) s.one_geometry) (ap (λ (x : Extent). x.last) c.lay.ensures) lays
+    (ap (λ (x : Extent). x.marks) c.lay.ensures ∙ ap (λ (x : Geometry). marks_with c.args.kind x s.reach.marks c.args.frame c.args.channel) s.one_geometry) (ap (λ (x : Extent). x.last) c.lay.ensures) lays
