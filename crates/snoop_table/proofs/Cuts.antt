@@ -16,7 +16,7 @@ use Rattle.snoop_table.specs.declared.view.Track.{Track}
 use Rattle.snoop_table.specs.declared.view.View.{View}
 use Rattle.snoop_table.specs.Captured.{Holds, IsView, word_in}
 use Rattle.snoop_table.specs.Cuts.{both_of, either_track, part_of, spent_view}
-use Rattle.snoop_table.specs.Steps.{Knows, learned}
+use Rattle.snoop_table.specs.Steps.{Knows, quiet_load}
 use Rattle.snoop_table.proofs.Keeps.{IsSo, idle, loaded}
 
 abbrev is_some : Option Track → Bool
@@ -197,7 +197,7 @@ knows words views at t u id v x here tracks =
     subst (Knows v) (sym (x.views_ok.writer id v u here tracks).1) at_t
 
 -- a load that notes nothing
-pub learns : (slots id : ℕ) (m : Me (Unit {0}) View) → Allows (Holds m.0.geometry) slots id m 0 (λ n. n) (learned (step slots 0 0 0 none) m)
+pub learns : (slots id : ℕ) (m : Me (Unit {0}) View) → Allows (Holds m.0.geometry) slots id m 0 (λ n. n) (quiet_load (step slots 0 0 0 none) m)
 learns slots id m s x homes here fits =
     let v : View = m.0 in
     let g : Geometry = v.geometry in

@@ -22,13 +22,13 @@ use Rattle.snoop_table.specs.Cuts.{both_of, either_track, part_of}
 use Rattle.snoop_table.specs.Joins.{DeskGave, DeskHeard, IsBorneOut}
 use Rattle.snoop_table.specs.Known.{IsReader, IsWriter}
 use Rattle.snoop_table.specs.Readers.{view_of}
-use Rattle.snoop_table.specs.Steps.{Knows, learned}
+use Rattle.snoop_table.specs.Steps.{Knows, quiet_load}
 use Rattle.snoop_table.specs.Writers.{desk_track, desk_view}
 use Rattle.snoop_table.proofs.Cuts.{learns}
 
 -- a load that notes nothing
-pub learns_at : (g : Geometry) (slots id : ℕ) (m : Me (Unit {0}) View) → m.0.geometry ≡ g → Allows (Holds g) slots id m 0 (λ n. n) (learned (step slots 0 0 0 none) m)
-learns_at g slots id m is = subst (λ k. Allows (Holds k) slots id m 0 (λ n. n) (learned (step slots 0 0 0 none) m)) is (learns slots id m)
+pub learns_at : (g : Geometry) (slots id : ℕ) (m : Me (Unit {0}) View) → m.0.geometry ≡ g → Allows (Holds g) slots id m 0 (λ n. n) (quiet_load (step slots 0 0 0 none) m)
+learns_at g slots id m is = subst (λ k. Allows (Holds k) slots id m 0 (λ n. n) (quiet_load (step slots 0 0 0 none) m)) is (learns slots id m)
 
 -- what a reader's fields say after a join
 pub known_joined : (g : Geometry) (seen other : ℕ) (v w : View) → IsReader v g seen → IsReader w g other → IsReader (both_of v w) g (max seen other)
@@ -91,7 +91,7 @@ borne_out_second g t v w own knows = subst (λ k. IsBorneOut k t w) own (record 
 })
 
 -- what the load after a join tells the writer
-heard_knows : (v w : View) (slots found : ℕ) (x r : Me (Unit {0}) View) → is_tracked v.track ≡ true → x.0 ≡ both_of v w → learned (step slots 0 0 0 none) x found r
+heard_knows : (v w : View) (slots found : ℕ) (x r : Me (Unit {0}) View) → is_tracked v.track ≡ true → x.0 ≡ both_of v w → quiet_load (step slots 0 0 0 none) x found r
     → Knows (both_of v w) (the_track v.track)
 heard_knows v w slots found x r tracked both told =
     let t : Track = the_track v.track in
@@ -105,7 +105,7 @@ seen_by false false gone same is = same
 
 -- what a writer's fields say after it heard of another seat
 pub known_heard : (g : Geometry) (next : Cursor) (position : ℕ) (gone : Bool) (other : ℕ) (v w : View) (slots found : ℕ) (x r : Me (Unit {0}) View)
-    → IsWriter v g next position gone → IsReader w g other → x.0 ≡ both_of v w → learned (step slots 0 0 0 none) x found r → IsWriter r.0 g next position gone
+    → IsWriter v g next position gone → IsReader w g other → x.0 ≡ both_of v w → quiet_load (step slots 0 0 0 none) x found r → IsWriter r.0 g next position gone
 known_heard g next position gone other v w slots found x r is met both told =
     let t : Track = the_track v.track in
     let knows : Knows (both_of v w) t = heard_knows v w slots found x r is.tracked both told in
@@ -130,7 +130,7 @@ known_heard g next position gone other v w slots found x r is met both told =
 
 pub has_heard : (d e : Desk) (o : ReaderSeat) (slots found : ℕ) (x : Me (Unit {0}) View) → e.seat.table_id ≡ d.seat.table_id → e.geometry ≡ d.geometry
     → e.place.next ≡ d.place.next → e.position ≡ d.position → e.gone ≡ d.gone
-    → x.0 ≡ both_of (desk_view d) (view_of o) → learned (step slots 0 0 0 none) x found e.seat.me → DeskHeard d e o
+    → x.0 ≡ both_of (desk_view d) (view_of o) → quiet_load (step slots 0 0 0 none) x found e.seat.me → DeskHeard d e o
 has_heard d e o slots found x ring geometry next position gone both told =
     let v : View = desk_view d in
     let w : View = view_of o in
@@ -151,7 +151,7 @@ has_heard d e o slots found x ring geometry next position gone both told =
 
 -- what the close of a ring tells of the reader's seat
 pub closed_borne_out : (s : ReaderSeat) (d : Desk) (slots found : ℕ) (x r : Me (Unit {0}) View) → x.0 ≡ both_of (view_of s) (desk_view d)
-    → learned (step slots 0 0 0 none) x found r → IsBorneOut s.geometry (desk_track d) (view_of s)
+    → quiet_load (step slots 0 0 0 none) x found r → IsBorneOut s.geometry (desk_track d) (view_of s)
 closed_borne_out s d slots found x r both told =
     let v : View = view_of s in
     let w : View = desk_view d in

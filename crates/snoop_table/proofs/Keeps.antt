@@ -21,7 +21,7 @@ use Rattle.snoop_core.specs.Word.{laps_of, sample_of}
 use Rattle.snoop_table.specs.declared.view.Track.{Track}
 use Rattle.snoop_table.specs.declared.view.View.{View}
 use Rattle.snoop_table.specs.Captured.{AreViews, Holds, IsPart, IsRing, IsSample, IsView, next_of, position_of, word_in}
-use Rattle.snoop_table.specs.Steps.{Finds, IsNext, located, looked, samples_before, with_note, with_position, with_sample}
+use Rattle.snoop_table.specs.Steps.{Finds, IsNext, position_load, word_load, samples_before, with_note, with_position, with_sample}
 use Rattle.std.proofs.lemmas.Bool.{cases_eq}
 
 -- what the rule says of some words and views, with the writer's track
@@ -108,7 +108,7 @@ loaded g words views at t i homes x =
     subst (λ ws. Holds g (record { words = ws; homes = homes; views = views })) (sym (set_read words i)) (at, t, x.ring, x.views_ok)
 
 -- a load of the position
-pub locates : (slots id : ℕ) (m : Me (Unit {0}) View) → Allows (Holds m.0.geometry) slots id m 0 (λ n. n) (located (step slots 0 0 0 none) m)
+pub locates : (slots id : ℕ) (m : Me (Unit {0}) View) → Allows (Holds m.0.geometry) slots id m 0 (λ n. n) (position_load (step slots 0 0 0 none) m)
 locates slots id m s e homes here fits =
     let v : View = m.0 in
     let g : Geometry = v.geometry in
@@ -240,7 +240,7 @@ sampled_view g words t v f c x of_ring r own next one =
 
 -- a load of the word of a frame and channel
 pub looks : (slots id : ℕ) (m : Me (Unit {0}) View) (f c : ℕ) → IsNext m.0 f c
-    → Allows (Holds m.0.geometry) slots id m (index_of m.0.geometry f c) (λ n. n) (looked f c (step slots (index_of m.0.geometry f c) 0 0 none) m)
+    → Allows (Holds m.0.geometry) slots id m (index_of m.0.geometry f c) (λ n. n) (word_load f c (step slots (index_of m.0.geometry f c) 0 0 none) m)
 looks slots id m f c next s e homes here fits =
     let v : View = m.0 in
     let g : Geometry = v.geometry in
@@ -252,8 +252,8 @@ looks slots id m f c next s e homes here fits =
     let noted : View = with_note v i n in
     let noted_ok : IsView g s.words t noted = noted_view g s.words t v i own in
     let found : Finds v f c n = finds s.words t v f c e.2 own next.channel next.least next.seen in
-    let Goes : Type 0 = (w : View) × (a : Act (Unit {0})) × Valid s.homes m.1 a × Holds g (stepped s i n id m.1 w a) × looked f c (step slots i 0 0 none) m n (w, carried_after m.1 a) in
-    let done : (w : View) → IsView g s.words t w → w.track ≡ v.track → looked f c (step slots i 0 0 none) m n (w, m.1) → Goes =
+    let Goes : Type 0 = (w : View) × (a : Act (Unit {0})) × Valid s.homes m.1 a × Holds g (stepped s i n id m.1 w a) × word_load f c (step slots i 0 0 none) m n (w, carried_after m.1 a) in
+    let done : (w : View) → IsView g s.words t w → w.track ≡ v.track → word_load f c (step slots i 0 0 none) m n (w, m.1) → Goes =
     λ w ok same told. (w, keeps, tt, loaded g s.words (set s.views id w) e.0 t i s.homes (idle g s.words s.views e.0 t id v w x here same ok), told) in
     elim (cases_eq (laps_of n) (lap g f + 1)) [
       | inl is ↦

@@ -17,21 +17,21 @@ use Rattle.snoop_table.specs.declared.view.View.{View}
 use Rattle.snoop_table.specs.Captured.{Holds}
 use Rattle.snoop_table.specs.Known.{IsReader}
 use Rattle.snoop_table.specs.Readers.{HasLocated, HasLooked, view_of}
-use Rattle.snoop_table.specs.Steps.{IsNext, located, looked, with_note, with_position, with_sample}
+use Rattle.snoop_table.specs.Steps.{IsNext, position_load, word_load, with_note, with_position, with_sample}
 use Rattle.snoop_table.proofs.Keeps.{locates, looks}
 use Rattle.std.proofs.lemmas.Bool.{cases_eq}
 
 -- a load of the position
-pub may_locate : (s : ReaderSeat) (slots : ℕ) → Allows (Holds s.ring.now.key) slots s.seat.id s.seat.me 0 (λ n. n) (located (step slots 0 0 0 none) s.seat.me)
+pub may_locate : (s : ReaderSeat) (slots : ℕ) → Allows (Holds s.ring.now.key) slots s.seat.id s.seat.me 0 (λ n. n) (position_load (step slots 0 0 0 none) s.seat.me)
 may_locate s slots =
-    let Goes : Geometry → Type 0 = λ g. Allows (Holds g) slots s.seat.id s.seat.me 0 (λ n. n) (located (step slots 0 0 0 none) s.seat.me) in
+    let Goes : Geometry → Type 0 = λ g. Allows (Holds g) slots s.seat.id s.seat.me 0 (λ n. n) (position_load (step slots 0 0 0 none) s.seat.me) in
     subst Goes (s.known.same_geometry ∙ s.same_ring.1) (locates slots s.seat.id s.seat.me)
 
 -- no position up to the end has the gone bit
 below_gone : (g : Geometry) (p : ℕ) → p ≤ end_frame g → p < 9223372036854775808
 below_gone g p within = omega (arith, within, g.frames_most)
 
-pub known_located : (g : Geometry) (seen slots n : ℕ) (m r : Me (Unit {0}) View) → IsReader m.0 g seen → located (step slots 0 0 0 none) m n r
+pub known_located : (g : Geometry) (seen slots n : ℕ) (m r : Me (Unit {0}) View) → IsReader m.0 g seen → position_load (step slots 0 0 0 none) m n r
     → IsReader r.0 g (position_in n)
 known_located g seen slots n m r is told =
     let p : ℕ = told.0 in
@@ -48,7 +48,7 @@ known_located g seen slots n m r is told =
     subst (λ q. IsReader r.0 g q) (sym read) (subst (λ (y : Me (Unit {0}) View). IsReader y.0 g p) (sym told.2) known)
 
 pub has_located : (s t : ReaderSeat) (slots n : ℕ) (p : Position) → t.seat.table_id ≡ s.seat.table_id → t.geometry ≡ s.geometry → t.seen ≡ p.frame
-    → p.frame ≡ position_in n → p.gone ≡ gone_in n → located (step slots 0 0 0 none) s.seat.me n t.seat.me → HasLocated s t p
+    → p.frame ≡ position_in n → p.gone ≡ gone_in n → position_load (step slots 0 0 0 none) s.seat.me n t.seat.me → HasLocated s t p
 has_located s t slots n p ring geometry seen frame gone told =
     let v : View = view_of s in
     let q : ℕ = told.0 in
@@ -68,10 +68,10 @@ has_located s t slots n p ring geometry seen frame gone told =
 
 -- a load of the next word of a frame
 pub may_look : (s : ReaderSeat) (slots i f c : ℕ) → IsNext (view_of s) f c → i ≡ index_of s.geometry f c
-    → Allows (Holds s.ring.now.key) slots s.seat.id s.seat.me i (λ n. n) (looked f c (step slots i 0 0 none) s.seat.me)
+    → Allows (Holds s.ring.now.key) slots s.seat.id s.seat.me i (λ n. n) (word_load f c (step slots i 0 0 none) s.seat.me)
 may_look s slots i f c next index =
     let v : View = view_of s in
-    let Goes : Geometry → ℕ → Type 0 = λ g j. Allows (Holds g) slots s.seat.id s.seat.me j (λ n. n) (looked f c (step slots j 0 0 none) s.seat.me) in
+    let Goes : Geometry → ℕ → Type 0 = λ g j. Allows (Holds g) slots s.seat.id s.seat.me j (λ n. n) (word_load f c (step slots j 0 0 none) s.seat.me) in
     let at_own : Goes v.geometry (index_of v.geometry f c) = looks slots s.seat.id s.seat.me f c next in
     let at_key : Goes s.geometry (index_of s.geometry f c) = subst (λ (g : Geometry). Goes g (index_of g f c)) s.known.same_geometry at_own in
     subst (λ g. Goes g i) s.same_ring.1 (subst (Goes s.geometry) (sym index) at_key)
@@ -83,7 +83,7 @@ pub record IsLooked (v w : View) (i n : ℕ) : Type 0 where
   pub track : w.track ≡ v.track
   pub noted : w.noted ≡ set v.noted i (Some n)
 
-pub is_looked : (f c slots i n : ℕ) (m r : Me (Unit {0}) View) → looked f c (step slots i 0 0 none) m n r → IsLooked m.0 r.0 i n × (r.1 ≡ m.1)
+pub is_looked : (f c slots i n : ℕ) (m r : Me (Unit {0}) View) → word_load f c (step slots i 0 0 none) m n r → IsLooked m.0 r.0 i n × (r.1 ≡ m.1)
 is_looked f c slots i n m r told = elim (cases_eq (laps_of n) (lap m.0.geometry f + 1)) [
   | inl own ↦
       let is = told.1 own in (
@@ -107,7 +107,7 @@ is_looked f c slots i n m r told = elim (cases_eq (laps_of n) (lap m.0.geometry 
       )
 ]
 
-pub known_looked : (g : Geometry) (seen f c slots i n : ℕ) (m r : Me (Unit {0}) View) → IsReader m.0 g seen → looked f c (step slots i 0 0 none) m n r
+pub known_looked : (g : Geometry) (seen f c slots i n : ℕ) (m r : Me (Unit {0}) View) → IsReader m.0 g seen → word_load f c (step slots i 0 0 none) m n r
     → IsReader r.0 g seen
 known_looked g seen f c slots i n m r is told =
     let l : IsLooked m.0 r.0 i n = (is_looked f c slots i n m r told).0 in
@@ -121,7 +121,7 @@ known_looked g seen f c slots i n m r is told =
 
 pub has_looked : (s t : ReaderSeat) (slots i f c n : ℕ) → t.seat.table_id ≡ s.seat.table_id → t.geometry ≡ s.geometry → t.seen ≡ s.seen
     → c < s.geometry.channels → i ≡ index_of s.geometry f c
-    → looked f c (step slots i 0 0 none) s.seat.me n t.seat.me → HasLooked s t f c n
+    → word_load f c (step slots i 0 0 none) s.seat.me n t.seat.me → HasLooked s t f c n
 has_looked s t slots i f c n ring geometry seen in_range index told =
     let v : View = view_of s in
     let g : Geometry = s.geometry in

@@ -24,7 +24,7 @@ use Rattle.snoop_core.specs.Word.{HoldsSample, HoldsSample-fields, laps_of, samp
 use Rattle.snoop_table.specs.declared.view.Track.{Track}
 use Rattle.snoop_table.specs.declared.view.View.{View}
 use Rattle.snoop_table.specs.Captured.{Holds, IsRing, IsView, is_tracked, next_of, position_of, word_in}
-use Rattle.snoop_table.specs.Steps.{published, stored, track_gone, track_published, track_stored, unplugged, with_gone, with_published, with_stored}
+use Rattle.snoop_table.specs.Steps.{position_store, sample_store, track_gone, track_published, track_stored, unplug_store, with_gone, with_published, with_stored}
 use Rattle.snoop_table.proofs.Keeps.{IsSo, Later, view_later, views_set}
 
 abbrev pub track_or : Track → Option Track → Track
@@ -103,7 +103,7 @@ stores_at : (s : State (Unit {0}) View) (slots id : ℕ) (m : Me (Unit {0}) View
     → HoldsSample word (lap m.0.geometry (next_of m.0.geometry t).frame + 1) (sample_of word)
     → let i : ℕ = index_of m.0.geometry (next_of m.0.geometry t).frame (next_of m.0.geometry t).channel in
     (w : View) × (a : Act (Unit {0})) × Valid s.homes m.1 a × Holds m.0.geometry (stepped s i word id m.1 w a)
-    × stored (step slots i word 0 none) m word (w, carried_after m.1 a)
+    × sample_store (step slots i word 0 none) m word (w, carried_after m.1 a)
 stores_at s slots id m at t word tracks writer x here fits holds =
     let v : View = m.0 in
     let g : Geometry = v.geometry in
@@ -148,7 +148,7 @@ pub stores : (slots id : ℕ) (m : Me (Unit {0}) View) (next : Cursor) (word : �
     → is_tracked m.0.track ≡ true → ((t : Track) → m.0.track ≡ Some t → next ≡ next_of m.0.geometry t)
     → lap m.0.geometry next.frame < 4294967295
     → HoldsSample word (lap m.0.geometry next.frame + 1) (sample_of word)
-    → Allows (Holds m.0.geometry) slots id m (index_of m.0.geometry next.frame next.channel) (λ n. word) (λ n. stored (step slots (index_of m.0.geometry next.frame next.channel) word 0 none) m word)
+    → Allows (Holds m.0.geometry) slots id m (index_of m.0.geometry next.frame next.channel) (λ n. word) (λ n. sample_store (step slots (index_of m.0.geometry next.frame next.channel) word 0 none) m word)
 stores slots id m next word is next_is fits holds s x homes here small =
     let g : Geometry = m.0.geometry in
     let t : Track = x.1 in
@@ -159,7 +159,7 @@ stores slots id m next word is next_is fits holds s x homes here small =
     let Goes : Cursor → Type 0 = λ (y : Cursor).
     let i : ℕ = index_of g y.frame y.channel in
     (w : View) × (a : Act (Unit {0})) × Valid s.homes m.1 a × Holds g (stepped s i word id m.1 w a)
-    × stored (step slots i word 0 none) m word (w, carried_after m.1 a) in
+    × sample_store (step slots i word 0 none) m word (w, carried_after m.1 a) in
     subst Goes (sym at_next)
     (stores_at s slots id m x.0 t word tracks mine.0 (record { ring = x.2; views_ok = x.3 }) here
     (subst (λ (y : Cursor). lap g y.frame < 4294967295) at_next fits)
@@ -202,7 +202,7 @@ ring_gone g words t r = record {
 pub publishes : (slots id : ℕ) (m : Me (Unit {0}) View) (next : Cursor) (gone : Bool)
     → is_tracked m.0.track ≡ true
     → ((t : Track) → m.0.track ≡ Some t → next ≡ next_of m.0.geometry t) → ((t : Track) → m.0.track ≡ Some t → gone ≡ t.gone)
-    → Allows (Holds m.0.geometry) slots id m 0 (λ n. word_of next.frame gone) (λ n. published (step slots 0 (word_of next.frame gone) 0 none) m (word_of next.frame gone))
+    → Allows (Holds m.0.geometry) slots id m 0 (λ n. word_of next.frame gone) (λ n. position_store (step slots 0 (word_of next.frame gone) 0 none) m (word_of next.frame gone))
 publishes slots id m next gone is next_is gone_is s x homes here small =
     let v : View = m.0 in
     let g : Geometry = v.geometry in
@@ -250,7 +250,7 @@ publishes slots id m next gone is next_is gone_is s x homes here small =
 -- the writer's store that says that the card is gone
 pub unplugs : (slots id : ℕ) (m : Me (Unit {0}) View) (position : ℕ)
     → is_tracked m.0.track ≡ true → ((t : Track) → m.0.track ≡ Some t → position ≡ position_of m.0.geometry t)
-    → Allows (Holds m.0.geometry) slots id m 0 (λ n. word_of position true) (λ n. unplugged (step slots 0 (word_of position true) 0 none) m (word_of position true))
+    → Allows (Holds m.0.geometry) slots id m 0 (λ n. word_of position true) (λ n. unplug_store (step slots 0 (word_of position true) 0 none) m (word_of position true))
 unplugs slots id m position is position_is s x homes here small =
     let v : View = m.0 in
     let g : Geometry = v.geometry in

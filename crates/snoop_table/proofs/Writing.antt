@@ -23,7 +23,7 @@ use Rattle.snoop_table.specs.declared.view.Track.{Track}
 use Rattle.snoop_table.specs.declared.view.View.{View}
 use Rattle.snoop_table.specs.Captured.{Holds, next_of, position_of, the_track}
 use Rattle.snoop_table.specs.Known.{IsPlace, IsWriter}
-use Rattle.snoop_table.specs.Steps.{published, stored, unplugged, with_gone, with_published, with_stored}
+use Rattle.snoop_table.specs.Steps.{position_store, sample_store, unplug_store, with_gone, with_published, with_stored}
 use Rattle.snoop_table.specs.Writers.{HasPublished, HasStored, HasStoredPart, HasStoredSample, HasUnplugged, desk_track, desk_view, track_more}
 use Rattle.snoop_table.proofs.Stores.{publishes, stores, unplugs}
 
@@ -65,10 +65,10 @@ track_is v t is = ap the_track is
 -- what the writer shows before it stores a sample
 pub may_store : (d : Desk) (slots word : ℕ) (x : ℤ) → lap d.geometry d.place.next.frame < 4294967295
     → HoldsSample word (lap d.geometry d.place.next.frame + 1) x
-    → Allows (Holds d.ring.now.key) slots d.seat.id d.seat.me d.place.index (λ n. word) (λ n. stored (step slots d.place.index word 0 none) d.seat.me word)
+    → Allows (Holds d.ring.now.key) slots d.seat.id d.seat.me d.place.index (λ n. word) (λ n. sample_store (step slots d.place.index word 0 none) d.seat.me word)
 may_store d slots word x fits holds =
     let v : View = desk_view d in
-    let Goes : Geometry → ℕ → Type 0 = λ g j. Allows (Holds g) slots d.seat.id d.seat.me j (λ n. word) (λ n. stored (step slots j word 0 none) d.seat.me word) in
+    let Goes : Geometry → ℕ → Type 0 = λ g j. Allows (Holds g) slots d.seat.id d.seat.me j (λ n. word) (λ n. sample_store (step slots j word 0 none) d.seat.me word) in
     let own : d.geometry ≡ v.geometry = sym d.known.same_geometry in
     let read : HoldsSample word (lap d.geometry d.place.next.frame + 1) (sample_of word) =
     subst (HoldsSample word (lap d.geometry d.place.next.frame + 1)) (sym (HoldsSample-fields _ _ _ holds).1) holds in
@@ -81,22 +81,22 @@ may_store d slots word x fits holds =
     subst (λ g. Goes g d.place.index) d.same_ring.1 (subst (Goes d.geometry) (sym d.at_next.index_is) at_key)
 
 pub may_publish : (d : Desk) (slots word : ℕ) → word ≡ word_of d.place.next.frame d.gone
-    → Allows (Holds d.ring.now.key) slots d.seat.id d.seat.me 0 (λ n. word) (λ n. published (step slots 0 word 0 none) d.seat.me word)
+    → Allows (Holds d.ring.now.key) slots d.seat.id d.seat.me 0 (λ n. word) (λ n. position_store (step slots 0 word 0 none) d.seat.me word)
 may_publish d slots word is =
     let v : View = desk_view d in
     let own : d.geometry ≡ v.geometry = sym d.known.same_geometry in
-    let Goes : Geometry → ℕ → Type 0 = λ g w. Allows (Holds g) slots d.seat.id d.seat.me 0 (λ n. w) (λ n. published (step slots 0 w 0 none) d.seat.me w) in
+    let Goes : Geometry → ℕ → Type 0 = λ g w. Allows (Holds g) slots d.seat.id d.seat.me 0 (λ n. w) (λ n. position_store (step slots 0 w 0 none) d.seat.me w) in
     let at_own : Goes v.geometry (word_of d.place.next.frame d.gone) = publishes slots d.seat.id d.seat.me d.place.next d.gone d.known.tracked
     (λ t is. d.known.next_is ∙ (ap (next_of d.geometry) (track_is v t is) ∙ ap (λ (g : Geometry). next_of g t) own))
     (λ t is. d.known.gone_is ∙ ap (λ (x : Track). x.gone) (track_is v t is)) in
     subst (λ g. Goes g word) (d.known.same_geometry ∙ d.same_ring.1) (subst (Goes v.geometry) (sym is) at_own)
 
 pub may_unplug : (d : Desk) (slots word : ℕ) → word ≡ word_of d.position true
-    → Allows (Holds d.ring.now.key) slots d.seat.id d.seat.me 0 (λ n. word) (λ n. unplugged (step slots 0 word 0 none) d.seat.me word)
+    → Allows (Holds d.ring.now.key) slots d.seat.id d.seat.me 0 (λ n. word) (λ n. unplug_store (step slots 0 word 0 none) d.seat.me word)
 may_unplug d slots word is =
     let v : View = desk_view d in
     let own : d.geometry ≡ v.geometry = sym d.known.same_geometry in
-    let Goes : Geometry → ℕ → Type 0 = λ g w. Allows (Holds g) slots d.seat.id d.seat.me 0 (λ n. w) (λ n. unplugged (step slots 0 w 0 none) d.seat.me w) in
+    let Goes : Geometry → ℕ → Type 0 = λ g w. Allows (Holds g) slots d.seat.id d.seat.me 0 (λ n. w) (λ n. unplug_store (step slots 0 w 0 none) d.seat.me w) in
     let at_own : Goes v.geometry (word_of d.position true) = unplugs slots d.seat.id d.seat.me d.position d.known.tracked
     (λ t is. d.known.position_is ∙ (ap (position_of d.geometry) (track_is v t is) ∙ ap (λ (g : Geometry). position_of g t) own)) in
     subst (λ g. Goes g word) (d.known.same_geometry ∙ d.same_ring.1) (subst (Goes v.geometry) (sym is) at_own)
@@ -104,7 +104,7 @@ may_unplug d slots word is =
 -- the fields after a sample was stored
 pub known_stored : (g : Geometry) (next : Cursor) (position : ℕ) (gone : Bool) (slots i word n : ℕ) (m r : Me (Unit {0}) View)
     → IsWriter m.0 g next position gone → lap g next.frame < 4294967295
-    → stored (step slots i word 0 none) m n r → IsWriter r.0 g (cursor_after g next.frame next.channel) position gone
+    → sample_store (step slots i word 0 none) m n r → IsWriter r.0 g (cursor_after g next.frame next.channel) position gone
 known_stored g next position gone slots i word n m r is fits told =
     let t : Track = told.0 in
     let x : ℤ = sample_of word in
@@ -130,7 +130,7 @@ known_stored g next position gone slots i word n m r is fits told =
 
 -- after a publication
 pub known_published : (g : Geometry) (next : Cursor) (position : ℕ) (gone : Bool) (slots word n : ℕ) (m r : Me (Unit {0}) View)
-    → IsWriter m.0 g next position gone → published (step slots 0 word 0 none) m n r → IsWriter r.0 g next next.frame gone
+    → IsWriter m.0 g next position gone → position_store (step slots 0 word 0 none) m n r → IsWriter r.0 g next next.frame gone
 known_published g next position gone slots word n m r is told =
     let t : Track = told.0 in
     let p : ℕ = (next_of m.0.geometry t).frame in
@@ -156,7 +156,7 @@ known_published g next position gone slots word n m r is told =
 
 -- after the card was unplugged
 pub known_unplugged : (g : Geometry) (next : Cursor) (position : ℕ) (gone : Bool) (slots word n : ℕ) (m r : Me (Unit {0}) View)
-    → IsWriter m.0 g next position gone → unplugged (step slots 0 word 0 none) m n r → IsWriter r.0 g next position true
+    → IsWriter m.0 g next position gone → unplug_store (step slots 0 word 0 none) m n r → IsWriter r.0 g next position true
 known_unplugged g next position gone slots word n m r is told =
     let t : Track = told.0 in
     let w : View = with_gone m.0 t in
@@ -181,7 +181,7 @@ known_unplugged g next position gone slots word n m r is told =
 pub has_stored : (d e : Desk) (slots i word n : ℕ) (x : ℤ) → e.seat.table_id ≡ d.seat.table_id → e.geometry ≡ d.geometry
     → e.place.next ≡ cursor_after d.geometry d.place.next.frame d.place.next.channel → e.position ≡ d.position → e.gone ≡ d.gone
     → HoldsSample word (lap d.geometry d.place.next.frame + 1) x
-    → stored (step slots i word 0 none) d.seat.me n e.seat.me → HasStoredSample d e x
+    → sample_store (step slots i word 0 none) d.seat.me n e.seat.me → HasStoredSample d e x
 has_stored d e slots i word n x ring geometry next position gone holds told =
     let v : View = desk_view d in
     let t : Track = told.0 in
@@ -199,7 +199,7 @@ has_stored d e slots i word n x ring geometry next position gone holds told =
 
 pub has_published : (d e : Desk) (slots word n : ℕ) → e.seat.table_id ≡ d.seat.table_id → e.geometry ≡ d.geometry
     → e.place.next ≡ d.place.next → e.position ≡ d.place.next.frame → e.gone ≡ d.gone
-    → published (step slots 0 word 0 none) d.seat.me n e.seat.me → HasPublished d e
+    → position_store (step slots 0 word 0 none) d.seat.me n e.seat.me → HasPublished d e
 has_published d e slots word n ring geometry next position gone told =
     let v : View = desk_view d in
     let t : Track = told.0 in
@@ -220,7 +220,7 @@ has_published d e slots word n ring geometry next position gone told =
 
 pub has_unplugged : (d e : Desk) (slots word n : ℕ) → e.seat.table_id ≡ d.seat.table_id → e.geometry ≡ d.geometry
     → e.place.next ≡ d.place.next → e.position ≡ d.position → e.gone ≡ true
-    → unplugged (step slots 0 word 0 none) d.seat.me n e.seat.me → HasUnplugged d e
+    → unplug_store (step slots 0 word 0 none) d.seat.me n e.seat.me → HasUnplugged d e
 has_unplugged d e slots word n ring geometry next position gone told =
     let v : View = desk_view d in
     let t : Track = told.0 in

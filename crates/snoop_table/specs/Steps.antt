@@ -72,8 +72,8 @@ pub record Finds (v : View) (f c n : ℕ) : Type 0 where
   pub past : f + v.geometry.frames < v.seen → lap v.geometry f + 1 < laps_of n
 
 -- a load of the position
-abbrev pub located : Step (Unit {0}) → Me (Unit {0}) View → ℕ → Me (Unit {0}) View → Type 0
-located s m n r =
+abbrev pub position_load : Step (Unit {0}) → Me (Unit {0}) View → ℕ → Me (Unit {0}) View → Type 0
+position_load s m n r =
     (p : ℕ) × (gone : Bool)
     × (r ≡ (with_position m.0 p gone, m.1))
     × (n ≡ word_of p gone)
@@ -82,23 +82,23 @@ located s m n r =
     × (m.0.seen_gone ≡ true → gone ≡ true)
 
 -- a load of the word of a frame and channel: with the frame's lap it is the frame's sample
-abbrev pub looked : ℕ → ℕ → Step (Unit {0}) → Me (Unit {0}) View → ℕ → Me (Unit {0}) View → Type 0
-looked f c s m n r =
+abbrev pub word_load : ℕ → ℕ → Step (Unit {0}) → Me (Unit {0}) View → ℕ → Me (Unit {0}) View → Type 0
+word_load f c s m n r =
     Finds m.0 f c n
     × (laps_of n ≡ lap m.0.geometry f + 1 → r ≡ (with_sample (with_note m.0 s.word n) f c (sample_of n), m.1))
     × (laps_of n ≢ lap m.0.geometry f + 1 → r ≡ (with_note m.0 s.word n, m.1))
 
 -- the writer's store of the next sample
-abbrev pub stored : Step (Unit {0}) → Me (Unit {0}) View → ℕ → Me (Unit {0}) View → Type 0
-stored s m n r = (t : Track) × (m.0.track ≡ Some t) × (r ≡ (with_stored m.0 t (sample_of s.first), m.1))
+abbrev pub sample_store : Step (Unit {0}) → Me (Unit {0}) View → ℕ → Me (Unit {0}) View → Type 0
+sample_store s m n r = (t : Track) × (m.0.track ≡ Some t) × (r ≡ (with_stored m.0 t (sample_of s.first), m.1))
 
 -- its store of the position
-abbrev pub published : Step (Unit {0}) → Me (Unit {0}) View → ℕ → Me (Unit {0}) View → Type 0
-published s m n r =
+abbrev pub position_store : Step (Unit {0}) → Me (Unit {0}) View → ℕ → Me (Unit {0}) View → Type 0
+position_store s m n r =
     (t : Track) × (m.0.track ≡ Some t) × (r ≡ (with_published m.0 t (next_of m.0.geometry t).frame, m.1))
 
-abbrev pub unplugged : Step (Unit {0}) → Me (Unit {0}) View → ℕ → Me (Unit {0}) View → Type 0
-unplugged s m n r = (t : Track) × (m.0.track ≡ Some t) × (r ≡ (with_gone m.0 t, m.1))
+abbrev pub unplug_store : Step (Unit {0}) → Me (Unit {0}) View → ℕ → Me (Unit {0}) View → Type 0
+unplug_store s m n r = (t : Track) × (m.0.track ≡ Some t) × (r ≡ (with_gone m.0 t, m.1))
 
 -- what the rule tells of a view that has the writer's part: the positions that it saw were published, the card was seen gone
 -- only where it is, each noted word's lap is at most that of the last frame stored there, or of a new ring's word where none was, and
@@ -114,5 +114,5 @@ pub record Knows (v : View) (t : Track) : Type 0 where
   pub got : (i : ℕ) (f : Frame) → get_elem? v.got i ≡ some f → IsCaptured v.geometry t.stored f
 
 -- a load of the position that notes nothing
-abbrev pub learned : Step (Unit {0}) → Me (Unit {0}) View → ℕ → Me (Unit {0}) View → Type 0
-learned s m n r = (r ≡ m) × ((t : Track) → m.0.track ≡ Some t → Knows m.0 t)
+abbrev pub quiet_load : Step (Unit {0}) → Me (Unit {0}) View → ℕ → Me (Unit {0}) View → Type 0
+quiet_load s m n r = (r ≡ m) × ((t : Track) → m.0.track ≡ Some t → Knows m.0 t)

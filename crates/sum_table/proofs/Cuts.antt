@@ -20,7 +20,7 @@ use Rattle.sum_table.specs.declared.view.View.{View}
 use Rattle.sum_table.specs.Cuts.{start_marks, both_of, either_track, part_of, spent_view, with_places}
 use Rattle.sum_table.specs.Exact.{Exact, IsHistory, IsView}
 use Rattle.sum_table.specs.Laid.{SameSums, all_laid, by_member, count, own_entries, places_of}
-use Rattle.sum_table.specs.Steps.{Knows, learned, with_history}
+use Rattle.sum_table.specs.Steps.{Knows, quiet_load, with_history}
 use Rattle.ring_rule.specs.Words.{NotPast, index_of}
 use Rattle.sum_table.proofs.Kept.{kept_join, kept_none, kept_places}
 use Rattle.sum_table.proofs.Keeps.{Holds, idle, loaded, none_made}
@@ -331,7 +331,7 @@ knows words views at t u h id v x here tracks =
     subst (Knows (with_history v h)) same at_t
 
 -- a load that notes nothing
-pub learns : (slots id : ℕ) (m : Me Entry View) → m.0.ended ≡ false → Allows (Exact m.0.key) slots id m 0 (λ n. n) (learned (step slots 0 0 0 none) m)
+pub learns : (slots id : ℕ) (m : Me Entry View) → m.0.ended ≡ false → Allows (Exact m.0.key) slots id m 0 (λ n. n) (quiet_load (step slots 0 0 0 none) m)
 learns slots id m lasts s x homes here fits =
     let v : View = m.0 in
     let k : Key = v.key in

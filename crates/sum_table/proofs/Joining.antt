@@ -29,7 +29,7 @@ use Rattle.ring_rule.specs.Positions.{has_all}
 use Rattle.sum_table.specs.Laid.{SameSums}
 use Rattle.sum_table.specs.Players.{player_view, track_of}
 use Rattle.sum_table.specs.Seats.{view_of}
-use Rattle.sum_table.specs.Steps.{IsStep, Knows, Makes, learned, with_history}
+use Rattle.sum_table.specs.Steps.{IsStep, Knows, Makes, quiet_load, with_history}
 use Rattle.ring_rule.specs.Words.{index_of, rank}
 use Rattle.sum_table.proofs.Highs.{IsReach-joined, IsReach-start, greater_none}
 use Rattle.sum_table.proofs.Kept.{IsLaid-later}
@@ -41,8 +41,8 @@ use Rattle.sum_table.proofs.Seated.{MarksWithin, last_frame-append, step_begins}
 
 -- a load that notes nothing, at the ring's key
 pub learns_at : (k : Key) (slots id : ℕ) (m : Me Entry View) → m.0.key ≡ k → m.0.ended ≡ false
-    → Allows (Exact k) slots id m 0 (λ n. n) (learned (step slots 0 0 0 none) m)
-learns_at k slots id m same lasts = subst (λ x. Allows (Exact x) slots id m 0 (λ n. n) (learned (step slots 0 0 0 none) m)) same (learns slots id m lasts)
+    → Allows (Exact k) slots id m 0 (λ n. n) (quiet_load (step slots 0 0 0 none) m)
+learns_at k slots id m same lasts = subst (λ x. Allows (Exact x) slots id m 0 (λ n. n) (quiet_load (step slots 0 0 0 none) m)) same (learns slots id m lasts)
 
 -- places that a seat has, and that laid nothing, can move
 pub may_cut : (s : MixSeat) (amount n : ℕ) → amount ≡ n → n ≤ s.places → (view_of s).laid ≡ []
@@ -118,7 +118,7 @@ joined_within g a b (suc n) first second =
 
 -- the fields after a join
 pub known_joined : (k : Key) (p q : ℕ) (a b : Marks) (s t : ℕ) (l m : Option ℕ) (v w : View) (slots n : ℕ) (x r : Me Entry View)
-    → IsKnown v k p a s l → IsKnown w k q b t m → x.0 ≡ both_of v w → learned (step slots 0 0 0 none) x n r
+    → IsKnown v k p a s l → IsKnown w k q b t m → x.0 ≡ both_of v w → quiet_load (step slots 0 0 0 none) x n r
     → IsKnown r.0 k (p + q) (joined_marks a b q) (max s t) (greater l m)
 known_joined k p q a b s t l m v w slots n x r first second both told =
     let h : List Row = told.0 in
@@ -169,7 +169,7 @@ tracked_some (Some t) is = refl
 
 -- the player's fields after it met a note
 pub known_heard : (k : Key) (next : Cursor) (position : ℕ) (gone : Bool) (q : ℕ) (b : Marks) (t : ℕ) (l : Option ℕ) (v w : View) (slots n : ℕ) (x r : Me Entry View)
-    → IsPlayer v k next position gone → IsKnown w k q b t l → q ≡ 0 → w.laid ≡ [] → x.0 ≡ both_of v w → learned (step slots 0 0 0 none) x n r
+    → IsPlayer v k next position gone → IsKnown w k q b t l → q ≡ 0 → w.laid ≡ [] → x.0 ≡ both_of v w → quiet_load (step slots 0 0 0 none) x n r
     → IsPlayer r.0 k next position gone
 known_heard k next position gone q b t l v w slots n x r is met none_left nothing both told =
     let h : List Row = told.0 in
@@ -216,7 +216,7 @@ rank-lap x m up = grind (arith, up)
 
 -- what the player learns of a note that it met
 pub has_heard : (p q : PlayerSeat) (n : SeatNote) (slots found : ℕ) (x : Me Entry View) → q.seat.table_id ≡ p.seat.table_id → q.key ≡ p.key → q.next ≡ p.next → q.position ≡ p.position → q.gone ≡ p.gone
-    → x.0 ≡ both_of (player_view p) (note_view n) → learned (step slots 0 0 0 none) x found q.seat.me → HasHeard p q n
+    → x.0 ≡ both_of (player_view p) (note_view n) → quiet_load (step slots 0 0 0 none) x found q.seat.me → HasHeard p q n
 has_heard p q n slots found x ring key next position gone both told =
     let v : View = player_view p in
     let w : View = note_view n in
@@ -257,7 +257,7 @@ has_heard p q n slots found x ring key next position gone both told =
 
 -- what the close of a ring tells
 pub has_closed : (s : MixSeat) (p : PlayerSeat) (slots found : ℕ) (x r : Me Entry View) → s.places ≡ s.key.places → p.key ≡ s.key
-    → x.0 ≡ both_of (view_of s) (player_view p) → learned (step slots 0 0 0 none) x found r → HasClosed s p (record { position = p.position; next = p.next })
+    → x.0 ≡ both_of (view_of s) (player_view p) → quiet_load (step slots 0 0 0 none) x found r → HasClosed s p (record { position = p.position; next = p.next })
 has_closed s p slots found x r all one both told =
     let v : View = view_of s in
     let w : View = player_view p in
@@ -294,7 +294,7 @@ pub known_as : (k : Key) (places : ℕ) (marks : Marks) (seen : ℕ) (last : Opt
 known_as k places marks seen last v m same is = subst (λ (x : Me Entry View). IsKnown x.0 k places marks seen last) (sym same) is
 
 -- a load that notes nothing takes no slot
-pub learned_kept : (slots n : ℕ) (m r : Me Entry View) → learned (step slots 0 0 0 none) m n r → r.1 ≡ m.1
+pub learned_kept : (slots n : ℕ) (m r : Me Entry View) → quiet_load (step slots 0 0 0 none) m n r → r.1 ≡ m.1
 learned_kept slots n m r told = ap (λ (x : Me Entry View). x.1) told.1
 
 -- the player's note

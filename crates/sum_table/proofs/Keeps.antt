@@ -6,7 +6,7 @@ use prog.Atomic.{either}
 use Rattle.std.proofs.lemmas.Bool.Decides.{nat_tests}
 use Rattle.std.proofs.lemmas.List.{append-nil}
 use Rattle.atomic_table.specs.Table.{Act, Allows, Me, State, keeps, step}
-use Rattle.atomic_table.proofs.Lists.{at_snoc, exchanged as by_exchange}
+use Rattle.atomic_table.proofs.Lists.{at_snoc, word_exchange as by_exchange}
 use Rattle.snd_base.specs.declared.geometry.Geometry.{Geometry}
 use Rattle.snd_base.specs.declared.places.Cursor.{Cursor}
 use Rattle.std.proofs.lemmas.Bool.{cases_lt}
@@ -29,7 +29,7 @@ use Rattle.sum_table.specs.declared.view.Track.{Track}
 use Rattle.sum_table.specs.declared.view.View.{View}
 use Rattle.sum_table.specs.Exact.{AreViews, BeginsWith, Exact, IsHistory, IsKept, IsOwn, IsRing, IsView, next_at, position_at}
 use Rattle.sum_table.specs.Laid.{all_laid, count}
-use Rattle.sum_table.specs.Steps.{Finds, HoldsLast, IsLateAt, IsLateHeld, IsStep, IsSumOf, freed, MakesLook, exchanged, in_row, located, looked, with_entry, with_note, with_position}
+use Rattle.sum_table.specs.Steps.{Finds, HoldsLast, IsLateAt, IsLateHeld, IsStep, IsSumOf, withdrawable_after, MakesLook, word_exchange, in_row, position_load, word_load, with_entry, with_note, with_position}
 use Rattle.ring_rule.specs.Words.{index_of, rank}
 use Rattle.sum_table.proofs.Lists.{IsPublished-last}
 use Rattle.ring_rule.specs.NoteLaws.{noted_set}
@@ -83,7 +83,7 @@ none_made g views t h id v w y here lasts history of_ring begins =
 
 -- a load of the position
 pub locates : (slots id : ℕ) (m : Me Entry View) → m.0.ended ≡ false
-    → Allows (Exact m.0.key) slots id m 0 (λ n. n) (located (step slots 0 0 0 none) m)
+    → Allows (Exact m.0.key) slots id m 0 (λ n. n) (position_load (step slots 0 0 0 none) m)
 locates slots id m lasts s e homes here fits =
     let v : View = m.0 in
     let k : Key = v.key in
@@ -222,7 +222,7 @@ notes slots id m i s at t h lasts x here =
 
 -- a load of the word of a frame and channel
 pub looks : (slots id : ℕ) (m : Me Entry View) (f c : ℕ) → m.0.ended ≡ false → c < m.0.key.geometry.channels
-    → Allows (Exact m.0.key) slots id m (index_of m.0.key.geometry f c) (λ n. n) (looked (step slots (index_of m.0.key.geometry f c) 0 0 none) m)
+    → Allows (Exact m.0.key) slots id m (index_of m.0.key.geometry f c) (λ n. n) (word_load (step slots (index_of m.0.key.geometry f c) 0 0 none) m)
 looks slots id m f c lasts in_range s e homes here fits =
     let v : View = m.0 in
     let k : Key = v.key in
@@ -258,7 +258,7 @@ pub record MayPut (v : View) (e : Entry) (old new : ℕ) : Type 0 where
 -- what the entry then is: it is in the ring, the seat's list stays in order, and the history replies that it is in time
 pub record Puts (words : List ℕ) (views : List View) (t : Track) (h : List Row) (id : ℕ) (v : View) (e : Entry) : Type 0 where
   pub ahead : e.frame < v.seen + v.key.geometry.frames
-  pub kept : IsKept v.key.geometry v.places (v.laid ++ e ∷ []) (v.mine ++ e ∷ []) (freed e.kind v.marks v.free e) (marks_after v.key.geometry v.marks e) v.seen v.ended
+  pub kept : IsKept v.key.geometry v.places (v.laid ++ e ∷ []) (v.mine ++ e ∷ []) (withdrawable_after e.kind v.marks v.free e) (marks_after v.key.geometry v.marks e) v.seen v.ended
   pub reply : is_taken t.taken e.frame e.channel ≡ false → (members : ℕ) → length views ≤ members → IsReply v.key.geometry members h (in_row id e)
 
 put_cases : (words : List ℕ) (views : List View) (at : ℕ) (t : Track) (h : List Row) (id : ℕ) (v : View) (e : Entry)
@@ -353,7 +353,7 @@ puts words views at t h id v e old new x here may is =
 -- a compare-exchange that lays an entry where the word is the expected one, and else notes the word found
 pub exchanges : (slots id : ℕ) (m : Me Entry View) (e : Entry) (old new : ℕ) → MayPut m.0 e old new
     → Allows (Exact m.0.key) slots id m (index_of m.0.key.geometry e.frame e.channel) (λ n. either (n == old) new n)
-    (exchanged (step slots (index_of m.0.key.geometry e.frame e.channel) old new (some e)) m)
+    (word_exchange (step slots (index_of m.0.key.geometry e.frame e.channel) old new (some e)) m)
 exchanges slots id m e old new may s x homes here fits =
     let v : View = m.0 in
     let k : Key = v.key in
@@ -367,7 +367,7 @@ exchanges slots id m e old new may s x homes here fits =
     let found : Finds v i n = finds s.words s.views x.0 t h id v e.frame e.channel x.3 x.4 here may.channel fits in
     let Goes : ℕ → Type 0 = λ word. (w : View) × (a : Act Entry) × Rattle.atomic_table.specs.Table.Valid s.homes m.1 a
     × Exact k (Rattle.atomic_table.specs.Table.stepped s i word id m.1 w a)
-    × exchanged (step slots i old new (some e)) m n (w, Rattle.atomic_table.specs.Table.carried_after m.1 a) in
+    × word_exchange (step slots i old new (some e)) m n (w, Rattle.atomic_table.specs.Table.carried_after m.1 a) in
     by_exchange n old new Goes
     (λ won.
     let late : List Row = h ++ in_row id e ∷ [] in

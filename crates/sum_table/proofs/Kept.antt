@@ -22,7 +22,7 @@ use Rattle.sum_table.specs.declared.view.View.{View}
 use Rattle.sum_table.specs.Cuts.{joined_free, joined_marks}
 use Rattle.sum_table.specs.Exact.{AreWithinMarks, IsKept, IsLaid, IsOwn}
 use Rattle.sum_table.specs.Laid.{by_member, count}
-use Rattle.sum_table.specs.Steps.{HoldsLast, freed}
+use Rattle.sum_table.specs.Steps.{HoldsLast, withdrawable_after}
 use Rattle.ring_rule.specs.Lists.{at_append}
 
 pub IsLaid-later : (g : Geometry) (seen later : ℕ) → seen ≤ later → (e : Entry) → IsLaid g seen e → IsLaid g later e
@@ -239,14 +239,14 @@ count_before g at (x ∷ xs) f c all from =
 -- a seat added a sample
 pub kept_add : (g : Geometry) (places : ℕ) (es mine free : List Entry) (marks : Marks) (seen : ℕ) (ended : Bool) (e : Entry)
     → IsKept g places es mine free marks seen ended → e.kind ≡ Added → IsLaid g seen e → IsFrom marks.cursor e.frame e.channel → 0 < places
-    → IsKept g places (es ++ e ∷ []) (mine ++ e ∷ []) (freed e.kind marks free e) (marks_after g marks e) seen ended
+    → IsKept g places (es ++ e ∷ []) (mine ++ e ∷ []) (withdrawable_after e.kind marks free e) (marks_after g marks e) seen ended
 kept_add g places es mine free marks seen ended e x kind laid from has =
     let held : standing (es ++ e ∷ []) ≡ standing es ++ e ∷ [] = standing-more es e ∙ ap (λ k. Rattle.mix_core.specs.Laid.stood k (standing es) e) kind in
     let own_held : standing (mine ++ e ∷ []) ≡ standing mine ++ e ∷ [] = standing-more mine e ∙ ap (λ k. Rattle.mix_core.specs.Laid.stood k (standing mine) e) kind in
     let marks_is : marks_after g marks e ≡ added_at g marks e.frame e.channel = ap (λ k. Rattle.mix_core.specs.Laid.marks_with k g marks e.frame e.channel) kind in
     let own_marks : marks_by g (mine ++ e ∷ []) ≡ added_at g (marks_by g mine) e.frame e.channel =
     marks_by-more g mine e ∙ ap (λ k. Rattle.mix_core.specs.Laid.marks_with k g (marks_by g mine) e.frame e.channel) kind in
-    let free_is : freed e.kind marks free e ≡ free_after (is_before marks.cursor marks.high) free e = ap (λ k. freed k marks free e) kind in
+    let free_is : withdrawable_after e.kind marks free e ≡ free_after (is_before marks.cursor marks.high) free e = ap (λ k. withdrawable_after k marks free e) kind in
     let none : count (standing es) e.frame e.channel ≡ 0 = count_before g marks.cursor (standing es) e.frame e.channel x.holding.before from in
     record {
       laid = laid_more g es seen e x.laid laid;
@@ -256,8 +256,8 @@ kept_add g places es mine free marks seen ended e x kind laid from has =
         | inr elsewhere ↦ omega (arith, count-elsewhere es e f c elsewhere, x.few f c)
       ];
       marked = subst (λ m. IsMarked g m (es ++ e ∷ [])) (sym marks_is) (IsMarked-add g marks es e x.marked laid.channel from);
-      holding = subst (λ zs. IsHolding g (marks_after g marks e) zs (freed e.kind marks free e)) (sym held)
-          (subst (λ m. IsHolding g m (standing es ++ e ∷ []) (freed e.kind marks free e)) (sym marks_is)
+      holding = subst (λ zs. IsHolding g (marks_after g marks e) zs (withdrawable_after e.kind marks free e)) (sym held)
+          (subst (λ m. IsHolding g m (standing es ++ e ∷ []) (withdrawable_after e.kind marks free e)) (sym marks_is)
           (subst (IsHolding g (added_at g marks e.frame e.channel) (standing es ++ e ∷ [])) (sym free_is)
           (IsHolding-add g marks (standing es) free e x.holding x.marked.cursor_high laid.channel from)));
       backed = λ before.
@@ -271,7 +271,7 @@ kept_add g places es mine free marks seen ended e x kind laid from has =
       own = λ lasts.
           let o : IsOwn g mine free marks = x.own lasts in
           record {
-            ends = subst (λ zs. EndsIn zs (freed e.kind marks free e)) (sym own_held) (subst (EndsIn (standing mine ++ e ∷ [])) (sym free_is)
+            ends = subst (λ zs. EndsIn zs (withdrawable_after e.kind marks free e)) (sym own_held) (subst (EndsIn (standing mine ++ e ∷ [])) (sym free_is)
                 (ends_more (is_before marks.cursor marks.high) (standing mine) free e o.ends));
             within = subst (λ m. AreWithinMarks m (marks_after g marks e)) (sym own_marks) (subst (AreWithinMarks (added_at g (marks_by g mine) e.frame e.channel)) (sym marks_is)
                 (within_add g (marks_by g mine) marks e.frame e.channel o.within laid.channel from));
@@ -284,7 +284,7 @@ kept_add g places es mine free marks seen ended e x kind laid from has =
 -- a seat withdrew its last standing add
 pub kept_withdraw : (g : Geometry) (places : ℕ) (es mine free : List Entry) (marks : Marks) (seen : ℕ) (ended : Bool) (e : Entry)
     → IsKept g places es mine free marks seen ended → e.kind ≡ Withdrawn → IsHeldAt g es marks e.frame e.channel e.sample
-    → IsKept g places (es ++ e ∷ []) (mine ++ e ∷ []) (freed e.kind marks free e) (marks_after g marks e) seen ended
+    → IsKept g places (es ++ e ∷ []) (mine ++ e ∷ []) (withdrawable_after e.kind marks free e) (marks_after g marks e) seen ended
 kept_withdraw g places es mine free marks seen ended e x kind y =
     let facts : HeldFacts g marks seen e.frame e.channel = held_facts g places es mine free marks seen ended e.frame e.channel e.sample x y in
     let laid : IsLaid g seen e = record { channel = facts.channel; low = facts.low; ahead = facts.ahead; fits = facts.fits } in
@@ -294,7 +294,7 @@ kept_withdraw g places es mine free marks seen ended e x kind y =
     let marks_is : marks_after g marks e ≡ withdrawn_at marks e.frame e.channel = ap (λ k. Rattle.mix_core.specs.Laid.marks_with k g marks e.frame e.channel) kind in
     let own_marks : marks_by g (mine ++ e ∷ []) ≡ withdrawn_at (marks_by g mine) e.frame e.channel =
     marks_by-more g mine e ∙ ap (λ k. Rattle.mix_core.specs.Laid.marks_with k g (marks_by g mine) e.frame e.channel) kind in
-    let free_is : freed e.kind marks free e ≡ without_last free = ap (λ k. freed k marks free e) kind in
+    let free_is : withdrawable_after e.kind marks free e ≡ without_last free = ap (λ k. withdrawable_after k marks free e) kind in
     let from_last : IsFrom marks.floor y.last.frame y.last.channel =
     subst (λ d. IsFrom marks.floor y.last.frame d) (sym y.channel) (subst (λ k. IsFrom marks.floor k e.channel) (sym y.frame) y.from_floor) in
     let was : IsHolding g marks (y.early ++ y.last ∷ []) free = subst (λ zs. IsHolding g marks zs free) y.ends x.holding in
@@ -311,8 +311,8 @@ kept_withdraw g places es mine free marks seen ended e x kind y =
         | inr elsewhere ↦ omega (arith, count-elsewhere es e f c elsewhere, x.few f c)
       ];
       marked = subst (λ m. IsMarked g m (es ++ e ∷ [])) (sym marks_is) (IsMarked-withdraw g marks es e x.marked facts.channel y.from_floor facts.before);
-      holding = subst (λ zs. IsHolding g (marks_after g marks e) zs (freed e.kind marks free e)) (sym held)
-          (subst (λ m. IsHolding g m y.early (freed e.kind marks free e)) (sym marks_is)
+      holding = subst (λ zs. IsHolding g (marks_after g marks e) zs (withdrawable_after e.kind marks free e)) (sym held)
+          (subst (λ m. IsHolding g m y.early (withdrawable_after e.kind marks free e)) (sym marks_is)
           (subst (IsHolding g (withdrawn_at marks e.frame e.channel) y.early) (sym free_is) now));
       backed = λ before.
           let taken : fold stand_after before es ≡ (before ++ y.early) ++ y.last ∷ [] =
@@ -326,7 +326,7 @@ kept_withdraw g places es mine free marks seen ended e x kind y =
           let joined : standing mine ≡ (o.ends.0 ++ without_last free) ++ y.last ∷ [] =
           o.ends.1 ∙ (ap (λ zs. o.ends.0 ++ zs) last ∙ sym (append_assoc o.ends.0 (without_last free) (y.last ∷ []))) in
           record {
-            ends = subst (λ zs. EndsIn zs (freed e.kind marks free e)) (sym own_held) (subst (EndsIn (without_last (standing mine))) (sym free_is)
+            ends = subst (λ zs. EndsIn zs (withdrawable_after e.kind marks free e)) (sym own_held) (subst (EndsIn (without_last (standing mine))) (sym free_is)
                 (o.ends.0, ap without_last joined ∙ without_last-more (o.ends.0 ++ without_last free) y.last));
             within = subst (λ m. AreWithinMarks m (marks_after g marks e)) (sym own_marks) (subst (AreWithinMarks (withdrawn_at (marks_by g mine) e.frame e.channel)) (sym marks_is)
                 (within_withdraw (marks_by g mine) marks e.frame e.channel o.within y.from_floor facts.before));

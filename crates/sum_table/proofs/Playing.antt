@@ -24,7 +24,7 @@ use Rattle.sum_table.specs.Exact.{BeginsWith, Exact, next_at, position_at, the_t
 use Rattle.sum_table.specs.Known.{IsPlayer}
 use Rattle.ring_rule.specs.Positions.{has_all}
 use Rattle.sum_table.specs.Players.{HasTaken, IsTurnedPlayer, player_view, track_of}
-use Rattle.sum_table.specs.Steps.{Makes, published, taken, taking, track_taken, unplugged, with_gone, with_published, with_taken}
+use Rattle.sum_table.specs.Steps.{Makes, position_store, word_take, taking, track_taken, unplug_store, with_gone, with_published, with_taken}
 use Rattle.ring_rule.specs.Words.{index_of}
 use Rattle.ring_rule.specs.PositionLaws.{has_all-published, last_of-more}
 use Rattle.ring_rule.specs.WordLaws.{lap-le}
@@ -43,10 +43,10 @@ fits_next p other = omega (arith, other, lap-le p.key.geometry p.next.frame p.kn
 -- what the player shows before it takes a word
 pub may_take : (p : PlayerSeat) (slots i word : ℕ) → lap p.key.geometry p.next.frame ≢ 4294967295
     → StandsFor word (lap p.key.geometry p.next.frame + 1) 0 (pos 0) → i ≡ index_of p.key.geometry p.next.frame p.next.channel
-    → Allows (Exact p.ring.now.key) slots p.seat.id p.seat.me i (λ n. word) (taken (step slots i word 0 none) p.seat.me)
+    → Allows (Exact p.ring.now.key) slots p.seat.id p.seat.me i (λ n. word) (word_take (step slots i word 0 none) p.seat.me)
 may_take p slots i word other stands index =
     let v : View = player_view p in
-    let Goes : Key → ℕ → Type 0 = λ k j. Allows (Exact k) slots p.seat.id p.seat.me j (λ n. word) (taken (step slots j word 0 none) p.seat.me) in
+    let Goes : Key → ℕ → Type 0 = λ k j. Allows (Exact k) slots p.seat.id p.seat.me j (λ n. word) (word_take (step slots j word 0 none) p.seat.me) in
     let own : p.key ≡ v.key = sym p.known.same_key in
     let at_own : Goes v.key (index_of v.key.geometry p.next.frame p.next.channel) = takes slots p.seat.id p.seat.me p.next word p.known.lasts p.known.tracked
     (λ t is. p.known.next_is ∙ (ap (next_at p.key.geometry) (track_is v t is) ∙ ap (λ (k : Key). next_at k.geometry t) own))
@@ -56,22 +56,22 @@ may_take p slots i word other stands index =
     subst (λ k. Goes k i) p.same_ring.1 (subst (Goes p.key) (sym index) at_key)
 
 pub may_publish : (p : PlayerSeat) (slots word : ℕ) → word ≡ word_of p.next.frame p.gone
-    → Allows (Exact p.ring.now.key) slots p.seat.id p.seat.me 0 (λ n. word) (λ n. published (step slots 0 word 0 none) p.seat.me word)
+    → Allows (Exact p.ring.now.key) slots p.seat.id p.seat.me 0 (λ n. word) (λ n. position_store (step slots 0 word 0 none) p.seat.me word)
 may_publish p slots word is =
     let v : View = player_view p in
     let own : p.key ≡ v.key = sym p.known.same_key in
-    let Goes : Key → ℕ → Type 0 = λ k w. Allows (Exact k) slots p.seat.id p.seat.me 0 (λ n. w) (λ n. published (step slots 0 w 0 none) p.seat.me w) in
+    let Goes : Key → ℕ → Type 0 = λ k w. Allows (Exact k) slots p.seat.id p.seat.me 0 (λ n. w) (λ n. position_store (step slots 0 w 0 none) p.seat.me w) in
     let at_own : Goes v.key (word_of p.next.frame p.gone) = publishes slots p.seat.id p.seat.me p.next p.gone p.known.lasts p.known.tracked
     (λ t is. p.known.next_is ∙ (ap (next_at p.key.geometry) (track_is v t is) ∙ ap (λ (k : Key). next_at k.geometry t) own))
     (λ t is. p.known.gone_is ∙ ap (λ (x : Track). x.gone) (track_is v t is)) in
     subst (λ k. Goes k word) (p.known.same_key ∙ p.same_ring.1) (subst (Goes v.key) (sym is) at_own)
 
 pub may_unplug : (p : PlayerSeat) (slots word : ℕ) → word ≡ word_of p.position true
-    → Allows (Exact p.ring.now.key) slots p.seat.id p.seat.me 0 (λ n. word) (λ n. unplugged (step slots 0 word 0 none) p.seat.me word)
+    → Allows (Exact p.ring.now.key) slots p.seat.id p.seat.me 0 (λ n. word) (λ n. unplug_store (step slots 0 word 0 none) p.seat.me word)
 may_unplug p slots word is =
     let v : View = player_view p in
     let own : p.key ≡ v.key = sym p.known.same_key in
-    let Goes : Key → ℕ → Type 0 = λ k w. Allows (Exact k) slots p.seat.id p.seat.me 0 (λ n. w) (λ n. unplugged (step slots 0 w 0 none) p.seat.me w) in
+    let Goes : Key → ℕ → Type 0 = λ k w. Allows (Exact k) slots p.seat.id p.seat.me 0 (λ n. w) (λ n. unplug_store (step slots 0 w 0 none) p.seat.me w) in
     let at_own : Goes v.key (word_of p.position true) = unplugs slots p.seat.id p.seat.me p.position p.known.lasts p.known.tracked
     (λ t is. p.known.position_is ∙ (ap (position_at p.key.geometry) (track_is v t is) ∙ ap (λ (k : Key). position_at k.geometry t) own)) in
     subst (λ k. Goes k word) (p.known.same_key ∙ p.same_ring.1) (subst (Goes v.key) (sym is) at_own)
@@ -83,7 +83,7 @@ or_right false b is = is
 -- the fields after a word was taken
 pub known_taken : (k : Key) (next : Cursor) (position : ℕ) (gone : Bool) (slots i word n : ℕ) (m r : Me Entry View)
     → IsPlayer m.0 k next position gone → lap k.geometry next.frame < 4294967295
-    → taken (step slots i word 0 none) m n r → IsPlayer r.0 k (cursor_after k.geometry next.frame next.channel) position gone
+    → word_take (step slots i word 0 none) m n r → IsPlayer r.0 k (cursor_after k.geometry next.frame next.channel) position gone
 known_taken k next position gone slots i word n m r is fits told =
     let h : List Row = told.0 in
     let t : Track = told.1 in
@@ -113,7 +113,7 @@ known_taken k next position gone slots i word n m r is fits told =
 
 -- after a publication
 pub known_published : (k : Key) (next : Cursor) (position : ℕ) (gone : Bool) (slots word n : ℕ) (m r : Me Entry View)
-    → IsPlayer m.0 k next position gone → published (step slots 0 word 0 none) m n r → IsPlayer r.0 k next next.frame gone
+    → IsPlayer m.0 k next position gone → position_store (step slots 0 word 0 none) m n r → IsPlayer r.0 k next next.frame gone
 known_published k next position gone slots word n m r is told =
     let h : List Row = told.0 in
     let t : Track = told.1 in
@@ -143,7 +143,7 @@ known_published k next position gone slots word n m r is told =
 
 -- after the card was unplugged
 pub known_unplugged : (k : Key) (next : Cursor) (position : ℕ) (gone : Bool) (slots word n : ℕ) (m r : Me Entry View)
-    → IsPlayer m.0 k next position gone → unplugged (step slots 0 word 0 none) m n r → IsPlayer r.0 k next position true
+    → IsPlayer m.0 k next position gone → unplug_store (step slots 0 word 0 none) m n r → IsPlayer r.0 k next position true
 known_unplugged k next position gone slots word n m r is told =
     let h : List Row = told.0 in
     let t : Track = told.1 in
@@ -171,7 +171,7 @@ known_unplugged k next position gone slots word n m r is told =
 -- the player's seat after it took a word
 pub has_taken : (p q : PlayerSeat) (slots i word n : ℕ) (z : ℤ) → q.seat.table_id ≡ p.seat.table_id → q.key ≡ p.key
     → q.next ≡ cursor_after p.key.geometry p.next.frame p.next.channel → q.position ≡ p.position → q.gone ≡ p.gone
-    → z ≡ clamp_of (sum_of n) → taken (step slots i word 0 none) p.seat.me n q.seat.me
+    → z ≡ clamp_of (sum_of n) → word_take (step slots i word 0 none) p.seat.me n q.seat.me
     → HasTaken p q (record { frame = p.next.frame; channel = p.next.channel; value = z })
 has_taken p q slots i word n z ring key next position gone value told =
     let v : View = player_view p in

@@ -31,7 +31,7 @@ use Rattle.sum_table.specs.declared.view.View.{View}
 use Rattle.sum_table.specs.Exact.{BeginsWith, Exact, IsLaid}
 use Rattle.sum_table.specs.Known.{IsKnown, IsReach, IsNoted, greater, last_frame}
 use Rattle.sum_table.specs.Seats.{HasLaid, HasLocated, HasLost, HasNoted, IsRingSpot, MayLay, NotesRise, NotesRise-same, entry_by, view_of}
-use Rattle.sum_table.specs.Steps.{Finds, HoldsLast, IsStep, IsSumOf, IsWord, Lays, Makes, MakesLook, Notes, exchanged, in_row, located, looked, with_entry, with_note, with_position}
+use Rattle.sum_table.specs.Steps.{Finds, HoldsLast, IsStep, IsSumOf, IsWord, Lays, Makes, MakesLook, Notes, word_exchange, in_row, position_load, word_load, with_entry, with_note, with_position}
 use Rattle.ring_rule.specs.Words.{NotPast, index_of, words_of}
 use Rattle.sum_table.proofs.Keeps.{MayPut, exchanges, locates, looks, may_put}
 use Rattle.sum_table.proofs.Highs.{IsReach-added, IsReach-withdrawn, last_frame-has}
@@ -42,13 +42,13 @@ use Rattle.ring_rule.specs.WordLaws.{index_of-lt}
 
 -- the steps at the ring's key, which is the view's
 pub locates_at : (k : Key) (slots id : ℕ) (m : Me Entry View) → m.0.key ≡ k → m.0.ended ≡ false
-    → Allows (Exact k) slots id m 0 (λ n. n) (located (step slots 0 0 0 none) m)
-locates_at k slots id m same lasts = subst (λ x. Allows (Exact x) slots id m 0 (λ n. n) (located (step slots 0 0 0 none) m)) same (locates slots id m lasts)
+    → Allows (Exact k) slots id m 0 (λ n. n) (position_load (step slots 0 0 0 none) m)
+locates_at k slots id m same lasts = subst (λ x. Allows (Exact x) slots id m 0 (λ n. n) (position_load (step slots 0 0 0 none) m)) same (locates slots id m lasts)
 
 pub looks_at : (k : Key) (slots id : ℕ) (m : Me Entry View) (i f c : ℕ) → m.0.key ≡ k → m.0.ended ≡ false → c < k.geometry.channels → i ≡ index_of k.geometry f c
-    → Allows (Exact k) slots id m i (λ n. n) (looked (step slots i 0 0 none) m)
+    → Allows (Exact k) slots id m i (λ n. n) (word_load (step slots i 0 0 none) m)
 looks_at k slots id m i f c same lasts in_range index =
-    let Goes : Key → ℕ → Type 0 = λ x j. Allows (Exact x) slots id m j (λ n. n) (looked (step slots j 0 0 none) m) in
+    let Goes : Key → ℕ → Type 0 = λ x j. Allows (Exact x) slots id m j (λ n. n) (word_load (step slots j 0 0 none) m) in
     let at_own : Goes m.0.key (index_of m.0.key.geometry f c) = looks slots id m f c lasts (subst (λ (x : Key). c < x.geometry.channels) (sym same) in_range) in
     let at_key : Goes k (index_of k.geometry f c) = subst (λ x. Goes x (index_of x.geometry f c)) same at_own in
     subst (Goes k) (sym index) at_key
@@ -93,7 +93,7 @@ known_noted k places marks seen last v h i n is word = record {
 
 -- the fields after a load of the position
 pub known_located : (k : Key) (places : ℕ) (marks : Marks) (seen : ℕ) (last : Option ℕ) (slots n : ℕ) (m r : Me Entry View)
-    → IsKnown m.0 k places marks seen last → located (step slots 0 0 0 none) m n r → IsKnown r.0 k places marks (position_in n) last
+    → IsKnown m.0 k places marks seen last → position_load (step slots 0 0 0 none) m n r → IsKnown r.0 k places marks (position_in n) last
 known_located k places marks seen last slots n m r is told =
     let p : ℕ = told.1 in
     let gone : Bool = told.2 in
@@ -122,7 +122,7 @@ known_located k places marks seen last slots n m r is told =
 
 -- the fields after a load of a word
 pub known_looked : (k : Key) (places : ℕ) (marks : Marks) (seen : ℕ) (last : Option ℕ) (slots i n : ℕ) (m r : Me Entry View)
-    → IsKnown m.0 k places marks seen last → looked (step slots i 0 0 none) m n r → IsKnown r.0 k places marks seen last
+    → IsKnown m.0 k places marks seen last → word_load (step slots i 0 0 none) m n r → IsKnown r.0 k places marks seen last
 known_looked k places marks seen last slots i n m r is told =
     subst (λ (x : Me Entry View). IsKnown x.0 k places marks seen last) (sym told.1.1) (known_noted k places marks seen last m.0 told.1.0 i n is told.0.word)
 
@@ -183,9 +183,9 @@ has_noted s t f c n same marks last in_range found told =
 
 -- what a seat shows before a load of a word
 pub may_look : (s : MixSeat) (slots i f c : ℕ) → c < s.key.geometry.channels → i ≡ index_of s.key.geometry f c
-    → Allows (Exact s.ring.now.key) slots s.seat.id s.seat.me i (λ n. n) (looked (step slots i 0 0 none) s.seat.me)
+    → Allows (Exact s.ring.now.key) slots s.seat.id s.seat.me i (λ n. n) (word_load (step slots i 0 0 none) s.seat.me)
 may_look s slots i f c in_range index =
-    subst (λ x. Allows (Exact x) slots s.seat.id s.seat.me i (λ n. n) (looked (step slots i 0 0 none) s.seat.me)) s.same_ring.1
+    subst (λ x. Allows (Exact x) slots s.seat.id s.seat.me i (λ n. n) (word_load (step slots i 0 0 none) s.seat.me)) s.same_ring.1
     (looks_at s.key slots s.seat.id s.seat.me i f c s.known.same_key s.known.lasts in_range index)
 
 -- the same, where the word is found in the ring that a seat's step is given
@@ -193,9 +193,9 @@ pub ring_spot_room : (s : MixSeat) (f c : ℕ) (r : RingSpot) → IsRingSpot s f
 ring_spot_room s f c r is = ap (λ (t : TableId). t.words) (is.table ∙ s.same_ring.0) ∙ s.same_ring.3
 
 pub ring_spot_looks : (s : MixSeat) (r : RingSpot) (f c : ℕ) → c < s.key.geometry.channels → IsRingSpot s f c r
-    → Allows (Exact r.ring.now.key) r.ring.now.table_id.slots s.seat.id s.seat.me r.spot.index (λ n. n) (looked (step r.ring.now.table_id.slots r.spot.index 0 0 none) s.seat.me)
+    → Allows (Exact r.ring.now.key) r.ring.now.table_id.slots s.seat.id s.seat.me r.spot.index (λ n. n) (word_load (step r.ring.now.table_id.slots r.spot.index 0 0 none) s.seat.me)
 ring_spot_looks s r f c in_range is =
-    subst (λ x. Allows (Exact x) r.ring.now.table_id.slots s.seat.id s.seat.me r.spot.index (λ n. n) (looked (step r.ring.now.table_id.slots r.spot.index 0 0 none) s.seat.me))
+    subst (λ x. Allows (Exact x) r.ring.now.table_id.slots s.seat.id s.seat.me r.spot.index (λ n. n) (word_load (step r.ring.now.table_id.slots r.spot.index 0 0 none) s.seat.me))
     (sym s.same_ring.1 ∙ sym is.key) (may_look s r.ring.now.table_id.slots r.spot.index f c in_range is.spot.index_is)
 
 -- a word that has room for one more sample
@@ -311,17 +311,17 @@ to_put s k f c old new sample may stands =
 
 pub may_exchange : (s : MixSeat) (kind : Kind) (slots i f c old new : ℕ) (sample : ℤ) → MayExchange s kind f c old sample → StandsFor new (lap_of old) (count_of old + 1) (sum_of old +ℤ signed_sample kind sample)
     → i ≡ index_of s.key.geometry f c
-    → Allows (Exact s.ring.now.key) slots s.seat.id s.seat.me i (λ n. either (n == old) new n) (exchanged (step slots i old new (some (entry_by s kind f c sample))) s.seat.me)
+    → Allows (Exact s.ring.now.key) slots s.seat.id s.seat.me i (λ n. either (n == old) new n) (word_exchange (step slots i old new (some (entry_by s kind f c sample))) s.seat.me)
 may_exchange s kind slots i f c old new sample may stands index =
-    let Goes : Key → ℕ → Type 0 = λ k j. Allows (Exact k) slots s.seat.id s.seat.me j (λ n. either (n == old) new n) (exchanged (step slots j old new (some (entry_by s kind f c sample))) s.seat.me) in
+    let Goes : Key → ℕ → Type 0 = λ k j. Allows (Exact k) slots s.seat.id s.seat.me j (λ n. either (n == old) new n) (word_exchange (step slots j old new (some (entry_by s kind f c sample))) s.seat.me) in
     let at_own : Goes (view_of s).key (index_of (view_of s).key.geometry f c) = exchanges slots s.seat.id s.seat.me (entry_by s kind f c sample) old new (to_put s kind f c old new sample may stands) in
     let at_key : Goes s.key (index_of s.key.geometry f c) = subst (λ (k : Key). Goes k (index_of k.geometry f c)) s.known.same_key at_own in
     subst (λ k. Goes k i) s.same_ring.1 (subst (Goes s.key) (sym index) at_key)
 
 pub ring_spot_exchanges : (s : MixSeat) (r : RingSpot) (kind : Kind) (f c old new : ℕ) (sample : ℤ) → IsRingSpot s f c r → MayExchange s kind f c old sample → StandsFor new (lap_of old) (count_of old + 1) (sum_of old +ℤ signed_sample kind sample)
-    → Allows (Exact r.ring.now.key) r.ring.now.table_id.slots s.seat.id s.seat.me r.spot.index (λ n. either (n == old) new n) (exchanged (step r.ring.now.table_id.slots r.spot.index old new (some (entry_by s kind f c sample))) s.seat.me)
+    → Allows (Exact r.ring.now.key) r.ring.now.table_id.slots s.seat.id s.seat.me r.spot.index (λ n. either (n == old) new n) (word_exchange (step r.ring.now.table_id.slots r.spot.index old new (some (entry_by s kind f c sample))) s.seat.me)
 ring_spot_exchanges s r kind f c old new sample is may stands =
-    subst (λ x. Allows (Exact x) r.ring.now.table_id.slots s.seat.id s.seat.me r.spot.index (λ n. either (n == old) new n) (exchanged (step r.ring.now.table_id.slots r.spot.index old new (some (entry_by s kind f c sample))) s.seat.me))
+    subst (λ x. Allows (Exact x) r.ring.now.table_id.slots s.seat.id s.seat.me r.spot.index (λ n. either (n == old) new n) (word_exchange (step r.ring.now.table_id.slots r.spot.index old new (some (entry_by s kind f c sample))) s.seat.me))
     (sym s.same_ring.1 ∙ sym is.key) (may_exchange s kind r.ring.now.table_id.slots r.spot.index f c old new sample may stands is.spot.index_is)
 
 -- the greatest frame of joined lists
@@ -471,20 +471,20 @@ has_laid s t e same marks last told =
     }
 
 -- the fields and the seat after an exchange that was lost
-pub lost_notes : (slots i old new n : ℕ) (e : Entry) (m r : Me Entry View) → n ≢ old → exchanged (step slots i old new (some e)) m n r → Finds m.0 i n × Notes m.0 m.1 i n r
+pub lost_notes : (slots i old new n : ℕ) (e : Entry) (m r : Me Entry View) → n ≢ old → word_exchange (step slots i old new (some e)) m n r → Finds m.0 i n × Notes m.0 m.1 i n r
 lost_notes slots i old new n e m r other told = (told.0, told.2 other)
 
 pub known_lost : (k : Key) (places : ℕ) (marks : Marks) (seen : ℕ) (last : Option ℕ) (slots i old new n : ℕ) (e : Entry) (m r : Me Entry View)
-    → IsKnown m.0 k places marks seen last → n ≢ old → exchanged (step slots i old new (some e)) m n r → IsKnown r.0 k places marks seen last
+    → IsKnown m.0 k places marks seen last → n ≢ old → word_exchange (step slots i old new (some e)) m n r → IsKnown r.0 k places marks seen last
 known_lost k places marks seen last slots i old new n e m r is other told =
     known_looked k places marks seen last slots i n m r is (lost_notes slots i old new n e m r other told)
 
 pub has_lost : (s t : MixSeat) (slots i f c old new n : ℕ) (e : Entry) → SameFields s t → t.reach.marks ≡ s.reach.marks → t.reach.last ≡ s.reach.last → c < s.key.geometry.channels
     → get_or (view_of s).noted (index_of s.key.geometry f c) None ≡ Some old → i ≡ index_of s.key.geometry f c
-    → n ≢ old → exchanged (step slots i old new (some e)) s.seat.me n t.seat.me → HasLost s t f c old n
+    → n ≢ old → word_exchange (step slots i old new (some e)) s.seat.me n t.seat.me → HasLost s t f c old n
 has_lost s t slots i f c old new n e same marks last in_range noted index other told =
     let j : ℕ = index_of s.key.geometry f c in
-    let told_at : exchanged (step slots j old new (some e)) s.seat.me n t.seat.me = subst (λ x. exchanged (step slots x old new (some e)) s.seat.me n t.seat.me) index told in
+    let told_at : word_exchange (step slots j old new (some e)) s.seat.me n t.seat.me = subst (λ x. word_exchange (step slots x old new (some e)) s.seat.me n t.seat.me) index told in
     let found : Finds (view_of s) j n = told_at.0 in
     record {
       noted = has_noted s t f c n same marks last in_range found (told_at.2 other);
@@ -496,7 +496,7 @@ entry_or : Entry → mathlib.Core.Option.Option Entry → Entry
 entry_or e none = e
 entry_or e (some x) = x
 
-pub won_lays : (slots i old new n : ℕ) (e : Entry) (m r : Me Entry View) → n ≡ old → exchanged (step slots i old new (some e)) m n r → Lays m.0 m.1 e r
+pub won_lays : (slots i old new n : ℕ) (e : Entry) (m r : Me Entry View) → n ≡ old → word_exchange (step slots i old new (some e)) m n r → Lays m.0 m.1 e r
 unfolding entry_or
 won_lays slots i old new n e m r same told =
     let lays = told.1 same in
@@ -504,7 +504,7 @@ won_lays slots i old new n e m r same told =
 
 pub known_won : (k : Key) (places : ℕ) (marks : Marks) (seen : ℕ) (last : Option ℕ) (slots i old new n : ℕ) (e : Entry) (m r : Me Entry View)
     → IsKnown m.0 k places marks seen last → may_put e.kind m.0 e.frame e.channel e.sample
-    → n ≡ old → exchanged (step slots i old new (some e)) m n r → IsKnown r.0 k places (marks_after k.geometry marks e) seen (greater last (Some e.frame))
+    → n ≡ old → word_exchange (step slots i old new (some e)) m n r → IsKnown r.0 k places (marks_after k.geometry marks e) seen (greater last (Some e.frame))
 known_won k places marks seen last slots i old new n e m r is may same told =
     let lays : Lays m.0 m.1 e r = won_lays slots i old new n e m r same told in
     subst (λ (x : Me Entry View). IsKnown x.0 k places (marks_after k.geometry marks e) seen (greater last (Some e.frame))) (sym lays.1) (known_laid k places marks seen last m.0 lays.0 e is may)
@@ -517,7 +517,7 @@ has_laid_as s t k f c z x is same marks last told = subst (λ y. HasLaid s t (en
 -- a seat that loaded the position
 pub has_located : (s t : MixSeat) (slots n : ℕ) (p : Position) → t.seat.table_id ≡ s.seat.table_id → t.key ≡ s.key → t.member ≡ s.member → t.places ≡ s.places
     → t.reach.marks ≡ s.reach.marks → t.reach.last ≡ s.reach.last → t.seen ≡ p.frame → p.frame ≡ position_in n → p.gone ≡ gone_in n
-    → located (step slots 0 0 0 none) s.seat.me n t.seat.me → HasLocated s t p
+    → position_load (step slots 0 0 0 none) s.seat.me n t.seat.me → HasLocated s t p
 has_located s t slots n p ring key member places marks last seen frame gone told =
     let most : told.1 ≤ end_frame s.key.geometry = subst (λ (x : Key). told.1 ≤ end_frame x.geometry) s.known.same_key told.6 in
     let fields = word_of-fields told.1 told.2 (position_fits s.key.geometry told.1 most) in

@@ -23,7 +23,7 @@ use Rattle.sum_table.specs.declared.view.Track.{Track}
 use Rattle.sum_table.specs.declared.view.View.{View}
 use Rattle.sum_table.specs.Exact.{Exact, is_tracked, IsHistory, IsPublished, IsView, next_at, position_at}
 use Rattle.sum_table.specs.Laid.{all_laid, count}
-use Rattle.sum_table.specs.Steps.{published, taken, taking, track_gone, track_published, track_taken, unplugged, with_gone, with_published, with_taken}
+use Rattle.sum_table.specs.Steps.{position_store, word_take, taking, track_gone, track_published, track_taken, unplug_store, with_gone, with_published, with_taken}
 use Rattle.ring_rule.specs.Words.{NotPast, index_of, rank}
 use Rattle.sum_table.proofs.Kept.{kept_later}
 use Rattle.sum_table.proofs.Keeps.{Holds, none_made}
@@ -63,7 +63,7 @@ took : (s : State Entry View) (slots id : ℕ) (m : Me Entry View) (at : ℕ) (t
     → StandsFor word (lap m.0.key.geometry (next_at m.0.key.geometry t).frame + 1) 0 (pos 0)
     → let i : ℕ = index_of m.0.key.geometry (next_at m.0.key.geometry t).frame (next_at m.0.key.geometry t).channel in
     (w : View) × (a : Act Entry) × Valid s.homes m.1 a × Exact m.0.key (stepped s i word id m.1 w a)
-    × taken (step slots i word 0 none) m (get_or s.words i 0) (w, carried_after m.1 a)
+    × word_take (step slots i word 0 none) m (get_or s.words i 0) (w, carried_after m.1 a)
 took s slots id m at t h word lasts tracks player x here fits stands =
     let v : View = m.0 in
     let k : Key = v.key in
@@ -125,7 +125,7 @@ pub takes : (slots id : ℕ) (m : Me Entry View) (next : Cursor) (word : ℕ)
     → m.0.ended ≡ false → is_tracked m.0.track ≡ true → ((t : Track) → m.0.track ≡ Some t → next ≡ next_at m.0.key.geometry t)
     → lap m.0.key.geometry next.frame < 4294967295
     → StandsFor word (lap m.0.key.geometry next.frame + 1) 0 (pos 0)
-    → Allows (Exact m.0.key) slots id m (index_of m.0.key.geometry next.frame next.channel) (λ n. word) (taken (step slots (index_of m.0.key.geometry next.frame next.channel) word 0 none) m)
+    → Allows (Exact m.0.key) slots id m (index_of m.0.key.geometry next.frame next.channel) (λ n. word) (word_take (step slots (index_of m.0.key.geometry next.frame next.channel) word 0 none) m)
 takes slots id m next word lasts is next_is fits stands s x homes here small =
     let t : Track = x.1 in
     let found : (u : Track) × (m.0.track ≡ Some u) = tracked m.0.track is in
@@ -135,7 +135,7 @@ takes slots id m next word lasts is next_is fits stands s x homes here small =
     let Goes : Cursor → Type 0 = λ (y : Cursor).
     let i : ℕ = index_of m.0.key.geometry y.frame y.channel in
     (w : View) × (a : Act Entry) × Valid s.homes m.1 a × Exact m.0.key (stepped s i word id m.1 w a)
-    × taken (step slots i word 0 none) m (get_or s.words i 0) (w, carried_after m.1 a) in
+    × word_take (step slots i word 0 none) m (get_or s.words i 0) (w, carried_after m.1 a) in
     subst Goes (sym at_next)
     (took s slots id m x.0 t x.2 word lasts tracks mine.0 (record { ring = x.3; views_ok = x.4; history = x.5 }) here
     (subst (λ (y : Cursor). lap m.0.key.geometry y.frame < 4294967295) at_next fits)
@@ -145,7 +145,7 @@ takes slots id m next word lasts is next_is fits stands s x homes here small =
 pub publishes : (slots id : ℕ) (m : Me Entry View) (next : Cursor) (gone : Bool)
     → m.0.ended ≡ false → is_tracked m.0.track ≡ true
     → ((t : Track) → m.0.track ≡ Some t → next ≡ next_at m.0.key.geometry t) → ((t : Track) → m.0.track ≡ Some t → gone ≡ t.gone)
-    → Allows (Exact m.0.key) slots id m 0 (λ n. word_of next.frame gone) (λ n. published (step slots 0 (word_of next.frame gone) 0 none) m (word_of next.frame gone))
+    → Allows (Exact m.0.key) slots id m 0 (λ n. word_of next.frame gone) (λ n. position_store (step slots 0 (word_of next.frame gone) 0 none) m (word_of next.frame gone))
 publishes slots id m next gone lasts is next_is gone_is s x homes here small =
     let v : View = m.0 in
     let k : Key = v.key in
@@ -201,7 +201,7 @@ publishes slots id m next gone lasts is next_is gone_is s x homes here small =
 -- the player's store that says that the card is gone
 pub unplugs : (slots id : ℕ) (m : Me Entry View) (position : ℕ)
     → m.0.ended ≡ false → is_tracked m.0.track ≡ true → ((t : Track) → m.0.track ≡ Some t → position ≡ position_at m.0.key.geometry t)
-    → Allows (Exact m.0.key) slots id m 0 (λ n. word_of position true) (λ n. unplugged (step slots 0 (word_of position true) 0 none) m (word_of position true))
+    → Allows (Exact m.0.key) slots id m 0 (λ n. word_of position true) (λ n. unplug_store (step slots 0 (word_of position true) 0 none) m (word_of position true))
 unplugs slots id m position lasts is position_is s x homes here small =
     let v : View = m.0 in
     let k : Key = v.key in

@@ -41,9 +41,9 @@ abbrev pub with_note : View → List Row → ℕ → ℕ → View
 with_note v h i n = record v { history = h; sightings = v.sightings ++ sighting i n ∷ []; noted = slice_set v.noted i (Some n) }
 
 -- what may still be withdrawn after one more entry
-abbrev pub freed : Kind → Marks → List Entry → Entry → List Entry
-freed Added m free e = free_after (is_before m.cursor m.high) free e
-freed Withdrawn m free e = without_last free
+abbrev pub withdrawable_after : Kind → Marks → List Entry → Entry → List Entry
+withdrawable_after Added m free e = free_after (is_before m.cursor m.high) free e
+withdrawable_after Withdrawn m free e = without_last free
 
 -- it laid an entry: it added a sample, or withdrew it
 abbrev pub with_entry : View → List Row → Entry → View
@@ -52,7 +52,7 @@ with_entry v h e = record v {
   laid = v.laid ++ e ∷ [];
   mine = v.mine ++ e ∷ [];
   marks = marks_after v.key.geometry v.marks e;
-  free = freed e.kind v.marks v.free e;
+  free = withdrawable_after e.kind v.marks v.free e;
 }
 
 -- it saw a position
@@ -159,8 +159,8 @@ pub record Finds (v : View) (i n : ℕ) : Type 0 where
   pub tells : (f c : ℕ) → index_of v.key.geometry f c ≡ i → c < v.key.geometry.channels → first_frame v.key.geometry ≤ f
       → f < v.seen + v.key.geometry.frames → Tells v n f c
 
-abbrev pub located : Step Entry → Me Entry View → ℕ → Me Entry View → Type 0
-located s m n r =
+abbrev pub position_load : Step Entry → Me Entry View → ℕ → Me Entry View → Type 0
+position_load s m n r =
     (h : List Row) × (p : ℕ) × (gone : Bool)
     × (r ≡ (with_position m.0 h p gone, m.1))
     × (n ≡ word_of p gone)
@@ -182,8 +182,8 @@ Notes v c i n r =
     × MakesLook v (with_note v h i n) i n
     × ((f c : ℕ) → index_of v.key.geometry f c ≡ i → c < v.key.geometry.channels → IsSumOf v.key.geometry h f c n)
 
-abbrev pub looked : Step Entry → Me Entry View → ℕ → Me Entry View → Type 0
-looked s m n r = Finds m.0 s.word n × Notes m.0 m.1 s.word n r
+abbrev pub word_load : Step Entry → Me Entry View → ℕ → Me Entry View → Type 0
+word_load s m n r = Finds m.0 s.word n × Notes m.0 m.1 s.word n r
 
 -- an entry was laid
 abbrev pub Lays : View → List (ℕ × Entry) → Entry → Me Entry View → Type 0
@@ -192,14 +192,14 @@ Lays v c e r =
     × (r ≡ (with_entry v h e, c))
     × Makes v (with_entry v h e) (λ by. in_row by e ∷ [])
 
-abbrev pub exchanged : Step Entry → Me Entry View → ℕ → Me Entry View → Type 0
-exchanged s m n r =
+abbrev pub word_exchange : Step Entry → Me Entry View → ℕ → Me Entry View → Type 0
+word_exchange s m n r =
     Finds m.0 s.word n
     × (n ≡ s.first → (e : Entry) × (s.said ≡ some e) × Lays m.0 m.1 e r)
     × (n ≢ s.first → Notes m.0 m.1 s.word n r)
 
-abbrev pub taken : Step Entry → Me Entry View → ℕ → Me Entry View → Type 0
-taken s m n r =
+abbrev pub word_take : Step Entry → Me Entry View → ℕ → Me Entry View → Type 0
+word_take s m n r =
     (h : List Row) × (t : Track) × (z : ℤ)
     × (m.0.track ≡ Some t)
     × (z ≡ clamp_of (sum_of n))
@@ -207,15 +207,15 @@ taken s m n r =
     × (r ≡ (with_taken m.0 h t (taking m.0.key.geometry t z), m.1))
     × Makes m.0 (with_taken m.0 h t (taking m.0.key.geometry t z)) (λ _. (Take, Took (next_at m.0.key.geometry t).frame (next_at m.0.key.geometry t).channel z) ∷ [])
 
-abbrev pub published : Step Entry → Me Entry View → ℕ → Me Entry View → Type 0
-published s m n r =
+abbrev pub position_store : Step Entry → Me Entry View → ℕ → Me Entry View → Type 0
+position_store s m n r =
     (h : List Row) × (t : Track)
     × (m.0.track ≡ Some t)
     × (r ≡ (with_published m.0 h t (next_at m.0.key.geometry t).frame, m.1))
     × Makes m.0 (with_published m.0 h t (next_at m.0.key.geometry t).frame) (λ _. (Publish, Published (next_at m.0.key.geometry t).frame) ∷ [])
 
-abbrev pub unplugged : Step Entry → Me Entry View → ℕ → Me Entry View → Type 0
-unplugged s m n r =
+abbrev pub unplug_store : Step Entry → Me Entry View → ℕ → Me Entry View → Type 0
+unplug_store s m n r =
     (h : List Row) × (t : Track)
     × (m.0.track ≡ Some t)
     × (r ≡ (with_gone m.0 h t, m.1))
@@ -236,8 +236,8 @@ pub record Knows (v : View) (t : Track) : Type 0 where
   pub exact : v.places ≡ v.key.places → AreExact v.laid t.taken
   pub laid : v.places ≡ v.key.places → SameSums (laid_of v.history) v.laid
 
-abbrev pub learned : Step Entry → Me Entry View → ℕ → Me Entry View → Type 0
-learned s m n r =
+abbrev pub quiet_load : Step Entry → Me Entry View → ℕ → Me Entry View → Type 0
+quiet_load s m n r =
     (h : List Row)
     × (r ≡ (with_history m.0 h, m.1))
     × (m.0.places ≤ m.0.key.places)

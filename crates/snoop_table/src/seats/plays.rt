@@ -1,6 +1,6 @@
 //! What each kind of step on the words tells the seat that makes it.
 ghost use Rattle.std.specs.Prelude.{ℕ};
-ghost use Rattle.snoop_table.specs.Steps.{learned, located, looked, published, stored, unplugged};
+ghost use Rattle.snoop_table.specs.Steps.{quiet_load, position_load, word_load, position_store, sample_store, unplug_store};
 
 use crate::view::View;
 use atomic_table::Play;
@@ -10,7 +10,7 @@ use std::marker::{Brand, PhantomData};
 pub(super) struct Locate;
 
 impl Play<(), View> for Locate {
-    ghost then = { located };
+    ghost then = { position_load };
 }
 
 /// A frame and a channel that a type stands for, in proofs alone.
@@ -32,33 +32,33 @@ pub(super) struct Look<B> {
 }
 
 impl<B: Place> Play<(), View> for Look<B> {
-    ghost then = { looked B.frame B.channel };
+    ghost then = { word_load B.frame B.channel };
 }
 
 /// The writer's store of the next sample.
 pub(super) struct Keep;
 
 impl Play<(), View> for Keep {
-    ghost then = { stored };
+    ghost then = { sample_store };
 }
 
 /// The writer's store of its position.
 pub(super) struct Publish;
 
 impl Play<(), View> for Publish {
-    ghost then = { published };
+    ghost then = { position_store };
 }
 
 /// The writer's store that says that the card is gone.
 pub(super) struct Unplug;
 
 impl Play<(), View> for Unplug {
-    ghost then = { unplugged };
+    ghost then = { unplug_store };
 }
 
 /// A load of the position that notes nothing: it tells what the rule says of the seat's view.
 pub(super) struct Learn;
 
 impl Play<(), View> for Learn {
-    ghost then = { learned };
+    ghost then = { quiet_load };
 }

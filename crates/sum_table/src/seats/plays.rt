@@ -1,5 +1,5 @@
 //! What each kind of step on the words tells the seat that makes it.
-ghost use Rattle.sum_table.specs.Steps.{exchanged, learned, located, looked, published, taken, unplugged};
+ghost use Rattle.sum_table.specs.Steps.{word_exchange, quiet_load, position_load, word_load, position_store, word_take, unplug_store};
 
 use crate::view::View;
 use atomic_table::Play;
@@ -9,47 +9,47 @@ use mix_core::Entry;
 pub(super) struct Locate;
 
 impl Play<Entry, View> for Locate {
-    ghost then = { located };
+    ghost then = { position_load };
 }
 
 /// A load of the word of a slot and channel.
 pub(super) struct Look;
 
 impl Play<Entry, View> for Look {
-    ghost then = { looked };
+    ghost then = { word_load };
 }
 
 /// A compare-exchange on the word of a slot and channel, with the entry that it lays.
 pub(super) struct Exchange;
 
 impl Play<Entry, View> for Exchange {
-    ghost then = { exchanged };
+    ghost then = { word_exchange };
 }
 
 /// The player's swap on the next word.
 pub(super) struct Take;
 
 impl Play<Entry, View> for Take {
-    ghost then = { taken };
+    ghost then = { word_take };
 }
 
 /// The player's store of its position.
 pub(super) struct Publish;
 
 impl Play<Entry, View> for Publish {
-    ghost then = { published };
+    ghost then = { position_store };
 }
 
 /// The player's store that says that the card is gone.
 pub(super) struct Unplug;
 
 impl Play<Entry, View> for Unplug {
-    ghost then = { unplugged };
+    ghost then = { unplug_store };
 }
 
 /// A load of the position that notes nothing: it tells what the rule says of the seat's view.
 pub(super) struct Learn;
 
 impl Play<Entry, View> for Learn {
-    ghost then = { learned };
+    ghost then = { quiet_load };
 }

@@ -2,7 +2,7 @@ use Rattle.std.proofs.Common.{subst, sym, ap, ◌∙◌, refl}
 use Rattle.atomic_table.specs.Table.{step}
 use mathlib.Core.Option.{none}
 use Rattle.sum_table.specs.declared.seats.mix.MixSeat.{MixSeat}
-use Rattle.sum_table.specs.Steps.{looked}
+use Rattle.sum_table.specs.Steps.{word_load}
 use Rattle.ring_rule.specs.Words.{index_of}
 use Rattle.sum_table.proofs.Spots.{spot_within}
 use Rattle.sum_table.proofs.Seated.{has_noted, known_looked, ring_spot_looks, ring_spot_room}
@@ -29,6 +29,6 @@ invariant_of-self g c =
 pub returns-clause-noted : goal.returns-clause-noted
 returns-clause-noted g c =
     let s : MixSeat = c.args.self.now in
-    let told : looked (step c.args.ring_spot.ring.now.table_id.slots (index_of s.key.geometry c.args.frame c.args.channel) 0 0 none) s.seat.me c.load.result c.load.new.seat.me =
-    subst (λ i. looked (step c.args.ring_spot.ring.now.table_id.slots i 0 0 none) s.seat.me c.load.result c.load.new.seat.me) c.requires.spot.spot.index_is c.load.ensures.2 in
+    let told : word_load (step c.args.ring_spot.ring.now.table_id.slots (index_of s.key.geometry c.args.frame c.args.channel) 0 0 none) s.seat.me c.load.result c.load.new.seat.me =
+    subst (λ i. word_load (step c.args.ring_spot.ring.now.table_id.slots i 0 0 none) s.seat.me c.load.result c.load.new.seat.me) c.requires.spot.spot.index_is c.load.ensures.2 in
     has_noted s _ c.args.frame c.args.channel c.load.result (record { ring = c.load.ensures.0; key = refl; member = refl; places = refl; seen = refl }) refl refl c.requires.channel told.0 told.1
