@@ -111,23 +111,23 @@ length-cons_option None r s extra same = same
 length-cons_option (Some x) r s extra same = omega (arith, same)
 
 -- 1 where a number is one of n from a first one on
-abbrev counted : ℕ → ℕ → ℕ → ℕ
-counted first n x = if nat_le first x && nat_lt x (first + n) then 1 else 0
+abbrev count_in_range : ℕ → ℕ → ℕ → ℕ
+count_in_range first n x = if nat_le first x && nat_lt x (first + n) then 1 else 0
 
 length-here : (x : ℕ) (xs : List ℕ) (first n : ℕ) → x ≡ first → ((k : ℕ) → k < length xs → slice_index xs k ≢ x)
-    → length (rising_from (x ∷ xs) (first + 1) n) ≡ length (rising_from xs (first + 1) n) + counted (first + 1) n x
-    → length (rising_from (x ∷ xs) first (suc n)) ≡ length (rising_from xs first (suc n)) + counted first (suc n) x
+    → length (rising_from (x ∷ xs) (first + 1) n) ≡ length (rising_from xs (first + 1) n) + count_in_range (first + 1) n x
+    → length (rising_from (x ∷ xs) first (suc n)) ≡ length (rising_from xs first (suc n)) + count_in_range first (suc n) x
 length-here x xs first n same apart later =
     let none : bound_to xs first ≡ None = subst (λ c. bound_to xs c ≡ None) same (found-here x xs apart) in
     let some : bound_to (x ∷ xs) first ≡ Some 0 = grind (arith, nat_tests, same) in
     let left : length (rising_from (x ∷ xs) first (suc n)) ≡ length (rising_from (x ∷ xs) (first + 1) n) + 1 = ap (λ o. length (cons_option o (rising_from (x ∷ xs) (first + 1) n))) some ∙ omega arith in
     let right : length (rising_from xs first (suc n)) ≡ length (rising_from xs (first + 1) n) = ap (λ o. length (cons_option o (rising_from xs (first + 1) n))) none in
-    let extra : counted first (suc n) x ≡ 1 = grind (arith, nat_tests) in
-    let less : counted (first + 1) n x ≡ 0 = grind (arith, nat_tests) in
+    let extra : count_in_range first (suc n) x ≡ 1 = grind (arith, nat_tests) in
+    let less : count_in_range (first + 1) n x ≡ 0 = grind (arith, nat_tests) in
     omega (arith, left, right, extra, less, later)
 
 length-rising_from-cons : (x : ℕ) (xs : List ℕ) (first n : ℕ) → ((k : ℕ) → k < length xs → slice_index xs k ≢ x)
-    → length (rising_from (x ∷ xs) first n) ≡ length (rising_from xs first n) + counted first n x
+    → length (rising_from (x ∷ xs) first n) ≡ length (rising_from xs first n) + count_in_range first n x
 length-rising_from-cons x xs first zero apart = grind (arith, nat_tests)
 length-rising_from-cons x xs first (suc n) apart =
     let later = length-rising_from-cons x xs (first + 1) n apart in
@@ -135,7 +135,7 @@ length-rising_from-cons x xs first (suc n) apart =
       | inl same ↦ length-here x xs first n same apart later
       | inr other ↦
           found-cons x xs first other (rising_from (x ∷ xs) (first + 1) n)
-          ∙ length-cons_option (bound_to xs first) (rising_from (x ∷ xs) (first + 1) n) (rising_from xs (first + 1) n) (counted first (suc n) x)
+          ∙ length-cons_option (bound_to xs first) (rising_from (x ∷ xs) (first + 1) n) (rising_from xs (first + 1) n) (count_in_range first (suc n) x)
           (grind (arith, nat_tests, later))
     ]
 
@@ -154,7 +154,7 @@ length-rising_from [] n distinct = length-rising_from-nil 0 n
 length-rising_from (x ∷ xs) n distinct =
     let rest = length-rising_from xs n (λ i j before within. distinct (suc i) (suc j) (omega arith) (omega arith)) in
     let one = length-rising_from-cons x xs 0 n (λ k h same. distinct 0 (suc k) (omega arith) (omega arith) (sym same)) in
-    let extra : counted 0 n x ≡ below_once n x = grind (arith, nat_tests) in
+    let extra : count_in_range 0 n x ≡ below_once n x = grind (arith, nat_tests) in
     omega (arith, rest, one, extra, sum_by-cons (below_once n) x xs)
 
 count_below-all : (bindings : List ℕ) (n : ℕ) → ((k : ℕ) → k < length bindings → slice_index bindings k < n) → count_below bindings n ≡ length bindings

@@ -4,7 +4,7 @@ use Rattle.std.proofs.lemmas.Bool.Decides.{nat_tests}
 use Rattle.std.specs.Prelude.{IsTrue, is_some, SomeIff}
 use Rattle.std.proofs.lemmas.List.Elements.{All-from_get_or, All-get_or}
 use Rattle.std.specs.List.{AllByRecursion, flat_map, list_any}
-use Rattle.dshare.specs.Owners.{AreFree, Row, any_owned, position_after, claimed, greatest, has_channel, last_frames, later, owner_of, released}
+use Rattle.dshare.specs.Owners.{AreFree, Row, any_owned, position_past, claimed, greatest, has_channel, last_frames, later, owner_of, released}
 use Rattle.dshare.specs.Shared.{AreOfCard, AreOwned, Held, IsHeld, StandsFor, is_owned, last_of, latest_of, with_value_at, with_later_at}
 use Rattle.dshare.proofs.Lists.{greatest-append, has_channel-at, marked-at, raised-at}
 
@@ -128,6 +128,6 @@ latest_of-is v h (c ∷ cs) stands card =
     ap (λ o. later o (latest_of v cs)) (stands.last c card.0) ∙ (ap (later (greatest (last_frames h c))) (latest_of-is v h cs stands card.1)
     ∙ sym (greatest-append (last_frames h c) (flat_map (last_frames h) cs)))
 
-pub behind-is : (o : Option ℕ) (last : ℕ) → SomeIff o (last + 1 < 2 ^ 64) (last + 1) → o ≡ position_after (Some last)
+pub behind-is : (o : Option ℕ) (last : ℕ) → SomeIff o (last + 1 < 2 ^ 64) (last + 1) → o ≡ position_past (Some last)
 behind-is None last none = grind (arith, nat_tests)
 behind-is (Some x) last some = grind (arith, nat_tests)

@@ -48,9 +48,9 @@ greatest [] = None
 greatest (x ∷ xs) = later (Some x) (greatest xs)
 
 -- the position behind a frame, if a number of 64 bits is one
-abbrev pub position_after : Option ℕ → Option ℕ
-position_after None = None
-position_after (Some frame) = if nat_lt (frame + 1) (2 ^ 64) then Some (frame + 1) else None
+abbrev pub position_past : Option ℕ → Option ℕ
+position_past None = None
+position_past (Some frame) = if nat_lt (frame + 1) (2 ^ 64) then Some (frame + 1) else None
 
 -- some of these channels has an owner
 abbrev pub any_owned : List Row → List ℕ → Bool
@@ -58,7 +58,7 @@ any_owned h channels = list_any (λ c. is_some (owner_of h c)) channels
 
 -- from when on the channels are free, where that is known: not while one is owned, and else behind the greatest last frame
 abbrev pub free_from : List Row → List ℕ → Option ℕ
-free_from h channels = if any_owned h channels then None else position_after (greatest (flat_map (last_frames h) channels))
+free_from h channels = if any_owned h channels then None else position_past (greatest (flat_map (last_frames h) channels))
 
 -- the refusal of a claim
 abbrev pub busy : List Row → List ℕ → ℕ → PcmError

@@ -5,4 +5,4 @@ pub mod Loading
 pub mod Reading
 pub mod Stepping
 pub mod Through
-pub mod Told
+pub mod Explaining

@@ -29,7 +29,7 @@ use Rattle.dsnoop_client.specs.Port.{Asks, IsLookNumber}
 use Rattle.dsnoop_client.specs.Reads.{AreFrames, Fills, Reads}
 use Rattle.dsnoop_client.specs.View.{IsSound, avail_of}
 use Rattle.dsnoop_client.proofs.CameTo.{CameTo, IsUpTo}
-use Rattle.dsnoop_client.proofs.Told.{Told, Went, told-some, told-went}
+use Rattle.dsnoop_client.proofs.Explaining.{IsExplained, Went, explained-some, explained-went}
 
 -- ---- what it gives
 
@@ -72,8 +72,8 @@ module _ {S : Type 0} (P : snoopport.Ghosts S) (p q : S) (c : CaptureStream) (be
 -- ---- why it answers so
 
 -- what a read came to that loaded the position
-pub record ReadTold {S T : Type 0} (P : snoopport.Ghosts S) (G : gates.Ghosts T) (s t : S × T) (c d : CaptureStream) (n : ℕ) (answer : Result ℕ PcmError) : Type 0 where
-  pub told : Told P G s t c d answer
+pub record IsReadExplained {S T : Type 0} (P : snoopport.Ghosts S) (G : gates.Ghosts T) (s t : S × T) (c d : CaptureStream) (n : ℕ) (answer : Result ℕ PcmError) : Type 0 where
+  pub told : IsExplained P G s t c d answer
   pub again : (answer ≡ Err Again) ↔ ((0 < n) × FindsNone c told.why.load)
   pub asks : Asks G s.1 t.1 d n answer
 
@@ -169,35 +169,35 @@ module _ {S T : Type 0} (P : snoopport.Ghosts S) (G : gates.Ghosts T) (composes 
         (subst (λ (k : ℕ). IsPast P.view P.shows t.0 (u.next + done) channel k) (sym is_word) came.overtaken));
   }
 
-  read-told-if : (test : Bool) (n count done : ℕ) (ended : Got) → (nat_lt 0 n && nat_eq (avail_of u) 0) ≡ test → count ≡ taken_of u n → CameTo P G m t count u.next done ended
-      → ReadTold P G s t c (if test then (u, Err Again) else read_to u done ended).0 n (if test then (u, Err Again) else read_to u done ended).1
-  unfolding told-went told-some
-  read-told-if true n count done Whole test is_count came =
+  read-explained-if : (test : Bool) (n count done : ℕ) (ended : Got) → (nat_lt 0 n && nat_eq (avail_of u) 0) ≡ test → count ≡ taken_of u n → CameTo P G m t count u.next done ended
+      → IsReadExplained P G s t c (if test then (u, Err Again) else read_to u done ended).0 n (if test then (u, Err Again) else read_to u done ended).1
+  unfolding explained-went explained-some
+  read-explained-if true n count done Whole test is_count came =
       let none : avail_of u ≡ 0 = grind (arith, nat_tests) in
       let nothing = no-frames n count done Whole none is_count came.up_to in
       record {
-        told = told-went P G s t c u u position Go (Err Again) (went-frames count u.next done Whole came) refl refl refl refl went.sound (λ h. cc, λ h. let goes = went.unstopped in cc) tt (λ h. cc) (λ avail frame h. cc) (λ frame channel word h. cc);
+        told = explained-went P G s t c u u position Go (Err Again) (went-frames count u.next done Whole came) refl refl refl refl went.sound (λ h. cc, λ h. let goes = went.unstopped in cc) tt (λ h. cc) (λ avail frame h. cc) (λ frame channel word h. cc);
         again = (λ h. (grind (arith, nat_tests), finds-none none), λ h. refl);
         asks = asks-frames u n came.looks Go (Err Again) (came.looks_number ∙ ap (λ (k : ℕ). k * (P.view m.0).geometry.channels) nothing.1 ∙ (let zero : 0 * (P.view m.0).geometry.channels ≡ 0 = omega arith in zero)) refl came.asked_them;
       }
-  read-told-if true n count done (Overtaken channel word) test is_count came = absurd (let nothing = no-frames n count done (Overtaken channel word) (grind (arith, nat_tests)) is_count came.up_to in let is = nothing.0 in cc)
-  read-told-if true n count done Stopped test is_count came = absurd (let nothing = no-frames n count done Stopped (grind (arith, nat_tests)) is_count came.up_to in let is = nothing.0 in cc)
-  read-told-if false n count done Whole test is_count came = record {
-    told = told-went P G s t c u (record u { next = u.next + done }) position Go (Ok done) (went-frames count u.next done Whole came) refl refl refl refl (sound-next done (omega (arith, is_count, came.up_to)))
+  read-explained-if true n count done (Overtaken channel word) test is_count came = absurd (let nothing = no-frames n count done (Overtaken channel word) (grind (arith, nat_tests)) is_count came.up_to in let is = nothing.0 in cc)
+  read-explained-if true n count done Stopped test is_count came = absurd (let nothing = no-frames n count done Stopped (grind (arith, nat_tests)) is_count came.up_to in let is = nothing.0 in cc)
+  read-explained-if false n count done Whole test is_count came = record {
+    told = explained-went P G s t c u (record u { next = u.next + done }) position Go (Ok done) (went-frames count u.next done Whole came) refl refl refl refl (sound-next done (omega (arith, is_count, came.up_to)))
         (λ h. cc, λ h. let goes = went.unstopped in cc) tt (λ h. cc) (λ avail frame h. cc) (λ frame channel word h. cc);
     again = (λ h. cc, λ h. absurd (let none = none-found h.1 in let some = h.0 in grind (arith, nat_tests)));
     asks = asks-frames (record u { next = u.next + done }) n came.looks Go (Ok done) (came.looks_number ∙ ap (λ (k : ℕ). done * k) same-channels) refl came.asked_them;
   }
-  read-told-if false n count done (Overtaken channel word) test is_count came = record {
-    told = told-went P G s t c u (in_state u state.Xrun) position Go (Err (Xrun (why.Overtaken (u.next + done) channel word))) (went-frames count u.next done (Overtaken channel word) came) refl refl refl refl sound-missed
+  read-explained-if false n count done (Overtaken channel word) test is_count came = record {
+    told = explained-went P G s t c u (in_state u state.Xrun) position Go (Err (Xrun (why.Overtaken (u.next + done) channel word))) (went-frames count u.next done (Overtaken channel word) came) refl refl refl refl sound-missed
         (λ h. cc, λ h. let goes = went.unstopped in cc) tt (λ h. cc) (λ avail frame h. cc)
         (λ frame at seen h. missed-at count done channel word frame at seen (omega (arith, is_count)) came (cc) (cc) (cc));
     again = (λ h. cc, λ h. absurd (let none = none-found h.1 in let some = h.0 in grind (arith, nat_tests)));
     asks = asks-frames (in_state u state.Xrun) n came.looks Go (Err (Xrun (why.Overtaken (u.next + done) channel word)))
         (came.looks_number ∙ ap (λ (k : ℕ). done * k + (channel + 1)) same-channels ∙ ap (λ (k : ℕ). k * u.geometry.channels + (channel + 1)) (let gone : done ≡ u.next + done - u.next = omega arith in gone)) refl came.asked_them;
   }
-  read-told-if false n count done Stopped test is_count came = record {
-    told = told-went P G s t c u (record u { status = record u.status { stopped = true } }) position Stop (Err error.Stopped) (went-frames count u.next done Stopped came) refl refl refl refl sound-stopped
+  read-explained-if false n count done Stopped test is_count came = record {
+    told = explained-went P G s t c u (record u { status = record u.status { stopped = true } }) position Stop (Err error.Stopped) (went-frames count u.next done Stopped came) refl refl refl refl sound-stopped
         (λ h. refl, λ h. refl) tt (λ h. cc) (λ avail frame h. cc) (λ frame channel word h. cc);
     again = (λ h. cc, λ h. absurd (let none = none-found h.1 in let some = h.0 in grind (arith, nat_tests)));
     asks = asks-frames (record u { status = record u.status { stopped = true } }) n came.looks Stop (Err error.Stopped)
@@ -206,5 +206,5 @@ module _ {S T : Type 0} (P : snoopport.Ghosts S) (G : gates.Ghosts T) (composes 
   }
 
   pub read-told : (n count done : ℕ) (ended : Got) → count ≡ taken_of u n → CameTo P G m t count u.next done ended
-      → ReadTold P G s t c (read_after u n done ended).0 n (read_after u n done ended).1
-  read-told n count done ended is_count came = read-told-if (nat_lt 0 n && nat_eq (avail_of u) 0) n count done ended refl is_count came
+      → IsReadExplained P G s t c (read_after u n done ended).0 n (read_after u n done ended).1
+  read-explained n count done ended is_count came = read-explained-if (nat_lt 0 n && nat_eq (avail_of u) 0) n count done ended refl is_count came

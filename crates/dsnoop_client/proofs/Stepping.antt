@@ -26,8 +26,8 @@ use Rattle.dsnoop_client.specs.Port.{IsLookNumber}
 use Rattle.dsnoop_client.specs.Reads.{AreFrames, Reads, through_all}
 use Rattle.dsnoop_client.specs.View.{CanUse, IsGoing, IsSound, IsStart, IsSync}
 use Rattle.dsnoop_client.proofs.CameTo.{gets_frames-come}
-use Rattle.dsnoop_client.proofs.Reading.{ReadTold, read-told}
-use Rattle.dsnoop_client.proofs.Told.{After, NeverOvertaken, same_error, start-after, sync-after, told-error, why-error}
+use Rattle.dsnoop_client.proofs.Reading.{IsReadExplained, read-explained}
+use Rattle.dsnoop_client.proofs.Explaining.{After, NeverOvertaken, same_error, start-after, sync-after, explained-error, why-error}
 
 no-looks : (e : PcmError) (next channels n : ℕ) → NeverOvertaken e → IsLookNumber (Err e) next channels n 0
 no-looks (Xrun (why.Overtaken frame channel word)) next channels n never = absurd never
@@ -69,35 +69,35 @@ module _ {S T : Type 0} (P : snoopport.Ghosts S) (G : gates.Ghosts T) where
   After-going s t c u (Err e) after = tt
 
   -- what followed the load of a read
-  transfer_on-told : Composes P.loaded → AsksCompose G.asked → (s m t : S × T) (c : CaptureStream) (first : Answered (Unit {0})) (n : ℕ) (d : Answered ℕ) → After P G s m c first
-      → TakesAtSnoop P G m (transfer_on n first) t d → ReadTold P G s t c d.0 n d.1
-  unfolding transfers told-error why-error
-  transfer_on-told composes asks s m t c (u, Ok done) n d after takes =
+  transfer_on-explained : Composes P.loaded → AsksCompose G.asked → (s m t : S × T) (c : CaptureStream) (first : Answered (Unit {0})) (n : ℕ) (d : Answered ℕ) → After P G s m c first
+      → TakesAtSnoop P G m (transfer_on n first) t d → IsReadExplained P G s t c d.0 n d.1
+  unfolding transfers explained-error why-error
+  transfer_on-explained composes asks s m t c (u, Ok done) n d after takes =
       let parts = Takes-parts (LoadsAtSnoop P G) NoLay (GetsAtSnoop P G) m t (gets_frames (taken_of u n) u.next) (λ (end : ℕ × Got). ends (read_after u n end.0 end.1)) d takes in
-      subst (λ (w : S × T). ReadTold P G s w c d.0 n d.1) (sym parts.3.there)
-      (subst (λ (x : Answered ℕ). ReadTold P G s parts.0 c x.0 n x.1) (sym parts.3.result)
-      (read-told P G composes asks s m parts.0 c u after.went.0 after.went.1 after.asked n (taken_of u n) parts.1.0 parts.1.1 refl (gets_frames-come P G composes asks (taken_of u n) u.next m parts.0 parts.1.0 parts.1.1 parts.2)))
-  transfer_on-told composes asks s m t c (u, Err e) n d after takes =
-      subst (λ (w : S × T). ReadTold P G s w c d.0 n d.1) (sym takes.there)
-      (subst (λ (x : Answered ℕ). ReadTold P G s m c x.0 n x.1) (sym takes.result) (record {
-        told = told-error P G s m c u e after.told;
+      subst (λ (w : S × T). IsReadExplained P G s w c d.0 n d.1) (sym parts.3.there)
+      (subst (λ (x : Answered ℕ). IsReadExplained P G s parts.0 c x.0 n x.1) (sym parts.3.result)
+      (read-explained P G composes asks s m parts.0 c u after.went.0 after.went.1 after.asked n (taken_of u n) parts.1.0 parts.1.1 refl (gets_frames-come P G composes asks (taken_of u n) u.next m parts.0 parts.1.0 parts.1.1 parts.2)))
+  transfer_on-explained composes asks s m t c (u, Err e) n d after takes =
+      subst (λ (w : S × T). IsReadExplained P G s w c d.0 n d.1) (sym takes.there)
+      (subst (λ (x : Answered ℕ). IsReadExplained P G s m c x.0 n x.1) (sym takes.result) (record {
+        told = explained-error P G s m c u e after.told;
         again = (λ h. absurd (after.ended.1 (same_error {T = ℕ} e Again h)), λ h. absurd (after.ended.0 h.1));
         asks = record { looks = 0; looks_number = no-looks e u.next u.geometry.channels n after.ended.2; asked_them = after.asked };
       }))
 
   pub reads_on-told : Composes P.loaded → AsksCompose G.asked → (s t : S × T) (c : CaptureStream) (n : ℕ) (d : Answered ℕ) → IsSound c → c.status.state ≡ state.Running → c.status.stopped ≡ false
-      → CanUse c (P.view s.0) → TakesAtSnoop P G s (reads_on c n) t d → ReadTold P G s t c d.0 n d.1
+      → CanUse c (P.view s.0) → TakesAtSnoop P G s (reads_on c n) t d → IsReadExplained P G s t c d.0 n d.1
   unfolding reads_on
-  reads_on-told composes asks s t c n d sound runs unstopped can takes =
+  reads_on-explained composes asks s t c n d sound runs unstopped can takes =
       let parts = Takes-parts (LoadsAtSnoop P G) NoLay (GetsAtSnoop P G) s t (syncs c call.Transfer) (transfer_on n) d takes in
-      transfer_on-told composes asks s parts.0 t c parts.1 n d (syncs-after s parts.0 c call.Transfer parts.1 sound runs unstopped tt can parts.2) parts.3
+      transfer_on-explained composes asks s parts.0 t c parts.1 n d (syncs-after s parts.0 c call.Transfer parts.1 sound runs unstopped tt can parts.2) parts.3
 
   pub reads_first-told : Composes P.loaded → AsksCompose G.asked → (s t : S × T) (c : CaptureStream) (n : ℕ) (d : Answered ℕ) → IsSound c → c.status.state ≡ state.Prepared → c.status.stopped ≡ false
-      → CanUse c (P.view s.0) → TakesAtSnoop P G s (reads_first c n) t d → ReadTold P G s t c d.0 n d.1
+      → CanUse c (P.view s.0) → TakesAtSnoop P G s (reads_first c n) t d → IsReadExplained P G s t c d.0 n d.1
   unfolding reads_first
-  reads_first-told composes asks s t c n d sound waits unstopped can takes =
+  reads_first-explained composes asks s t c n d sound waits unstopped can takes =
       let parts = Takes-parts (LoadsAtSnoop P G) NoLay (GetsAtSnoop P G) s t (starts c call.Transfer) (transfer_on n) d takes in
-      transfer_on-told composes asks s parts.0 t c parts.1 n d (starts-after s parts.0 c call.Transfer parts.1 sound waits unstopped tt can parts.2) parts.3
+      transfer_on-explained composes asks s parts.0 t c parts.1 n d (starts-after s parts.0 c call.Transfer parts.1 sound waits unstopped tt can parts.2) parts.3
 
 -- a call that did nothing, and got no frame
 pub reads-none : {S : Type 0} (P : snoopport.Ghosts S) (p q : S) (c d : CaptureStream) (out after : List ℤ) (e : PcmError) → P.got p q [] → (c.status.state ≡ state.Running → d.next ≡ c.next) → Reads P p q c d out after (Err e)

@@ -2,7 +2,7 @@ use Rattle.std.proofs.Common.{◌≡◌, ◌<◌, true, false, if◌then◌else�
 use Rattle.std.specs.List.{flat_map, list_any}
 use Rattle.std.proofs.lemmas.List.Elements.{recursion_from_All}
 use Rattle.snd_base.specs.declared.errors.PcmError.TheVariants.{Busy}
-use Rattle.dshare.specs.Owners.{any_owned, position_after, greatest, last_frames}
+use Rattle.dshare.specs.Owners.{any_owned, position_past, greatest, last_frames}
 use Rattle.dshare.specs.Shared.{is_owned, latest_of}
 use Rattle.dshare.proofs.Laws.{AreOwned-marked, AreFree-before, AreFree-from, AreFree-unowned, IsBefore, StandsFor-claimed, any_owned-is, behind-is, latest_of-is}
 use Rattle.dshare.proofs.shares.Shares.claim.Goals as goal
@@ -11,7 +11,7 @@ use Rattle.dshare.proofs.shares.Shares.claim.Goals.{in-Some+else-last-position, 
 pub returns-then-any_owned-clause-busy : goal.returns-then-any_owned-clause-busy
 returns-then-any_owned-clause-busy c = λ h stands.
     let owned : any_owned h c.args.bindings.now ≡ true = sym (any_owned-is c.args.self.now h c.args.bindings.now stands (recursion_from_All (λ k. k < c.args.self.now.channels) c.args.bindings.now c.requires)) ∙ (sym c.any_owned.ensures ∙ c.if-any_owned.true) in
-    sym (ap (λ b. Busy (if b then None else position_after (greatest (flat_map (last_frames h) c.args.bindings.now))) c.args.position) owned)
+    sym (ap (λ b. Busy (if b then None else position_past (greatest (flat_map (last_frames h) c.args.bindings.now))) c.args.position) owned)
 
 pub returns-then-any_owned-clause-not_free : goal.returns-then-any_owned-clause-not_free
 returns-then-any_owned-clause-not_free c = λ h stands free.
@@ -24,8 +24,8 @@ returns-then-last-position-clause-busy c = λ h stands.
     let unowned : any_owned h c.args.bindings.now ≡ false = sym (any_owned-is c.args.self.now h c.args.bindings.now stands (recursion_from_All (λ k. k < c.args.self.now.channels) c.args.bindings.now c.requires)) ∙ (sym c.any_owned.ensures ∙ c.if-any_owned.false) in
     let last : latest_of c.args.self.now c.args.bindings.now ≡ Some c.in-Some.last = sym c.latest.ensures ∙ c.in-Some.is in
     let all : greatest (flat_map (last_frames h) c.args.bindings.now) ≡ Some c.in-Some.last = sym (latest_of-is c.args.self.now h c.args.bindings.now stands (recursion_from_All (λ k. k < c.args.self.now.channels) c.args.bindings.now c.requires)) ∙ last in
-    ap (λ o. Busy o c.args.position) (behind-is c.checked_add.result c.in-Some.last c.checked_add.ensures ∙ ap position_after (sym all))
-    ∙ sym (ap (λ b. Busy (if b then None else position_after (greatest (flat_map (last_frames h) c.args.bindings.now))) c.args.position) unowned)
+    ap (λ o. Busy o c.args.position) (behind-is c.checked_add.result c.in-Some.last c.checked_add.ensures ∙ ap position_past (sym all))
+    ∙ sym (ap (λ b. Busy (if b then None else position_past (greatest (flat_map (last_frames h) c.args.bindings.now))) c.args.position) unowned)
 
 pub returns-then-last-position-clause-not_free : goal.returns-then-last-position-clause-not_free
 returns-then-last-position-clause-not_free c = λ h stands free.

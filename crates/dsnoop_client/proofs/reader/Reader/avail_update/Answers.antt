@@ -9,7 +9,7 @@ use Rattle.dsnoop_client.specs.Causes.{Explains}
 use Rattle.dsnoop_client.specs.Course.{if_admitted, avail_course, syncs}
 use Rattle.dsnoop_client.specs.View.{is_running}
 use Rattle.dsnoop_client.proofs.Loading.{admitted-ok, counts-by, none-refused}
-use Rattle.dsnoop_client.proofs.Told.{why-avail}
+use Rattle.dsnoop_client.proofs.Explaining.{why-avail}
 use Rattle.dsnoop_client.proofs.reader.Reader.avail_update.Goals as goal
 
 pub returns-clause-takes : goal.returns-clause-takes

@@ -64,7 +64,7 @@ NeverOvertaken other = ⊤
 
 -- ---- what is kept, and why
 
-pub record Told {S T X : Type 0} (P : snoopport.Ghosts S) (G : gates.Ghosts T) (s t : S × T) (c d : CaptureStream) (answer : Result X PcmError) : Type 0 where
+pub record IsExplained {S T X : Type 0} (P : snoopport.Ghosts S) (G : gates.Ghosts T) (s t : S × T) (c d : CaptureStream) (answer : Result X PcmError) : Type 0 where
   pub keeps : Keeps P G s t c d answer
   pub why : Explains P s.0 t.0 c d answer
 
@@ -115,14 +115,14 @@ at-least threshold a reached least none = grind (arith, nat_tests)
 
 module _ {S T : Type 0} (P : snoopport.Ghosts S) (G : gates.Ghosts T) where
   -- a call that loaded a position
-  unfoldable pub told-some : {X : Type 0} (s t : S × T) (c d : CaptureStream) (position : Position) (answer : Result X PcmError) → CanUse c (P.view s.0)
+  unfoldable pub explained-some : {X : Type 0} (s t : S × T) (c d : CaptureStream) (position : Position) (answer : Result X PcmError) → CanUse c (P.view s.0)
       → P.view t.0 ≡ record (P.view s.0) { seen = position.frame } → P.loaded s.0 t.0 (position ∷ []) → G.stops t.1 ≡ stops_after (pass_by answer) (G.stops s.1)
       → d.geometry ≡ c.geometry → d.setup ≡ c.setup → d.seen ≡ Some position.frame → IsSound d
       → ((answer ≡ Err Stopped) ↔ (d.status.stopped ≡ true)) → IfErr answer IsOfSteps → ((answer ≡ Err NoDevice) ↔ (position.gone ≡ true))
       → ((avail frame : ℕ) → (answer ≡ Err (Xrun (Avail avail frame))) ↔ Reaches c (Some position) avail frame)
       → ((frame channel word : ℕ) → answer ≡ Err (Xrun (Overtaken frame channel word)) → IsMissed P t.0 d frame channel word)
-      → Told P G s t c d answer
-  told-some s t c d position answer can view_is loaded_it stops same_ring same_setup saw sound stopped of_steps no_device reached overtaken = record {
+      → IsExplained P G s t c d answer
+  explained-some s t c d position answer can view_is loaded_it stops same_ring same_setup saw sound stopped of_steps no_device reached overtaken = record {
     keeps = record {
       sound = sound;
       port = use-newer c d (P.view s.0) (P.view t.0) position.frame can view_is same_ring saw;
@@ -145,8 +145,8 @@ module _ {S T : Type 0} (P : snoopport.Ghosts S) (G : gates.Ghosts T) where
 
   -- the gate stopped the load
   pub told-none : {X : Type 0} (s t : S × T) (c : CaptureStream) → IsSound c → CanUse c (P.view s.0) → LoadsAtSnoop P G s None t
-      → Told {X = X} P G s t c (record c { status = record c.status { stopped = true } }) (Err Stopped)
-  told-none s t c sound can step = record {
+      → IsExplained {X = X} P G s t c (record c { status = record c.status { stopped = true } }) (Err Stopped)
+  explained-none s t c sound can step = record {
     keeps = record {
       sound = record { captures = sound.captures; seen = sound.seen; set_up = sound.set_up; configured = sound.configured; reading = λ is. record { least = (sound.reading is).least; most = (sound.reading is).most } };
       port = subst (λ (v : SnoopView). CanUse (record c { status = record c.status { stopped = true } }) v) (sym step.view_is) (record { same_geometry = can.same_geometry; newer = can.newer });
@@ -169,9 +169,9 @@ module _ {S T : Type 0} (P : snoopport.Ghosts S) (G : gates.Ghosts T) where
 
   -- the card was gone at the position
   pub told-gone : {X : Type 0} (s t : S × T) (c : CaptureStream) (position : Position) → IsSound c → c.status.stopped ≡ false → CanUse c (P.view s.0) → LoadsAtSnoop P G s (Some position) t
-      → position.gone ≡ true → Told {X = X} P G s t c (in_state (seen_at c position) state.Disconnected) (Err NoDevice)
-  told-gone s t c position sound unstopped can step gone =
-      told-some s t c (in_state (seen_at c position) state.Disconnected) position (Err NoDevice) can step.view_is step.loaded_it step.stopped refl refl refl
+      → position.gone ≡ true → IsExplained {X = X} P G s t c (in_state (seen_at c position) state.Disconnected) (Err NoDevice)
+  explained-gone s t c position sound unstopped can step gone =
+      explained-some s t c (in_state (seen_at c position) state.Disconnected) position (Err NoDevice) can step.view_is step.loaded_it step.stopped refl refl refl
       (sound-at c position.frame c.next state.Disconnected sound (subst (λ (g : Geometry). position.frame ≤ end_frame g) can.same_geometry step.within.most) refl (λ h. cc) (λ h. cc))
       (λ h. cc, λ h. cc) tt (λ h. gone, λ h. refl)
       (λ avail frame. (λ h. cc, λ h. let here = h.0 in cc)) (λ frame channel word h. cc)
@@ -179,9 +179,9 @@ module _ {S T : Type 0} (P : snoopport.Ghosts S) (G : gates.Ghosts T) where
   -- the stop threshold was reached at the position
   pub told-over : {X : Type 0} (s t : S × T) (c : CaptureStream) (position : Position) → IsSound c → c.status.stopped ≡ false → c.status.state ≡ state.Running → CanUse c (P.view s.0)
       → LoadsAtSnoop P G s (Some position) t → position.gone ≡ false → c.setup.params.stop_threshold ≤ position.frame - c.next
-      → Told {X = X} P G s t c (in_state (seen_at c position) state.Xrun) (Err (Xrun (Avail (position.frame - c.next) position.frame)))
-  told-over s t c position sound unstopped running can step here over =
-      told-some s t c (in_state (seen_at c position) state.Xrun) position (Err (Xrun (Avail (position.frame - c.next) position.frame))) can step.view_is step.loaded_it step.stopped refl refl refl
+      → IsExplained {X = X} P G s t c (in_state (seen_at c position) state.Xrun) (Err (Xrun (Avail (position.frame - c.next) position.frame)))
+  explained-over s t c position sound unstopped running can step here over =
+      explained-some s t c (in_state (seen_at c position) state.Xrun) position (Err (Xrun (Avail (position.frame - c.next) position.frame))) can step.view_is step.loaded_it step.stopped refl refl refl
       (sound-at c position.frame c.next state.Xrun sound (subst (λ (g : Geometry). position.frame ≤ end_frame g) can.same_geometry step.within.most) refl (λ h. sound.set_up (rw running refl)) (λ h. cc))
       (λ h. cc, λ h. cc) tt (λ h. cc, λ h. cc)
       (λ avail frame. (
@@ -194,26 +194,26 @@ module _ {S T : Type 0} (P : snoopport.Ghosts S) (G : gates.Ghosts T) where
 
   -- what a load made of a reader: it goes on, or it ended, not for want of a frame
   pub record After (s t : S × T) (c : CaptureStream) (done : Answered (Unit {0})) : Type 0 where
-    pub told : Told P G s t c done.0 done.1
+    pub told : IsExplained P G s t c done.0 done.1
     pub went : OnOk done.1 ((position : Position) × Went P G s t c done.0 position Go)
     pub ended : IfErr done.1 (λ e. (FindsNone c told.why.load → ⊥) × (e ≡ Again → ⊥) × NeverOvertaken e)
     pub asked : G.asked s.1 t.1 (kind.Position ∷ []) (pass_by done.1)
 
   -- a call that went well from a position
-  unfoldable pub told-went : {X : Type 0} (s t : S × T) (c u d : CaptureStream) (position : Position) (pass : Pass) (answer : Result X PcmError) → Went P G s t c u position pass → pass_by answer ≡ pass
+  unfoldable pub explained-went : {X : Type 0} (s t : S × T) (c u d : CaptureStream) (position : Position) (pass : Pass) (answer : Result X PcmError) → Went P G s t c u position pass → pass_by answer ≡ pass
       → d.geometry ≡ u.geometry → d.setup ≡ u.setup → d.seen ≡ u.seen → IsSound d → ((answer ≡ Err Stopped) ↔ (d.status.stopped ≡ true)) → IfErr answer IsOfSteps
       → (answer ≡ Err NoDevice → ⊥) → ((avail frame : ℕ) → answer ≡ Err (Xrun (Avail avail frame)) → ⊥)
       → ((frame channel word : ℕ) → answer ≡ Err (Xrun (Overtaken frame channel word)) → IsMissed P t.0 d frame channel word)
-      → Told P G s t c d answer
-  told-went s t c u d position pass answer went is_pass same_ring same_setup saw sound stopped of_steps never_gone never_over overtaken =
-      told-some s t c d position answer went.can_use went.view_is went.loaded_it (went.stops ∙ ap (λ (p : Pass). stops_after p (G.stops s.1)) (sym is_pass)) (same_ring ∙ went.same_ring) (same_setup ∙ went.same_setup) (saw ∙ went.saw) sound
+      → IsExplained P G s t c d answer
+  explained-went s t c u d position pass answer went is_pass same_ring same_setup saw sound stopped of_steps never_gone never_over overtaken =
+      explained-some s t c d position answer went.can_use went.view_is went.loaded_it (went.stops ∙ ap (λ (p : Pass). stops_after p (G.stops s.1)) (sym is_pass)) (same_ring ∙ went.same_ring) (same_setup ∙ went.same_setup) (saw ∙ went.saw) sound
       stopped of_steps (λ h. absurd (never_gone h), λ h. let here = went.here in cc)
       (λ avail frame. (λ h. absurd (never_over avail frame h), λ h. absurd (went.below avail frame h))) overtaken
 
   -- a reader that is to go on
   went-on : (s t : S × T) (c u : CaptureStream) (position : Position) → Went P G s t c u position Go → G.asked s.1 t.1 (kind.Position ∷ []) Go → After s t c (u, Ok tt)
   went-on s t c u position went asked = record {
-    told = told-went s t c u u position Go (Ok tt) went refl refl refl refl went.sound (λ h. cc, λ h. let runs = went.unstopped in cc) tt (λ h. cc) (λ avail frame h. cc) (λ frame channel word h. cc);
+    told = explained-went s t c u u position Go (Ok tt) went refl refl refl refl went.sound (λ h. cc, λ h. let runs = went.unstopped in cc) tt (λ h. cc) (λ avail frame h. cc) (λ frame channel word h. cc);
     went = (position, went);
     ended = tt;
     asked = asked;
@@ -222,9 +222,9 @@ module _ {S T : Type 0} (P : snoopport.Ghosts S) (G : gates.Ghosts T) where
   -- a start, by what its load gave
   pub start-after : (s t : S × T) (c : CaptureStream) (k : Call) (load : Option Position) (done : Answered (Unit {0})) → IsSound c → c.status.state ≡ state.Prepared → c.status.stopped ≡ false → IsStart k
       → CanUse c (P.view s.0) → LoadsAtSnoop P G s load t → done ≡ after_start c k load → After s t c done
-  unfolding told-none told-gone told-some
+  unfolding explained-none explained-gone explained-some
   start-after s t c k None done sound waits unstopped start can step is =
-      subst (λ (x : Answered (Unit {0})). After s t c x) (sym is) (record { told = told-none s t c sound can step; went = tt; ended = (λ h. h, λ h. cc, tt); asked = step.asked_it })
+      subst (λ (x : Answered (Unit {0})). After s t c x) (sym is) (record { told = explained-none s t c sound can step; went = tt; ended = (λ h. h, λ h. cc, tt); asked = step.asked_it })
   start-after s t c k (Some position) done sound waits unstopped start can step is = by position.gone refl
     where
       comes : (gone : Bool) → position.gone ≡ gone → done ≡ with_outcome (if gone then seen_at c position else at_start c position) (if gone then refused_in state.Disconnected NoDevice else done_in state.Running)
@@ -234,7 +234,7 @@ module _ {S T : Type 0} (P : snoopport.Ghosts S) (G : gates.Ghosts T) where
 
       by : (gone : Bool) → position.gone ≡ gone → After s t c done
       by true gone =
-          subst (λ (x : Answered (Unit {0})). After s t c x) (sym (comes true gone)) (record { told = told-gone s t c position sound unstopped can step gone; went = tt; ended = (λ h. let here = h.0 in cc, λ h. cc, tt); asked = step.asked_it })
+          subst (λ (x : Answered (Unit {0})). After s t c x) (sym (comes true gone)) (record { told = explained-gone s t c position sound unstopped can step gone; went = tt; ended = (λ h. let here = h.0 in cc, λ h. cc, tt); asked = step.asked_it })
       by false here =
           let within : IsWithin c.geometry position.frame = subst (λ (g : Geometry). IsWithin g position.frame) can.same_geometry step.within in
           subst (λ (x : Answered (Unit {0})). After s t c x) (sym (comes false here)) (went-on s t c (in_state (at_start c position) state.Running) position (record {
@@ -257,9 +257,9 @@ module _ {S T : Type 0} (P : snoopport.Ghosts S) (G : gates.Ghosts T) where
   -- a sync, by what its load gave
   pub sync-after : (s t : S × T) (c : CaptureStream) (k : Call) (load : Option Position) (done : Answered (Unit {0})) → IsSound c → c.status.state ≡ state.Running → c.status.stopped ≡ false → IsSync k
       → CanUse c (P.view s.0) → LoadsAtSnoop P G s load t → done ≡ after_sync c k load → After s t c done
-  unfolding told-none told-over told-some told-gone
+  unfolding explained-none explained-over explained-some explained-gone
   sync-after s t c k None done sound runs unstopped sync can step is =
-      subst (λ (x : Answered (Unit {0})). After s t c x) (sym is) (record { told = told-none s t c sound can step; went = tt; ended = (λ h. h, λ h. cc, tt); asked = step.asked_it })
+      subst (λ (x : Answered (Unit {0})). After s t c x) (sym is) (record { told = explained-none s t c sound can step; went = tt; ended = (λ h. h, λ h. cc, tt); asked = step.asked_it })
   sync-after s t c k (Some position) done sound runs unstopped sync can step is = by position.gone (nat_le c.setup.params.stop_threshold (position.frame - c.next)) refl refl
     where
       comes : (gone over : Bool) → position.gone ≡ gone → nat_le c.setup.params.stop_threshold (position.frame - c.next) ≡ over
@@ -271,11 +271,11 @@ module _ {S T : Type 0} (P : snoopport.Ghosts S) (G : gates.Ghosts T) where
 
       by : (gone over : Bool) → position.gone ≡ gone → nat_le c.setup.params.stop_threshold (position.frame - c.next) ≡ over → After s t c done
       by true over gone reached =
-          subst (λ (x : Answered (Unit {0})). After s t c x) (sym (comes true over gone reached)) (record { told = told-gone s t c position sound unstopped can step gone; went = tt; ended = (λ h. let here = h.0 in cc, λ h. cc, tt); asked = step.asked_it })
+          subst (λ (x : Answered (Unit {0})). After s t c x) (sym (comes true over gone reached)) (record { told = explained-gone s t c position sound unstopped can step gone; went = tt; ended = (λ h. let here = h.0 in cc, λ h. cc, tt); asked = step.asked_it })
       by false true here reached =
           subst (λ (x : Answered (Unit {0})). After s t c x) (sym (comes false true here reached))
           (record {
-            told = told-over s t c position sound unstopped runs can step here (grind (arith, nat_tests));
+            told = explained-over s t c position sound unstopped runs can step here (grind (arith, nat_tests));
             went = tt;
             ended = (λ h. at-least c.setup.params.stop_threshold (position.frame - c.next) reached (sound.configured (sound.set_up (rw runs refl))).stops (let none : position.frame ≡ c.next = h.1 runs in omega arith), λ h. cc, tt);
             asked = step.asked_it;
@@ -339,8 +339,8 @@ pub why-avail : {S : Type 0} (P : snoopport.Ghosts S) (p q : S) (c d : CaptureSt
 why-avail P p q c d (Ok done) x is why = subst (λ (a : Answered ℕ). Explains P p q c d a.1) is (why-ok P p q c d (avail_of d) why)
 why-avail P p q c d (Err e) x is why = subst (λ (a : Answered ℕ). Explains P p q c d a.1) is (why-error P p q c d e why)
 
-unfoldable pub told-error : {S T X Y : Type 0} (P : snoopport.Ghosts S) (G : gates.Ghosts T) (s t : S × T) (c d : CaptureStream) (e : PcmError) → Told {X = X} P G s t c d (Err e) → Told {X = Y} P G s t c d (Err e)
-told-error {X = X} {Y = Y} P G s t c d e told = record {
+unfoldable pub explained-error : {S T X Y : Type 0} (P : snoopport.Ghosts S) (G : gates.Ghosts T) (s t : S × T) (c d : CaptureStream) (e : PcmError) → IsExplained {X = X} P G s t c d (Err e) → IsExplained {X = Y} P G s t c d (Err e)
+explained-error {X = X} {Y = Y} P G s t c d e told = record {
   keeps = record {
     sound = told.keeps.sound;
     port = told.keeps.port;
