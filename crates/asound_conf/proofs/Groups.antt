@@ -5,7 +5,7 @@ use Rattle.std.specs.Str.{bytes_eq}
 use Rattle.std.proofs.lemmas.List.{get_or-drop, length-drop, drop-drop, drop-append-le, drop-set-add, drop_all}
 use Rattle.asound_conf.specs.Tree.{Tree, text, group, Entries, empty, has, get, without_name}
 use Rattle.asound_conf.specs.Tree as tree
-use Rattle.asound_conf.specs.Rows.{Row, Alters, IsAbsent, IsNode, IsOnlyIn, group_of, is_in, no_row, node, row_at, within}
+use Rattle.asound_conf.specs.Rows.{Row, Alters, IsAbsent, IsNode, IsOnlyIn, group_of, is_in, no_row, node, row_at, group_in_rows}
 use Rattle.asound_conf.proofs.Places.{get-none}
 use Rattle.asound_conf.proofs.Rows.{IsAt, get-at, has-at, has-absent, reaches, within-child, within-push, within-set, without-removed}
 
@@ -21,7 +21,7 @@ drop-after rows p n low =
     drop-drop (suc (n - suc p)) (suc p) rows ∙ ap (λ m. drop m rows) sum
 
 -- a name that no row of a group has
-absent-after : (rows : List Row) (p first : ℕ) (name : List ℕ) → ((j : ℕ) → first ≤ j → (row_at rows j).parent ≡ Some p → bytes_eq (row_at rows j).name name ≡ false) → has name (within p first (drop first rows)) ≡ false
+absent-after : (rows : List Row) (p first : ℕ) (name : List ℕ) → ((j : ℕ) → first ≤ j → (row_at rows j).parent ≡ Some p → bytes_eq (row_at rows j).name name ≡ false) → has name (group_in_rows p first (drop first rows)) ≡ false
 absent-after rows p first name none =
     has-absent p first name (drop first rows) (λ j there.
     let moved : row_at (drop first rows) j ≡ row_at rows (first + j) = get_or-drop first rows j no_row in
@@ -44,7 +44,7 @@ at-IsNode rows p name n is =
       inside = omega (arith, length-drop (suc p) rows);
       parent = ap (λ (r : Row). r.parent) row ∙ is.parent;
       name_is = ap (λ (r : Row). r.name) row ∙ is.named;
-      last = ap (λ (rs : List Row). has name (within p (suc n) rs)) (drop-after rows p n low) ∙ absent-after rows p (suc n) name (λ j later there. is.last j (omega arith) there);
+      last = ap (λ (rs : List Row). has name (group_in_rows p (suc n) rs)) (drop-after rows p n low) ∙ absent-after rows p (suc n) name (λ j later there. is.last j (omega arith) there);
     }
 
 pub has-IsNode : (rows : List Row) (p : ℕ) (name : List ℕ) (n : ℕ) → IsNode rows p name n → has name (group_of p rows) ≡ true
@@ -53,16 +53,16 @@ has-IsNode rows p name n is = has-at p name n (suc p) (n - suc p) (drop (suc p) 
 pub get-IsNode : (rows : List Row) (p : ℕ) (name : List ℕ) (n : ℕ) → IsNode rows p name n → get name (group_of p rows) ≡ Some (node (row_at rows n).value (group_of n rows))
 get-IsNode rows p name n is =
     get-at p name n (suc p) (n - suc p) (drop (suc p) rows) (at-IsNode rows p name n is)
-    ∙ ap₂ (λ (r : Row) (rs : List Row). Some (node r.value (within n (suc n) rs))) (row-after rows p n is.falls) (drop-after rows p n is.falls)
+    ∙ ap₂ (λ (r : Row) (rs : List Row). Some (node r.value (group_in_rows n (suc n) rs))) (row-after rows p n is.falls) (drop-after rows p n is.falls)
 
 -- a row more goes to the end of its group
 pub group-push : (rows : List Row) (q : ℕ) (row : Row) → q < length rows → row.parent ≡ Some q → has row.name (group_of q rows) ≡ false → group_of q (rows ++ row ∷ []) ≡ tree.set row.name (node row.value empty) (group_of q rows)
 group-push rows q row inside parent none =
-    ap (within q (suc q)) (drop-append-le (suc q) rows (row ∷ []) (omega arith)) ∙ within-push q (suc q) row (drop (suc q) rows) parent (omega arith) none
+    ap (group_in_rows q (suc q)) (drop-append-le (suc q) rows (row ∷ []) (omega arith)) ∙ within-push q (suc q) row (drop (suc q) rows) parent (omega arith) none
 
 -- and has an empty group
 pub group-new : (rows : List Row) (row : Row) → group_of (length rows) (rows ++ row ∷ []) ≡ empty
-group-new rows row = ap (within (length rows) (suc (length rows))) (drop_all (suc (length rows)) (rows ++ row ∷ []) (omega (arith, length-append rows (row ∷ []))))
+group-new rows row = ap (group_in_rows (length rows) (suc (length rows))) (drop_all (suc (length rows)) (rows ++ row ∷ []) (omega (arith, length-append rows (row ∷ []))))
 
 set-after : (rows : List Row) (q n : ℕ) (s : Row) → q < n → drop (suc q) (common.set rows n s) ≡ common.set (drop (suc q) rows) (n - suc q) s
 set-after rows q n s low =
@@ -73,13 +73,13 @@ set-after rows q n s low =
 pub group-set : (rows : List Row) (q : ℕ) (name : List ℕ) (n : ℕ) (s : Row) (t : List ℕ) → IsNode rows q name n → s.parent ≡ Some q → s.name ≡ (row_at rows n).name → s.value ≡ Some t → group_of q (common.set rows n s) ≡ tree.set name (text t) (group_of q rows)
 group-set rows q name n s t is parent same value =
     let low : q < n = is.falls in
-    ap (within q (suc q)) (set-after rows q n s low)
+    ap (group_in_rows q (suc q)) (set-after rows q n s low)
     ∙ within-set q name n (suc q) (n - suc q) s t (drop (suc q) rows) (at-IsNode rows q name n is) (omega arith) parent (same ∙ sym (ap (λ (r : Row). r.name) (row-after rows q n low))) value
 
 -- a row that is taken out
 pub group-removed : (rows : List Row) (q : ℕ) (name : List ℕ) (n : ℕ) (s : Row) → IsNode rows q name n → s.parent ≡ None → without_name name (group_of q (common.set rows n s)) ≡ without_name name (group_of q rows)
 group-removed rows q name n s is parent =
-    ap (λ (rs : List Row). without_name name (within q (suc q) rs)) (set-after rows q n s is.falls)
+    ap (λ (rs : List Row). without_name name (group_in_rows q (suc q) rs)) (set-after rows q n s is.falls)
     ∙ without-removed q name n (suc q) (n - suc q) s (drop (suc q) rows) (at-IsNode rows q name n is) (omega arith) parent
 
 alters-drop : (q n : ℕ) (old new : List Row) → Alters q old new → Alters q (drop n old) (drop n new)
@@ -101,7 +101,7 @@ group-child q p name n old new a is is_group differ below =
     let low : p < n = is.falls in
     within-child q p name n (suc p) (n - suc p) (drop (suc p) old) (drop (suc p) new) (alters-drop q (suc p) old new a) (at-IsNode old p name n is)
     (ap (λ (r : Row). r.value) (row-after old p n low) ∙ is_group) differ (omega arith) (ap (reaches q n (suc n)) (drop-after old p n low) ∙ below)
-    ∙ ap (λ (rs : List Row). tree.set name (group (within n (suc n) rs)) (group_of p old)) (drop-after new p n low)
+    ∙ ap (λ (rs : List Row). tree.set name (group (group_in_rows n (suc n) rs)) (group_of p old)) (drop-after new p n low)
 
 -- what changes a group twice
 pub Alters-both : (q : ℕ) (old mid new : List Row) → Alters q old mid → Alters q mid new → Alters q old new

@@ -11,7 +11,7 @@ use Rattle.asound_conf.specs.declared.error.ConfWhy.{ConfWhy}
 use Rattle.asound_conf.specs.declared.error.ConfWhy.TheVariants as why
 use Rattle.asound_conf.specs.declared.part.Part as part
 use Rattle.asound_conf.specs.Answer.{Leads, Refuses, answer_view}
-use Rattle.asound_conf.specs.Grammar.{State, after_item, at_key, at_number, close_to, open_group, put_key, put_text, within}
+use Rattle.asound_conf.specs.Grammar.{State, after_item, at_key, at_number, close_to, open_group, put_key, put_text, in_group}
 use Rattle.asound_conf.specs.Key.{Part, key_defect, part_named, without_marks}
 use Rattle.asound_conf.specs.Parts.{part_in, parts_in}
 use Rattle.asound_conf.specs.Place.{meets_text, put_or_clash}
@@ -149,11 +149,11 @@ open_group-state r c d path key here outer awaits line group array short same le
     let given = put_or_clash None (front ++ parts) (group_of 0 c.rows) in
     let shallow : nat_le 16 (length (front ++ parts)) ≡ false = ap (nat_le 16) count ∙ not-deep (length path + length key) short in
     let new = state_in d (path ++ key) [] (record { line = line; array = array; values = 0; names = length (path ++ key); group = group }) (here ∷ outer) (Item false) in
-    let at : within s line array (group_of 0 d.rows) ≡ new =
+    let at : in_group s line array (group_of 0 d.rows) ≡ new =
     λ i. record { root = group_of 0 d.rows; path = ways i; here = record { line = line; array = array; names = names_are i; values = 0 }; outer = bracket_of here ∷ map bracket_of outer; awaits = Item false } in
-    Leads-along r (within s line array (group_of 0 d.rows)) new (answer_view (within s line array) given) (open_group s line array) at
-    (sym (ap (λ b. cond b (Err why.Deep) (answer_view (within s line array) given)) shallow))
-    (Leads-seen r (group_of 0 d.rows) (within s line array) given leads)
+    Leads-along r (in_group s line array (group_of 0 d.rows)) new (answer_view (in_group s line array) given) (open_group s line array) at
+    (sym (ap (λ b. cond b (Err why.Deep) (answer_view (in_group s line array) given)) shallow))
+    (Leads-seen r (group_of 0 d.rows) (in_group s line array) given leads)
   where
     not-deep : (n : ℕ) → n < 16 → nat_le 16 n ≡ false
     not-deep n short = grind (arith, nat_tests)
@@ -173,7 +173,7 @@ open_group-deep c path key here outer awaits line array deep =
     let parts = parts_in c.text key in
     let count : length (front ++ parts) ≡ length path + length key = length-append front parts ∙ ap₂ (λ a b. a + b) (length-path_in c.text path) (length-parts_in c.text key) in
     let is_deep : nat_le 16 (length (front ++ parts)) ≡ true = ap (nat_le 16) count ∙ too-deep (length path + length key) deep in
-    ap (λ b. cond b (Err why.Deep) (answer_view (within s line array) (put_or_clash None (front ++ parts) (group_of 0 c.rows)))) is_deep
+    ap (λ b. cond b (Err why.Deep) (answer_view (in_group s line array) (put_or_clash None (front ++ parts) (group_of 0 c.rows)))) is_deep
   where
     too-deep : (n : ℕ) → 16 ≤ n → nat_le 16 n ≡ true
     too-deep n deep = grind (arith, nat_tests)

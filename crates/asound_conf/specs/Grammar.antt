@@ -78,8 +78,8 @@ abbrev pub take_text : State → List Part → List ℕ → Result State ConfWhy
 take_text s parts t = text_at s (value_place s s.awaits s.here.array) parts t
 
 -- within the group at the place of a value
-abbrev pub within : State → ℕ → Bool → Entries → State
-within s line array root = record {
+abbrev pub in_group : State → ℕ → Bool → Entries → State
+in_group s line array root = record {
   root = root;
   path = without_marks s.path;
   here = record { line = line; array = array; names = length s.path; values = 0 };
@@ -90,7 +90,7 @@ within s line array root = record {
 -- a `{` or `[` as a value
 abbrev pub open_group : State → ℕ → Bool → Result State ConfWhy
 open_group s line array =
-    if nat_le 16 (length s.path) then Err why.Deep else answer_view (within s line array) (put_or_clash None s.path s.root)
+    if nat_le 16 (length s.path) then Err why.Deep else answer_view (in_group s line array) (put_or_clash None s.path s.root)
 
 -- a `{` or `[` where a value can come, or where a key must
 abbrev pub open_at : Option State → ℕ → Bool → Result State ConfWhy

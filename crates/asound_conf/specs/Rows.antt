@@ -24,14 +24,14 @@ node (Some t) g = text t
 node None g = group g
 
 -- the group of a number, by rows of which the first has the number `first`
-abbrev pub within : ℕ → ℕ → List Row → Entries
-within p first [] = empty
-within p first (row ∷ rows) =
-    if is_in p row.parent then entry row.name (node row.value (within first (suc first) rows)) (within p (suc first) rows) else within p (suc first) rows
+abbrev pub group_in_rows : ℕ → ℕ → List Row → Entries
+group_in_rows p first [] = empty
+group_in_rows p first (row ∷ rows) =
+    if is_in p row.parent then entry row.name (node row.value (group_in_rows first (suc first) rows)) (group_in_rows p (suc first) rows) else group_in_rows p (suc first) rows
 
 -- the group of the row of this number: those that are in it come after it
 abbrev pub group_of : ℕ → List Row → Entries
-group_of p rows = within p (suc p) (drop (suc p) rows)
+group_of p rows = group_in_rows p (suc p) (drop (suc p) rows)
 
 -- what is beside the rows: it is in no group
 abbrev pub no_row : Row

@@ -22,7 +22,7 @@ use Rattle.lab_run.specs.Client.{ended_by, stretch_of}
 use Rattle.lab_run.specs.ClientAtPort.{ClientLinesAreParts, ClientLinesWithoutCall, IsClientLine}
 use Rattle.lab_run.specs.Members.{with_member}
 use Rattle.lab_run.specs.PortSteps.{IsAtPort}
-use Rattle.lab_actor.specs.ClientLines.{CanCall, Extends, HasAnswered, HasCalled, IsReady, ends_stretch}
+use Rattle.lab_actor.specs.ClientLines.{CanCall, Extends, HasClientAnswered, HasClientCalled, IsReady, ends_stretch}
 use Rattle.lab_actor.proofs.Away.{Extends-still}
 
 -- a line that is refused and changes nothing ends no stretch
@@ -45,8 +45,8 @@ ended_by-test other answer c d = refl
 
 module _ {S T : Type 0} (P : mixport.Ghosts S) (composes : Composes P.laid) (left : T → Option ℕ) (by_gate : T → ℕ) where
   pub answered-call : (G : gates.Ghosts T) → ((first : S) (ring : Geometry) (from : ℕ) → ClientLinesAreParts P G left by_gate first ring from)
-      → (s t : S × T) (wav : Sound) (c d : ClientView) (asked : Op) (answer : Answer) → CanCall c.stream.status.stopped asked → HasCalled P G s t wav c d asked answer
-      → HasAnswered P left by_gate s t wav c d asked answer
+      → (s t : S × T) (wav : Sound) (c d : ClientView) (asked : Op) (answer : Answer) → CanCall c.stream.status.stopped asked → HasClientCalled P G s t wav c d asked answer
+      → HasClientAnswered P left by_gate s t wav c d asked answer
   answered-call G parts s t wav c d asked answer can called = record {
     line = λ phase number ended first ring from before at.
         parts first ring from s t phase wav number before (record { own = Some (with_member number c.stream); ended = ended }) c.stream c.ring called.samples asked d.stream answer
@@ -58,7 +58,7 @@ module _ {S T : Type 0} (P : mixport.Ghosts S) (composes : Composes P.laid) (lef
   still : (s t : S × T) (wav : Sound) (c : ClientView) (asked : Op) (answer : Answer) → t.0 ≡ s.0 → IsReady P wav s.0 c → ended_by asked answer c.stream c.stream ≡ []
       → ((phase number : ℕ) (ended : List Segment) (first : S) (ring : Geometry) (from : ℕ) (before : Doing) → IsAtPort P left by_gate first ring from s before
       → IsClientLine P left by_gate first ring from t phase wav number before (record { own = Some (with_member number c.stream); ended = ended }) asked (record { own = Some (with_member number c.stream); ended = ended }) answer)
-      → HasAnswered P left by_gate s t wav c c asked answer
+      → HasClientAnswered P left by_gate s t wav c c asked answer
   still s t wav c asked answer same ready none line = record {
     line = λ phase number ended first ring from before at.
         subst (λ (segments : List Segment). IsClientLine P left by_gate first ring from t phase wav number before (record { own = Some (with_member number c.stream); ended = ended }) asked (record { own = Some (with_member number c.stream); ended = segments }) answer)
@@ -71,7 +71,7 @@ module _ {S T : Type 0} (P : mixport.Ghosts S) (composes : Composes P.laid) (lef
   -- a line of a client that was stopped
   pub answered-stopped : ((ring : Geometry) (phase : ℕ) (wav : Sound) (number : ℕ) → ClientLinesWithoutCall ring phase wav number)
       → (s : S × T) (wav : Sound) (c : ClientView) (asked : Op) → c.stream.status.stopped ≡ true → IsReady P wav s.0 c
-      → HasAnswered P left by_gate s s wav c c asked (Failed Stopped)
+      → HasClientAnswered P left by_gate s s wav c c asked (Failed Stopped)
   answered-stopped laws s wav c asked stopped ready = still s s wav c asked (Failed Stopped) refl ready (no_end asked Stopped c.stream)
       (λ phase number ended first ring from before at. record {
         doing = before;
@@ -82,7 +82,7 @@ module _ {S T : Type 0} (P : mixport.Ghosts S) (composes : Composes P.laid) (lef
   -- a `die`
   pub answered-die : ((ring : Geometry) (phase : ℕ) (wav : Sound) (number : ℕ) → ClientLinesWithoutCall ring phase wav number)
       → (p : S) (g h : T) (wav : Sound) (c : ClientView) (asks : ℕ) → c.stream.status.stopped ≡ false → left h ≡ Some asks → by_gate h ≡ by_gate g → IsReady P wav p c
-      → HasAnswered P left by_gate (p, g) (p, h) wav c c (op.Die asks) Done
+      → HasClientAnswered P left by_gate (p, g) (p, h) wav c c (op.Die asks) Done
   answered-die laws p g h wav c asks going left_is gate_is ready = still (p, g) (p, h) wav c (op.Die asks) Done refl ready refl
       (λ phase number ended first ring from before at. record {
         doing = (record before.0 { left = Some asks }, before.1);

@@ -33,7 +33,7 @@ use Rattle.lab_report.specs.declared.row.Answer.{Answer}
 use Rattle.lab_report.specs.declared.row.Answer.TheVariants.{Done, Failed}
 use Rattle.lab_run.specs.Client.{call_answer, done_answer, ended_by, frames_of, reported_error, stretch_of}
 use Rattle.lab_run.specs.ClientAtPort.{IsOffered, made_call}
-use Rattle.lab_actor.specs.ClientLines.{Extends, HasCalled, IsReady, entries_by}
+use Rattle.lab_actor.specs.ClientLines.{Extends, HasClientCalled, IsReady, entries_by}
 use Rattle.lab_actor.proofs.Away.{Extends-back, Extends-grows, Extends-joined, Extends-still, stretch-entries}
 
 module _ {S T : Type 0} (P : mixport.Ghosts S) (G : gates.Ghosts T) (composes : Composes P.laid)
@@ -48,7 +48,7 @@ module _ {S T : Type 0} (P : mixport.Ghosts S) (G : gates.Ghosts T) (composes : 
   -- a call that lays entries, or none, and ends no stretch
   pub called-keeps : {X : Type 0} (s t : S × T) (wav : Sound) (c d : ClientView) (asked : Op) (answer : Answer) (result : Result X PcmError) (For : List ℤ → Type 0) (samples : List ℤ)
       → IsReady P wav s.0 c → IsOffered wav c.stream samples asked → TakesAt P G s (made_call c.ring samples (P.view s.0).marks c.stream asked) t (d.stream, answer)
-      → Keeps P G s t c d result For → For wav.samples → ended_by asked answer c.stream d.stream ≡ [] → d.stream.fed ≤ frames_of wav → HasCalled P G s t wav c d asked answer
+      → Keeps P G s t c d result For → For wav.samples → ended_by asked answer c.stream d.stream ≡ [] → d.stream.fed ≤ frames_of wav → HasClientCalled P G s t wav c d asked answer
   called-keeps s t wav c d asked answer result For samples ready offered takes keeps for none fed =
       let grows = keeps.grows wav.samples ready.backed.stands for in
       record {
@@ -68,7 +68,7 @@ module _ {S T : Type 0} (P : mixport.Ghosts S) (G : gates.Ghosts T) (composes : 
   -- a rewind
   pub called-back : {X : Type 0} (s t : S × T) (wav : Sound) (c d : ClientView) (frames : ℕ) (answer : Answer) (result : Result X PcmError)
       → IsReady P wav s.0 c → TakesAt P G s (made_call c.ring [] (P.view s.0).marks c.stream (op.Rewind frames)) t (d.stream, answer)
-      → KeepsBack P G s t c d result → d.stream.fed ≤ frames_of wav → HasCalled P G s t wav c d (op.Rewind frames) answer
+      → KeepsBack P G s t c d result → d.stream.fed ≤ frames_of wav → HasClientCalled P G s t wav c d (op.Rewind frames) answer
   called-back s t wav c d frames answer result ready takes keeps fed =
       let loses = keeps.loses wav.samples ready.backed.stands in
       record {
@@ -87,14 +87,14 @@ module _ {S T : Type 0} (P : mixport.Ghosts S) (G : gates.Ghosts T) (composes : 
   -- A resume. Where the client isn't paused any more its stretch ended, and its counts were based anew.
   pub called-resume : {X : Type 0} (s t : S × T) (wav : Sound) (c d : ClientView) (answer : Answer) (result : Result X PcmError)
       → IsReady P wav s.0 c → IsSound c.stream c.ring → TakesAt P G s (made_call c.ring [] (P.view s.0).marks c.stream op.Resume) t (d.stream, answer)
-      → Keeps P G s t (record { stream = base_of c.stream d.stream; ring = c.ring }) d result AnySamples → d.stream.fed ≤ frames_of wav → HasCalled P G s t wav c d op.Resume answer
+      → Keeps P G s t (record { stream = base_of c.stream d.stream; ring = c.ring }) d result AnySamples → d.stream.fed ≤ frames_of wav → HasClientCalled P G s t wav c d op.Resume answer
   called-resume s t wav c d answer result ready sound takes keeps fed = by_test (is_paused c.stream.status.state && not (is_paused d.stream.status.state)) refl
     where
       in_pause : (state : State) (other : Bool) → (is_paused state && other) ≡ true → state ≡ Paused
       in_pause Paused other is = refl
       in_pause state other is = absurd (cc)
 
-      by_test : (test : Bool) → (is_paused c.stream.status.state && not (is_paused d.stream.status.state)) ≡ test → HasCalled P G s t wav c d op.Resume answer
+      by_test : (test : Bool) → (is_paused c.stream.status.state && not (is_paused d.stream.status.state)) ≡ test → HasClientCalled P G s t wav c d op.Resume answer
       by_test true is =
           let base_is : base_of c.stream d.stream ≡ with_new_base c.stream = ap (λ (test : Bool). if test then with_new_base c.stream else c.stream) is in
           let ended_is : ended_by op.Resume answer c.stream d.stream ≡ stretch_of c.stream = ap (λ (test : Bool). if test then stretch_of c.stream else []) is in
@@ -169,7 +169,7 @@ module _ {S T : Type 0} (P : mixport.Ghosts S) (G : gates.Ghosts T) (composes : 
 
   -- a line that changes nothing
   pub called-none : (s : S × T) (wav : Sound) (c : ClientView) (asked : Op) (answer : Answer) → IsReady P wav s.0 c → IsOffered wav c.stream [] asked
-      → TakesAt P G s (made_call c.ring [] (P.view s.0).marks c.stream asked) s (c.stream, answer) → ended_by asked answer c.stream c.stream ≡ [] → HasCalled P G s s wav c c asked answer
+      → TakesAt P G s (made_call c.ring [] (P.view s.0).marks c.stream asked) s (c.stream, answer) → ended_by asked answer c.stream c.stream ≡ [] → HasClientCalled P G s s wav c c asked answer
   called-none s wav c asked answer ready offered takes none = record {
     samples = [];
     offered = offered;
@@ -182,7 +182,7 @@ module _ {S T : Type 0} (P : mixport.Ghosts S) (G : gates.Ghosts T) (composes : 
   pub called-drop : (s : S × T) (wav : Sound) (c d : ClientView) (answer : Answer) (result : Result (Unit {0}) PcmError) → IsReady P wav s.0 c
       → ((e : PcmError) → refusal_of Playback c.stream.status call.Drop ≡ Some e → (result ≡ Err e) × (d ≡ c))
       → (refusal_of Playback c.stream.status call.Drop ≡ None → (result ≡ Ok tt) × (d ≡ record { stream = after_drop c.stream; ring = c.ring }))
-      → answer ≡ done_answer result → HasCalled P G s s wav c d op.Drop answer
+      → answer ≡ done_answer result → HasClientCalled P G s s wav c d op.Drop answer
   called-drop s wav c d answer result ready refused drops is = by_refusal (refusal_of Playback c.stream.status call.Drop) refl
     where
       takes : TakesAt P G s (made_call c.ring [] (P.view s.0).marks c.stream op.Drop) s (d.stream, answer)
@@ -191,7 +191,7 @@ module _ {S T : Type 0} (P : mixport.Ghosts S) (G : gates.Ghosts T) (composes : 
           (λ e found. let r = refused e found in (r.0, ap (λ (v : ClientView). v.stream) r.1)) (λ found. let r = drops found in (r.0, ap (λ (v : ClientView). v.stream) r.1))) is
 
       called : (ready_now : IsReady P wav s.0 d) → segment_entries c.stream wav.samples ≡ segment_entries d.stream wav.samples
-          → d.stream.identity.member ≡ c.stream.identity.member → d.stream.setup.bindings ≡ c.stream.setup.bindings → HasCalled P G s s wav c d op.Drop answer
+          → d.stream.identity.member ≡ c.stream.identity.member → d.stream.setup.bindings ≡ c.stream.setup.bindings → HasClientCalled P G s s wav c d op.Drop answer
       called ready_now same member bindings = record {
         samples = [];
         offered = tt;
@@ -200,7 +200,7 @@ module _ {S T : Type 0} (P : mixport.Ghosts S) (G : gates.Ghosts T) (composes : 
         extends = Extends-still P composes s.0 c.stream d.stream wav.samples [] same member bindings;
       }
 
-      by_refusal : (refusal : Option PcmError) → refusal_of Playback c.stream.status call.Drop ≡ refusal → HasCalled P G s s wav c d op.Drop answer
+      by_refusal : (refusal : Option PcmError) → refusal_of Playback c.stream.status call.Drop ≡ refusal → HasClientCalled P G s s wav c d op.Drop answer
       by_refusal None found =
           let d_is = (drops found).1 in
           called (subst (IsReady P wav s.0) (sym d_is) (IsReady-resting wav s.0 c Setup refl ready))
@@ -213,7 +213,7 @@ module _ {S T : Type 0} (P : mixport.Ghosts S) (G : gates.Ghosts T) (composes : 
   pub called-prepare : (s : S × T) (wav : Sound) (c d : ClientView) (answer : Answer) (result : Result (Unit {0}) PcmError) → IsReady P wav s.0 c
       → ((e : PcmError) → refusal_of Playback c.stream.status call.Prepare ≡ Some e → (result ≡ Err e) × (d ≡ c))
       → (refusal_of Playback c.stream.status call.Prepare ≡ None → (result ≡ Ok tt) × (d ≡ record { stream = after_prepare c.stream; ring = c.ring }))
-      → answer ≡ done_answer result → HasCalled P G s s wav c d op.Prepare answer
+      → answer ≡ done_answer result → HasClientCalled P G s s wav c d op.Prepare answer
   called-prepare s wav c d answer result ready refused prepares is = by_refusal (refusal_of Playback c.stream.status call.Prepare) refl
     where
       takes : TakesAt P G s (made_call c.ring [] (P.view s.0).marks c.stream op.Prepare) s (d.stream, answer)
@@ -222,7 +222,7 @@ module _ {S T : Type 0} (P : mixport.Ghosts S) (G : gates.Ghosts T) (composes : 
           (λ e found. let r = refused e found in (r.0, ap (λ (v : ClientView). v.stream) r.1)) (λ found. let r = prepares found in (r.0, ap (λ (v : ClientView). v.stream) r.1))) is
 
       called : (e : PlaybackStream) (ring : List ℤ) (a : Answer) → d ≡ record { stream = e; ring = ring } → answer ≡ a → IsReady P wav s.0 (record { stream = e; ring = ring })
-          → Extends P wav.samples s.0 s.0 c.stream e (ended_by op.Prepare a c.stream e) → HasCalled P G s s wav c d op.Prepare answer
+          → Extends P wav.samples s.0 s.0 c.stream e (ended_by op.Prepare a c.stream e) → HasClientCalled P G s s wav c d op.Prepare answer
       called e ring a d_is a_is ready_now extends = record {
         samples = [];
         offered = tt;
@@ -232,7 +232,7 @@ module _ {S T : Type 0} (P : mixport.Ghosts S) (G : gates.Ghosts T) (composes : 
             (subst (λ (x : Answer). Extends P wav.samples s.0 s.0 c.stream e (ended_by op.Prepare x c.stream e)) (sym a_is) extends);
       }
 
-      by_refusal : (refusal : Option PcmError) → refusal_of Playback c.stream.status call.Prepare ≡ refusal → HasCalled P G s s wav c d op.Prepare answer
+      by_refusal : (refusal : Option PcmError) → refusal_of Playback c.stream.status call.Prepare ≡ refusal → HasClientCalled P G s s wav c d op.Prepare answer
       by_refusal None found =
           let r = prepares found in
           called (after_prepare c.stream) c.ring Done r.1 (is ∙ ap done_answer r.0) (IsReady-prepared wav s.0 c ready)
@@ -249,7 +249,7 @@ module _ {S T : Type 0} (P : mixport.Ghosts S) (G : gates.Ghosts T) (composes : 
       → Keeps P G s t (record { stream = base_of c.stream d.stream; ring = c.ring }) d result AnySamples
       → ((e : PcmError) → refusal_of Playback c.stream.status call.Pause ≡ Some e → d ≡ c)
       → (refusal_of Playback c.stream.status call.Pause ≡ None → d ≡ record { stream = after_pause c.stream; ring = c.ring })
-      → d.stream.fed ≤ frames_of wav → HasCalled P G s t wav c d op.Pause answer
+      → d.stream.fed ≤ frames_of wav → HasClientCalled P G s t wav c d op.Pause answer
   called-pause s t wav c d answer result ready takes keeps refused pauses fed =
       called-keeps s t wav c d op.Pause answer result AnySamples [] ready tt takes
       (subst (λ (b : PlaybackStream). Keeps P G s t (record { stream = b; ring = c.ring }) d result AnySamples) (base_is (refusal_of Playback c.stream.status call.Pause) refl) keeps) tt refl fed
@@ -273,16 +273,16 @@ module _ {S T : Type 0} (P : mixport.Ghosts S) (G : gates.Ghosts T) (composes : 
   -- a line that isn't a client's, and a `die`, which makes no call
   pub called-refused : (s : S × T) (wav : Sound) (c : ClientView) (asked : Op) → IsReady P wav s.0 c
       → ((k : ℕ) × (asked ≡ op.Play k)) ⊎ ((asked ≡ op.Unplug) ⊎ (((k : ℕ) × (asked ≡ op.Read k)) ⊎ (((k : ℕ) × (asked ≡ op.Die k)) ⊎ ((asked ≡ op.Opens) ⊎ (asked ≡ op.Closes)))))
-      → HasCalled P G s s wav c c asked (Failed BadState)
-  called-refused s wav c asked ready (inl (k, is)) = subst (λ (x : Op). HasCalled P G s s wav c c x (Failed BadState)) (sym is)
+      → HasClientCalled P G s s wav c c asked (Failed BadState)
+  called-refused s wav c asked ready (inl (k, is)) = subst (λ (x : Op). HasClientCalled P G s s wav c c x (Failed BadState)) (sym is)
       (called-none s wav c (op.Play k) (Failed BadState) ready tt (record { there = refl; result = refl }) refl)
-  called-refused s wav c asked ready (inr (inl is)) = subst (λ (x : Op). HasCalled P G s s wav c c x (Failed BadState)) (sym is)
+  called-refused s wav c asked ready (inr (inl is)) = subst (λ (x : Op). HasClientCalled P G s s wav c c x (Failed BadState)) (sym is)
       (called-none s wav c op.Unplug (Failed BadState) ready tt (record { there = refl; result = refl }) refl)
-  called-refused s wav c asked ready (inr (inr (inl (k, is)))) = subst (λ (x : Op). HasCalled P G s s wav c c x (Failed BadState)) (sym is)
+  called-refused s wav c asked ready (inr (inr (inl (k, is)))) = subst (λ (x : Op). HasClientCalled P G s s wav c c x (Failed BadState)) (sym is)
       (called-none s wav c (op.Read k) (Failed BadState) ready tt (record { there = refl; result = refl }) refl)
-  called-refused s wav c asked ready (inr (inr (inr (inl (k, is))))) = subst (λ (x : Op). HasCalled P G s s wav c c x (Failed BadState)) (sym is)
+  called-refused s wav c asked ready (inr (inr (inr (inl (k, is))))) = subst (λ (x : Op). HasClientCalled P G s s wav c c x (Failed BadState)) (sym is)
       (called-none s wav c (op.Die k) (Failed BadState) ready tt (record { there = refl; result = refl }) refl)
-  called-refused s wav c asked ready (inr (inr (inr (inr (inl is))))) = subst (λ (x : Op). HasCalled P G s s wav c c x (Failed BadState)) (sym is)
+  called-refused s wav c asked ready (inr (inr (inr (inr (inl is))))) = subst (λ (x : Op). HasClientCalled P G s s wav c c x (Failed BadState)) (sym is)
       (called-none s wav c op.Opens (Failed BadState) ready tt (record { there = refl; result = refl }) refl)
-  called-refused s wav c asked ready (inr (inr (inr (inr (inr is))))) = subst (λ (x : Op). HasCalled P G s s wav c c x (Failed BadState)) (sym is)
+  called-refused s wav c asked ready (inr (inr (inr (inr (inr is))))) = subst (λ (x : Op). HasClientCalled P G s s wav c c x (Failed BadState)) (sym is)
       (called-none s wav c op.Closes (Failed BadState) ready tt (record { there = refl; result = refl }) refl)

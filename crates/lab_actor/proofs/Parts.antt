@@ -24,7 +24,7 @@ use Rattle.lab_run.specs.PortSteps.{IsAtPort}
 use Rattle.lab_actor.specs.declared.client.ClientActor.{ClientActor}
 use Rattle.dmix_client.specs.View.{ClientView}
 use Rattle.lab_actor.specs.ClientLines.{Extends}
-use Rattle.lab_actor.specs.ClientPart.{ClientLine, ClientPart, HasDone, client_of}
+use Rattle.lab_actor.specs.ClientPart.{ClientLine, ClientPart, HasClientDone, client_of}
 use Rattle.lab_actor.specs.Room.{GrowsBy, HasSpace, asked_by}
 use Rattle.lab_actor.proofs.Away.{Extends-joined, Extends-still}
 
@@ -136,7 +136,7 @@ ClientPart-shared P left by_gate other_left by_other p q g h k m phase wav a b c
       part = λ first ring from before at.
           let done = part.part first ring from before
           (IsAtPort-shared P other_left by_other left by_gate first ring from p k g before (sym left_before) (sym gate_before) at) in
-          subst (λ (own : Client). HasDone P other_left by_other first ring from (q, m) phase wav a.number before (client_of a) ops own part.rows) same (record {
+          subst (λ (own : Client). HasClientDone P other_left by_other first ring from (q, m) phase wav a.number before (client_of a) ops own part.rows) same (record {
             doing = done.doing;
             done = done.done;
             at = IsAtPort-shared P left by_gate other_left by_other first ring from q h m done.doing left_after gate_after done.at;

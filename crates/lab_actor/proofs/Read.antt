@@ -37,7 +37,7 @@ use Rattle.lab_report.specs.declared.row.Answer.TheVariants.{Count, Failed}
 use Rattle.lab_run.specs.Client.{count_answer, done_answer}
 use Rattle.lab_run.specs.Reader.{call_answer, call_of, frames_by}
 use Rattle.lab_run.specs.Stretches.{got_by}
-use Rattle.lab_actor.specs.ReaderLines.{AreSamples, HasCalled, HasLoaded, HasRead, HasSameSetup}
+use Rattle.lab_actor.specs.ReaderLines.{AreSamples, HasReaderCalled, HasLoaded, HasRead, HasSameSetup}
 
 -- as many samples as frames times channels
 pub length-through : (bindings : List ℕ) (frames : List Frame) → length (through_all bindings frames) ≡ length frames * length bindings
@@ -166,7 +166,7 @@ module _ {S T : Type 0} (P : snoopport.Ghosts S) (G : gates.Ghosts T) (composes 
   pub called-reading_none : {X : Type 0} (answer_of : Result X PcmError → Answer) (s t : S × T) (r d : CaptureStream) (before : List ℤ) (asked : Op)
       (m : Course (Answered X)) (result : Result X PcmError) (answer : Answer) → call_of r asked ≡ call_answer answer_of m → TakesAtSnoop P G s m t (d, result)
       → answer ≡ answer_of result → CanUse d (P.view t.0) → HasSameSetup r d → got_by asked answer ≡ 0 → frames_by asked answer d ≡ []
-      → HasCalled P G s t r d before before asked answer
+      → HasReaderCalled P G s t r d before before asked answer
   called-reading_none answer_of s t r d before asked m result answer call takes is usable same none no_frames =
       let got = got-some s t m (d, result) takes in
       record {
@@ -180,7 +180,7 @@ module _ {S T : Type 0} (P : snoopport.Ghosts S) (G : gates.Ghosts T) (composes 
   pub called-keeps : {X : Type 0} (answer_of : Result X PcmError → Answer) (s t : S × T) (r d : CaptureStream) (before : List ℤ) (asked : Op)
       (m : Course (Answered X)) (result : Result X PcmError) (answer : Answer) → call_of r asked ≡ call_answer answer_of m → TakesAtSnoop P G s m t (d, result)
       → Keeps P G s t r d result → answer ≡ answer_of result → got_by asked answer ≡ 0 → frames_by asked answer d ≡ []
-      → HasCalled P G s t r d before before asked answer
+      → HasReaderCalled P G s t r d before before asked answer
   called-keeps answer_of s t r d before asked m result answer call takes keeps is none no_frames =
       called-reading_none answer_of s t r d before asked m result answer call takes is keeps.port
       (record { same_ring = keeps.same_ring; same_setup = keeps.same_setup }) none no_frames
@@ -200,7 +200,7 @@ module _ {S T : Type 0} (P : snoopport.Ghosts S) (G : gates.Ghosts T) (composes 
       → ((e : PcmError) → refusal_of Capture r.status what ≡ Some e → (result ≡ Err e) × (d ≡ r))
       → (refusal_of Capture r.status what ≡ None → (result ≡ Ok tt) × (d ≡ in_state r state))
       → answer ≡ done_answer result → CanUse r (P.view s.0) → got_by asked answer ≡ 0 → frames_by asked answer d ≡ []
-      → HasCalled P G s s r d before before asked answer
+      → HasReaderCalled P G s s r d before before asked answer
   called-state s r d before asked what state result answer call refused admits is usable none no_frames =
       called-reading_none done_answer s s r d before asked _ result answer call (admitted-taken s r what (in_state r state, Ok tt) d result refused admits) is
       kept.0 kept.1 none no_frames
@@ -217,7 +217,7 @@ module _ {S T : Type 0} (P : snoopport.Ghosts S) (G : gates.Ghosts T) (composes 
 
   -- a line that is refused at once
   pub called-refused : (s : S × T) (r : CaptureStream) (before : List ℤ) (asked : Op) (e : PcmError) → call_of r asked ≡ ends (r, Failed e) → CanUse r (P.view s.0)
-      → HasCalled P G s s r r before before asked (Failed e)
+      → HasReaderCalled P G s s r r before before asked (Failed e)
   called-refused s r before asked e call usable = record {
     takes = subst (λ (n : Course (CaptureStream × Answer)). TakesAtSnoop P G s n s (r, Failed e)) (sym call) (record { there = refl; result = refl });
     has_read = HasRead-none P s.0 s.0 r r before asked (Failed e) [] (composes.none s.0) usable (record { same_ring = refl; same_setup = refl }) (got-none asked e) (frames-none asked e r);
@@ -228,7 +228,7 @@ module _ {S T : Type 0} (P : snoopport.Ghosts S) (G : gates.Ghosts T) (composes 
       → 1 ≤ length r.setup.bindings → length room ≡ min n (most_read r) * length r.setup.bindings
       → TakesAtSnoop P G s (if_admitted r call.Transfer (read_course r (frames_in r room))) t (d, result) → Reads P s.0 t.0 r d room filled result
       → Keeps P G s t r d result → answer ≡ count_answer result → samples ≡ before ++ take (result_unwrap_or result 0 * length r.setup.bindings) filled
-      → HasCalled P G s t r d before samples (op.Read n) answer
+      → HasReaderCalled P G s t r d before samples (op.Read n) answer
   called-read s t r d before samples room filled n result answer some size takes reads keeps is kept = record {
     takes = Takes-map (LoadsAtSnoop P G) NoLay (GetsAtSnoop P G) s t (if_admitted r call.Transfer (read_course r n)) (λ (done : Answered ℕ). (done.0, count_answer done.1))
         (d, result) (d, answer)

@@ -28,7 +28,7 @@ use Rattle.lab_run.specs.ReaderAtPort.{IsReaderLine, ReaderLinesAreParts, Reader
 use Rattle.lab_actor.specs.ClientLines.{CanCall}
 use Rattle.lab_run.specs.Stretches.{got_by}
 use Rattle.lab_actor.specs.Progress.{Progress}
-use Rattle.lab_actor.specs.ReaderLines.{AreSamples, HasAnswered, HasCalled, HasRead}
+use Rattle.lab_actor.specs.ReaderLines.{AreSamples, HasReaderAnswered, HasReaderCalled, HasRead}
 use Rattle.lab_actor.specs.Room.{asked_by, fitting, wanted_by}
 use Rattle.lab_actor.proofs.Read.{HasLoaded-none, HasRead-none, frames-none, got-none, loaded-some}
 use Rattle.lab_actor.proofs.ReaderProgress.{Progress-same, call-makes}
@@ -80,7 +80,7 @@ call-fitting P G s t r d other spare answer fits takes = takes
 module _ {S T : Type 0} (P : snoopport.Ghosts S) (composes : Composes P.got) (loading : Composes P.loaded) (left : T → Option ℕ) (by_gate : T → ℕ) where
   pub answered-call : (G : gates.Ghosts T) → ((first : S) (ring : Geometry) → ReaderLinesAreParts P G left by_gate first ring)
       → (s t : S × T) (r d : CaptureStream) (before samples : List ℤ) (asked : Op) (spare : ℕ) (answer : Answer) → CanCall r.status.stopped asked
-      → HasCalled P G s t r d before samples (fitting spare asked) answer → HasAnswered P left by_gate s t r d before samples asked spare answer
+      → HasReaderCalled P G s t r d before samples (fitting spare asked) answer → HasReaderAnswered P left by_gate s t r d before samples asked spare answer
   answered-call G parts s t r d before samples asked spare answer can called =
       let makes = call-makes P G s t r d (fitting spare asked) answer called.takes in
       let got = got-fitting asked spare answer in
@@ -99,7 +99,7 @@ module _ {S T : Type 0} (P : snoopport.Ghosts S) (composes : Composes P.got) (lo
   -- a line of a reader that was stopped
   pub answered-stopped : ((ring : Geometry) (phase number : ℕ) → ReaderLinesWithoutCall ring phase number)
       → (s : S × T) (r : CaptureStream) (before : List ℤ) (asked : Op) (spare : ℕ) → r.status.stopped ≡ true → CanUse r (P.view s.0)
-      → HasAnswered P left by_gate s s r r before before asked spare (Failed Stopped)
+      → HasReaderAnswered P left by_gate s s r r before before asked spare (Failed Stopped)
   answered-stopped laws s r before asked spare stopped usable = record {
     line = λ fits phase number frames first ring doing at.
         subst (λ (same : List ℕ). IsReaderLine P left by_gate first ring s phase number doing (record { own = Some r; frames = frames }) asked (record { own = Some r; frames = same }) (Failed Stopped))
@@ -119,7 +119,7 @@ module _ {S T : Type 0} (P : snoopport.Ghosts S) (composes : Composes P.got) (lo
   -- a `die`
   pub answered-die : ((ring : Geometry) (phase number : ℕ) → ReaderLinesWithoutCall ring phase number)
       → (p : S) (g h : T) (r : CaptureStream) (before : List ℤ) (asks spare : ℕ) → r.status.stopped ≡ false → left h ≡ Some asks → by_gate h ≡ by_gate g → CanUse r (P.view p)
-      → HasAnswered P left by_gate (p, g) (p, h) r r before before (op.Die asks) spare Done
+      → HasReaderAnswered P left by_gate (p, g) (p, h) r r before before (op.Die asks) spare Done
   answered-die laws p g h r before asks spare going left_is gate_is usable = record {
     line = λ fits phase number frames first ring doing at.
         subst (λ (same : List ℕ). IsReaderLine P left by_gate first ring (p, h) phase number doing (record { own = Some r; frames = frames }) (op.Die asks) (record { own = Some r; frames = same }) Done)

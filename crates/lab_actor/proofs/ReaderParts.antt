@@ -31,19 +31,19 @@ use Rattle.lab_run.specs.ReaderAtPort.{IsAtSnoop, IsReaderLine}
 use Rattle.lab_run.specs.Stretches.{got_by}
 use Rattle.lab_actor.specs.declared.reader.ReaderActor.{ReaderActor}
 use Rattle.lab_actor.specs.FrameRuns.{frames_in}
-use Rattle.lab_actor.specs.ReaderLines.{AreSamples, HasAnswered, HasSameSetup}
+use Rattle.lab_actor.specs.ReaderLines.{AreSamples, HasReaderAnswered, HasSameSetup}
 use Rattle.lab_actor.specs.Progress.{Progress-joined, Progress-most, SeesAtMost}
-use Rattle.lab_actor.specs.ReaderPart.{Appends, HasDone, HasGot, HasRowsFor, IsSameActor, ReaderLine, ReaderPart, TakesRow, channels_of, reader_of}
+use Rattle.lab_actor.specs.ReaderPart.{Appends, HasReaderDone, HasGot, HasRowsFor, IsSameReader, ReaderLine, ReaderPart, TakesRow, channels_of, reader_of}
 use Rattle.lab_actor.specs.Room.{HasSpace, asked_by, frames_wanted, most_wanted, spare_frames, wanted_by}
 use Rattle.lab_actor.proofs.Parts.{other-line, own-line}
 use Rattle.lab_actor.proofs.Read.{HasLoaded-joined, HasLoaded-none, frames_by-count, length-through}
 use Rattle.lab_actor.proofs.ReaderProgress.{Progress-same}
 
 -- an actor is the same as itself, and after two lines
-pub IsSameActor-none : (a : ReaderActor) → IsSameActor a a
+pub IsSameActor-none : (a : ReaderActor) → IsSameReader a a
 IsSameActor-none a = record { number = refl; setup = record { same_ring = refl; same_setup = refl } }
 
-pub IsSameActor-joined : (a x b : ReaderActor) → IsSameActor a x → IsSameActor x b → IsSameActor a b
+pub IsSameActor-joined : (a x b : ReaderActor) → IsSameReader a x → IsSameReader x b → IsSameReader a b
 IsSameActor-joined a x b one two = record {
   number = two.number ∙ one.number;
   setup = record { same_ring = two.setup.same_ring ∙ one.setup.same_ring; same_setup = two.setup.same_setup ∙ one.setup.same_setup };
@@ -106,7 +106,7 @@ AreSamples-length P p q r numbers samples are =
 
 -- a line got as many frames as its row counts
 pub HasGot-line : {S T : Type 0} (P : snoopport.Ghosts S) (left : T → Option ℕ) (by_gate : T → ℕ) (s t : S × T) (a b : ReaderActor) (asked : Op) (answer : Answer)
-    → HasAnswered P left by_gate s t a.reader b.reader a.samples.items b.samples.items asked (spare_frames a.reader a.samples) answer
+    → HasReaderAnswered P left by_gate s t a.reader b.reader a.samples.items b.samples.items asked (spare_frames a.reader a.samples) answer
     → vec_capacity a.samples ≤ vec_capacity b.samples → HasGot (P.view s.0) (P.view t.0) a b (asked ∷ [])
 HasGot-line P left by_gate s t a b asked answer answered room =
     let has_read = answered.has_read in
@@ -139,7 +139,7 @@ HasGot-none v a =
       progress = Progress-same a.reader v;
     }
 
-HasGot-more : (u v w : SnoopView) (a x b : ReaderActor) (ops : List Op) (asked : Op) → IsSameActor a x → HasGot u v a x ops → HasGot v w x b (asked ∷ [])
+HasGot-more : (u v w : SnoopView) (a x b : ReaderActor) (ops : List Op) (asked : Op) → IsSameReader a x → HasGot u v a x ops → HasGot v w x b (asked ∷ [])
     → HasGot u w a b (ops ++ asked ∷ [])
 HasGot-more u v w a x b ops asked same one two =
     let few = one.few in
@@ -160,7 +160,7 @@ HasGot-more u v w a x b ops asked same one two =
     }
 
 pub HasGot-next : (u v w : SnoopView) (a x b : ReaderActor) (mine : Actor → Bool) (lines : List Line) (k : ℕ) (line : Line) → k < length lines → get_or lines k line ≡ line
-    → IsSameActor a x → HasGot u v a x (ops_by mine (take k lines)) → (mine line.actor ≡ true → HasGot v w x b (line.op ∷ []))
+    → IsSameReader a x → HasGot u v a x (ops_by mine (take k lines)) → (mine line.actor ≡ true → HasGot v w x b (line.op ∷ []))
     → (mine line.actor ≡ false → (b ≡ x) × (w ≡ v)) → HasGot u w a b (ops_by mine (take (k + 1) lines))
 HasGot-next u v w a x b mine lines k line within is same got own others = by_test (mine line.actor) refl
   where
@@ -181,7 +181,7 @@ wanted-asked most (op.Read n) = (omega arith, omega arith)
 wanted-asked most other = (omega arith, omega arith)
 
 -- There is room for the next line, where a phase's lines have theirs, and the port saw no more frames so far than the card plays.
-pub line-fits : (played : ℕ) (v w : SnoopView) (a x : ReaderActor) (all ops : List Op) (asked : Op) → 1 ≤ channels_of x → IsSameActor a x → HasGot v w a x ops
+pub line-fits : (played : ℕ) (v w : SnoopView) (a x : ReaderActor) (all ops : List Op) (asked : Op) → 1 ≤ channels_of x → IsSameReader a x → HasGot v w a x ops
     → sum_by asked_by ops + asked_by asked ≤ sum_by asked_by all
     → HasSpace (frames_wanted (most_wanted a.reader v.geometry.frames played) all * channels_of a) a.samples → SeesAtMost played v w
     → wanted_by (most_read x.reader) asked ≤ spare_frames x.reader x.samples
@@ -249,7 +249,7 @@ module _ {S : Type 0} (P : snoopport.Ghosts S) (composes : Composes P.got) where
     };
   }
 
-  pub Appends-joined : (p q s : S) (a x b : ReaderActor) → IsSameActor a x → Appends P p q a x → Appends P q s x b → Appends P p s a b
+  pub Appends-joined : (p q s : S) (a x b : ReaderActor) → IsSameReader a x → Appends P p q a x → Appends P q s x b → Appends P p s a b
   Appends-joined p q s a x b same one two = record {
     numbers = one.numbers ++ two.numbers;
     numbers_are = two.numbers_are ∙ ap (λ (frames : List ℕ). frames ++ two.numbers) one.numbers_are ∙ append_assoc (frames_in a.frames.runs) one.numbers two.numbers;
@@ -351,7 +351,7 @@ ReaderPart-shared P left by_gate other_left by_other p q g h k m phase played a 
       part = λ most first ring before at.
           let done = part.part most first ring before
           (IsAtSnoop-shared P other_left by_other left by_gate first ring p k g before (sym left_before) (sym gate_before) at) in
-          subst (λ (own : Reader). HasDone P other_left by_other first ring (q, m) phase a.number before (reader_of a) ops own part.rows) same_reader (record {
+          subst (λ (own : Reader). HasReaderDone P other_left by_other first ring (q, m) phase a.number before (reader_of a) ops own part.rows) same_reader (record {
             doing = done.doing;
             done = done.done;
             at = IsAtSnoop-shared P left by_gate other_left by_other first ring q h m done.doing left_after gate_after done.at;

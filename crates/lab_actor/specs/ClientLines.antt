@@ -51,7 +51,7 @@ pub record Extends {S : Type 0} (P : mixport.Ghosts S) (samples : List ℤ) (p q
   pub same_bindings : d.setup.bindings ≡ c.setup.bindings
 
 -- an open client made the call that a line names, and is ready for the next line
-pub record HasCalled {S T : Type 0} (P : mixport.Ghosts S) (G : gates.Ghosts T)
+pub record HasClientCalled {S T : Type 0} (P : mixport.Ghosts S) (G : gates.Ghosts T)
     (s t : S × T) (wav : Sound) (c d : ClientView) (asked : Op) (answer : Answer) : Type 0 where
   pub samples : List ℤ
   pub offered : IsOffered wav c.stream samples asked
@@ -72,7 +72,7 @@ IsFew (op.Write frames) = frames ≤ 4194304
 IsFew other = ⊤
 
 -- an open client was answered a line, and is ready for the next one: whichever segments it had, it is its line as a run has it
-pub record HasAnswered {S T : Type 0} (P : mixport.Ghosts S) (left : T → Option ℕ) (by_gate : T → ℕ)
+pub record HasClientAnswered {S T : Type 0} (P : mixport.Ghosts S) (left : T → Option ℕ) (by_gate : T → ℕ)
     (s t : S × T) (wav : Sound) (c d : ClientView) (asked : Op) (answer : Answer) : Type 0 where
   pub line : (phase number : ℕ) (ended : List Segment) (first : S) (ring : Geometry)
       (from : ℕ) (before : Doing) → IsAtPort P left by_gate first ring from s before

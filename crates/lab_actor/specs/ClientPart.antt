@@ -20,11 +20,11 @@ abbrev pub client_of : ClientActor → Client
 client_of a = record { own = Some (with_member a.number a.client.stream); ended = a.ended.items }
 
 -- what stays of an actor
-abbrev pub IsSameActor : ClientActor → ClientActor → Type 0
-IsSameActor a b = b.number ≡ a.number
+abbrev pub IsSameClient : ClientActor → ClientActor → Type 0
+IsSameClient a b = b.number ≡ a.number
 
 -- lines were done at a port and a gate, after which it is so
-pub record HasDone {S T : Type 0} (P : mixport.Ghosts S) (left : T → Option ℕ)
+pub record HasClientDone {S T : Type 0} (P : mixport.Ghosts S) (left : T → Option ℕ)
     (by_gate : T → ℕ) (first : S) (ring : Geometry) (from : ℕ) (t : S × T)
     (phase : ℕ) (wav : Sound) (number : ℕ) (before : Doing) (client : Client)
     (ops : List Op) (after : Client) (rows : List Row) : Type 0 where
@@ -47,7 +47,7 @@ pub record ClientLine {S T : Type 0} (P : mixport.Ghosts S) (left : T → Option
   pub ended : List Segment
   pub ended_are : b.ended.items ≡ a.ended.items ++ ended
   pub extends : Extends P wav.samples s.0 t.0 a.client.stream b.client.stream ended
-  pub same : IsSameActor a b
+  pub same : IsSameClient a b
 
 -- an actor did some lines, likewise
 pub record ClientPart {S T : Type 0} (P : mixport.Ghosts S) (left : T → Option ℕ) (by_gate : T → ℕ)
@@ -56,12 +56,12 @@ pub record ClientPart {S T : Type 0} (P : mixport.Ghosts S) (left : T → Option
   pub rows_are : b.rows.items ≡ a.rows.items ++ rows
   pub part : (first : S) (ring : Geometry) (from : ℕ) (before : Doing)
       → IsAtPort P left by_gate first ring from s before
-      → HasDone P left by_gate first ring from t phase wav a.number before
+      → HasClientDone P left by_gate first ring from t phase wav a.number before
       (client_of a) ops (client_of b) rows
   pub ended : List Segment
   pub ended_are : b.ended.items ≡ a.ended.items ++ ended
   pub extends : Extends P wav.samples s.0 t.0 a.client.stream b.client.stream ended
-  pub same : IsSameActor a b
+  pub same : IsSameClient a b
 
 -- an actor's share of a gate's state: what a `die` lets pass yet, and the stops of its own gate
 abbrev pub left_in : Option ℕ × ℕ → Option ℕ

@@ -58,7 +58,7 @@ pub record HasRead {S : Type 0} (P : snoopport.Ghosts S) (p q : S) (r after : Ca
   pub read : AreSamples P p q r (frames_by asked answer after) more
 
 -- an open reader made the call that a line names
-pub record HasCalled {S T : Type 0} (P : snoopport.Ghosts S) (G : gates.Ghosts T)
+pub record HasReaderCalled {S T : Type 0} (P : snoopport.Ghosts S) (G : gates.Ghosts T)
     (s t : S × T) (r after : CaptureStream) (before samples : List ℤ)
     (asked : Op) (answer : Answer) : Type 0 where
   pub takes : TakesAtSnoop P G s (call_of r asked) t (after, answer)
@@ -66,7 +66,7 @@ pub record HasCalled {S T : Type 0} (P : snoopport.Ghosts S) (G : gates.Ghosts T
 
 -- An open reader was answered a line, with room for so many frames: whichever frames it had, it is its line as a run has it, where there was room for
 -- those that the line may get. It made progress by the frames that it got, which are no more than the line asks for.
-pub record HasAnswered {S T : Type 0} (P : snoopport.Ghosts S) (left : T → Option ℕ)
+pub record HasReaderAnswered {S T : Type 0} (P : snoopport.Ghosts S) (left : T → Option ℕ)
     (by_gate : T → ℕ) (s t : S × T) (r after : CaptureStream) (before samples : List ℤ)
     (asked : Op) (spare : ℕ) (answer : Answer) : Type 0 where
   pub line : wanted_by (most_read r) asked ≤ spare

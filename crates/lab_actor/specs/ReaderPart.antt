@@ -23,7 +23,7 @@ abbrev pub reader_of : ReaderActor → Reader
 reader_of a = record { own = Some a.reader; frames = frames_in a.frames.runs }
 
 -- what stays of an actor
-pub record IsSameActor (a b : ReaderActor) : Type 0 where
+pub record IsSameReader (a b : ReaderActor) : Type 0 where
   pub number : b.number ≡ a.number
   pub setup : HasSameSetup a.reader b.reader
 
@@ -70,7 +70,7 @@ pub record Appends {S : Type 0} (P : snoopport.Ghosts S) (p q : S)
   pub samples : AreSamples P p q a.reader numbers more
 
 -- lines were done at a port and a gate, after which it is so
-pub record HasDone {S T : Type 0} (P : snoopport.Ghosts S) (left : T → Option ℕ)
+pub record HasReaderDone {S T : Type 0} (P : snoopport.Ghosts S) (left : T → Option ℕ)
     (by_gate : T → ℕ) (first : S) (ring : Geometry) (t : S × T)
     (phase number : ℕ) (before : Doing) (reader : Reader) (ops : List Op)
     (after : Reader) (rows : List Row) : Type 0 where
@@ -93,7 +93,7 @@ pub record ReaderLine {S T : Type 0} (P : snoopport.Ghosts S) (left : T → Opti
       asked (reader_of b) answer
   pub loaded : HasLoaded P s.0 t.0
   pub appends : Appends P s.0 t.0 a b
-  pub same : IsSameActor a b
+  pub same : IsSameReader a b
 
 -- an actor did some lines, likewise, where its port saw no more frames in them than the card plays
 pub record ReaderPart {S T : Type 0} (P : snoopport.Ghosts S) (left : T → Option ℕ)
@@ -104,8 +104,8 @@ pub record ReaderPart {S T : Type 0} (P : snoopport.Ghosts S) (left : T → Opti
   pub part : SeesAtMost played (P.view s.0) (P.view t.0)
       → (first : S) (ring : Geometry) (before : Doing)
       → IsAtSnoop P left by_gate first ring s before
-      → HasDone P left by_gate first ring t phase a.number before (reader_of a)
+      → HasReaderDone P left by_gate first ring t phase a.number before (reader_of a)
       ops (reader_of b) rows
   pub loaded : HasLoaded P s.0 t.0
   pub appends : Appends P s.0 t.0 a b
-  pub same : IsSameActor a b
+  pub same : IsSameReader a b

@@ -3,7 +3,7 @@ ghost use Rattle.std.specs.Prelude.{◌≡◌, ◌++◌, ◌+◌, ◌<◌, ◌�
 ghost use Rattle.dmix_client.specs.Calls.{is_paused};
 ghost use Rattle.lab_script.specs.declared.line.Line.{Line};
 ghost use Rattle.lab_run.specs.Phases.{is_client, ops_by};
-ghost use Rattle.lab_actor.specs.ClientLines.{CanCall, HasAnswered, IsFew, IsReady, ends_stretch, laid_of};
+ghost use Rattle.lab_actor.specs.ClientLines.{CanCall, HasClientAnswered, IsFew, IsReady, ends_stretch, laid_of};
 ghost use Rattle.lab_actor.specs.ClientPart.{ClientLine, ClientPart, left_in, stops_in};
 ghost use Rattle.lab_actor.specs.Countdown.{IsSameGate, by_gate_of, left_of};
 ghost use Rattle.lab_actor.specs.Room.{GrowsBy, HasSpace, line_count};
@@ -77,7 +77,7 @@ fn call_line<P: MixPort, G: Gate, L: Ledger>(
     requires few { IsFew asked }
     requires can { CanCall client.old.stream.status.stopped asked }
     requires ready { IsReady P.MixPort wav.now port.old client.old }
-    ensures answered { HasAnswered P.MixPort left_of (by_gate_of G.stops)
+    ensures answered { HasClientAnswered P.MixPort left_of (by_gate_of G.stops)
         (port.old, gate.old) (port.new, gate.new)
         wav.now client.old client.new asked result }
     ensures same_gate { IsSameGate gate.old gate.new }
@@ -96,7 +96,7 @@ fn answer_line<P: MixPort, G: Gate, L: Ledger>(
 ) -> Answer
     requires few { IsFew asked }
     requires ready { IsReady P.MixPort wav.now port.old client.old }
-    ensures answered { HasAnswered P.MixPort left_of (by_gate_of G.stops)
+    ensures answered { HasClientAnswered P.MixPort left_of (by_gate_of G.stops)
         (port.old, gate.old) (port.new, gate.new)
         wav.now client.old client.new asked result }
     ensures same_gate { IsSameGate gate.old gate.new }

@@ -1,7 +1,7 @@
 //! The calls that the lines of an open client name.
 ghost use Rattle.std.specs.Prelude.{◌≡◌, ◌-◌, ◌*◌, ◌^◌, ◌<◌, ◌≤◌, drop, false, min, take};
 ghost use Rattle.lab_run.specs.Client.{frames_of};
-ghost use Rattle.lab_actor.specs.ClientLines.{HasCalled, IsFew, IsReady};
+ghost use Rattle.lab_actor.specs.ClientLines.{HasClientCalled, IsFew, IsReady};
 
 use crate::answer::{counted, done, moved};
 use dmix_client::Client;
@@ -38,7 +38,7 @@ fn write<P: MixPort, G: Gate>(
 ) -> Answer
     requires few { frames ≤ 4194304 }
     requires ready { IsReady P.MixPort wav.now port.old client.old }
-    ensures { HasCalled P.MixPort G.Gate (port.old, gate.old) (port.new, gate.new)
+    ensures { HasClientCalled P.MixPort G.Gate (port.old, gate.old) (port.new, gate.new)
         wav.now client.old client.new (Op.Write frames) result }
 {
     let offer = next_frames(wav, client.fed(), frames);
@@ -58,7 +58,7 @@ pub(crate) fn call<P: MixPort, G: Gate>(
     requires few { IsFew asked }
     requires unstopped { client.old.stream.status.stopped ≡ false }
     requires ready { IsReady P.MixPort wav.now port.old client.old }
-    ensures { HasCalled P.MixPort G.Gate (port.old, gate.old) (port.new, gate.new)
+    ensures { HasClientCalled P.MixPort G.Gate (port.old, gate.old) (port.new, gate.new)
         wav.now client.old client.new asked result }
 {
     client.counts_are_sound();

@@ -7,7 +7,7 @@ ghost use Rattle.lab_run.specs.Stretches.{got_by};
 ghost use Rattle.lab_actor.specs.ClientLines.{CanCall};
 ghost use Rattle.lab_actor.specs.ClientPart.{left_in, stops_in};
 ghost use Rattle.lab_actor.specs.Countdown.{IsSameGate, by_gate_of, left_of};
-ghost use Rattle.lab_actor.specs.ReaderLines.{HasAnswered, IsFewRead};
+ghost use Rattle.lab_actor.specs.ReaderLines.{HasReaderAnswered, IsFewRead};
 ghost use Rattle.lab_actor.specs.ReaderPart.{HasGot, HasRoom, HasRowsFor, ReaderLine, ReaderPart, TakesRow};
 ghost use Rattle.lab_actor.specs.Room.{spare_frames};
 
@@ -58,7 +58,7 @@ fn call_line<P: SnoopPort, G: Gate, L: Ledger>(
     requires few { IsFewRead asked }
     requires can { CanCall reader.old.status.stopped asked }
     requires usable { CanUse reader.old (P.view port.old) }
-    ensures answered { HasAnswered P.SnoopPort left_of (by_gate_of G.stops)
+    ensures answered { HasReaderAnswered P.SnoopPort left_of (by_gate_of G.stops)
         (port.old, gate.old) (port.new, gate.new)
         reader.old reader.new samples.old.items samples.new.items
         asked (spare_frames reader.old samples.old) result }
@@ -79,7 +79,7 @@ fn answer_line<P: SnoopPort, G: Gate, L: Ledger>(
 ) -> Answer
     requires few { IsFewRead asked }
     requires usable { CanUse reader.old (P.view port.old) }
-    ensures answered { HasAnswered P.SnoopPort left_of (by_gate_of G.stops)
+    ensures answered { HasReaderAnswered P.SnoopPort left_of (by_gate_of G.stops)
         (port.old, gate.old) (port.new, gate.new)
         reader.old reader.new samples.old.items samples.new.items
         asked (spare_frames reader.old samples.old) result }

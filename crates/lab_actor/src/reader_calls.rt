@@ -2,7 +2,7 @@
 ghost use Rattle.std.specs.Prelude.{◌≡◌, ◌≤◌, ◌++◌, min, pos, replicate, vec_capacity};
 ghost use Rattle.dsnoop_client.specs.FewerReads.{most_read};
 ghost use Rattle.dsnoop_client.specs.View.{CanUse};
-ghost use Rattle.lab_actor.specs.ReaderLines.{HasCalled, IsFewRead};
+ghost use Rattle.lab_actor.specs.ReaderLines.{HasReaderCalled, IsFewRead};
 ghost use Rattle.lab_actor.specs.Room.{GrowsBy, HasSpace, fitting, samples_wanted, spare_frames};
 
 use crate::answer::{counted, done, moved};
@@ -48,7 +48,7 @@ fn read<P: SnoopPort, G: Gate>(
     requires few { frames ≤ 4194304 }
     requires usable { CanUse reader.old (P.view port.old) }
     requires room { HasSpace (samples_wanted reader.old (Op.Read frames)) samples.old }
-    ensures called { HasCalled P.SnoopPort G.Gate (port.old, gate.old) (port.new, gate.new)
+    ensures called { HasReaderCalled P.SnoopPort G.Gate (port.old, gate.old) (port.new, gate.new)
         reader.old reader.new samples.old.items samples.new.items (Op.Read frames) result }
     ensures room { GrowsBy (samples_wanted reader.old (Op.Read frames)) samples.old samples.new }
 {
@@ -72,7 +72,7 @@ pub(crate) fn call<P: SnoopPort, G: Gate>(
     requires few { IsFewRead asked }
     requires usable { CanUse reader.old (P.view port.old) }
     requires room { HasSpace (samples_wanted reader.old asked) samples.old }
-    ensures called { HasCalled P.SnoopPort G.Gate (port.old, gate.old) (port.new, gate.new)
+    ensures called { HasReaderCalled P.SnoopPort G.Gate (port.old, gate.old) (port.new, gate.new)
         reader.old reader.new samples.old.items samples.new.items asked result }
     ensures room { GrowsBy (samples_wanted reader.old asked) samples.old samples.new }
 {
@@ -121,7 +121,7 @@ pub(crate) fn call_fitting<P: SnoopPort, G: Gate>(
 ) -> Answer
     requires few { IsFewRead asked }
     requires usable { CanUse reader.old (P.view port.old) }
-    ensures called { HasCalled P.SnoopPort G.Gate (port.old, gate.old) (port.new, gate.new)
+    ensures called { HasReaderCalled P.SnoopPort G.Gate (port.old, gate.old) (port.new, gate.new)
         reader.old reader.new samples.old.items samples.new.items
         (fitting (spare_frames reader.old samples.old) asked) result }
     ensures room { vec_capacity samples.old ≤ vec_capacity samples.new }

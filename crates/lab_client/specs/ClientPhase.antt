@@ -32,7 +32,7 @@ use Rattle.lab_run.specs.Rules.{AtPort, Rules}
 use Rattle.lab_run.specs.Stage.{new_port}
 use Rattle.lab_actor.specs.declared.client.ClientActor.{ClientActor}
 use Rattle.lab_actor.specs.ClientLines.{Extends, IsReady}
-use Rattle.lab_actor.specs.ClientPart.{HasDone, client_of, left_in, stops_in}
+use Rattle.lab_actor.specs.ClientPart.{HasClientDone, client_of, left_in, stops_in}
 use Rattle.lab_actor.specs.Refused.{refused_rows}
 use Rattle.lab_actor.specs.Raised.{ActorPart-lowered, client_is_blind, with_more_stops}
 use Rattle.lab_card.specs.declared.card.CardActor.{CardActor}
@@ -98,7 +98,7 @@ module _ (ring : TableId) (key : Key) (wav : Sound) (last : Option ℕ) (number 
 
   -- what it did, and found
   did : IsOpenAt ring key wav last number p a → a.by_gate + base ≡ before → (run : HasRun before after phase wav lines p q)
-      → HasDone seat_port left_in stops_in p.seat key.geometry p.opened_at (q.seat, (q.actor.left, after)) phase wav p.actor.number (with_more_stops base a, nothing_found)
+      → HasClientDone seat_port left_in stops_in p.seat key.geometry p.opened_at (q.seat, (q.actor.left, after)) phase wav p.actor.number (with_more_stops base a, nothing_found)
       (client_of p.actor) (ops_by (is_client p.actor.number) lines) (client_of q.actor) run.part.rows
   did is counts run = run.part.part p.seat key.geometry p.opened_at (with_more_stops base a, nothing_found) (at-first is counts)
 

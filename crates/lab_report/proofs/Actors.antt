@@ -13,7 +13,7 @@ use Rattle.lab_script.specs.declared.script.Script.{Script}
 use Rattle.lab_script.specs.Limits.{IsActor, IsBorder, IsItem, IsScript}
 use Rattle.lab_script.specs.Script.{phases_of}
 use Rattle.lab_report.specs.declared.request.Request.{Request}
-use Rattle.lab_report.specs.Requests.{request_of, of_place, before_place, in_order, item_requests, requests_from, requests_of, place_of}
+use Rattle.lab_report.specs.Requests.{request_of, of_place, before_place, in_order, item_requests, requests_from, requests_of, place_of_actor}
 
 -- a request is of one of so many clients and readers, or of the card
 abbrev pub IsAsked : ℕ → ℕ → Request → Type 0
@@ -74,9 +74,9 @@ other_place a b n = by (a == b) refl
     by false e = refl
 
 -- a line more, whose actor has another place
-pub of_place-other : (lines : List Line) (i k : ℕ) (d : Line) → i < length lines → place_of (get_or lines i d).actor ≢ k → of_place (take i lines) k ≡ []
+pub of_place-other : (lines : List Line) (i k : ℕ) (d : Line) → i < length lines → place_of_actor (get_or lines i d).actor ≢ k → of_place (take i lines) k ≡ []
     → of_place (take (i + 1) lines) k ≡ []
 of_place-other lines i k d h n e =
     ap (λ (ls : List Line). of_place ls k) (take_more lines i d h)
-    ∙ filter-append (λ (line : Line). place_of line.actor == k) (take i lines) (get_or lines i d ∷ [])
-    ∙ rw (e, other_place (place_of (get_or lines i d).actor) k n) refl
+    ∙ filter-append (λ (line : Line). place_of_actor line.actor == k) (take i lines) (get_or lines i d ∷ [])
+    ∙ rw (e, other_place (place_of_actor (get_or lines i d).actor) k n) refl

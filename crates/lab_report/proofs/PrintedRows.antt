@@ -18,7 +18,7 @@ use Rattle.lab_report.specs.declared.error.ReportWhy.TheVariants as why
 use Rattle.lab_report.specs.declared.row.Answer.{Answer}
 use Rattle.lab_report.specs.declared.row.Answer.TheVariants.{Done, Count, Failed}
 use Rattle.lab_report.specs.declared.row.Row.{Row}
-use Rattle.lab_report.specs.Answers.{plain_answers, states, place_of, xrun_by, xrun_of, busy_of, answer_by, answer_at, state_at}
+use Rattle.lab_report.specs.Answers.{plain_answers, states, frame_and_channel, xrun_by, xrun_of, busy_of, answer_by, answer_at, state_at}
 use Rattle.lab_report.specs.Causes.{◌>>=◌, some_or}
 use Rattle.lab_report.specs.Ranges.{IsWide, IsWideWhere, IsXrunInRange, IsAnswerInRange, IsRowInRange}
 use Rattle.lab_report.specs.Reading.{row_at}
@@ -33,7 +33,7 @@ wide : (n : ℕ) → IsWide n → n ≤ most_frames
 wide n h = omega arith
 
 -- a frame and a channel are read
-place_of-printed : (f c : ℕ) (r : List ℕ) → IsWide f → c ≤ 255 → place_of (32 ∷ (decimal f ++ 32 ∷ (decimal c ++ 32 ∷ r))) ≡ Ok ((f, c), 32 ∷ r)
+place_of-printed : (f c : ℕ) (r : List ℕ) → IsWide f → c ≤ 255 → frame_and_channel (32 ∷ (decimal f ++ 32 ∷ (decimal c ++ 32 ∷ r))) ≡ Ok ((f, c), 32 ∷ r)
 place_of-printed f c r hf hc =
     let small : c < 2 ^ 64 = omega arith in
     rw (next_number-printed most_frames f 32 (decimal c ++ 32 ∷ r) (wide f hf) hf refl, next_number-printed 255 c 32 r hc small refl) refl

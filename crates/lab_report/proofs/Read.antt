@@ -24,7 +24,7 @@ use Rattle.lab_report.specs.declared.request.Request.{Request}
 use Rattle.lab_report.specs.declared.row.Answer.{Answer}
 use Rattle.lab_report.specs.declared.row.Answer.TheVariants.{Count, Failed}
 use Rattle.lab_report.specs.declared.row.Row.{Row}
-use Rattle.lab_report.specs.Answers.{plain_answers, states, place_of, xrun_by, longer_answer, answer_by, answer_at, state_at}
+use Rattle.lab_report.specs.Answers.{plain_answers, states, frame_and_channel, xrun_by, longer_answer, answer_by, answer_at, state_at}
 use Rattle.lab_report.specs.Causes.{◌>>=◌, some_or}
 use Rattle.lab_report.specs.Reading.{State, nothing, row_at, client_at, reader_at, segment_at, run_at, played_at, with_segment, with_run, with_played, tail_by, below_rows, after_head, version_of, with_line, next_line, on_line, report_at, lines_after, report_of, Answers}
 use Rattle.lab_report.specs.Requests.{requests_of}
@@ -57,9 +57,9 @@ xrun_by-has word rest y e =
     (λ h. either (bytes_eq word (codes "avail")) _ _ y (HasXrunText y.0)
     (λ f. let a = bind_ok (next_number most_frames rest) _ y f in same_ok HasXrunText (Avail a.0.0 0) a.0.1 y a.2 refl)
     (λ i. either (bytes_eq word (codes "late")) _ _ y (HasXrunText y.0)
-    (λ f. let a = bind_ok (place_of rest) _ y f in same_ok HasXrunText (Late a.0.0.0 a.0.0.1 0) a.0.1 y a.2 refl)
+    (λ f. let a = bind_ok (frame_and_channel rest) _ y f in same_ok HasXrunText (Late a.0.0.0 a.0.0.1 0) a.0.1 y a.2 refl)
     (λ j. either (bytes_eq word (codes "overtaken")) _ _ y (HasXrunText y.0)
-    (λ f. let a = bind_ok (place_of rest) _ y f in same_ok HasXrunText (Overtaken a.0.0.0 a.0.0.1 0) a.0.1 y a.2 refl)
+    (λ f. let a = bind_ok (frame_and_channel rest) _ y f in same_ok HasXrunText (Overtaken a.0.0.0 a.0.0.1 0) a.0.1 y a.2 refl)
     (λ k. absurd (cc (k))) j) i) h) g) e
 
 longer_answer-has : (word rest : List ℕ) (y : Answer × List ℕ) → longer_answer word rest ≡ Ok y → HasText y.0

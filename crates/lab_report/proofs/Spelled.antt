@@ -20,7 +20,7 @@ use Rattle.lab_report.specs.declared.error.ReportWhy.{ReportWhy}
 use Rattle.lab_report.specs.declared.error.ReportWhy.TheVariants as why
 use Rattle.lab_report.specs.declared.row.Answer.{Answer}
 use Rattle.lab_report.specs.declared.row.Answer.TheVariants.{Count, Failed}
-use Rattle.lab_report.specs.Answers.{plain_answers, states, place_of, xrun_by, xrun_of, busy_of, count_of, longer_answer, answer_by, answer_at, state_at}
+use Rattle.lab_report.specs.Answers.{plain_answers, states, frame_and_channel, xrun_by, xrun_of, busy_of, count_of, longer_answer, answer_by, answer_at, state_at}
 use Rattle.lab_report.specs.Causes.{some_or}
 use Rattle.lab_report.specs.Text.{number_or_dash, xrun_text, answer_text}
 use Rattle.lab_report.specs.Words.{is_space, is_feed, is_end, word_of, space_of, feed_of, is_plain, is_decimal, within, decimal_of, number_at, most_frames, next_number, dash_or_number, number_or_dash_at, not_word, expect_word, expect_words}
@@ -159,7 +159,7 @@ word_choice w v r s x P f g e = by (bytes_eq w v) refl e
     by true t e = f ((bytes_eq-Decides w v).0 t) e
     by false t e = g e
 
-place_of-is : (xs : List ℕ) (y : (ℕ × ℕ) × List ℕ) → place_of xs ≡ Ok y → xs ≡ 32 ∷ ((decimal y.0.0 ++ 32 ∷ decimal y.0.1) ++ y.1)
+place_of-is : (xs : List ℕ) (y : (ℕ × ℕ) × List ℕ) → frame_and_channel xs ≡ Ok y → xs ≡ 32 ∷ ((decimal y.0.0 ++ 32 ∷ decimal y.0.1) ++ y.1)
 place_of-is xs y e =
     let a = bind_ok (next_number most_frames xs) _ y e in
     let b = bind_ok (next_number 255 a.0.1) _ y a.2 in
@@ -182,12 +182,12 @@ xrun_by-is w rest y e =
     (ap (λ x. x ++ rest) v ∙ ap (λ r. codes "avail" ++ r) (next_number-is most_frames rest a.0 small_frames a.1)))
     (λ i. word_choice w (codes "late") _ _ y P
     (λ v f.
-    let a = bind_ok (place_of rest) _ y f in
+    let a = bind_ok (frame_and_channel rest) _ y f in
     same_pair xrun_text (Late a.0.0.0 a.0.0.1 0) a.0.1 y (w ++ rest) a.2
     (ap (λ x. x ++ rest) v ∙ ap (λ r. codes "late" ++ r) (place_of-is rest a.0 a.1)))
     (λ j. word_choice w (codes "overtaken") _ _ y P
     (λ v f.
-    let a = bind_ok (place_of rest) _ y f in
+    let a = bind_ok (frame_and_channel rest) _ y f in
     same_pair xrun_text (Overtaken a.0.0.0 a.0.0.1 0) a.0.1 y (w ++ rest) a.2
     (ap (λ x. x ++ rest) v ∙ ap (λ r. codes "overtaken" ++ r) (place_of-is rest a.0 a.1)))
     (λ k. absurd (cc (k))) j) i) h) g) e

@@ -42,16 +42,16 @@ abbrev pub avail_of : List ℕ → Result (XrunWhy × List ℕ) ReportWhy
 avail_of rest = (next_number most_frames rest) >>= (λ avail. Ok (Avail avail.0 0, avail.1))
 
 -- a frame and a channel
-abbrev pub place_of : List ℕ → Result ((ℕ × ℕ) × List ℕ) ReportWhy
-place_of rest = (next_number most_frames rest) >>= (λ frame. (next_number 255 frame.1) >>= (λ channel. Ok ((frame.0, channel.0), channel.1)))
+abbrev pub frame_and_channel : List ℕ → Result ((ℕ × ℕ) × List ℕ) ReportWhy
+frame_and_channel rest = (next_number most_frames rest) >>= (λ frame. (next_number 255 frame.1) >>= (λ channel. Ok ((frame.0, channel.0), channel.1)))
 
 -- `late F C`, after its word
 abbrev pub late_of : List ℕ → Result (XrunWhy × List ℕ) ReportWhy
-late_of rest = (place_of rest) >>= (λ place. Ok (Late place.0.0 place.0.1 0, place.1))
+late_of rest = (frame_and_channel rest) >>= (λ place. Ok (Late place.0.0 place.0.1 0, place.1))
 
 -- `overtaken F C`, after its word
 abbrev pub overtaken_of : List ℕ → Result (XrunWhy × List ℕ) ReportWhy
-overtaken_of rest = (place_of rest) >>= (λ place. Ok (Overtaken place.0.0 place.0.1 0, place.1))
+overtaken_of rest = (frame_and_channel rest) >>= (λ place. Ok (Overtaken place.0.0 place.0.1 0, place.1))
 
 -- why there was an xrun, by its first word
 abbrev pub xrun_by : List ℕ → List ℕ → Result (XrunWhy × List ℕ) ReportWhy

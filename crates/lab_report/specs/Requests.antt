@@ -11,10 +11,10 @@ use Rattle.lab_script.specs.Script.{phases_of}
 use Rattle.lab_report.specs.declared.request.Request.{Request}
 
 -- the place of an actor among the rows of a phase: the card is first, then the clients, then the readers
-abbrev pub place_of : Actor → ℕ
-place_of Card = 0
-place_of (Client number) = 1 + number
-place_of (Reader number) = 65 + number
+abbrev pub place_of_actor : Actor → ℕ
+place_of_actor Card = 0
+place_of_actor (Client number) = 1 + number
+place_of_actor (Reader number) = 65 + number
 
 -- the request of a line of this phase
 abbrev pub request_of : ℕ → Line → Request
@@ -22,7 +22,7 @@ request_of phase line = record { phase = phase; actor = line.actor; op = line.op
 
 -- the lines of the actor of this place, in order
 abbrev pub of_place : List Line → ℕ → List Line
-of_place lines place = filter (λ (line : Line). place_of line.actor == place) lines
+of_place lines place = filter (λ (line : Line). place_of_actor line.actor == place) lines
 
 -- the lines of the actors before a place, actor by actor
 unfoldable pub before_place : List Line → ℕ → List Line

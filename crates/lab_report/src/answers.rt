@@ -1,7 +1,7 @@
 //! The answers and states of rows, as they are read.
 ghost use Rattle.std.specs.Prelude.{◌≡◌};
 ghost use Rattle.lab_script.specs.Keys.{row_of};
-ghost use Rattle.lab_report.specs.Answers.{plain_answers, states, avail_of, place_of, late_of, overtaken_of, xrun_by, xrun_of, busy_of, count_of, longer_answer, answer_at, state_at};
+ghost use Rattle.lab_report.specs.Answers.{plain_answers, states, avail_of, frame_and_channel, late_of, overtaken_of, xrun_by, xrun_of, busy_of, count_of, longer_answer, answer_at, state_at};
 ghost use Rattle.lab_report.specs.Causes.{Gives};
 
 use crate::error::ReportWhy;
@@ -59,7 +59,7 @@ fn avail_of(rest: &[u8]) -> Result<(XrunWhy, &[u8]), ReportWhy>
 
 /// A frame and a channel.
 fn place_of(rest: &[u8]) -> Result<((u64, u8), &[u8]), ReportWhy>
-    ensures { Gives (λ p. (p.0, p.1.now)) result (place_of rest.now) }
+    ensures { Gives (λ p. (p.0, p.1.now)) result (frame_and_channel rest.now) }
 {
     let (frame, rest) = next_number(u64::MAX, rest)?;
     let (channel, rest) = next_number(255, rest)?;

@@ -3,7 +3,7 @@ ghost use Rattle.std.specs.Prelude.{◌≡◌, ℕ, ◌<◌, ◌∷◌, ◌++◌
 ghost use Rattle.std.specs.Bool.{OnFalse};
 ghost use Rattle.lab_script.specs.Limits.{IsScript};
 ghost use Rattle.lab_script.specs.Script.{phases_of};
-ghost use Rattle.lab_report.specs.Requests.{place_of, request_of, of_place, in_order, item_requests, requests_of};
+ghost use Rattle.lab_report.specs.Requests.{place_of_actor, request_of, of_place, in_order, item_requests, requests_of};
 
 use lab_script::{Actor, Item, Line, Op, Script};
 use std::alloc::{AllocError, Global};
@@ -22,7 +22,7 @@ const PLACES: u64 = 129;
 
 /// The place of an actor among the rows of a phase: the card is first, then the clients, then the readers.
 fn place_of(actor: Actor) -> u64
-    ensures { result ≡ place_of actor }
+    ensures { result ≡ place_of_actor actor }
 {
     match actor {
         Actor::Card => 0,

@@ -14,7 +14,7 @@ use Rattle.lab_script.specs.Limits.{IsActor}
 use Rattle.lab_script.specs.Ops.{played_by}
 use Rattle.lab_script.specs.Script.{is_of_card}
 use Rattle.lab_report.specs.declared.request.Request.{Request}
-use Rattle.lab_report.specs.Requests.{before_place, in_order, of_place, place_of, request_of}
+use Rattle.lab_report.specs.Requests.{before_place, in_order, of_place, place_of_actor, request_of}
 use Rattle.lab_report.specs.Text.{request_of_row}
 use Rattle.lab_run.specs.Phases.{card_row, card_rows, is_client, is_reader, ops_by}
 
@@ -40,7 +40,7 @@ before_place-parts lines first (suc count) end is =
 
 -- the actor of a place
 record IsOfPlace (clients readers : ℕ) (is_theirs : Actor → Bool) (who : Actor) (place : ℕ) : Type 0 where
-  pub same : (other : Actor) → IsActor clients readers other → is_theirs other ≡ (place_of other == place)
+  pub same : (other : Actor) → IsActor clients readers other → is_theirs other ≡ (place_of_actor other == place)
   pub only : (other : Actor) → is_theirs other ≡ true → other ≡ who
 
 ops-requests : (clients readers phase : ℕ) (is_theirs : Actor → Bool) (who : Actor) (place : ℕ) → IsOfPlace clients readers is_theirs who place
@@ -51,7 +51,7 @@ ops-requests clients readers phase is_theirs who place is (line ∷ lines) are =
     by_test (is_theirs line.actor) refl (sym (is.same line.actor (All-head (λ (l : Line). IsActor clients readers l.actor) line lines are)))
     (ops-requests clients readers phase is_theirs who place is lines (All-tail (λ (l : Line). IsActor clients readers l.actor) line lines are))
   where
-    by_test : (b : Bool) → is_theirs line.actor ≡ b → (place_of line.actor == place) ≡ b
+    by_test : (b : Bool) → is_theirs line.actor ≡ b → (place_of_actor line.actor == place) ≡ b
         → map (asks phase who) (ops_by is_theirs lines) ≡ map (request_of phase) (of_place lines place)
         → map (asks phase who) (ops_by is_theirs (line ∷ lines)) ≡ map (request_of phase) (of_place (line ∷ lines) place)
     by_test true mine there rest = rw mine (rw there (λ i. record { phase = phase; actor = sym (is.only line.actor mine) i; op = line.op } ∷ rest i))
@@ -60,7 +60,7 @@ ops-requests clients readers phase is_theirs who place is (line ∷ lines) are =
 card-place : (clients readers : ℕ) → IsOfPlace clients readers is_of_card Card 0
 card-place clients readers = record { same = same; only = only }
   where
-    same : (other : Actor) → IsActor clients readers other → is_of_card other ≡ (place_of other == 0)
+    same : (other : Actor) → IsActor clients readers other → is_of_card other ≡ (place_of_actor other == 0)
     same Card is = refl
     same (Client n) is = grind (arith, nat_tests)
     same (Reader n) is = grind (arith, nat_tests)
@@ -73,7 +73,7 @@ card-place clients readers = record { same = same; only = only }
 client-place : (clients readers number place : ℕ) → clients ≤ 64 → number < clients → place ≡ 1 + number → IsOfPlace clients readers (is_client number) (Client number) place
 client-place clients readers number place few within is = record { same = same; only = only }
   where
-    same : (other : Actor) → IsActor clients readers other → is_client number other ≡ (place_of other == place)
+    same : (other : Actor) → IsActor clients readers other → is_client number other ≡ (place_of_actor other == place)
     same Card there = grind (arith, nat_tests, is)
     same (Client n) there = grind (arith, nat_tests, is)
     same (Reader n) there = grind (arith, nat_tests, is, few, within)
@@ -86,7 +86,7 @@ client-place clients readers number place few within is = record { same = same; 
 reader-place : (clients readers number place : ℕ) → clients ≤ 64 → place ≡ 65 + number → IsOfPlace clients readers (is_reader number) (Reader number) place
 reader-place clients readers number place few is = record { same = same; only = only }
   where
-    same : (other : Actor) → IsActor clients readers other → is_reader number other ≡ (place_of other == place)
+    same : (other : Actor) → IsActor clients readers other → is_reader number other ≡ (place_of_actor other == place)
     same Card there = grind (arith, nat_tests, is)
     same (Client n) there = grind (arith, nat_tests, is, few, there)
     same (Reader n) there = grind (arith, nat_tests, is)
@@ -125,17 +125,17 @@ reader_ops-requests clients readers phase number place lines are few is =
 
 -- ---- places that nobody has
 
-none-there : (clients readers place : ℕ) → ((who : Actor) → IsActor clients readers who → place_of who ≢ place)
+none-there : (clients readers place : ℕ) → ((who : Actor) → IsActor clients readers who → place_of_actor who ≢ place)
     → (lines : List Line) → All (λ (line : Line). IsActor clients readers line.actor) lines → of_place lines place ≡ []
 none-there clients readers place none [] are = refl
 none-there clients readers place none (line ∷ lines) are =
-    by_test (place_of line.actor == place) refl (none-there clients readers place none lines (All-tail (λ (l : Line). IsActor clients readers l.actor) line lines are))
+    by_test (place_of_actor line.actor == place) refl (none-there clients readers place none lines (All-tail (λ (l : Line). IsActor clients readers l.actor) line lines are))
   where
-    by_test : (b : Bool) → (place_of line.actor == place) ≡ b → of_place lines place ≡ [] → of_place (line ∷ lines) place ≡ []
-    by_test true is rest = absurd (none line.actor (All-head (λ (l : Line). IsActor clients readers l.actor) line lines are) (eqb-true (place_of line.actor) place is))
+    by_test : (b : Bool) → (place_of_actor line.actor == place) ≡ b → of_place lines place ≡ [] → of_place (line ∷ lines) place ≡ []
+    by_test true is rest = absurd (none line.actor (All-head (λ (l : Line). IsActor clients readers l.actor) line lines are) (eqb-true (place_of_actor line.actor) place is))
     by_test false is rest = rw is rest
 
-nobody-there : (clients readers first count : ℕ) → ((who : Actor) (place : ℕ) → IsActor clients readers who → first ≤ place → place < first + count → place_of who ≢ place)
+nobody-there : (clients readers first count : ℕ) → ((who : Actor) (place : ℕ) → IsActor clients readers who → first ≤ place → place < first + count → place_of_actor who ≢ place)
     → (lines : List Line) → All (λ (line : Line). IsActor clients readers line.actor) lines → from_place lines first count ≡ []
 unfolding from_place
 nobody-there clients readers first zero none lines are = refl
@@ -145,12 +145,12 @@ nobody-there clients readers first (suc count) none lines are =
     ∙ nobody-there clients readers (suc first) count (λ who place is low high. none who place is (omega (arith, low)) (omega (arith, high))) lines are
 
 -- no client has a place behind the others, and no reader
-place-client : (clients readers place : ℕ) (who : Actor) → IsActor clients readers who → 1 + clients ≤ place → place < 65 → place_of who ≢ place
+place-client : (clients readers place : ℕ) (who : Actor) → IsActor clients readers who → 1 + clients ≤ place → place < 65 → place_of_actor who ≢ place
 place-client clients readers place Card is low high = λ same. omega (arith, low, same)
 place-client clients readers place (Client n) is low high = λ same. omega (arith, is, low, same)
 place-client clients readers place (Reader n) is low high = λ same. omega (arith, high, same)
 
-place-reader : (clients readers place : ℕ) (who : Actor) → clients ≤ 64 → IsActor clients readers who → 65 + readers ≤ place → place_of who ≢ place
+place-reader : (clients readers place : ℕ) (who : Actor) → clients ≤ 64 → IsActor clients readers who → 65 + readers ≤ place → place_of_actor who ≢ place
 place-reader clients readers place Card few is low = λ same. omega (arith, low, same)
 place-reader clients readers place (Client n) few is low = λ same. omega (arith, few, is, low, same)
 place-reader clients readers place (Reader n) few is low = λ same. omega (arith, is, low, same)

@@ -5,7 +5,7 @@ use Rattle.dmix_client.specs.StandingLaws.{IsBacked-held}
 use Rattle.lab_script.specs.declared.line.Op.{Op}
 use Rattle.lab_script.specs.declared.line.Op.TheVariants as op
 use Rattle.lab_run.specs.Client.{count_answer, done_answer, frames_of}
-use Rattle.lab_actor.specs.ClientLines.{HasCalled, IsFew}
+use Rattle.lab_actor.specs.ClientLines.{HasClientCalled, IsFew}
 use Rattle.lab_actor.proofs.Gates.{both}
 use Rattle.lab_actor.proofs.Called.{answer-taken, called-back, called-drop, called-keeps, called-pause, called-prepare, called-refused, called-resume}
 use Rattle.lab_actor.proofs.Fed.{IsFed, IsSame, drain-fed, number-fed, pause-fed, resume-fed, rewind-fed, rewindable-fed, start-fed, sync-fed}
@@ -15,7 +15,7 @@ use Rattle.lab_actor.proofs.client_calls.call.Goals as goal
 
 pub returns-in-Write : goal.returns-in-Write
 returns-in-Write g c =
-    subst (λ (asked : Op). HasCalled g.P.MixPort g.G.Gate (both c.args.port.now c.args.gate.now) (both c.write.new.port c.write.new.gate) c.args.wav.now c.args.client.now c.write.new.client asked c.write.result)
+    subst (λ (asked : Op). HasClientCalled g.P.MixPort g.G.Gate (both c.args.port.now c.args.gate.now) (both c.write.new.port c.write.new.gate) c.args.wav.now c.args.client.now c.write.new.client asked c.write.result)
     (sym c.in-Write.is) c.write.ensures
 
 pub write-requires : goal.write-requires
@@ -32,7 +32,7 @@ returns-in-Start g c =
     let s = both c.args.port.now c.args.gate.now in
     let t = both c.start.new.port c.start.new.gate in
     let same : d.stream.fed ≡ v.stream.fed = (Gives-taken (LoadsAt P G) (LaysAt P G) NoGet (IsSame v.stream.fed) s t _ _ (start-fed v.stream v.ring _) call.takes).same in
-    subst (λ (asked : Op). HasCalled P G s t c.args.wav.now v d asked c.done.result) (sym c.in-Start.is)
+    subst (λ (asked : Op). HasClientCalled P G s t c.args.wav.now v d asked c.done.result) (sym c.in-Start.is)
     (called-keeps P G met.laid_composes met.held_laid met.ends_in_part s t c.args.wav.now v d op.Start c.done.result c.start.result AnySamples [] c.requires.ready tt
     (answer-taken P G met.laid_composes met.held_laid met.ends_in_part done_answer s t _ d.stream c.start.result c.done.result call.takes c.done.ensures)
     call.keeps tt refl (subst (λ (k : ℕ). k ≤ frames_of c.args.wav.now) (sym same) c.requires.ready.fed))
@@ -48,7 +48,7 @@ returns-in-Sync g c =
     let s = both c.args.port.now c.args.gate.now in
     let t = both c.sync.new.port c.sync.new.gate in
     let same : d.stream.fed ≡ v.stream.fed = (Gives-taken (LoadsAt P G) (LaysAt P G) NoGet (IsSame v.stream.fed) s t _ _ (sync-fed v.stream v.ring) call.takes).same in
-    subst (λ (asked : Op). HasCalled P G s t c.args.wav.now v d asked c.done-in-Sync.result) (sym c.in-Sync.is)
+    subst (λ (asked : Op). HasClientCalled P G s t c.args.wav.now v d asked c.done-in-Sync.result) (sym c.in-Sync.is)
     (called-keeps P G met.laid_composes met.held_laid met.ends_in_part s t c.args.wav.now v d op.Sync c.done-in-Sync.result c.sync.result AnySamples [] c.requires.ready tt
     (answer-taken P G met.laid_composes met.held_laid met.ends_in_part done_answer s t _ d.stream c.sync.result c.done-in-Sync.result call.takes c.done-in-Sync.ensures)
     call.keeps tt refl (subst (λ (k : ℕ). k ≤ frames_of c.args.wav.now) (sym same) c.requires.ready.fed))
@@ -64,7 +64,7 @@ returns-in-Avail g c =
     let s = both c.args.port.now c.args.gate.now in
     let t = both c.avail_update.new.port c.avail_update.new.gate in
     let same : d.stream.fed ≡ v.stream.fed = (Gives-taken (LoadsAt P G) (LaysAt P G) NoGet (IsSame v.stream.fed) s t _ _ (number-fed avail_answer v.stream v.ring) call.takes).same in
-    subst (λ (asked : Op). HasCalled P G s t c.args.wav.now v d asked c.counted.result) (sym c.in-Avail.is)
+    subst (λ (asked : Op). HasClientCalled P G s t c.args.wav.now v d asked c.counted.result) (sym c.in-Avail.is)
     (called-keeps P G met.laid_composes met.held_laid met.ends_in_part s t c.args.wav.now v d op.Avail c.counted.result c.avail_update.result AnySamples [] c.requires.ready tt
     (answer-taken P G met.laid_composes met.held_laid met.ends_in_part count_answer s t _ d.stream c.avail_update.result c.counted.result call.takes c.counted.ensures)
     call.keeps tt refl (subst (λ (k : ℕ). k ≤ frames_of c.args.wav.now) (sym same) c.requires.ready.fed))
@@ -80,7 +80,7 @@ returns-in-Delay g c =
     let s = both c.args.port.now c.args.gate.now in
     let t = both c.delay.new.port c.delay.new.gate in
     let same : d.stream.fed ≡ v.stream.fed = (Gives-taken (LoadsAt P G) (LaysAt P G) NoGet (IsSame v.stream.fed) s t _ _ (number-fed delay_answer v.stream v.ring) call.takes).same in
-    subst (λ (asked : Op). HasCalled P G s t c.args.wav.now v d asked c.counted-in-Delay.result) (sym c.in-Delay.is)
+    subst (λ (asked : Op). HasClientCalled P G s t c.args.wav.now v d asked c.counted-in-Delay.result) (sym c.in-Delay.is)
     (called-keeps P G met.laid_composes met.held_laid met.ends_in_part s t c.args.wav.now v d op.Delay c.counted-in-Delay.result c.delay.result AnySamples [] c.requires.ready tt
     (answer-taken P G met.laid_composes met.held_laid met.ends_in_part count_answer s t _ d.stream c.delay.result c.counted-in-Delay.result call.takes c.counted-in-Delay.ensures)
     call.keeps tt refl (subst (λ (k : ℕ). k ≤ frames_of c.args.wav.now) (sym same) c.requires.ready.fed))
@@ -96,7 +96,7 @@ returns-in-Drain g c =
     let s = both c.args.port.now c.args.gate.now in
     let t = both c.drain.new.port c.drain.new.gate in
     let same : d.stream.fed ≡ v.stream.fed = (Gives-taken (LoadsAt P G) (LaysAt P G) NoGet (IsSame v.stream.fed) s t _ _ (drain-fed v.stream v.ring _) call.takes).same in
-    subst (λ (asked : Op). HasCalled P G s t c.args.wav.now v d asked c.done-in-Drain.result) (sym c.in-Drain.is)
+    subst (λ (asked : Op). HasClientCalled P G s t c.args.wav.now v d asked c.done-in-Drain.result) (sym c.in-Drain.is)
     (called-keeps P G met.laid_composes met.held_laid met.ends_in_part s t c.args.wav.now v d op.Drain c.done-in-Drain.result c.drain.result AnySamples [] c.requires.ready tt
     (answer-taken P G met.laid_composes met.held_laid met.ends_in_part done_answer s t _ d.stream c.drain.result c.done-in-Drain.result call.takes c.done-in-Drain.ensures)
     call.keeps tt refl (subst (λ (k : ℕ). k ≤ frames_of c.args.wav.now) (sym same) c.requires.ready.fed))
@@ -112,7 +112,7 @@ returns-in-Rewindable g c =
     let s = both c.args.port.now c.args.gate.now in
     let t = both c.rewindable.new.port c.rewindable.new.gate in
     let same : d.stream.fed ≡ v.stream.fed = (Gives-taken (LoadsAt P G) (LaysAt P G) NoGet (IsSame v.stream.fed) s t _ _ (rewindable-fed v.stream (P.view c.args.port.now).marks.floor) call.takes).same in
-    subst (λ (asked : Op). HasCalled P G s t c.args.wav.now v d asked c.counted-in-Rewindable.result) (sym c.in-Rewindable.is)
+    subst (λ (asked : Op). HasClientCalled P G s t c.args.wav.now v d asked c.counted-in-Rewindable.result) (sym c.in-Rewindable.is)
     (called-keeps P G met.laid_composes met.held_laid met.ends_in_part s t c.args.wav.now v d op.Rewindable c.counted-in-Rewindable.result c.rewindable.result AnySamples [] c.requires.ready tt
     (answer-taken P G met.laid_composes met.held_laid met.ends_in_part count_answer s t _ d.stream c.rewindable.result c.counted-in-Rewindable.result call.takes c.counted-in-Rewindable.ensures)
     call.keeps tt refl (subst (λ (k : ℕ). k ≤ frames_of c.args.wav.now) (sym same) c.requires.ready.fed))
@@ -126,7 +126,7 @@ returns-in-Drop g c =
     let v = c.args.client.now in
     let d = c.drop_pending.new.self in
     let s = both c.args.port.now c.args.gate.now in
-    subst (λ (asked : Op). HasCalled P G s s c.args.wav.now v d asked c.done-in-Drop.result) (sym c.in-Drop.is)
+    subst (λ (asked : Op). HasClientCalled P G s s c.args.wav.now v d asked c.done-in-Drop.result) (sym c.in-Drop.is)
     (called-drop P G met.laid_composes met.held_laid met.ends_in_part s c.args.wav.now v d c.done-in-Drop.result c.drop_pending.result c.requires.ready call.refused call.dropped c.done-in-Drop.ensures)
 
 pub returns-in-Prepare : goal.returns-in-Prepare
@@ -138,7 +138,7 @@ returns-in-Prepare g c =
     let v = c.args.client.now in
     let d = c.prepare.new.self in
     let s = both c.args.port.now c.args.gate.now in
-    subst (λ (asked : Op). HasCalled P G s s c.args.wav.now v d asked c.done-in-Prepare.result) (sym c.in-Prepare.is)
+    subst (λ (asked : Op). HasClientCalled P G s s c.args.wav.now v d asked c.done-in-Prepare.result) (sym c.in-Prepare.is)
     (called-prepare P G met.laid_composes met.held_laid met.ends_in_part s c.args.wav.now v d c.done-in-Prepare.result c.prepare.result c.requires.ready call.refused call.prepared c.done-in-Prepare.ensures)
 
 pub returns-in-Pause : goal.returns-in-Pause
@@ -152,7 +152,7 @@ returns-in-Pause g c =
     let s = both c.args.port.now c.args.gate.now in
     let t = both c.pause.new.port c.pause.new.gate in
     let same : d.stream.fed ≡ v.stream.fed = (Gives-taken (LoadsAt P G) (LaysAt P G) NoGet (IsSame v.stream.fed) s t _ _ (pause-fed v.stream v.ring (P.view c.args.port.now).marks.cursor) call.takes).same in
-    subst (λ (asked : Op). HasCalled P G s t c.args.wav.now v d asked c.done-in-Pause.result) (sym c.in-Pause.is)
+    subst (λ (asked : Op). HasClientCalled P G s t c.args.wav.now v d asked c.done-in-Pause.result) (sym c.in-Pause.is)
     (called-pause P G met.laid_composes met.held_laid met.ends_in_part s t c.args.wav.now v d c.done-in-Pause.result c.pause.result c.requires.ready
     (answer-taken P G met.laid_composes met.held_laid met.ends_in_part done_answer s t _ d.stream c.pause.result c.done-in-Pause.result call.takes c.done-in-Pause.ensures)
     call.keeps (λ e found. (call.refused e found).1) (λ found. (call.pauses refl found).1)
@@ -169,7 +169,7 @@ returns-in-Resume g c =
     let s = both c.args.port.now c.args.gate.now in
     let t = both c.pause-in-Resume.new.port c.pause-in-Resume.new.gate in
     let same : d.stream.fed ≡ v.stream.fed = (Gives-taken (LoadsAt P G) (LaysAt P G) NoGet (IsSame v.stream.fed) s t _ _ (resume-fed v.stream v.ring _) call.takes).same in
-    subst (λ (asked : Op). HasCalled P G s t c.args.wav.now v d asked c.done-in-Resume.result) (sym c.in-Resume.is)
+    subst (λ (asked : Op). HasClientCalled P G s t c.args.wav.now v d asked c.done-in-Resume.result) (sym c.in-Resume.is)
     (called-resume P G met.laid_composes met.held_laid met.ends_in_part s t c.args.wav.now v d c.done-in-Resume.result c.pause-in-Resume.result c.requires.ready c.counts_are_sound.ensures
     (answer-taken P G met.laid_composes met.held_laid met.ends_in_part done_answer s t _ d.stream c.pause-in-Resume.result c.done-in-Resume.result call.takes c.done-in-Resume.ensures)
     call.keeps (subst (λ (k : ℕ). k ≤ frames_of c.args.wav.now) (sym same) c.requires.ready.fed))
@@ -186,7 +186,7 @@ returns-in-Rewind g c =
     let t = both c.rewind.new.port c.rewind.new.gate in
     let few : d.stream.fed ≤ v.stream.fed = (Gives-taken (LoadsAt P G) (LaysAt P G) NoGet (IsFed v.stream.fed) s t _ _ (rewind-fed v.stream v.ring _ _ c.counts_are_sound.ensures c.requires.unstopped) call.takes).most in
     let fed = c.requires.ready.fed in
-    subst (λ (asked : Op). HasCalled P G s t c.args.wav.now v d asked c.counted-in-Rewind.result) (sym c.in-Rewind.is)
+    subst (λ (asked : Op). HasClientCalled P G s t c.args.wav.now v d asked c.counted-in-Rewind.result) (sym c.in-Rewind.is)
     (called-back P G met.laid_composes met.held_laid met.ends_in_part s t c.args.wav.now v d _ c.counted-in-Rewind.result c.rewind.result c.requires.ready
     (answer-taken P G met.laid_composes met.held_laid met.ends_in_part count_answer s t _ d.stream c.rewind.result c.counted-in-Rewind.result call.takes c.counted-in-Rewind.ensures)
     call.keeps (omega (arith, few, fed)))

@@ -1,7 +1,7 @@
 use Rattle.std.proofs.Common.{sym, subst, ◌∙◌}
 use Rattle.lab_script.specs.declared.line.Op.{Op}
 use Rattle.lab_report.specs.declared.row.Answer.TheVariants.{Done}
-use Rattle.lab_actor.specs.ReaderLines.{HasAnswered}
+use Rattle.lab_actor.specs.ReaderLines.{HasReaderAnswered}
 use Rattle.lab_actor.specs.Countdown.{by_gate_of, left_of}
 use Rattle.lab_actor.specs.Room.{spare_frames}
 use Rattle.lab_actor.proofs.Gates.{both}
@@ -16,7 +16,7 @@ returns-then-is_stopped-clause-answered g c =
 
 pub returns-in-Die-clause-answered : goal.returns-in-Die-clause-answered
 returns-in-Die-clause-answered g c =
-    subst (λ (asked : Op). HasAnswered g.P.SnoopPort left_of (by_gate_of g.G.Gate.stops) (both c.args.port.now c.args.gate.now) (both c.args.port.now c.let_pass.new.self)
+    subst (λ (asked : Op). HasReaderAnswered g.P.SnoopPort left_of (by_gate_of g.G.Gate.stops) (both c.args.port.now c.args.gate.now) (both c.args.port.now c.let_pass.new.self)
     c.args.reader.now c.args.reader.now c.args.samples.now.items c.args.samples.now.items asked (spare_frames c.args.reader.now c.args.samples.now) Done)
     (sym c.in-Die.is)
     (answered-die g.P.SnoopPort g.met.P.SnoopPort.got_composes g.met.P.SnoopPort.loaded_composes left_of (by_gate_of g.G.Gate.stops) c.lines_without_calls.ensures.readers

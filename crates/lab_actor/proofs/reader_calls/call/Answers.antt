@@ -9,7 +9,7 @@ use Rattle.lab_script.specs.declared.line.Op.TheVariants as op
 use Rattle.lab_report.specs.declared.row.Answer.{Answer}
 use Rattle.lab_run.specs.Client.{count_answer, done_answer}
 use Rattle.lab_run.specs.Reader.{call_of}
-use Rattle.lab_actor.specs.ReaderLines.{HasCalled}
+use Rattle.lab_actor.specs.ReaderLines.{HasReaderCalled}
 use Rattle.lab_actor.proofs.Gates.{both}
 use Rattle.lab_actor.proofs.Read.{call-none, called-keeps, called-refused, called-state}
 use Rattle.lab_actor.proofs.reader_calls.call.Goals as goal
@@ -21,7 +21,7 @@ returns-in-Start-clause-called g c =
     let s = both c.args.port.now c.args.gate.now in
     let t = both c.start.new.port c.start.new.gate in
     let samples = c.args.samples.now.items in
-    subst (λ (asked : Op). HasCalled P G s t c.args.reader.now c.start.new.self samples samples asked c.done.result) (sym c.in-Start.is)
+    subst (λ (asked : Op). HasReaderCalled P G s t c.args.reader.now c.start.new.self samples samples asked c.done.result) (sym c.in-Start.is)
     (called-keeps P G g.met.P.SnoopPort.got_composes done_answer s t c.args.reader.now c.start.new.self samples op.Start (if_admitted c.args.reader.now call.Start (starts c.args.reader.now call.Start)) c.start.result c.done.result refl
     c.start.ensures.takes c.start.ensures.keeps c.done.ensures refl refl)
 
@@ -32,7 +32,7 @@ returns-in-Sync-clause-called g c =
     let s = both c.args.port.now c.args.gate.now in
     let t = both c.sync.new.port c.sync.new.gate in
     let samples = c.args.samples.now.items in
-    subst (λ (asked : Op). HasCalled P G s t c.args.reader.now c.sync.new.self samples samples asked c.done-in-Sync.result) (sym c.in-Sync.is)
+    subst (λ (asked : Op). HasReaderCalled P G s t c.args.reader.now c.sync.new.self samples samples asked c.done-in-Sync.result) (sym c.in-Sync.is)
     (called-keeps P G g.met.P.SnoopPort.got_composes done_answer s t c.args.reader.now c.sync.new.self samples op.Sync (if_admitted c.args.reader.now call.Sync (sync_course c.args.reader.now)) c.sync.result c.done-in-Sync.result refl
     c.sync.ensures.takes c.sync.ensures.keeps c.done-in-Sync.ensures refl refl)
 
@@ -43,7 +43,7 @@ returns-in-Avail-clause-called g c =
     let s = both c.args.port.now c.args.gate.now in
     let t = both c.avail_update.new.port c.avail_update.new.gate in
     let samples = c.args.samples.now.items in
-    subst (λ (asked : Op). HasCalled P G s t c.args.reader.now c.avail_update.new.self samples samples asked c.counted.result) (sym c.in-Avail.is)
+    subst (λ (asked : Op). HasReaderCalled P G s t c.args.reader.now c.avail_update.new.self samples samples asked c.counted.result) (sym c.in-Avail.is)
     (called-keeps P G g.met.P.SnoopPort.got_composes count_answer s t c.args.reader.now c.avail_update.new.self samples op.Avail (if_admitted c.args.reader.now call.Sync (avail_course c.args.reader.now)) c.avail_update.result c.counted.result refl
     c.avail_update.ensures.takes c.avail_update.ensures.keeps c.counted.ensures refl refl)
 
@@ -53,7 +53,7 @@ returns-in-Drop-clause-called g c =
     let G = g.G.Gate in
     let s = both c.args.port.now c.args.gate.now in
     let samples = c.args.samples.now.items in
-    subst (λ (asked : Op). HasCalled P G s s c.args.reader.now c.drop_pending.new.self samples samples asked c.done-in-Drop.result) (sym c.in-Drop.is)
+    subst (λ (asked : Op). HasReaderCalled P G s s c.args.reader.now c.drop_pending.new.self samples samples asked c.done-in-Drop.result) (sym c.in-Drop.is)
     (called-state P G g.met.P.SnoopPort.got_composes s c.args.reader.now c.drop_pending.new.self samples op.Drop call.Drop Setup c.drop_pending.result c.done-in-Drop.result refl
     c.drop_pending.ensures.refused c.drop_pending.ensures.dropped c.done-in-Drop.ensures c.requires.usable refl refl)
 
@@ -63,7 +63,7 @@ returns-in-Prepare-clause-called g c =
     let G = g.G.Gate in
     let s = both c.args.port.now c.args.gate.now in
     let samples = c.args.samples.now.items in
-    subst (λ (asked : Op). HasCalled P G s s c.args.reader.now c.prepare.new.self samples samples asked c.done-in-Prepare.result) (sym c.in-Prepare.is)
+    subst (λ (asked : Op). HasReaderCalled P G s s c.args.reader.now c.prepare.new.self samples samples asked c.done-in-Prepare.result) (sym c.in-Prepare.is)
     (called-state P G g.met.P.SnoopPort.got_composes s c.args.reader.now c.prepare.new.self samples op.Prepare call.Prepare Prepared c.prepare.result c.done-in-Prepare.result refl
     c.prepare.ensures.refused c.prepare.ensures.prepared c.done-in-Prepare.ensures c.requires.usable refl refl)
 
@@ -74,8 +74,8 @@ returns-in-Pause-clause-called g c =
     let s = both c.args.port.now c.args.gate.now in
     let r = c.args.reader.now in
     let samples = c.args.samples.now.items in
-    subst (λ (d : CaptureStream). HasCalled P G s s r d samples samples c.args.asked c.done-in-Pause.result) (sym c.pause.ensures.unchanged)
-    (subst (λ (answer : Answer). HasCalled P G s s r r samples samples c.args.asked answer) (sym (c.done-in-Pause.ensures ∙ ap done_answer c.pause.ensures.answer))
+    subst (λ (d : CaptureStream). HasReaderCalled P G s s r d samples samples c.args.asked c.done-in-Pause.result) (sym c.pause.ensures.unchanged)
+    (subst (λ (answer : Answer). HasReaderCalled P G s s r r samples samples c.args.asked answer) (sym (c.done-in-Pause.ensures ∙ ap done_answer c.pause.ensures.answer))
     (called-refused P G g.met.P.SnoopPort.got_composes s r samples c.args.asked NotSupported (ap (call_of r) c.in-Pause.is) c.requires.usable))
 
 pub returns-in_default : goal.returns-in_default
