@@ -47,7 +47,8 @@ fn clear(table: &mut Table, group: u32, part: Part)
 fn put_text(table: &mut Table, group: u32, name: Name, text: Span) -> Result<u32, ConfWhy>
     requires { group < length table.old.rows }
     ensures value { Leads result (group_of group table.new.rows)
-        (put_or_clash (Some (span_in table.old.text text)) (part_named (name_in table.old.text name) ∷ [])
+        (put_or_clash (Some (span_in table.old.text text))
+        (part_named (name_in table.old.text name) ∷ [])
         (group_of group table.old.rows)) }
     ensures text { table.new.text ≡ table.old.text }
     ensures alters { Alters group table.old.rows table.new.rows }
@@ -68,7 +69,8 @@ fn put_text(table: &mut Table, group: u32, name: Name, text: Span) -> Result<u32
 fn put_group(table: &mut Table, group: u32, name: Name) -> Result<u32, ConfWhy>
     requires { group < length table.old.rows }
     ensures value { Leads result (group_of group table.new.rows)
-        (put_or_clash None (part_named (name_in table.old.text name) ∷ []) (group_of group table.old.rows)) }
+        (put_or_clash None (part_named (name_in table.old.text name) ∷ [])
+        (group_of group table.old.rows)) }
     ensures step { IfOk result (λ n. IsStep table.new.rows group
         (part_named (name_in table.old.text name)) n) }
     ensures text { table.new.text ≡ table.old.text }

@@ -98,7 +98,8 @@ pub fn push_name(parts: &mut Vec<Part>, name: &[u8], start: u32) -> Result<(), A
     requires { start + length name.now < 2 ^ 32 }
     ensures parts { OnOk result ((text : List ℕ)
         → span_in text (record { start = start; count = length name.now }) ≡ name.now
-        → parts_in text parts.new.items ≡ parts_in text parts.old.items ++ part_named name.now ∷ []) }
+        → parts_in text parts.new.items ≡ parts_in text parts.old.items
+        ++ part_named name.now ∷ []) }
     ensures kept { OnOk result (take (length parts.old.items) parts.new.items ≡ parts.old.items) }
     ensures more { OnOk result (length parts.old.items < length parts.new.items) }
 {

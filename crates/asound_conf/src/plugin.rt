@@ -78,7 +78,8 @@ fn as_group(node: Option<Node<'_>>) -> Result<Group<'_>, ConfWhy>
 /// The group `kind.name`.
 #[tactic(auto, unfolding(crate::specs::Device::defined))]
 fn defined<'a>(kind: &[u8], name: &[u8], root: Group<'a>) -> Result<Group<'a>, ConfWhy>
-    ensures { answer_view entries_in result ≡ definition_of kind.now name.now (entries_in root.entry) }
+    ensures { answer_view entries_in result
+        ≡ definition_of kind.now name.now (entries_in root.entry) }
 {
     let all = as_group(get(root, kind))?;
     as_group(get(all, name))

@@ -65,7 +65,8 @@ fn push_channels(text: &mut String, bindings: &Bindings) -> Result<(), AllocErro
 
 /// Appends the line of a device's bindings, where it has any.
 fn push_bindings(text: &mut String, bindings: Option<Bindings>) -> Result<(), AllocError>
-    ensures { OnOk result (string_bytes text.new ≡ string_bytes text.old ++ bindings_line bindings) }
+    ensures { OnOk result (string_bytes text.new ≡ string_bytes text.old
+        ++ bindings_line bindings) }
 {
     if let Some(bindings) = bindings {
         text.push_str("bindings ")?;

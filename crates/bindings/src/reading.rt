@@ -15,7 +15,8 @@ impl Bindings {
     /// - `BindingTwice(channel)`: the first entry with a defect is a channel that stood earlier in the list.
     pub fn read(list: &[u32], card_channels: u8) -> Result<Bindings, Why>
         ensures answer { result ≡ answer_of list.now card_channels }
-        ensures below { IfOk result (λ bindings. All (λ channel. channel < card_channels) bindings) }
+        ensures below { IfOk result (λ bindings.
+            All (λ channel. channel < card_channels) bindings) }
     {
         if list.is_empty() {
             return Err(Why::BindingsEmpty);

@@ -154,7 +154,8 @@ impl Client {
             refusal_of Direction.Playback self.old.stream.status call.HwFree ≡ Some e →
             (result ≡ Err e) × (self.new ≡ self.old) }
         ensures freed { refusal_of Direction.Playback self.old.stream.status call.HwFree ≡ None →
-            (result ≡ Ok tt) × (self.new ≡ record { stream = after_hw_free self.old.stream; ring = [] }) }
+            (result ≡ Ok tt)
+            × (self.new ≡ record { stream = after_hw_free self.old.stream; ring = [] }) }
     {
         self.stream.status.admit(Direction::Playback, Call::HwFree)?;
         self.stream = self.stream.freed();

@@ -97,7 +97,8 @@ impl Client {
             (P.view port.old).marks.cursor)
             (λ position. start_count (with_new_base self.old.stream) (P.view port.old).marks.cursor
             position (pending_of self.old.stream))
-            (after_resume self.old.stream (P.view port.old).marks.cursor) (self.new.stream, result) }
+            (after_resume self.old.stream (P.view port.old).marks.cursor)
+            (self.new.stream, result) }
     {
         if on {
             self.stream.status.admit(Direction::Playback, Call::Pause)?;

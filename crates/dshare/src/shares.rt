@@ -56,10 +56,14 @@ impl Shares {
     /// None where one is owned, else the greatest last frame plus one; `seen` is the position.
     pub fn claim(&mut self, bindings: &Bindings, position: u64) -> Result<(), PcmError>
         requires { AreOfCard self.old bindings.now }
-        ensures free { OnOk result ((h : List Row) → StandsFor self.old h → AreFree h position bindings.now) }
-        ensures ok { OnOk result ((h : List Row) → StandsFor self.old h → StandsFor self.new (claimed bindings.now ∷ h)) }
-        ensures busy { IfErr result (λ e. (h : List Row) → StandsFor self.old h → e ≡ busy h bindings.now position) }
-        ensures not_free { OnErr result ((h : List Row) → StandsFor self.old h → ¬ AreFree h position bindings.now) }
+        ensures free { OnOk result ((h : List Row) → StandsFor self.old h
+            → AreFree h position bindings.now) }
+        ensures ok { OnOk result ((h : List Row) → StandsFor self.old h
+            → StandsFor self.new (claimed bindings.now ∷ h)) }
+        ensures busy { IfErr result (λ e. (h : List Row) → StandsFor self.old h
+            → e ≡ busy h bindings.now position) }
+        ensures not_free { OnErr result ((h : List Row) → StandsFor self.old h
+            → ¬ AreFree h position bindings.now) }
         ensures err { OnErr result (self.new ≡ self.old) }
         ensures owned { OnOk result (AreOwned self.new bindings.now) }
         ensures channels { self.new.channels ≡ self.old.channels }
@@ -99,7 +103,8 @@ impl Shares {
     pub fn release(&mut self, bindings: &Bindings, last: Option<u64>)
         requires card { AreOfCard self.old bindings.now }
         requires owned { AreOwned self.old bindings.now }
-        ensures released { (h : List Row) → StandsFor self.old h → StandsFor self.new (released bindings.now last ∷ h) }
+        ensures released { (h : List Row) → StandsFor self.old h
+            → StandsFor self.new (released bindings.now last ∷ h) }
         ensures channels { self.new.channels ≡ self.old.channels }
     {
         self.mark(bindings, false);
@@ -108,7 +113,8 @@ impl Shares {
 
     /// Whether the bindings are of this card, and each of their channels is owned, as `release` asks.
     pub fn can_release(&self, bindings: &Bindings) -> bool
-        ensures { IsTrue result ↔ (AreOfCard self.now bindings.now × AreOwned self.now bindings.now) }
+        ensures { IsTrue result ↔ (AreOfCard self.now bindings.now
+            × AreOwned self.now bindings.now) }
     {
         for client in 0..bindings.len() {
             let channel = bindings.card_channel(client);
@@ -123,7 +129,8 @@ impl Shares {
     pub fn owned(&self, channel: u8) -> bool
         requires { channel < self.now.channels }
         ensures value { result ≡ is_owned self.now channel }
-        ensures owner { (h : List Row) → StandsFor self.now h → result ≡ is_some (owner_of h channel) }
+        ensures owner { (h : List Row) → StandsFor self.now h
+            → result ≡ is_some (owner_of h channel) }
     {
         self.owned[channel as usize]
     }
@@ -156,7 +163,8 @@ impl Shares {
     /// Notes of these channels whether they are owned.
     fn mark(&mut self, bindings: &Bindings, owned: bool)
         requires { AreOfCard self.old bindings.now }
-        ensures marked { self.new ≡ record self.old { owned = with_value_at owned self.old.owned bindings.now } }
+        ensures marked { self.new
+            ≡ record self.old { owned = with_value_at owned self.old.owned bindings.now } }
         ensures bound { IsHeld self.old }
     {
         for client in 0..bindings.len() {
@@ -167,7 +175,8 @@ impl Shares {
     /// Notes of these channels that a frame was placed there, if one was.
     fn raise(&mut self, bindings: &Bindings, frame: Option<u64>)
         requires { AreOfCard self.old bindings.now }
-        ensures { self.new ≡ record self.old { last = with_later_at frame self.old.last bindings.now } }
+        ensures { self.new
+            ≡ record self.old { last = with_later_at frame self.old.last bindings.now } }
     {
         for client in 0..bindings.len() {
             let channel = bindings.card_channel(client) as usize;

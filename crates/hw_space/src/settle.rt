@@ -26,7 +26,8 @@ pub fn narrow_part(
     ensures ok { OnOk result (ranges.new ≡ with_refined ranges.old quantity other.now) }
     ensures filled { OnOk result (IsNonEmpty (refinement (part ranges.old quantity) other.now)) }
     ensures unchanged { IfOk result (λ changed.
-        (changed ≡ false) ↔ (refinement (part ranges.old quantity) other.now ≡ part ranges.old quantity)) }
+        (changed ≡ false) ↔ (refinement (part ranges.old quantity) other.now
+        ≡ part ranges.old quantity)) }
     ensures empty { OnErr result (IsEmpty (refinement (part ranges.old quantity) other.now)) }
     ensures err { OnErr result (ranges.new ≡ ranges.old) }
 {
@@ -69,7 +70,8 @@ fn round(ranges: &mut ParamBox, rules: &[Rule]) -> Result<bool, Empty>
 
 /// Refines the formats. `Ok(true)` says that the mask changed.
 pub fn narrow_format(ranges: &mut ParamBox, other: &Mask) -> Result<bool, Empty>
-    ensures ok { OnOk result (ranges.new ≡ record ranges.old { format = common_mask ranges.old.format other.now }) }
+    ensures ok { OnOk result (ranges.new
+        ≡ record ranges.old { format = common_mask ranges.old.format other.now }) }
     ensures filled { OnOk result ((common_mask ranges.old.format other.now).bits ≢ 0) }
     ensures unchanged { IfOk result (λ changed.
         (changed ≡ false) ↔ (common_mask ranges.old.format other.now ≡ ranges.old.format)) }
@@ -87,7 +89,8 @@ fn refine_sample_bits(ranges: &mut ParamBox) -> Result<bool, Empty>
     requires { IsProper ranges.old }
     ensures step { IfOk result (IsStep ranges.old ranges.new) }
     ensures kept { IfOk result (λ changed. changed ≡ false →
-        refinement ranges.old.sample_bits (bits_of_formats ranges.old.format) ≡ ranges.old.sample_bits) }
+        refinement ranges.old.sample_bits (bits_of_formats ranges.old.format)
+        ≡ ranges.old.sample_bits) }
     ensures empty { OnErr result (IsVoid ranges.old) }
 {
     let bits = bits_of_formats(&ranges.format);
@@ -100,7 +103,8 @@ fn refine_format(ranges: &mut ParamBox) -> Result<bool, Empty>
     requires { IsProper ranges.old }
     ensures step { IfOk result (IsStep ranges.old ranges.new) }
     ensures kept { IfOk result (λ changed. changed ≡ false →
-        common_mask ranges.old.format (formats_of_bits ranges.old.sample_bits) ≡ ranges.old.format) }
+        common_mask ranges.old.format (formats_of_bits ranges.old.sample_bits)
+        ≡ ranges.old.format) }
     ensures empty { OnErr result (IsVoid ranges.old) }
 {
     let formats = formats_of_bits(&ranges.sample_bits);

@@ -7,9 +7,11 @@ use std::thread::Threads;
 // Each item takes the number that its gate has, and each gate the pair's.
 fn take_each<R: Threads + Sync>(rt: &R, items: &mut [usize], gates: &mut [usize])
     requires long { length items.old ≤ length gates.old }
-    ensures items { (i : ℕ) → i < length items.old → slice_index items.new i ≡ slice_index gates.old i }
+    ensures items { (i : ℕ) → i < length items.old → slice_index items.new i
+        ≡ slice_index gates.old i }
     ensures gates { (i : ℕ) → i < length items.old → slice_index gates.new i ≡ i }
-    ensures beyond { (i : ℕ) → length items.old ≤ i → slice_index gates.new i ≡ slice_index gates.old i }
+    ensures beyond { (i : ℕ) → length items.old ≤ i → slice_index gates.new i
+        ≡ slice_index gates.old i }
 {
     for_each_pair(
         rt,

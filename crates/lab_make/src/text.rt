@@ -83,7 +83,8 @@ fn push_turn(text: &mut String, clients: u32, turn: u32) -> Result<(), AllocErro
 /// Appends the phases of so many turns.
 fn push_turns(text: &mut String, clients: u32, turns: u32) -> Result<(), AllocError>
     ensures { OnOk result
-        (string_bytes text.new ≡ string_bytes text.old ++ lines_text (all_turn_lines clients turns)) }
+        (string_bytes text.new ≡ string_bytes text.old
+        ++ lines_text (all_turn_lines clients turns)) }
 {
     for turn in 0..turns {
         push_turn(text, clients, turn + 1)?;

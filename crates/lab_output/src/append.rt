@@ -17,7 +17,8 @@ use wav_io::append_samples;
 /// Appends bytes to a file.
 fn append_bytes<S: Shelf>(shelf: &mut S, name: &[u8], bytes: &[u8]) -> Result<(), Stop>
     ensures appended { OnOk result (S.files shelf.new ≡ option_map
-        (λ files. with_change (λ content. content ++ bytes.now) files name.now) (S.files shelf.old)) }
+        (λ files. with_change (λ content. content ++ bytes.now) files name.now)
+        (S.files shelf.old)) }
     ensures part { OnErr result
         (IsPartAppended (S.files shelf.old) (S.files shelf.new) name.now bytes.now) }
     ensures only { IfErr result IsWriteStop }

@@ -144,11 +144,15 @@ fn play_all<R: Threads + Sync, S: Shelf, K: Sink, G: Gate + Send>(
 ) -> Result<Outcome, Stop>
     requires new { IsSomeNewRun script.now lab outputs }
     requires gates { 128 ≤ length gates.old }
-    ensures done { IfOk result (λ outcome. (input : RunInput) (name : List ℕ) → IsNewRun input name lab.entry outputs
-        → HasPlayed input name (rises (stops_by G.stops gates.old) (stops_by G.stops gates.new)) (outcome_in outcome)
+    ensures done { IfOk result (λ outcome. (input : RunInput) (name : List ℕ)
+        → IsNewRun input name lab.entry outputs
+        → HasPlayed input name (rises (stops_by G.stops gates.old) (stops_by G.stops gates.new))
+        (outcome_in outcome)
         (S.files shelf.old) (S.files shelf.new) (K.taken out.old) (K.taken out.new)) }
-    ensures part { OnErr result ((input : RunInput) (name : List ℕ) → IsNewRun input name lab.entry outputs
-        → HasStopped input name (S.files shelf.old) (S.files shelf.new) (K.taken out.old) (K.taken out.new)) }
+    ensures part { OnErr result ((input : RunInput) (name : List ℕ)
+        → IsNewRun input name lab.entry outputs
+        → HasStopped input name (S.files shelf.old) (S.files shelf.new) (K.taken out.old)
+        (K.taken out.new)) }
     ensures only { IfErr result IsWriteStop }
     ensures fetch_faults { S.fetch_faults shelf.new ≡ S.fetch_faults shelf.old }
     ensures faults { PlayFaults result (S.write_faults shelf.old) (S.write_faults shelf.new)
@@ -167,11 +171,13 @@ fn begin<S: Shelf, K: Sink>(outputs: &Outputs, shelf: &mut S, out: &mut K) -> Re
     requires outputs { AreOutputs outputs.now }
     requires new { All (λ n. n ≡ 0) outputs.now.samples.items }
     ensures going_on { OnOk result
-        (IsGoingOn outputs.now.files.items outputs.now.samples.items (nothing outputs.now.files.items)
+        (IsGoingOn outputs.now.files.items outputs.now.samples.items
+        (nothing outputs.now.files.items)
         (S.files shelf.old) (S.files shelf.new)) }
     ensures taken { OnOk result
         (K.taken out.new ≡ option_map (λ taken. taken ++ head_text) (K.taken out.old)) }
-    ensures changes { OnErr result (Changes (MayHold outputs.now.files.items (nothing outputs.now.files.items))
+    ensures changes { OnErr result
+        (Changes (MayHold outputs.now.files.items (nothing outputs.now.files.items))
         (S.files shelf.old) (S.files shelf.new)) }
     ensures text { OnErr result (TookPart (K.taken out.old) (K.taken out.new) head_text) }
     ensures only { IfErr result IsWriteStop }
@@ -195,12 +201,14 @@ fn end<S: Shelf, K: Sink>(
     shelf: &mut S,
     out: &mut K,
 ) -> Result<Outcome, Stop>
-    requires playing { CanEnd script.now (scene lab outputs.now (S.files shelf.old) (K.taken out.old)) }
+    requires playing { CanEnd script.now
+        (scene lab outputs.now (S.files shelf.old) (K.taken out.old)) }
     requires all { items_done lab ≡ length script.now.body }
     ensures done { IfOk result (λ outcome. EndsWith
         (scene lab.entry outputs.now (S.files shelf.old) (K.taken out.old)) (outcome_in outcome)
         (S.files shelf.new) (K.taken out.new)) }
-    ensures part { OnErr result (StopsAtEnd (scene lab.entry outputs.now (S.files shelf.old) (K.taken out.old))
+    ensures part { OnErr result
+        (StopsAtEnd (scene lab.entry outputs.now (S.files shelf.old) (K.taken out.old))
         (S.files shelf.new) (K.taken out.new)) }
     ensures only { IfErr result IsWriteStop }
     ensures fetch_faults { S.fetch_faults shelf.new ≡ S.fetch_faults shelf.old }
@@ -208,7 +216,8 @@ fn end<S: Shelf, K: Sink>(
         (K.faults out.old) (K.faults out.new) }
     ensures reliable { S.is_reliable shelf.old → S.is_reliable shelf.new }
     ensures never { S.is_reliable shelf.old → K.is_reliable out.old
-        → IsKnownAtEnd (scene lab.entry outputs.now (S.files shelf.old) (K.taken out.old)) → result ≢ Err stops.Write }
+        → IsKnownAtEnd (scene lab.entry outputs.now (S.files shelf.old) (K.taken out.old))
+        → result ≢ Err stops.Write }
 {
     outcomes_are_of_scripts();
     runs_keep_headline();

@@ -47,13 +47,16 @@ fn append_all<S: Shelf>(
     requires { CanAppend lab.now outputs.old (S.files shelf.old) }
     ensures going_on { (before : Option Files) (stage : Stage) (sounds : List (List ℤ))
         → IsAtStage lab.now stage → AreLonger sounds (sounds_at lab.now stage)
-        → IsGoingOn outputs.old.files.items outputs.old.samples.items sounds before (S.files shelf.old)
+        → IsGoingOn outputs.old.files.items outputs.old.samples.items sounds before
+        (S.files shelf.old)
         → OnOk result (IsGoingOn outputs.new.files.items outputs.new.samples.items
         (sounds_at lab.now stage) before (S.files shelf.new)) }
     ensures changes { (before : Option Files) (stage : Stage) (sounds : List (List ℤ))
         → IsAtStage lab.now stage → AreLonger sounds (sounds_at lab.now stage)
-        → IsGoingOn outputs.old.files.items outputs.old.samples.items sounds before (S.files shelf.old)
-        → Changes (MayHold outputs.old.files.items (sounds_at lab.now stage)) before (S.files shelf.new) }
+        → IsGoingOn outputs.old.files.items outputs.old.samples.items sounds before
+        (S.files shelf.old)
+        → Changes (MayHold outputs.old.files.items (sounds_at lab.now stage)) before
+        (S.files shelf.new) }
     ensures outputs { AreOutputs outputs.new }
     ensures files { outputs.new.files ≡ outputs.old.files }
     ensures rows { outputs.new.rows ≡ outputs.old.rows }
@@ -63,7 +66,8 @@ fn append_all<S: Shelf>(
     ensures reliable { S.is_reliable shelf.old → S.is_reliable shelf.new }
     ensures never { (before : Option Files) (stage : Stage) (sounds : List (List ℤ))
         → IsAtStage lab.now stage → AreLonger sounds (sounds_at lab.now stage)
-        → IsGoingOn outputs.old.files.items outputs.old.samples.items sounds before (S.files shelf.old)
+        → IsGoingOn outputs.old.files.items outputs.old.samples.items sounds before
+        (S.files shelf.old)
         → IsSome before → S.is_reliable shelf.old → result ≢ Err stops.Write }
 {
     for number in 0..outputs.files.len() {
@@ -81,7 +85,8 @@ pub(crate) fn write_phase<S: Shelf, K: Sink>(
     shelf: &mut S,
     out: &mut K,
 ) -> Result<(), Stop>
-    requires { CanCatchUp script.now (scene lab.now outputs.old (S.files shelf.old) (K.taken out.old)) }
+    requires { CanCatchUp script.now (scene lab.now outputs.old (S.files shelf.old)
+        (K.taken out.old)) }
     ensures done { OnOk result (CatchesUp
         (scene lab.now outputs.old (S.files shelf.old) (K.taken out.old))
         (scene lab.now outputs.new (S.files shelf.new) (K.taken out.new))) }

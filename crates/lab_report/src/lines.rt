@@ -13,7 +13,8 @@ fn feed_place(text: &[u8]) -> Option<usize>
 
 /// The first line of a text with its line feed, which the last may lack, and the text after it.
 pub fn first_line(text: &[u8]) -> Option<(&[u8], &[u8])>
-    ensures line { option_map (λ l. (l.0.now, lines_of l.1.now)) result ≡ first_and_rest (lines_of text.now) }
+    ensures line { option_map (λ l. (l.0.now, lines_of l.1.now)) result
+        ≡ first_and_rest (lines_of text.now) }
     ensures shorter { IfSome result (λ l. length l.1.now < length text.now) }
 {
     if text.is_empty() {

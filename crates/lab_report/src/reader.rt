@@ -37,7 +37,8 @@ pub struct Draft {
 fn add_tail(draft: &mut Draft, script: &Script, word: &[u8], rest: &[u8]) -> Result<(), ReportWhy>
     requires clients { length script.now.clients ≤ 64 }
     requires readers { length script.now.readers ≤ 64 }
-    ensures { Gives (λ u. view draft.new) result (tail_by script.now (view draft.old) word.now rest.now) }
+    ensures { Gives (λ u. view draft.new) result
+        (tail_by script.now (view draft.old) word.now rest.now) }
 {
     if word == b"segment".as_slice() && draft.runs.is_empty() {
         let segment = segment_at(script, rest)?;
@@ -68,7 +69,8 @@ fn add_end(draft: &mut Draft, line: &[u8]) -> Result<(), ReportWhy>
 fn add_below(draft: &mut Draft, script: &Script, line: &[u8]) -> Result<(), ReportWhy>
     requires clients { length script.now.clients ≤ 64 }
     requires readers { length script.now.readers ≤ 64 }
-    ensures { Gives (λ u. view draft.new) result (below_rows script.now (view draft.old) draft.old.played line.now) }
+    ensures { Gives (λ u. view draft.new) result
+        (below_rows script.now (view draft.old) draft.old.played line.now) }
 {
     match draft.played {
         Some(_) => add_end(draft, line),
@@ -90,8 +92,10 @@ fn add_after_head(
 ) -> Result<(), ReportWhy>
     requires clients { length script.now.clients ≤ 64 }
     requires readers { length script.now.readers ≤ 64 }
-    requires actor { ForSome request (λ r. IsActor (length script.now.clients) (length script.now.readers) r.actor) }
-    ensures { Gives (λ u. view draft.new) result (after_head script.now (view draft.old) request line.now) }
+    requires actor { ForSome request (λ r. IsActor (length script.now.clients)
+        (length script.now.readers) r.actor) }
+    ensures { Gives (λ u. view draft.new) result
+        (after_head script.now (view draft.old) request line.now) }
 {
     match request {
         Some(request) => {
@@ -142,8 +146,10 @@ fn add_line(
 ) -> Result<(), ReportWhy>
     requires clients { length script.now.clients ≤ 64 }
     requires readers { length script.now.readers ≤ 64 }
-    requires actors { All (λ (r : Request). IsActor (length script.now.clients) (length script.now.readers) r.actor) requests.now }
-    ensures { Gives (λ u. view draft.new) result (with_line script.now requests.now (view draft.old) line.now) }
+    requires actors { All (λ (r : Request). IsActor (length script.now.clients)
+        (length script.now.readers) r.actor) requests.now }
+    ensures { Gives (λ u. view draft.new) result
+        (with_line script.now requests.now (view draft.old) line.now) }
 {
     if !draft.head {
         return add_head(draft, line);
@@ -205,7 +211,8 @@ fn read_lines(
 ) -> Result<Report, ReportError>
     requires clients { length script.now.clients ≤ 64 }
     requires readers { length script.now.readers ≤ 64 }
-    requires actors { All (λ (r : Request). IsActor (length script.now.clients) (length script.now.readers) r.actor) requests.now }
+    requires actors { All (λ (r : Request). IsActor (length script.now.clients)
+        (length script.now.readers) r.actor) requests.now }
     ensures { Answers result (lines_after script.now requests.now nothing 0 (lines_of text.now)) }
 {
     let mut draft = nothing(alloc);

@@ -39,7 +39,8 @@ fn push_place(
     lines: &[Line],
 ) -> Result<(), AllocError>
     ensures { OnOk result
-        (requests.new.items ≡ requests.old.items ++ map (request_of phase) (of_place lines.now place)) }
+        (requests.new.items ≡ requests.old.items ++ map (request_of phase)
+        (of_place lines.now place)) }
 {
     for line in lines {
         if place_of(line.actor) == place {
@@ -88,7 +89,8 @@ fn push_marked(
 ) -> Result<(), AllocError>
     requires { OnFalse is_marked (of_place lines.now place ≡ []) }
     ensures { OnOk result
-        (requests.new.items ≡ requests.old.items ++ map (request_of phase) (of_place lines.now place)) }
+        (requests.new.items ≡ requests.old.items ++ map (request_of phase)
+        (of_place lines.now place)) }
 {
     if is_marked {
         push_place(requests, phase, place, lines)

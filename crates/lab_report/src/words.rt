@@ -88,7 +88,8 @@ fn space_place(text: &[u8]) -> Option<usize>
 
 /// The first of some words that are joined by a space, and the words after it, where there are some.
 fn split_word(words: &[u8]) -> Option<(&[u8], &[u8])>
-    ensures some { IfSome result (λ w. slice_split is_space words.now ≡ w.0.now ∷ slice_split is_space w.1.now) }
+    ensures some { IfSome result (λ w. slice_split is_space words.now
+        ≡ w.0.now ∷ slice_split is_space w.1.now) }
     ensures none { IfNone result (slice_split is_space words.now ≡ words.now ∷ []) }
     ensures shorter { IfSome result (λ w. length w.1.now < length words.now) }
 {

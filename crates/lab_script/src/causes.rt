@@ -15,7 +15,8 @@ pub fn refuse_if(test: bool, cause: ScriptWhy) -> Result<(), ScriptWhy>
 
 /// The first word of a line, which must be there, and what follows it.
 pub fn first_of(words: &[u8]) -> Result<(&[u8], &[u8]), ScriptWhy>
-    ensures { Gives (λ w. (w.0.now, words_between w.1.now)) result (first_of (words_between words.now)) }
+    ensures { Gives (λ w. (w.0.now, words_between w.1.now)) result
+        (first_of (words_between words.now)) }
 {
     match next_word(words) {
         Some(found) => Ok(found),

@@ -24,7 +24,8 @@ fn first_place(bytes: &[u8], byte: u8) -> Option<usize>
 /// The first line of a text without its line feed, and the text after that.
 fn first_line(text: &[u8]) -> (&[u8], &[u8])
     requires { 0 < length text.now }
-    ensures line { (n : ℕ) → lines_from n text.now ≡ put_line n (words_in result.0.now) (lines_from (n + 1) result.1.now) }
+    ensures line { (n : ℕ) → lines_from n text.now
+        ≡ put_line n (words_in result.0.now) (lines_from (n + 1) result.1.now) }
     ensures shorter { length result.1.now < length text.now }
 {
     match first_place(text, b'\n') {
@@ -89,7 +90,8 @@ fn from_word(line: &[u8]) -> Option<&[u8]>
 /// The first word of a line without a comment, and what follows it. Words are separated by one
 /// or more spaces or tabs, which may be at the line's ends too.
 pub fn next_word(line: &[u8]) -> Option<(&[u8], &[u8])>
-    ensures words { option_map (λ w. (w.0.now, words_between w.1.now)) result ≡ first_and_rest (words_between line.now) }
+    ensures words { option_map (λ w. (w.0.now, words_between w.1.now)) result
+        ≡ first_and_rest (words_between line.now) }
     ensures shorter { IfSome result (λ w. length w.1.now < length line.now) }
 {
     let line = from_word(line)?;
@@ -107,11 +109,13 @@ pub fn next_line(number: u32, text: &[u8]) -> Option<TextLine<'_>>
     requires { number + length text.now < 2 ^ 32 }
 
     // It is the first of the text's lines with words, and those after it are the rest's.
-    ensures line { option_map (λ l. ((l.number, words_between l.words.now), lines_from (l.number + 1) l.rest.now)) result
+    ensures line { option_map (λ l.
+        ((l.number, words_between l.words.now), lines_from (l.number + 1) l.rest.now)) result
         ≡ first_and_rest (lines_from number text.now) }
 
     // The text after it is shorter by what was counted.
-    ensures shorter { IfSome result (λ l. l.number + 1 + length l.rest.now ≤ number + length text.now) }
+    ensures shorter { IfSome result (λ l. l.number + 1 + length l.rest.now
+        ≤ number + length text.now) }
     ensures later { IfSome result (λ l. number ≤ l.number) }
 {
     let mut number = number;

@@ -23,7 +23,8 @@ use std::mem;
 /// `client NAME FILE KEYS`.
 #[tactic(auto, unfolding(crate::specs::Draft::with_client))]
 fn add_client(alloc: Global, draft: &mut Draft, number: u32, words: &[u8]) -> Result<(), ScriptWhy>
-    ensures { Gives (λ u. view draft.new) result (with_client (view draft.old) number (words_between words.now)) }
+    ensures { Gives (λ u. view draft.new) result
+        (with_client (view draft.old) number (words_between words.now)) }
 {
     refuse_if(draft.body.len() != 0, ScriptWhy::Order)?;
     let client = read_client(alloc, draft, number, words)?;
@@ -34,7 +35,8 @@ fn add_client(alloc: Global, draft: &mut Draft, number: u32, words: &[u8]) -> Re
 /// `reader NAME KEYS`.
 #[tactic(auto, unfolding(crate::specs::Draft::with_reader))]
 fn add_reader(alloc: Global, draft: &mut Draft, number: u32, words: &[u8]) -> Result<(), ScriptWhy>
-    ensures { Gives (λ u. view draft.new) result (with_reader (view draft.old) number (words_between words.now)) }
+    ensures { Gives (λ u. view draft.new) result
+        (with_reader (view draft.old) number (words_between words.now)) }
 {
     refuse_if(draft.body.len() != 0, ScriptWhy::Order)?;
     let reader = read_reader(alloc, draft, number, words)?;
@@ -60,7 +62,8 @@ fn border_actor(draft: &Draft, words: &[u8]) -> Result<Actor, ScriptWhy>
 /// `open NAME`.
 #[tactic(auto, unfolding(crate::specs::Draft::with_open))]
 fn add_open(draft: &mut Draft, number: u32, words: &[u8]) -> Result<(), ScriptWhy>
-    ensures { Gives (λ u. view draft.new) result (with_open (view draft.old) number (words_between words.now)) }
+    ensures { Gives (λ u. view draft.new) result
+        (with_open (view draft.old) number (words_between words.now)) }
 {
     let actor = border_actor(draft, words)?;
     draft.body.push(Item::Opens { number, actor })?;
@@ -70,7 +73,8 @@ fn add_open(draft: &mut Draft, number: u32, words: &[u8]) -> Result<(), ScriptWh
 /// `close NAME`.
 #[tactic(auto, unfolding(crate::specs::Draft::with_close))]
 fn add_close(draft: &mut Draft, number: u32, words: &[u8]) -> Result<(), ScriptWhy>
-    ensures { Gives (λ u. view draft.new) result (with_close (view draft.old) number (words_between words.now)) }
+    ensures { Gives (λ u. view draft.new) result
+        (with_close (view draft.old) number (words_between words.now)) }
 {
     let actor = border_actor(draft, words)?;
     draft.body.push(Item::Closes { number, actor })?;
@@ -80,7 +84,8 @@ fn add_close(draft: &mut Draft, number: u32, words: &[u8]) -> Result<(), ScriptW
 /// `phase`.
 #[tactic(auto, unfolding(crate::specs::Draft::with_phase))]
 fn begin_phase(draft: &mut Draft, number: u32, words: &[u8]) -> Result<(), ScriptWhy>
-    ensures { Gives (λ u. view draft.new) result (with_phase (view draft.old) number (words_between words.now)) }
+    ensures { Gives (λ u. view draft.new) result
+        (with_phase (view draft.old) number (words_between words.now)) }
 {
     end_of(words)?;
     if draft.phases >= 4096 {
@@ -94,7 +99,8 @@ fn begin_phase(draft: &mut Draft, number: u32, words: &[u8]) -> Result<(), Scrip
 /// `end`.
 #[tactic(auto, unfolding(crate::specs::Draft::with_end))]
 fn end_phase(alloc: Global, draft: &mut Draft, words: &[u8]) -> Result<(), ScriptWhy>
-    ensures { Gives (λ u. view draft.new) result (with_end (view draft.old) (words_between words.now)) }
+    ensures { Gives (λ u. view draft.new) result
+        (with_end (view draft.old) (words_between words.now)) }
 {
     end_of(words)?;
     let lines = mem::replace(&mut draft.lines, Vec::new(alloc));
@@ -154,7 +160,8 @@ fn check_line(draft: &Draft, actor: Actor, op: Op, played: u64) -> Result<(), Sc
 /// `ACTOR OP`, in a phase.
 #[tactic(auto, using(crate::proofs::Checks::with_line_steps))]
 fn add_line(draft: &mut Draft, number: u32, actor: Actor, words: &[u8]) -> Result<(), ScriptWhy>
-    ensures { Gives (λ u. view draft.new) result (with_line (view draft.old) number actor (words_between words.now)) }
+    ensures { Gives (λ u. view draft.new) result
+        (with_line (view draft.old) number actor (words_between words.now)) }
 {
     let op = op_of(actor, words)?;
     let played = u64::from(draft.played) + u64::from(played_by(op));
@@ -174,7 +181,8 @@ fn outside(
     words: &[u8],
 ) -> Result<(), ScriptWhy>
     ensures { Gives (λ u. view draft.new) result
-        (outside (view draft.old) number word.now (row_of keywords word.now) (words_between words.now)) }
+        (outside (view draft.old) number word.now (row_of keywords word.now)
+        (words_between words.now)) }
 {
     match keyword_of(word) {
         Some(Keyword::Client) => add_client(alloc, draft, number, words),
@@ -199,7 +207,8 @@ fn inside(
     words: &[u8],
 ) -> Result<(), ScriptWhy>
     ensures { Gives (λ u. view draft.new) result
-        (inside (view draft.old) number word.now (row_of keywords word.now) (words_between words.now)) }
+        (inside (view draft.old) number word.now (row_of keywords word.now)
+        (words_between words.now)) }
 {
     match keyword_of(word) {
         Some(Keyword::Card) => add_line(draft, number, Actor::Card, words),
@@ -219,7 +228,8 @@ pub fn add_words(
     number: u32,
     words: &[u8],
 ) -> Result<(), ScriptWhy>
-    ensures { Gives (λ u. view draft.new) result (with_words (view draft.old) number (words_between words.now)) }
+    ensures { Gives (λ u. view draft.new) result
+        (with_words (view draft.old) number (words_between words.now)) }
 {
     let Some((word, rest)) = next_word(words) else {
         return Ok(());

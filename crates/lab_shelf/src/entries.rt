@@ -60,7 +60,8 @@ pub(crate) fn append_to(
     bytes: &[u8],
 ) -> Result<(), ShelfFault>
     ensures ok { OnOk result
-        (files_of entries.new ≡ with_change (λ content. content ++ bytes.now) (files_of entries.old) name.now) }
+        (files_of entries.new ≡ with_change (λ content. content ++ bytes.now)
+        (files_of entries.old) name.now) }
     ensures err { OnErr result (files_of entries.new ≡ files_of entries.old) }
     ensures held { OnOk result (IsSome (bytes_under (files_of entries.old) name.now)) }
     ensures missing { IsErrOf result ShelfFault.Failed
@@ -93,7 +94,8 @@ pub(crate) fn overwrite(
     requires room { IfSome (bytes_under (files_of entries.old) name.now)
         (λ content. length head.now ≤ length content) }
     ensures ok { OnOk result
-        (files_of entries.new ≡ with_change (with_first_bytes head.now) (files_of entries.old) name.now) }
+        (files_of entries.new ≡ with_change (with_first_bytes head.now)
+        (files_of entries.old) name.now) }
     ensures err { OnErr result (files_of entries.new ≡ files_of entries.old) }
     ensures held { OnOk result (IsSome (bytes_under (files_of entries.old) name.now)) }
     ensures missing { OnErr result (bytes_under (files_of entries.old) name.now ≡ None) }

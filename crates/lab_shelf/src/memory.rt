@@ -162,7 +162,8 @@ impl Shelf for MemoryShelf {
     fn append(&mut self, name: &[u8], bytes: &[u8]) -> Result<(), ShelfFault>
         ensures held { OnOk result (IsHeld (Some self.old.files) name.now) }
         ensures foreseen { Foreseen result (Some (fetch_answers self.old name.now)) }
-        ensures after { self.new ≡ after_change result self.old (λ content. content ++ bytes.now) name.now }
+        ensures after { self.new ≡ after_change result self.old
+            (λ content. content ++ bytes.now) name.now }
         ensures ok { OnOk result (Some self.new.files
             ≡ Some (with_change (λ content. content ++ bytes.now) self.old.files name.now)) }
         ensures err { OnErr result
@@ -189,9 +190,11 @@ impl Shelf for MemoryShelf {
         requires room { HasRoom (Some self.old.files) name.now head.now }
         ensures held { OnOk result (IsHeld (Some self.old.files) name.now) }
         ensures foreseen { Foreseen result (Some (fetch_answers self.old name.now)) }
-        ensures after { self.new ≡ after_change result self.old (with_first_bytes head.now) name.now }
+        ensures after { self.new ≡ after_change result self.old
+            (with_first_bytes head.now) name.now }
         ensures ok { OnOk result
-            (Some self.new.files ≡ Some (with_change (with_first_bytes head.now) self.old.files name.now)) }
+            (Some self.new.files
+            ≡ Some (with_change (with_first_bytes head.now) self.old.files name.now)) }
         ensures err { OnErr result
             (IsPartFinished (Some self.old.files) (Some self.new.files) name.now head.now) }
         ensures faults { Counted result self.old.write_faults self.new.write_faults }
@@ -273,7 +276,8 @@ impl Sink for MemorySink {
         ensures foreseen { Foreseen result (Some (write_answers self.old.failing self.old.calls)) }
         ensures after { self.new ≡ after_put result self.old bytes.now }
         ensures ok { OnOk result (Some self.new.taken ≡ Some (self.old.taken ++ bytes.now)) }
-        ensures err { OnErr result (TookPart (Some self.old.taken) (Some self.new.taken) bytes.now) }
+        ensures err { OnErr result (TookPart (Some self.old.taken)
+            (Some self.new.taken) bytes.now) }
         ensures faults { Counted result self.old.faults self.new.faults }
         ensures reliable { self.old.failing ≡ [] → self.new.failing ≡ [] }
         ensures puts { self.old.failing ≡ [] → result ≢ Err ShelfFault.Failed }

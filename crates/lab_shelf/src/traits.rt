@@ -92,7 +92,8 @@ pub trait Shelf {
     fn append(&mut self, name: &[u8], bytes: &[u8]) -> Result<(), ShelfFault>
         ensures held { OnOk result (IsHeld (files self.old) name.now) }
         ensures ok { OnOk result (files self.new ≡ option_map
-            (λ held_files. with_change (λ content. content ++ bytes.now) held_files name.now) (files self.old)) }
+            (λ held_files. with_change (λ content. content ++ bytes.now) held_files name.now)
+            (files self.old)) }
         ensures err { OnErr result
             (IsPartAppended (files self.old) (files self.new) name.now bytes.now) }
         ensures faults { Counted result (write_faults self.old) (write_faults self.new) }
@@ -111,7 +112,8 @@ pub trait Shelf {
         requires room { HasRoom (files self.old) name.now head.now }
         ensures held { OnOk result (IsHeld (files self.old) name.now) }
         ensures ok { OnOk result (files self.new ≡ option_map
-            (λ held_files. with_change (with_first_bytes head.now) held_files name.now) (files self.old)) }
+            (λ held_files. with_change (with_first_bytes head.now) held_files name.now)
+            (files self.old)) }
         ensures err { OnErr result
             (IsPartFinished (files self.old) (files self.new) name.now head.now) }
         ensures faults { Counted result (write_faults self.old) (write_faults self.new) }

@@ -11,7 +11,8 @@ pub fn word_stands_for_its_fields()
 
 /// A word represents nothing else, and no two words represent the same three numbers.
 pub fn fields_are_unique()
-    ensures fields { (w l c : ℕ) → (s : ℤ) → StandsFor w l c s → (lap_of w ≡ l) × (count_of w ≡ c) × (sum_of w ≡ s) }
+    ensures fields { (w l c : ℕ) → (s : ℤ) → StandsFor w l c s
+        → (lap_of w ≡ l) × (count_of w ≡ c) × (sum_of w ≡ s) }
     ensures word { (v w l c : ℕ) → (s : ℤ) → StandsFor v l c s → StandsFor w l c s → v ≡ w }
 {}
 
@@ -22,5 +23,7 @@ pub fn clamp_is_nearest()
 
 /// A position word has the position below 2 to the power 63 and the gone bit that it was made of.
 pub fn position_words_are_read_back()
-    ensures { (position : ℕ) (gone : Bool) → position < 2 ^ 63 → (position_in (word_of position gone) ≡ position) × (gone_in (word_of position gone) ≡ gone) }
+    ensures { (position : ℕ) (gone : Bool) → position < 2 ^ 63
+        → (position_in (word_of position gone) ≡ position)
+        × (gone_in (word_of position gone) ≡ gone) }
 {}

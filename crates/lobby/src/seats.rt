@@ -73,7 +73,8 @@ fn earlier(a: Option<u64>, b: Option<u64>) -> Option<u64>
 
 /// The least last frame of the free seats.
 fn least_last(seats: &[Option<MixSeat<'_>>]) -> Option<u64>
-    ensures value { MatchOption result (last_frames seats.now ≡ []) (IsLeast (last_frames seats.now)) }
+    ensures value { MatchOption result (last_frames seats.now ≡ [])
+        (IsLeast (last_frames seats.now)) }
     ensures fits { IfSome result (λ frame. frame + 1 < 2 ^ 64) }
 {
     let mut least = None;

@@ -126,7 +126,8 @@ pub trait MixPort {
     /// Loads the card's position, after one ask of the gate, of kind `Position`. It is not below the one seen before.
     /// `Stopped` comes exactly where the gate stopped; nothing was loaded then.
     fn position<G: Gate>(&mut self, gate: &mut G) -> Result<Position, PcmError>
-        ensures step { Loads view laid loaded G.stops G.asked self.old gate.old (load_of result) self.new gate.new }
+        ensures step { Loads view laid loaded G.stops G.asked self.old gate.old
+            (load_of result) self.new gate.new }
         ensures only_stopped { IfErr result (λ e. e ≡ PcmError.Stopped) };
 
     /// Adds a sample at a frame (its absolute number) and channel, and moves the cursor to the next channel.
@@ -154,9 +155,12 @@ pub trait MixPort {
         requires ahead { frame < (view self.old).seen + (view self.old).geometry.frames }
         ensures step { lap (view self.old).geometry frame < 4294967295
             → Lays view laid loaded shows finds G.stops G.asked self.old gate.old
-            (an_add (view self.old).member frame channel sample) (ended_of result) self.new gate.new }
-        ensures lap_end { IsErrOf result PcmError.LapEnd ↔ (4294967295 ≤ lap (view self.old).geometry frame) }
-        ensures unchanged { IsErrOf result PcmError.LapEnd → Stays view laid loaded self.old self.new × (gate.new ≡ gate.old) }
+            (an_add (view self.old).member frame channel sample)
+            (ended_of result) self.new gate.new }
+        ensures lap_end { IsErrOf result PcmError.LapEnd
+            ↔ (4294967295 ≤ lap (view self.old).geometry frame) }
+        ensures unchanged { IsErrOf result PcmError.LapEnd
+            → Stays view laid loaded self.old self.new × (gate.new ≡ gate.old) }
         ensures only { IfErr result (λ e. (e ≡ PcmError.LapEnd) ⊎ (e ≡ PcmError.Stopped)) };
 
     /// Withdraws the sample of the port's last standing add, which is at this frame (its absolute number) and channel, and
@@ -177,7 +181,8 @@ pub trait MixPort {
         requires last { ends_in self.old (an_add (view self.old).member frame channel sample ∷ []) }
         requires from_floor { IsFrom (view self.old).marks.floor frame channel }
         ensures step { Lays view laid loaded shows finds G.stops G.asked self.old gate.old
-            (a_withdrawal (view self.old).member frame channel sample) (ended_of result) self.new gate.new }
+            (a_withdrawal (view self.old).member frame channel sample)
+            (ended_of result) self.new gate.new }
         ensures only_stopped { IfErr result (λ e. e ≡ PcmError.Stopped) };
 
     // What was laid between two states moves the marks, and the words that are shown never fall.

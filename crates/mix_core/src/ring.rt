@@ -84,7 +84,8 @@ impl Core {
     pub fn take(&mut self) -> Result<Taken, PcmError>
         ensures ok { IfOk result (λ taken. IsTaken self.old self.new taken) }
         ensures err { OnErr result (IsRefused self.old self.new) }
-        ensures lap_end { IsErrOf result PcmError.LapEnd ↔ (lap self.old.geometry self.old.next.frame ≡ 4294967295) }
+        ensures lap_end { IsErrOf result PcmError.LapEnd
+            ↔ (lap self.old.geometry self.old.next.frame ≡ 4294967295) }
         ensures only { IfErr result (λ e. e ≡ PcmError.LapEnd) }
     {
         if self.geometry.lap(self.next.frame) == 4294967295 {
@@ -171,7 +172,8 @@ impl Core {
     pub(crate) fn late_word(&self, frame: u64, channel: u8) -> Option<u64>
         requires channel { channel < self.now.geometry.channels }
         requires ahead { frame < self.now.position + self.now.geometry.frames }
-        ensures { MatchOption result (IsUntaken self.now frame channel) (λ word. IsLateWord self.now frame channel word) }
+        ensures { MatchOption result (IsUntaken self.now frame channel)
+            (λ word. IsLateWord self.now frame channel word) }
     {
         let word = self.words[self.geometry.word_index(frame, channel)];
         if lap_word::lap(word) as u64 == self.geometry.lap(frame) {
@@ -206,8 +208,10 @@ impl Core {
         requires kind { entry.kind ≡ Withdrawn }
         requires member { entry.member < length self.old.marks }
         requires channel { entry.channel < self.old.geometry.channels }
-        requires from_floor { IsFrom (marks_at self.old entry.member).floor entry.frame entry.channel }
-        requires before_cursor { entry.frame < first_free (cursor_at self.old entry.member) entry.channel }
+        requires from_floor { IsFrom (marks_at self.old entry.member).floor entry.frame
+            entry.channel }
+        requires before_cursor { entry.frame
+            < first_free (cursor_at self.old entry.member) entry.channel }
         requires untaken { first_free self.old.next entry.channel ≤ entry.frame }
         requires ahead { entry.frame < self.old.position + self.old.geometry.frames }
         ensures { IsLaidBy self.old self.new entry }

@@ -38,7 +38,8 @@ impl Core {
     /// Lets one event happen, and answers the reply to it.
     fn reply(&mut self, event: Event, standing: &mut Vec<Entry>) -> Reply
         requires room { vec_len standing.old < vec_capacity standing.old }
-        ensures answer { IsAnswered self.old self.new standing.old.items standing.new.items event result }
+        ensures answer { IsAnswered self.old self.new standing.old.items standing.new.items event
+            result }
         ensures len { vec_len standing.new ≤ vec_len standing.old + 1 }
         ensures capacity { vec_capacity standing.old ≤ vec_capacity standing.new }
     {
@@ -177,7 +178,8 @@ fn keep(standing: &mut Vec<Entry>, entry: Entry)
 
 /// The place of a member's last standing add.
 fn last_of(standing: &[Entry], member: u32) -> Option<usize>
-    ensures { MatchOption result (own_entries member standing.now ≡ []) (λ i. IsLastOf standing.now member i) }
+    ensures { MatchOption result (own_entries member standing.now ≡ [])
+        (λ i. IsLastOf standing.now member i) }
 {
     for i in (0..standing.len()).rev() {
         if standing[i].member == member {

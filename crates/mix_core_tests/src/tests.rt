@@ -47,7 +47,8 @@ fn lay(
     ensures late { OnLate (ended_of result) (λ _. frame < first_free core.old.next channel) }
     ensures in_time { OnWhole (ended_of result) (first_free core.old.next channel ≤ frame) }
     ensures marks { OnWhole (ended_of result)
-        (marks_at core.new member ≡ added_at core.old.geometry (marks_at core.old member) frame channel) }
+        (marks_at core.new member ≡ added_at core.old.geometry
+        (marks_at core.old member) frame channel) }
     ensures members { length core.new.marks ≡ length core.old.marks }
 {
     let mut turn = core.turn(member);

@@ -37,7 +37,8 @@ impl Interval {
         ensures unchanged { IfOk result (λ changed. IsFalse changed ↔ (self.new ≡ self.old)) }
         ensures empty { IsErr result ↔ IsEmpty (refinement self.old other.now) }
         ensures err { OnErr result (self.new ≡ self.old) }
-        ensures members { (n d : ℕ) → IsMember self.old n d → IsMember other.now n d → IsMember self.new n d }
+        ensures members { (n d : ℕ) → IsMember self.old n d → IsMember other.now n d
+            → IsMember self.new n d }
     {
         let common = self.common_part(other);
         if common.is_empty() {

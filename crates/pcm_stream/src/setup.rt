@@ -86,7 +86,8 @@ impl Setup {
     /// setup stays as it was.
     pub fn set_params(&mut self, params: SwParams) -> Result<(), PcmError>
         requires { 1 ≤ self.old.config.buffer_size }
-        ensures checked { (b : ℕ) × IsBoundary self.old.config.buffer_size b × Checks result params b }
+        ensures checked { (b : ℕ) × IsBoundary self.old.config.buffer_size b
+            × Checks result params b }
         ensures ok { OnOk result (self.new ≡ with_params self.old params) }
         ensures err { OnErr result (self.new ≡ self.old) }
     {

@@ -55,7 +55,8 @@ fn push_between(
     requires some { 1 ≤ parts }
     requires within { part ≤ parts }
     requires channels { length from.now ≡ length to.now }
-    ensures ok { OnOk result (out.new.items ≡ out.old.items ++ frame_between part parts from.now to.now) }
+    ensures ok { OnOk result (out.new.items ≡ out.old.items
+        ++ frame_between part parts from.now to.now) }
     ensures grows { Extends out.old.items out.new.items }
 {
     for (channel, start) in from.iter().enumerate() {

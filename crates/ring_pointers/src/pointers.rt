@@ -73,7 +73,8 @@ impl Pointers {
     /// The frames that can be written: a whole buffer ahead of the hardware pointer, less what is
     /// written already (`snd_pcm_avail` of alsa/pcm.h, for playback).
     pub fn avail_playback(&self) -> u64
-        ensures wrapped { result ≡ distance self.now.boundary self.now.appl (self.now.hw + self.now.size) }
+        ensures wrapped { result ≡ distance self.now.boundary self.now.appl
+            (self.now.hw + self.now.size) }
         ensures counts { (hw appl : ℕ) → StandFor self.now hw appl → AreNear hw appl →
             appl ≤ hw + self.now.size → result ≡ hw + self.now.size - appl }
     {
@@ -94,8 +95,10 @@ impl Pointers {
     /// (`snd_pcm_forward` of alsa/pcm.h).
     pub fn forward_appl(&mut self, frames: u64)
         requires { frames < 2 ^ 48 }
-        ensures moved { self.new ≡ record self.old { appl = (self.old.appl + frames) % self.old.boundary } }
-        ensures counts { (hw appl : ℕ) → StandFor self.old hw appl → StandFor self.new hw (appl + frames) }
+        ensures moved { self.new
+            ≡ record self.old { appl = (self.old.appl + frames) % self.old.boundary } }
+        ensures counts { (hw appl : ℕ) → StandFor self.old hw appl
+            → StandFor self.new hw (appl + frames) }
     {
         self.appl = moved_on(self.appl, frames, self.boundary);
     }
@@ -103,8 +106,10 @@ impl Pointers {
     /// Moves the hardware pointer on by `frames`, less than 2 to the power 48, and wraps it.
     pub fn forward_hw(&mut self, frames: u64)
         requires { frames < 2 ^ 48 }
-        ensures moved { self.new ≡ record self.old { hw = (self.old.hw + frames) % self.old.boundary } }
-        ensures counts { (hw appl : ℕ) → StandFor self.old hw appl → StandFor self.new (hw + frames) appl }
+        ensures moved { self.new
+            ≡ record self.old { hw = (self.old.hw + frames) % self.old.boundary } }
+        ensures counts { (hw appl : ℕ) → StandFor self.old hw appl
+            → StandFor self.new (hw + frames) appl }
     {
         self.hw = moved_on(self.hw, frames, self.boundary);
     }

@@ -54,7 +54,8 @@ impl SnoopCore {
         requires { length frame.now ≡ (geometry_of self.old).channels }
         ensures ok { OnOk result (IsStored self.old self.new frame.now) }
         ensures err { OnErr result (self.new ≡ self.old) }
-        ensures lap_end { IsErrOf result PcmError.LapEnd ↔ (lap (geometry_of self.old) (next_frame self.old) ≡ 4294967295) }
+        ensures lap_end { IsErrOf result PcmError.LapEnd
+            ↔ (lap (geometry_of self.old) (next_frame self.old) ≡ 4294967295) }
         ensures only { IfErr result (λ e. e ≡ PcmError.LapEnd) }
     {
         if self.ring.geometry().lap(self.ring.next().frame) == 4294967295 {

@@ -86,7 +86,8 @@ pub trait SnoopPort {
     /// Loads the card's position, after one ask of the gate, of kind `Position`. It is not below the one seen before.
     /// `Stopped` comes exactly where the gate stopped; nothing was loaded then.
     fn position<G: Gate>(&mut self, gate: &mut G) -> Result<Position, PcmError>
-        ensures step { LoadsPosition view loaded got G.stops G.asked self.old gate.old (load_of result) self.new gate.new }
+        ensures step { LoadsPosition view loaded got G.stops G.asked self.old gate.old
+            (load_of result) self.new gate.new }
         ensures only_stopped { IfErr result (λ e. e ≡ PcmError.Stopped) };
 
     /// Loads the captured frame of an absolute number into `out`, one sample for each channel of the card, in order.

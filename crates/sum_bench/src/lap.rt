@@ -73,7 +73,8 @@ fn lay_word(seat: &mut MixSeat<'_>, frame: u64, channel: u8) -> u64
     requires ahead { frame < seen_of seat.old + (geometry_of seat.old).frames }
     ensures goes { IsLaterSeat seat.old seat.new }
     ensures seen { seen_of seat.new ≡ seen_of seat.old }
-    ensures next_channels { (c : ℕ) → channel < c → c < (geometry_of seat.old).channels → IsFrom (cursor_of_seat seat.new) frame c }
+    ensures next_channels { (c : ℕ) → channel < c → c < (geometry_of seat.old).channels
+        → IsFrom (cursor_of_seat seat.new) frame c }
     ensures next_frame { IsFrom (cursor_of_seat seat.new) (frame + 1) 0 }
     ensures one { result ≤ 1 }
 {

@@ -37,7 +37,8 @@ fn new_ring(alloc: Global, channels: u8, places: u32) -> Result<SumRing, Fail>
 #[tactic(auto, using(sum_table::proofs::Going::stays))]
 fn try_place(seat: &mut MixSeat<'_>, frame: u64, channel: u8, sample: i16) -> Result<Placed, Fail>
     ensures goes { IsLaterSeat seat.old seat.new }
-    ensures laid { IfOk result (λ placed. OnWhole (ended_of (Ok placed)) (SeatLaid seat.old seat.new (an_add (member_of seat.old) frame channel sample ∷ []))) }
+    ensures laid { IfOk result (λ placed. OnWhole (ended_of (Ok placed))
+        (SeatLaid seat.old seat.new (an_add (member_of seat.old) frame channel sample ∷ []))) }
 {
     let geometry = seat.geometry();
     if !seat.can_add() || channel >= geometry.channels || geometry.lap(frame) >= 4294967295 {
@@ -70,7 +71,8 @@ fn try_exchange<L: Ledger>(
     steps: &mut Steps<L>,
 ) -> Result<Result<(), u64>, Fail>
     requires noted { noted_word seat.old frame 0 ≡ Some old }
-    ensures noted { IfOk result (λ answer. IfErr answer (λ found. noted_word seat.new frame 0 ≡ Some found)) }
+    ensures noted { IfOk result (λ answer. IfErr answer (λ found. noted_word seat.new frame 0
+        ≡ Some found)) }
 {
     let geometry = seat.geometry();
     let its_lap = geometry.lap(frame);

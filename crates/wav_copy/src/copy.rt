@@ -13,7 +13,8 @@ use wav_io::{Wav, read_wav, write_wav};
 /// Reads a WAV file of at most 67,108,864 bytes. `None` where it isn't there or isn't a WAV file of 16-bit PCM, and where
 /// memory runs out.
 pub(crate) fn read<S: Shelf>(shelf: &mut S, alloc: Global, from: &[u8]) -> Option<Wav>
-    ensures held { IfSome result (λ wav. ForSome (S.files shelf.old) (λ files. Holds files from.now wav)) }
+    ensures held { IfSome result (λ wav. ForSome (S.files shelf.old)
+        (λ files. Holds files from.now wav)) }
     ensures files { S.files shelf.new ≡ S.files shelf.old }
 {
     match shelf.fetch(alloc, from, 0, 67_108_865) {
@@ -25,7 +26,8 @@ pub(crate) fn read<S: Shelf>(shelf: &mut S, alloc: Global, from: &[u8]) -> Optio
 /// Stores a sound in its canonical form, and answers whether that was done: not where its rate is 2^28 Hz or more, where
 /// its samples take 4 GiB, where it can't be stored, and where memory runs out.
 fn store<S: Shelf>(shelf: &mut S, alloc: Global, to: &[u8], wav: &Wav) -> bool
-    ensures { OnTrue result (S.files shelf.new ≡ option_map (λ files. with_file files to.now (canonical wav.now)) (S.files shelf.old)) }
+    ensures { OnTrue result (S.files shelf.new
+        ≡ option_map (λ files. with_file files to.now (canonical wav.now)) (S.files shelf.old)) }
 {
     if wav.rate >= 268_435_456 || wav.samples.len() >= 2_147_483_600 {
         return false;

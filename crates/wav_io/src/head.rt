@@ -57,7 +57,8 @@ pub fn open_header(channels: u16, rate: u32) -> [u8; 44]
 
     // What follows it is read as it is so far.
     ensures so_far { (s : Sound) → HasFile s → s.channels ≡ channels → s.rate ≡ rate
-        → length s.samples * 2 + 44 ≤ most_bytes → wav_file (result ++ flat_map sample_bytes s.samples) ≡ Ok s }
+        → length s.samples * 2 + 44 ≤ most_bytes
+        → wav_file (result ++ flat_map sample_bytes s.samples) ≡ Ok s }
 {
     head_bytes(u32::MAX, channels, rate, u32::MAX)
 }

@@ -81,7 +81,9 @@ fn read_format(depths: Depths, body: &[u8]) -> Result<Format, WavError>
 /// The place after the body of a format chunk, of which these are the first 40 bytes or all.
 pub fn after_format(depths: Depths, pad: usize, body: &[u8]) -> Place
     requires { 16 ≤ length body.now }
-    ensures { LeadsTo depths result (λ more. finding_after (verdict_of_format (format_of depths body.now)) (λ f. scan_of depths f (chunks (drop pad more)))) }
+    ensures { LeadsTo depths result (λ more.
+        finding_after (verdict_of_format (format_of depths body.now))
+        (λ f. scan_of depths f (chunks (drop pad more)))) }
 {
     match read_format(depths, body) {
         Ok(format) => Place::Head {
@@ -95,7 +97,8 @@ pub fn after_format(depths: Depths, pad: usize, body: &[u8]) -> Place
 /// The place after the head of a format chunk with a body of this size, behind a format or not.
 fn after_format_head(format: Option<Format>, size: usize) -> Place
     ensures { (depths : Depths) (name : List ℕ) → LeadsTo depths result
-        (λ more. finding_after (format_chunk depths format (chunk_of_size name size more)) (λ f. scan_of depths f (chunks (bytes_after size more)))) }
+        (λ more. finding_after (format_chunk depths format (chunk_of_size name size more))
+        (λ f. scan_of depths f (chunks (bytes_after size more)))) }
 {
     if format.is_some() {
         return Place::Refused(WavError::FormatTwice);
@@ -113,7 +116,8 @@ fn after_format_head(format: Option<Format>, size: usize) -> Place
 pub fn after_head(format: Option<Format>, head: &[u8]) -> Place
     requires in_order { IfSome format IsFormat }
     requires eight { length head.now ≡ 8 }
-    ensures { (depths : Depths) → LeadsTo depths result (λ more. scan_of depths format (chunks (head.now ++ more))) }
+    ensures { (depths : Depths)
+        → LeadsTo depths result (λ more. scan_of depths format (chunks (head.now ++ more))) }
 {
     let size = u32_at(head, 4) as usize;
     let name = &head[..4];
@@ -150,7 +154,8 @@ pub fn is_at(bytes: &[u8], place: usize, name: &[u8]) -> bool
 /// The place after the first 12 bytes of a file.
 pub fn after_opening(bytes: &[u8]) -> Place
     requires { length bytes.now ≡ 12 }
-    ensures { (depths : Depths) → LeadsTo depths result (λ more. found_in depths (bytes.now ++ more)) }
+    ensures { (depths : Depths)
+        → LeadsTo depths result (λ more. found_in depths (bytes.now ++ more)) }
 {
     if !is_at(bytes, 0, b"RIFF") {
         return Place::Refused(WavError::NotRiff);

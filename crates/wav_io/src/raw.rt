@@ -66,7 +66,8 @@ fn frame_size(format: Format) -> usize
 
 /// Appends the bytes of whole frames; none of them where memory is short.
 fn push_whole(body: &mut Vec<u8>, whole: &Whole<'_>) -> Result<(), AllocError>
-    ensures ok { OnOk result (body.new.items ≡ body.old.items ++ (whole.now.first ++ whole.now.others.now)) }
+    ensures ok { OnOk result (body.new.items ≡ body.old.items
+        ++ (whole.now.first ++ whole.now.others.now)) }
     ensures err { OnErr result (body.new.items ≡ body.old.items) }
 {
     let before = body.len();
@@ -121,10 +122,12 @@ impl RawReader {
             ≡ with_bytes body.new.items (raw_to_come self.new more) }
         ensures ok { OnOk result ((front : List ℕ) × (body.new.items ≡ body.old.items ++ front)) }
         ensures err { OnErr result (body.new.items ≡ body.old.items) }
-        ensures begins { OnOk result (has_begun self.new ≡ false → body.new.items ≡ body.old.items) }
+        ensures begins { OnOk result (has_begun self.new ≡ false
+            → body.new.items ≡ body.old.items) }
 
         // Memory is wanted for the bytes alone, and an error comes again.
-        ensures memory { result ≡ Err Memory → error_of self.old ≡ None → IsOk (raw_to_come self.old piece.now) }
+        ensures memory { result ≡ Err Memory → error_of self.old ≡ None
+            → IsOk (raw_to_come self.old piece.now) }
         ensures again { IfSome (error_of self.old) (λ e. result ≡ Err e) }
         ensures stays { IfErr result (λ e. error_of self.new ≡ Some e) }
         ensures after { IfErr result (λ e. (more : List ℕ) → raw_to_come self.new more ≡ Err e) }
@@ -156,8 +159,10 @@ impl RawReader {
     pub fn head(&self) -> Option<RawHead>
         ensures begun { IsSome result ↔ IsTrue (has_begun self.now) }
         ensures to_come { IfSome result (λ head. error_of self.now ≡ None →
-            (more : List ℕ) → IsOfHead head.channels head.rate head.bits (raw_to_come self.now more)) }
-        ensures ends { IfSome result (λ _. error_of self.now ≡ None → IsOk (raw_to_come self.now [])) }
+            (more : List ℕ) → IsOfHead head.channels head.rate head.bits
+            (raw_to_come self.now more)) }
+        ensures ends { IfSome result (λ _. error_of self.now ≡ None
+            → IsOk (raw_to_come self.now [])) }
     {
         match self.scan.place {
             Place::DataBody { format, .. } => Some(RawHead {
@@ -172,14 +177,17 @@ impl RawReader {
     /// The channels, the rate and the bits of the file that ends here, or why it is refused: the error that was answered,
     /// or what a file that is cut short gives. Takes no memory.
     pub fn finish(self) -> Result<RawHead, WavError>
-        ensures ok { IfOk result (λ head. raw_to_come self [] ≡ Ok (record { channels = head.channels; rate = head.rate; bits = head.bits; body = [] })) }
+        ensures ok { IfOk result (λ head. raw_to_come self [] ≡ Ok
+            (record { channels = head.channels; rate = head.rate; bits = head.bits; body = [] })) }
         ensures err { IfErr result (λ e. raw_to_come self [] ≡ Err e) }
         ensures again { IfSome (error_of self) (λ e. result ≡ Err e) }
         ensures memory { result ≡ Err Memory → error_of self ≡ Some Memory }
 
         // The bytes of a file are whole frames, and no more than a file may have.
-        ensures frames { (bytes : List ℕ) (s : Raw) → raw_file bytes ≡ Ok s → length s.body % (s.channels * (s.bits / 8)) ≡ 0 }
-        ensures few { (bytes : List ℕ) (s : Raw) → raw_file bytes ≡ Ok s → length s.body ≤ most_bytes }
+        ensures frames { (bytes : List ℕ) (s : Raw) → raw_file bytes ≡ Ok s
+            → length s.body % (s.channels * (s.bits / 8)) ≡ 0 }
+        ensures few { (bytes : List ℕ) (s : Raw) → raw_file bytes ≡ Ok s
+            → length s.body ≤ most_bytes }
     {
         if self.is_starved {
             return Err(WavError::Memory);

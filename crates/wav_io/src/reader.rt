@@ -66,7 +66,8 @@ fn push_samples(samples: &mut Vec<i16>, bytes: &[u8]) -> Result<(), AllocError>
 
 /// Appends the samples of whole frames, two bytes each; none of them where memory is short.
 fn push_whole(samples: &mut Vec<i16>, whole: &Whole<'_>) -> Result<(), AllocError>
-    ensures ok { OnOk result (samples.new.items ≡ samples.old.items ++ (samples_of whole.now.first ++ samples_of whole.now.others.now)) }
+    ensures ok { OnOk result (samples.new.items ≡ samples.old.items
+        ++ (samples_of whole.now.first ++ samples_of whole.now.others.now)) }
     ensures err { OnErr result (samples.new.items ≡ samples.old.items) }
 {
     let before = samples.len();
@@ -87,7 +88,8 @@ fn push_part(
 ) -> Result<(), AllocError>
     requires in_order { IsFormat format }
     requires part { length part.old < wav_frame format }
-    ensures ok { OnOk result ((whole : List ℕ) × (samples.new.items ≡ samples.old.items ++ samples_of whole)
+    ensures ok { OnOk result ((whole : List ℕ)
+        × (samples.new.items ≡ samples.old.items ++ samples_of whole)
         × IsCut (wav_frame format) part.old body.now whole part.new) }
     ensures less { length part.new < wav_frame format }
     ensures err { OnErr result (samples.new.items ≡ samples.old.items) }
@@ -118,11 +120,13 @@ impl WavReader {
         ensures same { result ≢ Err Memory → (more : List ℕ) →
             with_samples samples.old.items (sound_to_come self.old (piece.now ++ more))
             ≡ with_samples samples.new.items (sound_to_come self.new more) }
-        ensures ok { OnOk result ((front : List ℤ) × (samples.new.items ≡ samples.old.items ++ front)) }
+        ensures ok { OnOk result ((front : List ℤ)
+            × (samples.new.items ≡ samples.old.items ++ front)) }
         ensures err { OnErr result (samples.new.items ≡ samples.old.items) }
 
         // Memory is wanted for samples alone, and an error comes again.
-        ensures memory { result ≡ Err Memory → error_of self.old ≡ None → IsOk (sound_to_come self.old piece.now) }
+        ensures memory { result ≡ Err Memory → error_of self.old ≡ None
+            → IsOk (sound_to_come self.old piece.now) }
         ensures again { IfSome (error_of self.old) (λ e. result ≡ Err e) }
         ensures stays { IfErr result (λ e. error_of self.new ≡ Some e) }
         ensures after { IfErr result (λ e. (more : List ℕ) → sound_to_come self.new more ≡ Err e) }
@@ -151,13 +155,15 @@ impl WavReader {
     /// The channels and the rate of the file that ends here, or why it is refused: the error that was answered, or what
     /// `read_wav` answers where the file is cut short. Takes no memory.
     pub fn finish(self) -> Result<WavHead, WavError>
-        ensures ok { IfOk result (λ head. sound_to_come self [] ≡ Ok (record { channels = head.channels; rate = head.rate; samples = [] })) }
+        ensures ok { IfOk result (λ head. sound_to_come self []
+            ≡ Ok (record { channels = head.channels; rate = head.rate; samples = [] })) }
         ensures err { IfErr result (λ e. sound_to_come self [] ≡ Err e) }
         ensures again { IfSome (error_of self) (λ e. result ≡ Err e) }
         ensures memory { result ≡ Err Memory → error_of self ≡ Some Memory }
 
         // The samples of a file are whole frames.
-        ensures frames { (bytes : List ℕ) (s : Sound) → wav_file bytes ≡ Ok s → length s.samples % s.channels ≡ 0 }
+        ensures frames { (bytes : List ℕ) (s : Sound) → wav_file bytes ≡ Ok s
+            → length s.samples % s.channels ≡ 0 }
     {
         if self.is_starved {
             return Err(WavError::Memory);

@@ -54,7 +54,8 @@ pub fn read_wav(alloc: Global, bytes: &[u8]) -> Result<Wav, WavError>
     ensures memory { result ≡ Err Memory → IsOk (wav_file bytes.now) }
 
     // A canonical file is read as what it was written from.
-    ensures only { (s : Sound) → HasFile s → bytes.now ≡ canonical s → length bytes.now ≤ most_bytes → Reads result (Ok s) }
+    ensures only { (s : Sound) → HasFile s → bytes.now ≡ canonical s → length bytes.now ≤ most_bytes
+        → Reads result (Ok s) }
 {
     read_whole(alloc, bytes)
 }

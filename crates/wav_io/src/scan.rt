@@ -62,7 +62,8 @@ impl Scan {
     fn step<'a>(&mut self, depths: Depths, bytes: &'a [u8]) -> Option<&'a [u8]>
         requires place { IsPlace self.old.place self.old.kept }
         requires some { 0 < length bytes.now }
-        ensures goes_on { IfSome result (λ behind. GoesOn depths self.old.place self.old.kept bytes.now self.new.place self.new.kept behind.now) }
+        ensures goes_on { IfSome result (λ behind. GoesOn depths self.old.place self.old.kept
+            bytes.now self.new.place self.new.kept behind.now) }
         ensures shorter { IfSome result (λ behind. length behind.now < length bytes.now) }
         ensures counted { self.new.seen ≡ self.old.seen }
         ensures none { IfNone result ((self.new ≡ self.old) × IsWalked self.old.place bytes.now) }
@@ -82,7 +83,8 @@ impl Scan {
     /// Goes on up to the data, to a refusal or to the end of the bytes, and gives the bytes behind.
     fn walk<'a>(&mut self, depths: Depths, bytes: &'a [u8]) -> &'a [u8]
         requires place { IsPlace self.old.place self.old.kept }
-        ensures goes_on { GoesOn depths self.old.place self.old.kept bytes.now self.new.place self.new.kept result.now }
+        ensures goes_on { GoesOn depths self.old.place self.old.kept bytes.now self.new.place
+            self.new.kept result.now }
         ensures walked { IsWalked self.new.place result.now }
         ensures counted { self.new.seen ≡ self.old.seen }
     {
@@ -98,7 +100,8 @@ impl Scan {
 
     /// Goes on in the data.
     fn data<'a>(&mut self, format: Format, missing: usize, bytes: &'a [u8]) -> Part<'a>
-        ensures place { self.new ≡ record self.old { place = DataBody format (missing - length bytes.now) } }
+        ensures place { self.new
+            ≡ record self.old { place = DataBody format (missing - length bytes.now) } }
         ensures part { result.format ≡ format }
         ensures body { result.body.now ≡ take missing bytes.now }
     {
@@ -134,9 +137,11 @@ impl Scan {
     ) -> Result<Option<Part<'a>>, WavError>
         requires { IsScan self.old }
         ensures scan { IsScan self.new }
-        ensures ok { IfOk result (λ part. (more : List ℕ) → to_come depths self.old (piece.now ++ more)
+        ensures ok { IfOk result (λ part. (more : List ℕ)
+            → to_come depths self.old (piece.now ++ more)
             ≡ with_front (part_of part) (to_come depths self.new more)) }
-        ensures err { IfErr result (λ e. (more : List ℕ) → to_come depths self.old (piece.now ++ more) ≡ Err e) }
+        ensures err { IfErr result (λ e. (more : List ℕ)
+            → to_come depths self.old (piece.now ++ more) ≡ Err e) }
         ensures refused { IfErr result (λ e. (self.new.place ≡ Refused e) × (e ≢ Memory)) }
         ensures behind { IfOk result (λ part. IsBehind part self.new.place) }
         ensures no_refusal { OnOk result (refusal_of self.new.place ≡ None) }
@@ -161,7 +166,8 @@ impl Scan {
     /// The format of the file that ends here, or why it is refused.
     pub fn finish(&self, depths: Depths) -> Result<Format, WavError>
         requires { IsScan self.now }
-        ensures ok { IfOk result (λ format. to_come depths self.now [] ≡ Ok (record { format = format; body = [] })) }
+        ensures ok { IfOk result (λ format. to_come depths self.now []
+            ≡ Ok (record { format = format; body = [] })) }
         ensures err { IfErr result (λ e. to_come depths self.now [] ≡ Err e) }
         ensures in_order { IfOk result IsFormat }
         ensures refused { IfErr result (λ e. e ≢ Memory) }

@@ -14,7 +14,8 @@ use crate::place::Place;
 pub fn opening<'a>(kept: &mut Kept, bytes: &'a [u8]) -> (Place, &'a [u8])
     requires place { IsPlace Opening kept.old }
     requires some { 0 < length bytes.now }
-    ensures goes_on { (depths : Depths) → GoesOn depths Opening kept.old bytes.now result.0 kept.new result.1.now }
+    ensures goes_on { (depths : Depths)
+        → GoesOn depths Opening kept.old bytes.now result.0 kept.new result.1.now }
     ensures shorter { length result.1.now < length bytes.now }
 {
     let behind = kept.fill(12, bytes);
@@ -52,7 +53,8 @@ pub fn head<'a>(
 ) -> (Place, &'a [u8])
     requires place { IsPlace (Head format skip) kept.old }
     requires some { 0 < length bytes.now }
-    ensures goes_on { (depths : Depths) → GoesOn depths (Head format skip) kept.old bytes.now result.0 kept.new result.1.now }
+    ensures goes_on { (depths : Depths)
+        → GoesOn depths (Head format skip) kept.old bytes.now result.0 kept.new result.1.now }
     ensures shorter { length result.1.now < length bytes.now }
 {
     if skip > 0 {
@@ -77,7 +79,8 @@ pub fn format_body<'a>(
 ) -> (Place, &'a [u8])
     requires place { IsPlace (FormatBody missing pad) kept.old }
     requires some { 0 < length bytes.now }
-    ensures goes_on { GoesOn depths (FormatBody missing pad) kept.old bytes.now result.0 kept.new result.1.now }
+    ensures goes_on { GoesOn depths (FormatBody missing pad) kept.old bytes.now result.0 kept.new
+        result.1.now }
     ensures shorter { length result.1.now < length bytes.now }
 {
     let (body, behind) = bytes.split_at(missing.min(bytes.len()));

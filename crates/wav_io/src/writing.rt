@@ -29,7 +29,8 @@ fn encode(bytes: &mut [u8], samples: &[i16])
 /// Appends the samples as a WAV file has them, two bytes each, the low one first. The only error is want of memory; then
 /// nothing is appended.
 pub fn append_samples(bytes: &mut Vec<u8>, samples: &[i16]) -> Result<(), AllocError>
-    ensures ok { OnOk result (bytes.new.items ≡ bytes.old.items ++ flat_map sample_bytes samples.now) }
+    ensures ok { OnOk result (bytes.new.items ≡ bytes.old.items
+        ++ flat_map sample_bytes samples.now) }
     ensures fit { OnOk result (All (FitsSigned w16) samples.now) }
     ensures err { OnErr result (bytes.new.items ≡ bytes.old.items) }
 {
@@ -68,8 +69,10 @@ pub fn write_wav(alloc: Global, wav: &Wav) -> Result<Vec<u8>, WavError>
     ensures err { IfErr result (λ e. e ≡ Memory) }
 
     // No other content has this file, and where the file isn't too long it is read as this content.
-    ensures one { IfOk result (λ bytes. (s : Sound) → HasFile s → bytes.items ≡ canonical s → s ≡ wav.now) }
-    ensures back { IfOk result (λ bytes. length bytes.items ≤ most_bytes → wav_file bytes.items ≡ Ok wav.now) }
+    ensures one { IfOk result (λ bytes. (s : Sound) → HasFile s → bytes.items ≡ canonical s
+        → s ≡ wav.now) }
+    ensures back { IfOk result (λ bytes. length bytes.items ≤ most_bytes
+        → wav_file bytes.items ≡ Ok wav.now) }
 {
     write_file(alloc, wav)
 }

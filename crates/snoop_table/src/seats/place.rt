@@ -36,7 +36,8 @@ impl WritePlace {
         requires channel { self.now.next.channel < geometry.now.channels }
         requires frame { self.now.next.frame + 1 < 2 ^ 63 }
         ensures place { IsPlace geometry.now result }
-        ensures next { result.next ≡ cursor_after geometry.now self.now.next.frame self.now.next.channel }
+        ensures next { result.next ≡ cursor_after geometry.now self.now.next.frame
+            self.now.next.channel }
     {
         let Cursor { frame, channel } = self.next;
         if channel + 1 < geometry.channels {
