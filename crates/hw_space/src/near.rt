@@ -79,8 +79,8 @@ fn at_last(ranges: &ParamBox, quantity: Quantity) -> Option<ParamBox>
 /// What is left of a box at the least end of a quantity, after refinement.
 fn at_first(ranges: &ParamBox, quantity: Quantity) -> Option<ParamBox>
     requires { IsProper ranges.now }
-    ensures left { Leaves (with_refined ranges.now quantity (least_end (part ranges.now quantity)))
-        result }
+    ensures left { Leaves (with_refined ranges.now quantity
+        (least_end (part ranges.now quantity))) result }
     ensures proper { IfSome result IsProper }
 {
     let end = least_end(ranges.part(quantity));

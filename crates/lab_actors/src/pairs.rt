@@ -72,15 +72,15 @@ fn both_parts<R: Threads + Sync, S: Send, G: Send, F: Fn(usize, &mut S, &mut G) 
         requires shared { IsSync R.row × IsSync F.row }
         requires sent { IsSend S.row × IsSend G.row }
         requires ready { IsReadyFrom F.Fn f.now base low.now near.now }
-        ensures { ChangesFrom F.Fn f.entry.now base low.entry.now low.exit.now near.entry.now
-            near.exit.now }
+        ensures { ChangesFrom F.Fn f.entry.now base
+            low.entry.now low.exit.now near.entry.now near.exit.now }
     { pairs_from(rt, f, base, low, near) };
     let mut back = ||
         requires shared { IsSync R.row × IsSync F.row }
         requires sent { IsSend S.row × IsSend G.row }
         requires ready { IsReadyFrom F.Fn f.now up high.now far.now }
-        ensures { ChangesFrom F.Fn f.entry.now up high.entry.now high.exit.now far.entry.now
-            far.exit.now }
+        ensures { ChangesFrom F.Fn f.entry.now up
+            high.entry.now high.exit.now far.entry.now far.exit.now }
     { pairs_from(rt, f, up, high, far) };
     join_mut(rt, &mut front, &mut back);
 }

@@ -38,8 +38,8 @@ impl Core {
     /// Lets one event happen, and answers the reply to it.
     fn reply(&mut self, event: Event, standing: &mut Vec<Entry>) -> Reply
         requires room { vec_len standing.old < vec_capacity standing.old }
-        ensures answer { IsAnswered self.old self.new standing.old.items standing.new.items event
-            result }
+        ensures answer { IsAnswered self.old self.new
+            standing.old.items standing.new.items event result }
         ensures len { vec_len standing.new ≤ vec_len standing.old + 1 }
         ensures capacity { vec_capacity standing.old ≤ vec_capacity standing.new }
     {

@@ -136,8 +136,8 @@ fn product(a: u32, b: u32) -> u64
 fn between(low: Fraction, high: Fraction, integer: bool) -> Interval
     requires low { 1 ≤ low.denominator }
     requires high { 1 ≤ high.denominator }
-    ensures { result ≡ interval_between low.numerator low.denominator low.made_open high.numerator
-        high.denominator high.made_open integer }
+    ensures { result ≡ interval_between low.numerator low.denominator low.made_open
+        high.numerator high.denominator high.made_open integer }
 {
     let (min, openmin) = lower_end(low);
     let (max, openmax) = upper_end(high);

@@ -71,8 +71,8 @@ fn try_exchange<L: Ledger>(
     steps: &mut Steps<L>,
 ) -> Result<Result<(), u64>, Fail>
     requires noted { noted_word seat.old frame 0 ≡ Some old }
-    ensures noted { IfOk result (λ answer. IfErr answer (λ found. noted_word seat.new frame 0
-        ≡ Some found)) }
+    ensures noted { IfOk result (λ answer. IfErr answer (λ found.
+        noted_word seat.new frame 0 ≡ Some found)) }
 {
     let geometry = seat.geometry();
     let its_lap = geometry.lap(frame);
