@@ -26,7 +26,11 @@ impl Model for Bindings {
 
     ghost invariant = { IsHeld };
 
-    ghost inverse = { λ list. record { channels = in_eight_places list; order = in_eight_places (rising list); len = length list } };
+    ghost inverse = { λ list. record {
+      channels = in_eight_places list;
+      order = in_eight_places (rising list);
+      len = length list;
+    } };
 
     ghost inverse_ok = { inverse_is };
 }

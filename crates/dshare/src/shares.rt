@@ -28,7 +28,11 @@ impl Model for Shares {
 
     ghost view = { λ s. record { channels = s.channels; owned = s.owned; last = s.last } };
 
-    ghost invariant = { λ s. IsHeld (record { channels = s.channels; owned = s.owned; last = s.last }) };
+    ghost invariant = { λ s. IsHeld (record {
+      channels = s.channels;
+      owned = s.owned;
+      last = s.last;
+    }) };
 
     ghost inverse = { λ v. record { channels = v.channels; owned = v.owned; last = v.last } };
 }

@@ -23,7 +23,10 @@ impl Model for FrameRuns {
 
     ghost Value = { RunList };
 
-    ghost view = { λ r. record { runs = r.runs.items; room = vec_capacity r.runs - vec_len r.runs } };
+    ghost view = { λ r. record {
+      runs = r.runs.items;
+      room = vec_capacity r.runs - vec_len r.runs;
+    } };
 
     ghost invariant = { λ r. AreApart r.runs.items };
 }

@@ -37,8 +37,10 @@ struct Card<'a> {
     player: PlayerSeat<'a>,
     places: Places<'a>,
     client: Option<MixSeat<'a>>,
-    ghost of_player: { OneRing (player_ring player) (player_key player) (ring_of_places places) (key_of_places places) },
-    ghost of_client: { (s : MixSeat) → client ≡ Some s → OneRing (ring_of s) (key_of s) (ring_of_places places) (key_of_places places) },
+    ghost of_player: { OneRing (player_ring player) (player_key player) (ring_of_places places)
+        (key_of_places places) },
+    ghost of_client: { (s : MixSeat) → client ≡ Some s
+        → OneRing (ring_of s) (key_of s) (ring_of_places places) (key_of_places places) },
     ghost channels: { (shares_of places).channels ≡ 2 },
 }
 

@@ -36,9 +36,19 @@ impl Model for Opening {
 
     ghost Value = { Setup };
 
-    ghost view = { λ o. record { config = o.config; bindings = o.bindings; params = o.params; lead = o.lead } };
+    ghost view = { λ o. record {
+      config = o.config;
+      bindings = o.bindings;
+      params = o.params;
+      lead = o.lead;
+    } };
 
-    ghost inverse = { λ s. record { config = s.config; bindings = s.bindings; params = s.params; lead = s.lead } };
+    ghost inverse = { λ s. record {
+      config = s.config;
+      bindings = s.bindings;
+      params = s.params;
+      lead = s.lead;
+    } };
 }
 
 /// With what a client is opened. There is nothing exactly where its opening is refused with EINVAL: where the card has no

@@ -67,8 +67,10 @@ struct Hall<'a> {
     player: PlayerSeat<'a>,
     lobby: Lobby<'a>,
     out: Vec<MixSeat<'a>>,
-    ghost of_player: { OneRing (player_ring player) (player_key player) (ring_of_lobby lobby) (key_of_lobby lobby) },
-    ghost of_seats: { All (λ s. OneRing (ring_of s) (key_of s) (ring_of_lobby lobby) (key_of_lobby lobby)) out.items },
+    ghost of_player: { OneRing (player_ring player) (player_key player) (ring_of_lobby lobby)
+        (key_of_lobby lobby) },
+    ghost of_seats: { All (λ s. OneRing (ring_of s) (key_of s) (ring_of_lobby lobby)
+        (key_of_lobby lobby)) out.items },
     ghost all_places: { places_of_lobby lobby ≡ (key_of_lobby lobby).places },
 }
 

@@ -186,35 +186,47 @@ pub trait MixPort {
         ensures only_stopped { IfErr result (λ e. e ≡ PcmError.Stopped) };
 
     // What was laid between two states moves the marks, and the words that are shown never fall.
-    ghost laid_marks: { (p q : Self) (es : List Entry) → laid p q es → (view q).marks ≡ marks_from (view p).geometry (view p).marks es };
+    ghost laid_marks: { (p q : Self) (es : List Entry) → laid p q es
+        → (view q).marks ≡ marks_from (view p).geometry (view p).marks es };
 
-    ghost shown_laid: { (p q : Self) (es : List Entry) (f c word : ℕ) → laid p q es → shows p f c ≡ Some word → ShowsFrom shows q f c word };
+    ghost shown_laid: { (p q : Self) (es : List Entry) (f c word : ℕ) → laid p q es
+        → shows p f c ≡ Some word → ShowsFrom shows q f c word };
 
     // The positions that were loaded between two states never fall, and the last of them is the one seen.
-    ghost loaded_rising: { (p q : Self) (ps : List Position) → loaded p q ps → AreRisingFrom (view p).seen ps };
+    ghost loaded_rising: { (p q : Self) (ps : List Position) → loaded p q ps
+        → AreRisingFrom (view p).seen ps };
 
-    ghost loaded_last: { (p q : Self) (ps : List Position) → loaded p q ps → (view q).seen ≡ last_frame (view p).seen ps };
+    ghost loaded_last: { (p q : Self) (ps : List Position) → loaded p q ps
+        → (view q).seen ≡ last_frame (view p).seen ps };
 
     // The standing adds: each part at the end of a list in which they end, after adds, after nothing, after a withdrawal.
     ghost ends_in_part: { (p : Self) (xs ys : List Entry) → ends_in p (xs ++ ys) → ends_in p ys };
 
-    ghost held_laid: { (p q : Self) (xs es : List Entry) → AreAdds es → laid p q es → ends_in p xs → ends_in q (xs ++ es) };
+    ghost held_laid: { (p q : Self) (xs es : List Entry) → AreAdds es → laid p q es → ends_in p xs
+        → ends_in q (xs ++ es) };
 
-    ghost held_nothing: { (p q : Self) (xs : List Entry) → laid p q [] → ends_in p xs → ends_in q xs };
+    ghost held_nothing: { (p q : Self) (xs : List Entry) → laid p q [] → ends_in p xs
+        → ends_in q xs };
 
-    ghost held_back: { (p q : Self) (xs : List Entry) (f c : ℕ) (s : ℤ) → IsFrom (view p).marks.floor f c
-        → laid p q (a_withdrawal (view p).member f c s ∷ []) → ends_in p (xs ++ an_add (view p).member f c s ∷ []) → ends_in q xs };
+    ghost held_back: { (p q : Self) (xs : List Entry) (f c : ℕ) (s : ℤ)
+        → IsFrom (view p).marks.floor f c
+        → laid p q (a_withdrawal (view p).member f c s ∷ [])
+        → ends_in p (xs ++ an_add (view p).member f c s ∷ []) → ends_in q xs };
 
     // Both relations hold of nothing between a state and itself, and are joined; the short forms are for the search.
     ghost laid_composes: { Composes laid };
 
     ghost loaded_composes: { Composes loaded };
 
-    ghost laid_then_nothing: { (p q r : Self) (es : List Entry) → laid p q es → laid q r [] → laid p r es };
+    ghost laid_then_nothing: { (p q r : Self) (es : List Entry) → laid p q es → laid q r []
+        → laid p r es };
 
-    ghost nothing_then_laid: { (p q r : Self) (es : List Entry) → laid p q [] → laid q r es → laid p r es };
+    ghost nothing_then_laid: { (p q r : Self) (es : List Entry) → laid p q [] → laid q r es
+        → laid p r es };
 
-    ghost loaded_then_nothing: { (p q r : Self) (ps : List Position) → loaded p q ps → loaded q r [] → loaded p r ps };
+    ghost loaded_then_nothing: { (p q r : Self) (ps : List Position) → loaded p q ps → loaded q r []
+        → loaded p r ps };
 
-    ghost nothing_then_loaded: { (p q r : Self) (ps : List Position) → loaded p q [] → loaded q r ps → loaded p r ps };
+    ghost nothing_then_loaded: { (p q r : Self) (ps : List Position) → loaded p q [] → loaded q r ps
+        → loaded p r ps };
 }

@@ -46,9 +46,23 @@ impl Model for Core {
 
     ghost use Rattle.mix_core.specs.Sound.{IsSound};
 
-    ghost view = { λ a. record { geometry = a.geometry; words = a.words.items; marks = a.marks.items; next = a.next; position = a.position; gone = a.gone } };
+    ghost view = { λ a. record {
+      geometry = a.geometry;
+      words = a.words.items;
+      marks = a.marks.items;
+      next = a.next;
+      position = a.position;
+      gone = a.gone;
+    } };
 
-    ghost invariant = { λ a. IsSound (record { geometry = a.geometry; words = a.words.items; marks = a.marks.items; next = a.next; position = a.position; gone = a.gone }) };
+    ghost invariant = { λ a. IsSound (record {
+      geometry = a.geometry;
+      words = a.words.items;
+      marks = a.marks.items;
+      next = a.next;
+      position = a.position;
+      gone = a.gone;
+    }) };
 }
 
 impl Core {

@@ -74,13 +74,17 @@ impl MixPort for Turn<'_> {
 
     ghost loaded_composes = { TurnLoaded-composes };
 
-    ghost laid_then_nothing = { λ p q r es. Composes-none_after TurnLaid p q r es TurnLaid-composes };
+    ghost laid_then_nothing = { λ p q r es.
+        Composes-none_after TurnLaid p q r es TurnLaid-composes };
 
-    ghost nothing_then_laid = { λ p q r es. Composes-none_before TurnLaid p q r es TurnLaid-composes };
+    ghost nothing_then_laid = { λ p q r es.
+        Composes-none_before TurnLaid p q r es TurnLaid-composes };
 
-    ghost loaded_then_nothing = { λ p q r ps. Composes-none_after TurnLoaded p q r ps TurnLoaded-composes };
+    ghost loaded_then_nothing = { λ p q r ps.
+        Composes-none_after TurnLoaded p q r ps TurnLoaded-composes };
 
-    ghost nothing_then_loaded = { λ p q r ps. Composes-none_before TurnLoaded p q r ps TurnLoaded-composes };
+    ghost nothing_then_loaded = { λ p q r ps.
+        Composes-none_before TurnLoaded p q r ps TurnLoaded-composes };
 
     fn geometry(&self) -> Geometry {
         self.core.geometry()

@@ -24,9 +24,19 @@ impl Model for Pointers {
 
     ghost view = { λ p. record { size = p.size; boundary = p.boundary; hw = p.hw; appl = p.appl } };
 
-    ghost invariant = { λ p. IsWrapped (record { size = p.size; boundary = p.boundary; hw = p.hw; appl = p.appl }) };
+    ghost invariant = { λ p. IsWrapped (record {
+      size = p.size;
+      boundary = p.boundary;
+      hw = p.hw;
+      appl = p.appl;
+    }) };
 
-    ghost inverse = { λ p. record { size = p.size; boundary = p.boundary; hw = p.hw; appl = p.appl } };
+    ghost inverse = { λ p. record {
+      size = p.size;
+      boundary = p.boundary;
+      hw = p.hw;
+      appl = p.appl;
+    } };
 }
 
 impl Pointers {

@@ -30,7 +30,11 @@ impl Model for SnoopCore {
 
     ghost view = { λ a. record { ring = a.ring; position = a.position; gone = a.gone } };
 
-    ghost invariant = { λ a. IsSound (record { ring = a.ring; position = a.position; gone = a.gone }) };
+    ghost invariant = { λ a. IsSound (record {
+      ring = a.ring;
+      position = a.position;
+      gone = a.gone;
+    }) };
 }
 
 impl SnoopCore {

@@ -114,23 +114,30 @@ pub trait SnoopPort {
         ensures only_stopped { IfErr result (λ e. e ≡ PcmError.Stopped) };
 
     // The positions that were loaded between two states never fall, and the last of them is the one seen.
-    ghost loaded_rising: { (p q : Self) (ps : List Position) → loaded p q ps → AreRisingFrom (view p).seen ps };
+    ghost loaded_rising: { (p q : Self) (ps : List Position) → loaded p q ps
+        → AreRisingFrom (view p).seen ps };
 
-    ghost loaded_last: { (p q : Self) (ps : List Position) → loaded p q ps → (view q).seen ≡ last_frame (view p).seen ps };
+    ghost loaded_last: { (p q : Self) (ps : List Position) → loaded p q ps
+        → (view q).seen ≡ last_frame (view p).seen ps };
 
     // No word that is shown falls, by its lap.
-    ghost shown_got: { (p q : Self) (fs : List Frame) (f c word : ℕ) → got p q fs → shows p f c ≡ Some word → ShowsFrom shows q f c word };
+    ghost shown_got: { (p q : Self) (fs : List Frame) (f c word : ℕ) → got p q fs
+        → shows p f c ≡ Some word → ShowsFrom shows q f c word };
 
     // Both relations hold of nothing between a state and itself, and are joined; the short forms are for the search.
     ghost loaded_composes: { Composes loaded };
 
     ghost got_composes: { Composes got };
 
-    ghost loaded_then_nothing: { (p q r : Self) (ps : List Position) → loaded p q ps → loaded q r [] → loaded p r ps };
+    ghost loaded_then_nothing: { (p q r : Self) (ps : List Position) → loaded p q ps → loaded q r []
+        → loaded p r ps };
 
-    ghost nothing_then_loaded: { (p q r : Self) (ps : List Position) → loaded p q [] → loaded q r ps → loaded p r ps };
+    ghost nothing_then_loaded: { (p q r : Self) (ps : List Position) → loaded p q [] → loaded q r ps
+        → loaded p r ps };
 
-    ghost got_then_nothing: { (p q r : Self) (fs : List Frame) → got p q fs → got q r [] → got p r fs };
+    ghost got_then_nothing: { (p q r : Self) (fs : List Frame) → got p q fs → got q r []
+        → got p r fs };
 
-    ghost nothing_then_got: { (p q r : Self) (fs : List Frame) → got p q [] → got q r fs → got p r fs };
+    ghost nothing_then_got: { (p q r : Self) (fs : List Frame) → got p q [] → got q r fs
+        → got p r fs };
 }

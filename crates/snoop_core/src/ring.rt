@@ -23,7 +23,11 @@ impl Model for SampleRing {
 
     ghost view = { λ a. record { geometry = a.geometry; words = a.words.items; next = a.next } };
 
-    ghost invariant = { λ a. IsSoundRing (record { geometry = a.geometry; words = a.words.items; next = a.next }) };
+    ghost invariant = { λ a. IsSoundRing (record {
+      geometry = a.geometry;
+      words = a.words.items;
+      next = a.next;
+    }) };
 }
 
 impl SampleRing {

@@ -54,9 +54,11 @@ impl SnoopPort for SnoopTurn<'_> {
 
     ghost got_composes = { TurnGot-composes };
 
-    ghost loaded_then_nothing = { λ p q r ps. Composes-none_after TurnLoaded p q r ps TurnLoaded-composes };
+    ghost loaded_then_nothing = { λ p q r ps.
+        Composes-none_after TurnLoaded p q r ps TurnLoaded-composes };
 
-    ghost nothing_then_loaded = { λ p q r ps. Composes-none_before TurnLoaded p q r ps TurnLoaded-composes };
+    ghost nothing_then_loaded = { λ p q r ps.
+        Composes-none_before TurnLoaded p q r ps TurnLoaded-composes };
 
     ghost got_then_nothing = { λ p q r fs. Composes-none_after TurnGot p q r fs TurnGot-composes };
 

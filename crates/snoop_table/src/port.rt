@@ -29,9 +29,11 @@ impl SnoopPort for ReaderSeat<'_> {
 
     ghost got_composes = { SeatGot-composes };
 
-    ghost loaded_then_nothing = { λ p q r ps. Composes-none_after SeatLoaded p q r ps SeatLoaded-composes };
+    ghost loaded_then_nothing = { λ p q r ps.
+        Composes-none_after SeatLoaded p q r ps SeatLoaded-composes };
 
-    ghost nothing_then_loaded = { λ p q r ps. Composes-none_before SeatLoaded p q r ps SeatLoaded-composes };
+    ghost nothing_then_loaded = { λ p q r ps.
+        Composes-none_before SeatLoaded p q r ps SeatLoaded-composes };
 
     ghost got_then_nothing = { λ p q r fs. Composes-none_after SeatGot p q r fs SeatGot-composes };
 

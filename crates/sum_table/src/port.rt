@@ -41,13 +41,17 @@ impl MixPort for MixSeat<'_> {
 
     ghost loaded_composes = { SeatLoaded-composes };
 
-    ghost laid_then_nothing = { λ p q r es. Composes-none_after SeatLaid p q r es SeatLaid-composes };
+    ghost laid_then_nothing = { λ p q r es.
+        Composes-none_after SeatLaid p q r es SeatLaid-composes };
 
-    ghost nothing_then_laid = { λ p q r es. Composes-none_before SeatLaid p q r es SeatLaid-composes };
+    ghost nothing_then_laid = { λ p q r es.
+        Composes-none_before SeatLaid p q r es SeatLaid-composes };
 
-    ghost loaded_then_nothing = { λ p q r ps. Composes-none_after SeatLoaded p q r ps SeatLoaded-composes };
+    ghost loaded_then_nothing = { λ p q r ps.
+        Composes-none_after SeatLoaded p q r ps SeatLoaded-composes };
 
-    ghost nothing_then_loaded = { λ p q r ps. Composes-none_before SeatLoaded p q r ps SeatLoaded-composes };
+    ghost nothing_then_loaded = { λ p q r ps.
+        Composes-none_before SeatLoaded p q r ps SeatLoaded-composes };
 
     fn geometry(&self) -> Geometry {
         self.key.geometry

@@ -51,7 +51,11 @@ impl Model for RawReader {
 
     ghost view = { λ r. record { scan = r.scan; part = r.part; starved = r.is_starved } };
 
-    ghost invariant = { λ r. IsReader raw_frame (record { scan = r.scan; part = r.part; starved = r.is_starved }) };
+    ghost invariant = { λ r. IsReader raw_frame (record {
+      scan = r.scan;
+      part = r.part;
+      starved = r.is_starved;
+    }) };
 }
 
 /// The bytes of a frame.

@@ -49,7 +49,11 @@ impl Model for WavReader {
 
     ghost view = { λ r. record { scan = r.scan; part = r.part; starved = r.is_starved } };
 
-    ghost invariant = { λ r. IsReader wav_frame (record { scan = r.scan; part = r.part; starved = r.is_starved }) };
+    ghost invariant = { λ r. IsReader wav_frame (record {
+      scan = r.scan;
+      part = r.part;
+      starved = r.is_starved;
+    }) };
 }
 
 /// Appends the samples of the bytes, two bytes each.

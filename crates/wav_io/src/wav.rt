@@ -24,5 +24,9 @@ impl Model for Wav {
 
     ghost view = { λ w. record { channels = w.channels; rate = w.rate; samples = w.samples } };
 
-    ghost invariant = { λ w. IsSound (record { channels = w.channels; rate = w.rate; samples = w.samples }) };
+    ghost invariant = { λ w. IsSound (record {
+      channels = w.channels;
+      rate = w.rate;
+      samples = w.samples;
+    }) };
 }
