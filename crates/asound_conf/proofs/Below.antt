@@ -4,7 +4,7 @@ use Rattle.asound_conf.specs.declared.error.ConfWhy.{ConfWhy}
 use Rattle.asound_conf.specs.declared.error.ConfWhy.TheVariants as why
 use Rattle.asound_conf.specs.Key.{Part, part_named}
 use Rattle.asound_conf.specs.Answer.{answer_view}
-use Rattle.asound_conf.specs.Place.{base, clashes, is_last, meets_text, met, node_at, put_or_clash, put}
+use Rattle.asound_conf.specs.Place.{base, clashes, is_last, meets_text, node_met, node_at, put_or_clash, put}
 use Rattle.asound_conf.specs.Tree.{Tree, text, group, Entries, empty, get, group_in, has}
 use Rattle.asound_conf.specs.Tree as tree
 use Rattle.asound_conf.proofs.Places.{get-set, set-set}
@@ -23,41 +23,41 @@ found_in None find = None
 -- the group to which parts of a key lead
 abbrev pub group_at : List Part → Entries → Option Entries
 group_at [] g = Some g
-group_at (part ∷ parts) g = found_in (inner_group (met part g)) (group_at parts)
+group_at (part ∷ parts) g = found_in (inner_group (node_met part g)) (group_at parts)
 
 -- a group with another one in the place to which parts of a key lead
 abbrev pub with_group : List Part → Entries → Entries → Entries
 with_group [] list g = list
-with_group (part ∷ parts) list g = tree.set part.name (group (with_group parts list (group_in (met part g)))) g
+with_group (part ∷ parts) list g = tree.set part.name (group (with_group parts list (group_in (node_met part g)))) g
 
 -- a part of a key that meets a node doesn't remove it
 record Meets (part : Part) (g : Entries) (node : Tree) : Type 0 where
   stays : part.removes ≡ false
   has_it : get part.name g ≡ Some node
 
-meets : (part : Part) (g : Entries) (node : Tree) → met part g ≡ Some node → Meets part g node
+meets : (part : Part) (g : Entries) (node : Tree) → node_met part g ≡ Some node → Meets part g node
 meets part g node is = by_mark part.removes refl is
   where
     by_mark : (removes : Bool) → part.removes ≡ removes → cond removes None (get part.name g) ≡ Some node → Meets part g node
     by_mark true marked is = cc
     by_mark false stays is = record { stays = stays; has_it = is }
 
-met-set : (part : Part) (g : Entries) (old new : Tree) → met part g ≡ Some old → met part (tree.set part.name new g) ≡ Some new
+met-set : (part : Part) (g : Entries) (old new : Tree) → node_met part g ≡ Some old → node_met part (tree.set part.name new g) ≡ Some new
 met-set part g old new is = ap (λ b. cond b None (get part.name (tree.set part.name new g))) (meets part g old is).stays ∙ get-set part.name new g
 
-base-met : (part : Part) (g : Entries) (old : Tree) → met part g ≡ Some old → base part g ≡ g
+base-met : (part : Part) (g : Entries) (old : Tree) → node_met part g ≡ Some old → base part g ≡ g
 base-met part g old is = ap (λ b. cond b (tree.without_name part.name g) g) (meets part g old is).stays
 
 -- the group that the first part of a key meets on its way to another one
 record Under (part : Part) (parts : List Part) (g list : Entries) : Type 0 where
   inner : Entries
-  meets_it : met part g ≡ Some (group inner)
+  meets_it : node_met part g ≡ Some (group inner)
   leads : group_at parts inner ≡ Some list
 
 under : (part : Part) (parts : List Part) (g list : Entries) → group_at (part ∷ parts) g ≡ Some list → Under part parts g list
-under part parts g list is = by_node (met part g) refl is
+under part parts g list is = by_node (node_met part g) refl is
   where
-    by_node : (m : Option Tree) → met part g ≡ m → found_in (inner_group m) (group_at parts) ≡ Some list → Under part parts g list
+    by_node : (m : Option Tree) → node_met part g ≡ m → found_in (inner_group m) (group_at parts) ≡ Some list → Under part parts g list
     by_node (Some (group inner)) meets_it leads = record { inner = inner; meets_it = meets_it; leads = leads }
     by_node (Some (text t)) meets_it leads = cc
     by_node None meets_it leads = cc
@@ -67,7 +67,7 @@ pub group_at-with_group : (parts : List Part) (g list new : Entries) → group_a
 group_at-with_group [] g list new is = refl
 group_at-with_group (part ∷ parts) g list new is =
     let u = under part parts g list is in
-    let inner = with_group parts new (group_in (met part g)) in
+    let inner = with_group parts new (group_in (node_met part g)) in
     ap (λ m. found_in (inner_group m) (group_at parts)) (met-set part g (group u.inner) (group inner) u.meets_it)
     ∙ ap (λ m. group_at parts (with_group parts new (group_in m))) u.meets_it
     ∙ group_at-with_group parts u.inner list new u.leads
@@ -77,8 +77,8 @@ pub with_group-with_group : (parts : List Part) (g list x y : Entries) → group
 with_group-with_group [] g list x y is = refl
 with_group-with_group (part ∷ parts) g list x y is =
     let u = under part parts g list is in
-    let inner = with_group parts y (group_in (met part g)) in
-    let inside : with_group parts x inner ≡ with_group parts x (group_in (met part g)) =
+    let inner = with_group parts y (group_in (node_met part g)) in
+    let inside : with_group parts x inner ≡ with_group parts x (group_in (node_met part g)) =
     ap (λ m. with_group parts x (with_group parts y (group_in m))) u.meets_it
     ∙ with_group-with_group parts u.inner list x y u.leads
     ∙ sym (ap (λ m. with_group parts x (group_in m)) u.meets_it) in
@@ -100,7 +100,7 @@ is_last-append : (path parts : List Part) → is_last parts ≡ false → is_las
 is_last-append [] parts some = some
 is_last-append (part ∷ path) parts some = refl
 
-put-further : (value : Option (List ℕ)) (part : Part) (parts : List Part) (g : Entries) → is_last parts ≡ false → put value (part ∷ parts) g ≡ tree.set part.name (group (put value parts (group_in (met part g)))) (base part g)
+put-further : (value : Option (List ℕ)) (part : Part) (parts : List Part) (g : Entries) → is_last parts ≡ false → put value (part ∷ parts) g ≡ tree.set part.name (group (put value parts (group_in (node_met part g)))) (base part g)
 unfolding put
 put-further value part [] g more = cc
 put-further value part (next ∷ parts) g more = refl
@@ -111,14 +111,14 @@ put-below value [] parts g list is some = let same : g ≡ list = cc in ap (put 
 put-below value (first ∷ path) parts g list is some =
     let u = under first path g list is in
     let more = path ++ parts in
-    let inside : put value more (group_in (met first g)) ≡ with_group path (put value parts list) (group_in (met first g)) =
+    let inside : put value more (group_in (node_met first g)) ≡ with_group path (put value parts list) (group_in (node_met first g)) =
     ap (λ m. put value more (group_in m)) u.meets_it
     ∙ put-below value path parts u.inner list u.leads some
     ∙ sym (ap (λ m. with_group path (put value parts list) (group_in m)) u.meets_it) in
     put-further value first more g (is_last-append path parts some)
     ∙ ap₂ (λ h b. tree.set first.name (group h) b) inside (base-met first g (group u.inner) u.meets_it)
 
-node_at-further : (part : Part) (parts : List Part) (g : Entries) → is_last parts ≡ false → node_at (part ∷ parts) g ≡ node_at parts (group_in (met part g))
+node_at-further : (part : Part) (parts : List Part) (g : Entries) → is_last parts ≡ false → node_at (part ∷ parts) g ≡ node_at parts (group_in (node_met part g))
 unfolding node_at
 node_at-further part [] g more = cc
 node_at-further part (next ∷ parts) g more = refl
@@ -163,7 +163,7 @@ placed-below value path parts g list is some =
     ∙ sym (seen-cond (λ h. with_group path h g) (clashes value (node_at parts list)) why.Kind (put value parts list))
 
 -- an item is put into the group that a part of its key, which isn't the last, meets once it has cleared its place
-placed-next : (value : Option (List ℕ)) (part : Part) (parts : List Part) (g cleared inner : Entries) → is_last parts ≡ false → group_in (met part g) ≡ inner
+placed-next : (value : Option (List ℕ)) (part : Part) (parts : List Part) (g cleared inner : Entries) → is_last parts ≡ false → group_in (node_met part g) ≡ inner
     → ((h : Entries) → tree.set part.name (group h) cleared ≡ tree.set part.name (group h) (base part g))
     → put_or_clash value (part ∷ parts) g ≡ answer_view (λ h. tree.set part.name (group h) cleared) (put_or_clash value parts inner)
 placed-next value part parts g cleared inner some meets_it same =
@@ -173,7 +173,7 @@ placed-next value part parts g cleared inner some meets_it same =
 
 -- the same below the place of a group, of which the part that was met is then the last part of the way
 pub placed-down : (value : Option (List ℕ)) (path : List Part) (part : Part) (parts : List Part) (root g cleared inner : Entries) → group_at path root ≡ Some g → is_last parts ≡ false
-    → group_in (met part g) ≡ inner → ((h : Entries) → tree.set part.name (group h) cleared ≡ tree.set part.name (group h) (base part g)) → get part.name cleared ≡ Some (group inner)
+    → group_in (node_met part g) ≡ inner → ((h : Entries) → tree.set part.name (group h) cleared ≡ tree.set part.name (group h) (base part g)) → get part.name cleared ≡ Some (group inner)
     → put_or_clash value (path ++ part ∷ parts) root ≡ put_or_clash value ((path ++ part_named part.name ∷ []) ++ parts) (with_group path cleared root)
 placed-down value path part parts root g cleared inner at some meets_it same there =
     let more = with_group path cleared root in

@@ -8,7 +8,7 @@ use Rattle.asound_conf.specs.declared.part.Part as code
 use Rattle.asound_conf.specs.Answer.{Leads, Refuses}
 use Rattle.asound_conf.specs.Key.{Part, part_named, without_marks}
 use Rattle.asound_conf.specs.Parts.{part_in, parts_in, text_in}
-use Rattle.asound_conf.specs.Place.{base, is_last, meets_text, met, put_or_clash}
+use Rattle.asound_conf.specs.Place.{base, is_last, meets_text, node_met, put_or_clash}
 use Rattle.asound_conf.specs.Rows.{Contents, Row, Alters, IsAbsent, IsNode, group_of, node, row_at}
 use Rattle.asound_conf.specs.Table.{name_in}
 use Rattle.asound_conf.specs.Tree.{Tree, group, Entries, get, group_in, is_text}
@@ -148,25 +148,25 @@ meets-last text (p ∷ next ∷ parts) g some none =
     let rest : length (next ∷ parts) ≡ 0 = sym (ap length (rest-cons p (next ∷ parts))) ∙ none in
     absurd (omega arith)
 
-pub meets-node : (d : code.Part) (text : List ℕ) (parts : List code.Part) (g : Entries) (m : Option Tree) → 1 ≤ length parts → 1 ≤ length (take (length parts - 1) (drop 1 parts)) → met (part_in text (get_or parts 0 d)) g ≡ m
+pub meets-node : (d : code.Part) (text : List ℕ) (parts : List code.Part) (g : Entries) (m : Option Tree) → 1 ≤ length parts → 1 ≤ length (take (length parts - 1) (drop 1 parts)) → node_met (part_in text (get_or parts 0 d)) g ≡ m
     → meets_text (parts_in text parts) g ≡ (is_text m || meets_text (parts_in text (take (length parts - 1) (drop 1 parts))) (group_in m))
 meets-node d text [] g m some more is = absurd (omega arith)
 meets-node d text (p ∷ parts) g m some more is =
     meets_text-further (part_in text p) (parts_in text parts) g m (is_last-some text parts (subst (λ (ps : List code.Part). 1 ≤ length ps) (rest-cons p parts) more)) is
     ∙ ap (λ (ps : List code.Part). is_text m || meets_text (parts_in text ps) (group_in m)) (sym (rest-cons p parts))
 
-pub meets-None : (d : code.Part) (text : List ℕ) (parts : List code.Part) (g : Entries) → 1 ≤ length parts → 1 ≤ length (take (length parts - 1) (drop 1 parts)) → met (part_in text (get_or parts 0 d)) g ≡ None → meets_text (parts_in text parts) g ≡ false
+pub meets-None : (d : code.Part) (text : List ℕ) (parts : List code.Part) (g : Entries) → 1 ≤ length parts → 1 ≤ length (take (length parts - 1) (drop 1 parts)) → node_met (part_in text (get_or parts 0 d)) g ≡ None → meets_text (parts_in text parts) g ≡ false
 meets-None d text parts g some more is = meets-node d text parts g None some more is ∙ meets_text-empty (parts_in text (take (length parts - 1) (drop 1 parts)))
 
 -- a part that removes what it meets
-pub met-removes : (part : Part) (g : Entries) → part.removes ≡ true → met part g ≡ None
+pub met-removes : (part : Part) (g : Entries) → part.removes ≡ true → node_met part g ≡ None
 met-removes part g is = ap (λ b. cond b None (get part.name g)) is
 
 -- what a part meets that doesn't remove it
-pub met-node : (part : Part) (rows : List Row) (q n : ℕ) → part.removes ≡ false → IsNode rows q part.name n → met part (group_of q rows) ≡ Some (node (row_at rows n).value (group_of n rows))
+pub met-node : (part : Part) (rows : List Row) (q n : ℕ) → part.removes ≡ false → IsNode rows q part.name n → node_met part (group_of q rows) ≡ Some (node (row_at rows n).value (group_of n rows))
 met-node part rows q n stays is = ap (λ b. cond b None (get part.name (group_of q rows))) stays ∙ get-IsNode rows q part.name n is
 
-pub met-absent : (part : Part) (rows : List Row) (q : ℕ) → part.removes ≡ false → IsAbsent rows q part.name → met part (group_of q rows) ≡ None
+pub met-absent : (part : Part) (rows : List Row) (q : ℕ) → part.removes ≡ false → IsAbsent rows q part.name → node_met part (group_of q rows) ≡ None
 met-absent part rows q stays none = ap (λ b. cond b None (get part.name (group_of q rows))) stays ∙ get-IsAbsent rows q part.name none
 
 pub is_text-group : (value : Option (List ℕ)) (g : Entries) → is_none value ≡ true → Some (node value g) ≡ Some (group g)

@@ -5,7 +5,7 @@ use Rattle.asound_conf.specs.declared.error.ConfWhy.{ConfWhy}
 use Rattle.asound_conf.specs.declared.error.ConfWhy.TheVariants as why
 use Rattle.asound_conf.specs.Answer.{Leads, Refuses, answer_view}
 use Rattle.asound_conf.specs.Key.{Part, part_named, without_marks}
-use Rattle.asound_conf.specs.Place.{base, clashes, is_last, meets_text, met, put_or_clash, put, put_there, node_at}
+use Rattle.asound_conf.specs.Place.{base, clashes, is_last, meets_text, node_met, put_or_clash, put, put_there, node_at}
 use Rattle.asound_conf.specs.Rows.{Contents, Row, Alters, IsAbsent, IsNode, group_of, no_row, node, row_at, with_row}
 use Rattle.asound_conf.specs.Tree.{Tree, text, group, Entries, empty, get, group_in, is_text, without_name}
 use Rattle.asound_conf.specs.Tree as tree
@@ -17,7 +17,7 @@ use Rattle.asound_conf.proofs.Rows.{Alters-push}
 use Rattle.asound_conf.proofs.Ways.{IsWay-kept, IsWay-more, group_at-IsWay, met-IsStep, with_group-IsWay}
 
 -- a part of a key meets what its group has once the part has cleared it
-pub get-base : (part : Part) (g : Entries) → get part.name (base part g) ≡ met part g
+pub get-base : (part : Part) (g : Entries) → get part.name (base part g) ≡ node_met part g
 get-base part g = base-get part.name g part.removes
   where
     base-get : (name : List ℕ) (g : Entries) (removes : Bool) → get name (cond removes (without_name name g) g) ≡ cond removes None (get name g)
@@ -29,7 +29,7 @@ placed-one : (value : Option (List ℕ)) (name : List ℕ) (g : Entries) → put
 unfolding node_at put
 placed-one value name g = refl
 
-placed-last : (value : Option (List ℕ)) (part : Part) (g : Entries) → put_or_clash value (part ∷ []) g ≡ cond (clashes value (met part g)) (Err why.Kind) (Ok (tree.set part.name (put_there value (met part g)) (base part g)))
+placed-last : (value : Option (List ℕ)) (part : Part) (g : Entries) → put_or_clash value (part ∷ []) g ≡ cond (clashes value (node_met part g)) (Err why.Kind) (Ok (tree.set part.name (put_there value (node_met part g)) (base part g)))
 unfolding node_at put
 placed-last value part g = refl
 
@@ -167,7 +167,7 @@ put-last-way (Err cause) first new q part W path way alters step = tt
 
 -- what is known once a part of a key, which isn't the last, has led to a group
 pub record IsLed (first mid : List Row) (q : ℕ) (part : Part) (n : ℕ) : Type 0 where
-  pub meets_it : group_in (met part (group_of q first)) ≡ group_of n mid
+  pub meets_it : group_in (node_met part (group_of q first)) ≡ group_of n mid
   pub sets : (h : Entries) → tree.set part.name (group h) (group_of q mid) ≡ tree.set part.name (group h) (base part (group_of q first))
   pub there : get part.name (group_of q mid) ≡ Some (group (group_of n mid))
 
@@ -207,7 +207,7 @@ unfolding meets_text
 put-refused why.Memory part parts g cleared given some clear is refuses = tt
 put-refused cause part [] g cleared given some clear is refuses = cc
 put-refused cause part (next ∷ parts) g cleared given some clear is refuses =
-    let m = met part g in
+    let m = node_met part g in
     let same : get part.name cleared ≡ m = ap (get part.name) is ∙ get-base part g in
     let no_text : is_text m ≡ false = first_of_neither (is_text m) (meets_text (next ∷ parts) (group_in m)) clear in
     let puts : put_or_clash None (part_named part.name ∷ []) cleared ≡ Ok (tree.set part.name (put_there None (get part.name cleared)) cleared) =
@@ -219,16 +219,16 @@ put-refused cause part (next ∷ parts) g cleared given some clear is refuses =
     first_of_neither false c is = refl
 
 -- the texts on the way of the other parts
-pub meets_text-rest : (part : Part) (parts : List Part) (g inner : Entries) → is_last parts ≡ false → meets_text (part ∷ parts) g ≡ false → group_in (met part g) ≡ inner → meets_text parts inner ≡ false
+pub meets_text-rest : (part : Part) (parts : List Part) (g inner : Entries) → is_last parts ≡ false → meets_text (part ∷ parts) g ≡ false → group_in (node_met part g) ≡ inner → meets_text parts inner ≡ false
 unfolding meets_text
 meets_text-rest part [] g inner some clear meets_it = cc
-meets_text-rest part (next ∷ parts) g inner some clear meets_it = ap (meets_text (next ∷ parts)) (sym meets_it) ∙ second_of_neither (is_text (met part g)) (meets_text (next ∷ parts) (group_in (met part g))) clear
+meets_text-rest part (next ∷ parts) g inner some clear meets_it = ap (meets_text (next ∷ parts)) (sym meets_it) ∙ second_of_neither (is_text (node_met part g)) (meets_text (next ∷ parts) (group_in (node_met part g))) clear
   where
     second_of_neither : (b c : Bool) → (b || c) ≡ false → c ≡ false
     second_of_neither true c is = cc
     second_of_neither false c is = is
 
-met-empty : (part : Part) → met part empty ≡ None
+met-empty : (part : Part) → node_met part empty ≡ None
 met-empty part = elim part.removes as (λ b. cond b None (get part.name empty) ≡ None) [ true ↦ refl | false ↦ refl ]
 
 -- nothing is met in an empty group
@@ -239,7 +239,7 @@ meets_text-empty (part ∷ []) = refl
 meets_text-empty (part ∷ next ∷ parts) = rw (met-empty part) (meets_text-empty (next ∷ parts))
 
 -- what a part that isn't the last meets
-pub meets_text-further : (part : Part) (parts : List Part) (g : Entries) (m : Option Tree) → is_last parts ≡ false → met part g ≡ m → meets_text (part ∷ parts) g ≡ (is_text m || meets_text parts (group_in m))
+pub meets_text-further : (part : Part) (parts : List Part) (g : Entries) (m : Option Tree) → is_last parts ≡ false → node_met part g ≡ m → meets_text (part ∷ parts) g ≡ (is_text m || meets_text parts (group_in m))
 unfolding meets_text
 meets_text-further part [] g m some is = cc
 meets_text-further part (next ∷ parts) g m some is = ap (λ n. is_text n || meets_text (next ∷ parts) (group_in n)) is

@@ -2,7 +2,7 @@
 use Rattle.std.proofs.Common.{◌≡◌, ℕ, suc, ◌<◌, ◌≤◌, ◌-◌, true, cond, List, [], ◌∷◌, ◌++◌, length, drop, Some, None, refl, sym, ap, ◌∙◌, subst, arith, ◌⊎◌, inl, inr}
 use Rattle.std.specs.Str.{bytes_eq}
 use Rattle.asound_conf.specs.Key.{Part}
-use Rattle.asound_conf.specs.Place.{met}
+use Rattle.asound_conf.specs.Place.{node_met}
 use Rattle.asound_conf.specs.Rows.{Row, Alters, IsNode, IsOnlyIn, group_of, node, row_at}
 use Rattle.asound_conf.specs.Tree.{Tree, group, Entries, get, group_in}
 use Rattle.asound_conf.specs.Tree as tree
@@ -19,7 +19,7 @@ IsWay-le rows p (part ∷ path) q way =
     omega arith
 
 -- a part of a key meets the group to which it leads
-pub met-IsStep : (rows : List Row) (p : ℕ) (part : Part) (n : ℕ) → IsStep rows p part n → met part (group_of p rows) ≡ Some (group (group_of n rows))
+pub met-IsStep : (rows : List Row) (p : ℕ) (part : Part) (n : ℕ) → IsStep rows p part n → node_met part (group_of p rows) ≡ Some (group (group_of n rows))
 met-IsStep rows p part n step =
     ap (λ b. cond b None (get part.name (group_of p rows))) step.stays
     ∙ get-IsNode rows p part.name n step.is_node

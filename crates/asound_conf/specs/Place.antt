@@ -10,8 +10,8 @@ abbrev pub base : Part → Entries → Entries
 base part g = if part.removes then without_name part.name g else g
 
 -- the node that a part of a key meets
-abbrev pub met : Part → Entries → Option Tree
-met part g = if part.removes then None else get part.name g
+abbrev pub node_met : Part → Entries → Option Tree
+node_met part g = if part.removes then None else get part.name g
 
 -- this is the last part
 abbrev pub is_last : List Part → Bool
@@ -21,12 +21,12 @@ is_last (part ∷ parts) = false
 -- the node at the end of a key's parts
 unfoldable pub node_at : List Part → Entries → Option Tree
 node_at [] g = None
-node_at (part ∷ parts) g = if is_last parts then met part g else node_at parts (group_in (met part g))
+node_at (part ∷ parts) g = if is_last parts then node_met part g else node_at parts (group_in (node_met part g))
 
 -- a part of a key before the last meets a text
 unfoldable pub meets_text : List Part → Entries → Bool
 meets_text [] g = false
-meets_text (part ∷ parts) g = not (is_last parts) && (is_text (met part g) || meets_text parts (group_in (met part g)))
+meets_text (part ∷ parts) g = not (is_last parts) && (is_text (node_met part g) || meets_text parts (group_in (node_met part g)))
 
 -- what an item puts where this node is: its text, or the group that is there, or a new one
 abbrev pub put_there : Option (List ℕ) → Option Tree → Tree
@@ -36,7 +36,7 @@ put_there None old = group (group_in old)
 -- a group in which an item's text, or its group, was put down the parts of its key; missing groups are made at the end
 unfoldable pub put : Option (List ℕ) → List Part → Entries → Entries
 put value [] g = g
-put value (part ∷ parts) g = set part.name (if is_last parts then put_there value (met part g) else group (put value parts (group_in (met part g)))) (base part g)
+put value (part ∷ parts) g = set part.name (if is_last parts then put_there value (node_met part g) else group (put value parts (group_in (node_met part g)))) (base part g)
 
 -- an item's text would be put where a group is, or its group where a text is
 abbrev pub clashes : Option (List ℕ) → Option Tree → Bool

@@ -42,7 +42,7 @@ use Rattle.dmix_client.specs.Expansion.{run_entries, sample_at}
 use Rattle.dmix_client.specs.ExpansionLaws.{frames_used, run_entries-append, run_entries-same}
 use Rattle.dmix_client.specs.Growth.{AnySamples, Keeps, KeepsBack, Loses, StandsFor, TakesAway, segment_entries}
 use Rattle.dmix_client.specs.Port.{CanUse, IsStep, least_channel}
-use Rattle.dmix_client.specs.Rewind.{back_of, checks, held_entries, last_channel, last_laid, rewind_on, rewindable_of, rewinds, rewound, take_frames, taken_back, takes_back, without_frames}
+use Rattle.dmix_client.specs.Rewind.{back_of, checks, held_entries, last_channel, last_laid, rewind_on, rewindable_of, rewinds, after_rewind, take_frames, taken_back, takes_back, without_frames}
 use Rattle.dmix_client.specs.RewindCauses.{ExplainsCheck, ExplainsRewind, IsKeptCause}
 use Rattle.dmix_client.specs.View.{ClientView, IsGoing, IsMoving, IsSound, hw_of, queued_of, ring_sample}
 use Rattle.dmix_client.specs.declared.commit.Commit.{Commit}
@@ -353,7 +353,7 @@ module _ (d : PlaybackStream) (ring : List ℤ) (floor : Cursor) (n : ℕ) (soun
           loaded_nothing = took.loaded_nothing;
         }
 
-    by_end : (s t : S × T) (frames part : ℕ) (e : Ended) → CanUse d (P.view s.0) → Took s t (record { frames = frames; part = part; ended = e }) → TakenBack s t (rewound d n (record { frames = frames; part = part; ended = e }))
+    by_end : (s t : S × T) (frames part : ℕ) (e : Ended) → CanUse d (P.view s.0) → Took s t (record { frames = frames; part = part; ended = e }) → TakenBack s t (after_rewind d n (record { frames = frames; part = part; ended = e }))
     by_end s t frames part Whole port took =
         let x : Commit = record { frames = frames; part = part; ended = Whole } in
         left-back s t x Running d.status.stopped _ port took (λ waits. cc) (λ still. cc) took.stopped (λ moves unstopped. (took.are_left.0, took.are_left.1, cursor-back s t x port took.are_left.0 took.still took.cursor))
@@ -373,7 +373,7 @@ module _ (d : PlaybackStream) (ring : List ℤ) (floor : Cursor) (n : ℕ) (soun
     pub takes_back-kept : (s t : S × T) (a : Answered ℕ) → (P.view s.0).marks.floor ≡ floor → CanUse d (P.view s.0) → TakesAt P G s (takes_back d ring n) t a → TakenBack s t a
     unfolding takes_back
     takes_back-kept s t a is_floor port takes =
-        let parts = Takes-parts (LoadsAt P G) (LaysAt P G) NoGet s t (take_frames d.identity.member d.stretch.card d.setup.bindings (ring_sample d ring) (d.stretch.committed - back_of d n) (back_of d n)) (λ left. ends (rewound d n left)) a takes in
+        let parts = Takes-parts (LoadsAt P G) (LaysAt P G) NoGet s t (take_frames d.identity.member d.stretch.card d.setup.bindings (ring_sample d ring) (d.stretch.committed - back_of d n) (back_of d n)) (λ left. ends (after_rewind d n left)) a takes in
         let x = parts.1 in
         subst (λ (u : S × T). TakenBack s u a) (sym parts.3.there) (subst (λ (b : Answered ℕ). TakenBack s parts.0 b) (sym parts.3.result)
         (by_end s parts.0 x.frames x.part x.ended port (took-of s parts.0 x is_floor port parts.2)))
@@ -382,7 +382,7 @@ module _ (d : PlaybackStream) (ring : List ℤ) (floor : Cursor) (n : ℕ) (soun
     why_end : (t : S × T) (c u : PlaybackStream) (load : Option Position) (frames part : ℕ) (e : Ended) → AreLeft e frames part (back_of d n) (length d.setup.bindings)
         → OnLate e (λ word. IsPast P.view P.shows t.0 (d.stretch.card + (d.stretch.committed - back_of d n + last_frame frames part)) (slice_index d.setup.bindings (slice_index (rising d.setup.bindings) (last_place part (length d.setup.bindings)))) word)
         → IsCaused {X = Unit {0}} P.view P.shows t.0 c u load (Ok tt)
-        → (let a : Answered ℕ = rewound d n (record { frames = frames; part = part; ended = e }) in IsKeptCause {X = ℕ} P.view P.shows t.0 c a.0 load a.1)
+        → (let a : Answered ℕ = after_rewind d n (record { frames = frames; part = part; ended = e }) in IsKeptCause {X = ℕ} P.view P.shows t.0 c a.0 load a.1)
     why_end t c u load frames part Whole are late why_ok = kept-other P.view P.shows t.0 load c u _ (Ok n) why_ok (other-ok n)
     why_end t c u load frames part Stopped are late why_ok = kept-other P.view P.shows t.0 load c u _ (Err error.Stopped) why_ok other-stopped
     why_end t c u load frames part (Late word) are late why_ok =
@@ -395,18 +395,18 @@ module _ (d : PlaybackStream) (ring : List ℤ) (floor : Cursor) (n : ℕ) (soun
         → IsCaused {X = Unit {0}} P.view P.shows t.0 c u load (Ok tt) → IsKeptCause {X = ℕ} P.view P.shows t.0 c a.0 load a.1
     unfolding takes_back
     takes_back-why s t c u load a is_floor port takes why_ok =
-        let parts = Takes-parts (LoadsAt P G) (LaysAt P G) NoGet s t (take_frames d.identity.member d.stretch.card d.setup.bindings (ring_sample d ring) (d.stretch.committed - back_of d n) (back_of d n)) (λ left. ends (rewound d n left)) a takes in
+        let parts = Takes-parts (LoadsAt P G) (LaysAt P G) NoGet s t (take_frames d.identity.member d.stretch.card d.setup.bindings (ring_sample d ring) (d.stretch.committed - back_of d n) (back_of d n)) (λ left. ends (after_rewind d n left)) a takes in
         let x = parts.1 in
         let took = took-of s parts.0 x is_floor port parts.2 in
         subst (λ (b : Answered ℕ). IsKeptCause {X = ℕ} P.view P.shows t.0 c b.0 load b.1) (sym parts.3.result)
         (why_end t c u load x.frames x.part x.ended took.are_left
         (subst (λ (v : S × T). OnLate x.ended (λ word. IsPast P.view P.shows v.0 (d.stretch.card + (d.stretch.committed - back_of d n + last_frame x.frames x.part)) (slice_index d.setup.bindings (slice_index (rising d.setup.bindings) (last_place x.part (length d.setup.bindings)))) word)) (sym parts.3.there) took.late) why_ok)
 
-    pub takes_back-by : (s t : S × T) (b : ℕ) (x : Commit) (done : Answered ℕ) → b ≡ back_of d n → TakesAt P G s (take_frames d.identity.member d.stretch.card d.setup.bindings (ring_sample d ring) (d.stretch.committed - b) b) t x → rewound d n x ≡ done
+    pub takes_back-by : (s t : S × T) (b : ℕ) (x : Commit) (done : Answered ℕ) → b ≡ back_of d n → TakesAt P G s (take_frames d.identity.member d.stretch.card d.setup.bindings (ring_sample d ring) (d.stretch.committed - b) b) t x → after_rewind d n x ≡ done
         → TakesAt P G s (takes_back d ring n) t done
     unfolding takes_back
     takes_back-by s t b x done is_back takes is_done =
-        Takes-map (LoadsAt P G) (LaysAt P G) NoGet s t (take_frames d.identity.member d.stretch.card d.setup.bindings (ring_sample d ring) (d.stretch.committed - back_of d n) (back_of d n)) (λ left. rewound d n left) x done
+        Takes-map (LoadsAt P G) (LaysAt P G) NoGet s t (take_frames d.identity.member d.stretch.card d.setup.bindings (ring_sample d ring) (d.stretch.committed - back_of d n) (back_of d n)) (λ left. after_rewind d n left) x done
         (subst (λ (k : ℕ). TakesAt P G s (take_frames d.identity.member d.stretch.card d.setup.bindings (ring_sample d ring) (d.stretch.committed - k) k) t x) is_back takes) is_done
 
     pub take_frames-took : (s t : S × T) (b : ℕ) (x : Commit) → b ≡ back_of d n → (P.view s.0).marks.floor ≡ floor → CanUse d (P.view s.0)

@@ -50,8 +50,8 @@ with_outcome c outcome = (in_state c outcome.state, outcome.answer)
 -- the calls that take no step
 
 -- a stretch that waits for its start: so many frames are written, the first of them after so many others, and none is placed
-abbrev pub waiting : ℕ → ℕ → Stretch
-waiting written source =
+abbrev pub waiting_stretch : ℕ → ℕ → Stretch
+waiting_stretch written source =
     record {
       written = written;
       committed = 0;
@@ -67,14 +67,14 @@ new_client g member lead = record {
   identity = record { geometry = g; member = member; lead = lead };
   setup = setup.no_setup;
   status = status.at_open;
-  stretch = waiting 0 0;
+  stretch = waiting_stretch 0 0;
   seen = None;
   fed = 0;
 }
 
 -- nothing is written, and nothing is laid since now
 abbrev pub after_prepare : PlaybackStream → PlaybackStream
-after_prepare c = record (in_state c Prepared) { stretch = waiting 0 c.fed }
+after_prepare c = record (in_state c Prepared) { stretch = waiting_stretch 0 c.fed }
 
 -- the client runs with a configuration, with the default thresholds
 abbrev pub configured_with : PlaybackStream → Config → List ℕ → PlaybackStream
@@ -268,7 +268,7 @@ pending_of c = c.stretch.written - c.stretch.committed
 
 -- the counts based anew: what is pending is all that is written, and nothing is laid since now
 abbrev pub with_new_base : PlaybackStream → PlaybackStream
-with_new_base c = record (in_state c Prepared) { stretch = waiting (pending_of c) (c.fed - pending_of c) }
+with_new_base c = record (in_state c Prepared) { stretch = waiting_stretch (pending_of c) (c.fed - pending_of c) }
 
 -- a client that a call found as the first of these and left as the second begins with its counts based anew where it is no
 -- longer paused
@@ -304,8 +304,8 @@ abbrev pub delay_answer : PlaybackStream → ℕ
 delay_answer c = delay_in c.status.state c
 
 -- the stream drains
-abbrev pub draining : PlaybackStream → PlaybackStream
-draining c = in_state c Draining
+abbrev pub in_draining : PlaybackStream → PlaybackStream
+in_draining c = in_state c Draining
 
 -- a prepared stream has frames to play
 abbrev pub has_frames : PlaybackStream → Bool

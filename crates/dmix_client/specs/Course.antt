@@ -17,7 +17,7 @@ use Rattle.dmix_client.specs.declared.commit.Commit.{Commit}
 use Rattle.dmix_client.specs.declared.stream.PlaybackStream.{PlaybackStream}
 use Rattle.pcm_stream.specs.Status.{is_moving, nothing_found, refusal_of}
 use Rattle.pcm_stream.specs.declared.direction.Direction.TheVariants.{Playback}
-use Rattle.dmix_client.specs.Calls.{Answered, with_accepted, accepted_if, draining, after_drop, has_frames, is_running, after_pause, pending_of, with_new_base, after_resume, with_outcome, start_count, after_start, started_in, sync_count, after_sync, taken_of, with_number, written_after}
+use Rattle.dmix_client.specs.Calls.{Answered, with_accepted, accepted_if, in_draining, after_drop, has_frames, is_running, after_pause, pending_of, with_new_base, after_resume, with_outcome, start_count, after_start, started_in, sync_count, after_sync, taken_of, with_number, written_after}
 use Rattle.dmix_client.specs.View.{ring_sample}
 use Rattle.dmix_client.specs.Writes.{count_with, frames_in, ring_with, starts_with}
 
@@ -110,7 +110,7 @@ drains c ring cursor = starts c Draining cursor c.stretch.written ring >>= drain
 
 abbrev pub drain_course : PlaybackStream → List ℤ → Cursor → Course (Answered (Unit {0}))
 drain_course c ring cursor =
-    if is_moving c.status.state then syncs (draining c) call.Drain ring else
+    if is_moving c.status.state then syncs (in_draining c) call.Drain ring else
     (if has_frames c then drains c ring cursor else ends (after_drop c, Ok tt))
 
 -- the resume of a client with pending frames: the load, and the commit of these from where the stream starts

@@ -59,8 +59,8 @@ last_channel c =
     ((if nat_eq c.stretch.part 0 then length c.setup.bindings else c.stretch.part) - 1))
 
 -- a rewind of n frames, by what is left of the committed ones
-abbrev pub rewound : PlaybackStream → ℕ → Commit → Answered ℕ
-rewound c n left =
+abbrev pub after_rewind : PlaybackStream → ℕ → Commit → Answered ℕ
+after_rewind c n left =
     let done = taken_back c n left in
     if is_stop left.ended
     then stopped_in done
@@ -113,7 +113,7 @@ rewindable_course c floor = if is_running c.status.state
 unfoldable pub takes_back : PlaybackStream → List ℤ → ℕ → Course (Answered ℕ)
 takes_back c ring n =
     take_frames c.identity.member c.stretch.card c.setup.bindings (ring_sample c ring)
-    (c.stretch.committed - back_of c n) (back_of c n) >>= λ left. ends (rewound c n left)
+    (c.stretch.committed - back_of c n) (back_of c n) >>= λ left. ends (after_rewind c n left)
 
 abbrev pub rewind_on : Cursor → List ℤ → ℕ → Answered (Unit {0}) → Course (Answered ℕ)
 rewind_on floor ring n (c, Ok done) = takes_back c ring (min n (rewindable_of floor c))

@@ -5,7 +5,7 @@ ghost use Rattle.snd_base.specs.Places.{end_frame};
 ghost use Rattle.course.specs.AtPort.{TakesAt};
 ghost use Rattle.pcm_stream.specs.Status.{is_moving, refusal_of};
 ghost use Rattle.pcm_stream.specs.declared.direction.Direction.{Direction};
-ghost use Rattle.dmix_client.specs.Calls.{draining, start_count, after_start, started_in, sync_count, after_sync};
+ghost use Rattle.dmix_client.specs.Calls.{in_draining, start_count, after_start, started_in, sync_count, after_sync};
 ghost use Rattle.dmix_client.specs.Causes.{Explains};
 ghost use Rattle.dmix_client.specs.Course.{if_admitted, drain_course, drains, start_course, starts};
 ghost use Rattle.dmix_client.specs.Growth.{AnySamples, Keeps, KeepsAccepted};
@@ -172,9 +172,9 @@ impl Client {
         ensures causes { refusal_of Direction.Playback self.old.stream.status call.Drain ≡ None →
             is_moving self.old.stream.status.state ≡ true →
             Explains P.MixPort G.Gate (port.old, gate.old) (port.new, gate.new)
-            (record { stream = draining self.old.stream; ring = self.old.ring })
-            (λ position. draining self.old.stream) (sync_count (draining self.old.stream))
-            (after_sync (draining self.old.stream) call.Drain) (self.new.stream, result) }
+            (record { stream = in_draining self.old.stream; ring = self.old.ring })
+            (λ position. in_draining self.old.stream) (sync_count (in_draining self.old.stream))
+            (after_sync (in_draining self.old.stream) call.Drain) (self.new.stream, result) }
     {
         self.stream.status.admit(Direction::Playback, Call::Drain)?;
         let ring = self.ring.as_slice();

@@ -2,7 +2,7 @@
 ghost use Rattle.std.specs.Prelude.{◌≡◌, ℕ, ◌+◌, ◌-◌, ◌^◌, ◌<◌, ◌≤◌, length};
 ghost use Rattle.mix_core.specs.Port.{OnLate};
 ghost use Rattle.dmix_client.specs.Calls.{late_at, with_number};
-ghost use Rattle.dmix_client.specs.Rewind.{back_of, last_channel, last_laid, rewindable_of, rewound, taken_back, without_frames};
+ghost use Rattle.dmix_client.specs.Rewind.{back_of, last_channel, last_laid, rewindable_of, after_rewind, taken_back, without_frames};
 
 use crate::commit::Commit;
 use crate::steps::{Answered, found_at, is_stop, stopped_in, with_outcome};
@@ -122,7 +122,7 @@ pub(crate) fn rewound(stream: PlaybackStream, frames: u64, left: Commit) -> Answ
     requires back { back_of stream frames ≤ stream.stretch.committed }
     requires fits { stream.stretch.card + stream.stretch.committed < 2 ^ 64 }
     requires part { OnLate left.ended (λ _. left.part < length stream.setup.bindings) }
-    ensures { result ≡ rewound stream frames left }
+    ensures { result ≡ after_rewind stream frames left }
 {
     let done = stream.taken_back(frames, left);
     if is_stop(left.ended) {

@@ -1,6 +1,6 @@
 //! What a client is after each part of a call, by what the part found.
 ghost use Rattle.std.specs.Prelude.{◌≡◌, ℕ, ◌+◌, ◌*◌, ◌^◌, ◌<◌, ◌≤◌, IfSome, OnOk, length, unwrap_or};
-ghost use Rattle.dmix_client.specs.Calls.{in_state, waiting, draining, has_frames, with_number, configured_with, after_drop, after_hw_free, new_client, with_accepted, accepted_if, written_after, avail_answer, commit_count, committed_by, delay_answer, facts_of, found_at, going_on, is_stop, late_of, over_of, after_pause, pending_of, after_prepare, with_new_base, after_resume, seen_at, segment_of, with_outcome, start_count, start_frame, after_start, started_in, stopped_in, sync_count, after_sync, taken_of, window_end};
+ghost use Rattle.dmix_client.specs.Calls.{in_state, waiting_stretch, in_draining, has_frames, with_number, configured_with, after_drop, after_hw_free, new_client, with_accepted, accepted_if, written_after, avail_answer, commit_count, committed_by, delay_answer, facts_of, found_at, going_on, is_stop, late_of, over_of, after_pause, pending_of, after_prepare, with_new_base, after_resume, seen_at, segment_of, with_outcome, start_count, start_frame, after_start, started_in, stopped_in, sync_count, after_sync, taken_of, window_end};
 ghost use Rattle.dmix_client.specs.Asked.{number_of};
 ghost use Rattle.mix_core.specs.Port.{OnLate};
 ghost use Rattle.dmix_client.specs.Writes.{count_with};
@@ -25,7 +25,7 @@ impl Stretch {
     /// A stretch that waits for its start: `written` frames are written, the first of them after `source` others, and none is
     /// placed.
     fn waiting(written: u64, source: u64) -> Stretch
-        ensures { result ≡ waiting written source }
+        ensures { result ≡ waiting_stretch written source }
     {
         Stretch {
             written,
@@ -577,7 +577,7 @@ pub(crate) fn with_number(
 impl PlaybackStream {
     /// The stream drains.
     pub(crate) fn draining(&self) -> PlaybackStream
-        ensures { result ≡ draining self.now }
+        ensures { result ≡ in_draining self.now }
     {
         self.in_state(State::Draining)
     }

@@ -25,7 +25,7 @@ use Rattle.snoop_core.specs.Port.{SnoopView}
 use Rattle.course.specs.AtSnoopPort.{LoadsAtSnoop}
 use Rattle.course.specs.Stops.{pass_by}
 use Rattle.dsnoop_client.specs.declared.stream.CaptureStream.{CaptureStream}
-use Rattle.dsnoop_client.specs.Calls.{Answered, found, in_state, over_of, seen_at, with_outcome, after_start, after_sync, with_avail}
+use Rattle.dsnoop_client.specs.Calls.{Answered, facts_with, in_state, over_of, seen_at, with_outcome, after_start, after_sync, with_avail}
 use Rattle.dsnoop_client.specs.Causes.{Explains, FindsNone, IsMissed, IsOfSteps, Reaches}
 use Rattle.dsnoop_client.specs.Port.{Keeps}
 use Rattle.dsnoop_client.specs.View.{CanUse, avail_of, IsSound, IsStart, IsSync, is_of_capture}
@@ -33,7 +33,7 @@ use Rattle.dsnoop_client.specs.View.{CanUse, avail_of, IsSound, IsStart, IsSync,
 -- ---- the state table
 
 pub starts-outcome : (s : State) (k : Call) (gone : Bool) → s ≡ state.Prepared → IsStart k
-    → next_of s k (found gone None None) ≡ (if gone then refused_in state.Disconnected NoDevice else done_in state.Running)
+    → next_of s k (facts_with gone None None) ≡ (if gone then refused_in state.Disconnected NoDevice else done_in state.Running)
 starts-outcome s call.Start true is start = rw is refl
 starts-outcome s call.Start false is start = rw is refl
 starts-outcome s call.Transfer true is start = rw is refl
@@ -45,7 +45,7 @@ going_outcome true over = refused_in state.Disconnected NoDevice
 going_outcome false (Some (avail, seen)) = stopped_by (Avail avail seen)
 going_outcome false None = done_in state.Running
 
-syncs-outcome : (s : State) (k : Call) (gone : Bool) (over : Option (ℕ × ℕ)) → s ≡ state.Running → IsSync k → next_of s k (found gone over None) ≡ going_outcome gone over
+syncs-outcome : (s : State) (k : Call) (gone : Bool) (over : Option (ℕ × ℕ)) → s ≡ state.Running → IsSync k → next_of s k (facts_with gone over None) ≡ going_outcome gone over
 syncs-outcome s call.Sync true over is sync = rw is refl
 syncs-outcome s call.Sync false None is sync = rw is refl
 syncs-outcome s call.Sync false (Some (avail, seen)) is sync = rw is refl
@@ -229,7 +229,7 @@ module _ {S T : Type 0} (P : snoopport.Ghosts S) (G : gates.Ghosts T) where
     where
       comes : (gone : Bool) → position.gone ≡ gone → done ≡ with_outcome (if gone then seen_at c position else at_start c position) (if gone then refused_in state.Disconnected NoDevice else done_in state.Running)
       comes gone same =
-          is ∙ ap (λ (g : Bool). with_outcome (if g then seen_at c position else at_start c position) (next_of c.status.state k (found g None None))) same
+          is ∙ ap (λ (g : Bool). with_outcome (if g then seen_at c position else at_start c position) (next_of c.status.state k (facts_with g None None))) same
           ∙ ap (with_outcome (if gone then seen_at c position else at_start c position)) (starts-outcome c.status.state k gone waits start)
 
       by : (gone : Bool) → position.gone ≡ gone → After s t c done
@@ -265,8 +265,8 @@ module _ {S T : Type 0} (P : snoopport.Ghosts S) (G : gates.Ghosts T) where
       comes : (gone over : Bool) → position.gone ≡ gone → nat_le c.setup.params.stop_threshold (position.frame - c.next) ≡ over
           → done ≡ with_outcome (seen_at c position) (going_outcome gone (if over then Some (position.frame - c.next, position.frame) else None))
       comes gone over same reached =
-          is ∙ ap (λ (g : Bool). with_outcome (seen_at c position) (next_of c.status.state k (found g (over_of (seen_at c position)) None))) same
-          ∙ ap (λ (b : Bool). with_outcome (seen_at c position) (next_of c.status.state k (found gone (if b then Some (position.frame - c.next, position.frame) else None) None))) reached
+          is ∙ ap (λ (g : Bool). with_outcome (seen_at c position) (next_of c.status.state k (facts_with g (over_of (seen_at c position)) None))) same
+          ∙ ap (λ (b : Bool). with_outcome (seen_at c position) (next_of c.status.state k (facts_with gone (if b then Some (position.frame - c.next, position.frame) else None) None))) reached
           ∙ ap (with_outcome (seen_at c position)) (syncs-outcome c.status.state k gone (if over then Some (position.frame - c.next, position.frame) else None) runs sync)
 
       by : (gone over : Bool) → position.gone ≡ gone → nat_le c.setup.params.stop_threshold (position.frame - c.next) ≡ over → After s t c done

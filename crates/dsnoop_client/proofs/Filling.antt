@@ -14,7 +14,7 @@ use Rattle.snoop_core.specs.declared.port.Got.{Got}
 use Rattle.snoop_core.specs.declared.port.Got.TheVariants.{Whole, Overtaken, Stopped}
 use Rattle.snoop_core.specs.declared.port.SnoopPort as snoopport
 use Rattle.snoop_core.specs.Port.{OnGot, SnoopView, frame_if}
-use Rattle.dsnoop_client.specs.Reads.{AreFrames, Fills, through, through_all}
+use Rattle.dsnoop_client.specs.Reads.{AreFrames, Fills, bound_samples, through_all}
 
 OnGot-not : (end : Got) (X : Type 0) → (end ≡ Whole → ⊥) → OnGot end X
 OnGot-not Whole X not_whole = absurd (not_whole refl)
@@ -30,14 +30,14 @@ range_with_len-more a (suc n) =
 length-more : (frames : List Frame) (frame : Frame) → length (frames ++ frame ∷ []) ≡ suc (length frames)
 length-more frames frame = length-append frames (frame ∷ []) ∙ add-one (length frames)
 
-length-through : (bindings : List ℕ) (samples : List ℤ) → length (through bindings samples) ≡ length bindings
+length-through : (bindings : List ℕ) (samples : List ℤ) → length (bound_samples bindings samples) ≡ length bindings
 length-through bindings samples = length-map bindings (λ channel. slice_index_or samples channel (pos 0))
 
 -- each frame through bindings has one sample for each
 length-through_all : (bindings : List ℕ) (frames : List Frame) → length (through_all bindings frames) ≡ length frames * length bindings
 length-through_all bindings [] = omega arith
 length-through_all bindings (f ∷ fs) =
-    omega (arith, length-append (through bindings f.samples) (through_all bindings fs), length-through bindings f.samples, length-through_all bindings fs)
+    omega (arith, length-append (bound_samples bindings f.samples) (through_all bindings fs), length-through bindings f.samples, length-through_all bindings fs)
 
 all_one : (frame : Frame) (channels : ℕ) → length frame.samples ≡ channels → All (λ (f : Frame). length f.samples ≡ channels) (frame ∷ [])
 all_one frame channels size zero d within = size
@@ -78,7 +78,7 @@ module _ {S : Type 0} (P : snoopport.Ghosts S) (composes : Composes P.got) where
 
   -- one frame more
   pub Fills-next : (p q r : S) (bindings : List ℕ) (first done k m : ℕ) (before now part : List ℤ) (frame : Frame) → P.view q ≡ P.view p → k ≡ length bindings → m ≡ k
-      → frame.number ≡ first + done → length frame.samples ≡ (P.view q).geometry.channels → part ≡ through bindings frame.samples → (done + 1) * length bindings ≤ length before
+      → frame.number ≡ first + done → length frame.samples ≡ (P.view q).geometry.channels → part ≡ bound_samples bindings frame.samples → (done + 1) * length bindings ≤ length before
       → Fills P p q bindings first done Whole before now → P.got q r (frame ∷ [])
       → Fills P p r bindings first (done + 1) Whole before (put_mid (done * k) m now part)
   Fills-next p q r bindings first done k m before now part frame same_view is_k is_m is_number size is_part room so_far got_it = record {
@@ -93,8 +93,8 @@ module _ {S : Type 0} (P : snoopport.Ghosts S) (composes : Composes P.got) where
         ∙ put_mid-next (through_all bindings so_far.frames) before part (done * length bindings) (length bindings) ((done + 1) * length bindings)
         (sym (length-through_all bindings so_far.frames ∙ ap (λ (m : ℕ). m * length bindings) so_far.count)) (ap length is_part ∙ length-through bindings frame.samples) (omega (arith, room)) (omega arith)
         ∙ ap (λ xs. xs ++ drop ((done + 1) * length bindings) before)
-        (ap (λ xs. through_all bindings so_far.frames ++ xs) (is_part ∙ sym (append-nil (through bindings frame.samples)))
-        ∙ sym (flat_map-append (λ (f : Frame). through bindings f.samples) so_far.frames (frame ∷ []))));
+        (ap (λ xs. through_all bindings so_far.frames ++ xs) (is_part ∙ sym (append-nil (bound_samples bindings frame.samples)))
+        ∙ sym (flat_map-append (λ (f : Frame). bound_samples bindings f.samples) so_far.frames (frame ∷ []))));
   }
 
   -- a load that didn't get its frame

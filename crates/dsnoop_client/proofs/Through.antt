@@ -2,11 +2,11 @@
 use Rattle.std.proofs.Common.{◌≡◌, ℕ, ◌<◌, ◌∙◌, sym, List, length, pos, arith}
 use Rattle.std.proofs.lemmas.List.{ext_get_or, get_or-map, length-map}
 use Rattle.std.specs.Prelude.{ℤ, slice_index, slice_index_or}
-use Rattle.dsnoop_client.specs.Reads.{through}
+use Rattle.dsnoop_client.specs.Reads.{bound_samples}
 
 -- samples that stand channel by channel as a frame through bindings are that
 pub through-is : (bindings : List ℕ) (frame part : List ℤ) → length part ≡ length bindings
-    → ((k : ℕ) → k < length bindings → slice_index_or part k (pos 0) ≡ slice_index_or frame (slice_index bindings k) (pos 0)) → part ≡ through bindings frame
+    → ((k : ℕ) → k < length bindings → slice_index_or part k (pos 0) ≡ slice_index_or frame (slice_index bindings k) (pos 0)) → part ≡ bound_samples bindings frame
 through-is bindings frame part size same =
-    ext_get_or (pos 0) part (through bindings frame) (size ∙ sym (length-map bindings (λ channel. slice_index_or frame channel (pos 0))))
+    ext_get_or (pos 0) part (bound_samples bindings frame) (size ∙ sym (length-map bindings (λ channel. slice_index_or frame channel (pos 0))))
     (λ i within. same i (omega (arith, size, within)) ∙ sym (get_or-map (λ channel. slice_index_or frame channel (pos 0)) bindings i 0 (pos 0) (omega (arith, size, within))))

@@ -54,8 +54,8 @@ with_params c params = record c { setup = setup.with_params c.setup params }
 -- the parts of the calls that take steps
 
 -- what a call found, for the state table
-abbrev pub found : Bool → Option (ℕ × ℕ) → Option XrunWhy → Facts
-found gone over late =
+abbrev pub facts_with : Bool → Option (ℕ × ℕ) → Option XrunWhy → Facts
+facts_with gone over late =
     record { capture = true; queued = 0; starts = true; gone = gone; over = over; late = late }
 
 -- the gate stopped the call
@@ -81,7 +81,7 @@ abbrev pub after_start : CaptureStream → Call → Option Position → Answered
 after_start c call None = stopped_in c
 after_start c call (Some position) =
     with_outcome (started_at c position)
-    (next_of c.status.state call (found position.gone None None))
+    (next_of c.status.state call (facts_with position.gone None None))
 
 -- the stop threshold was reached: the frames available, and the position seen
 abbrev pub over_of : CaptureStream → Option (ℕ × ℕ)
@@ -94,7 +94,7 @@ abbrev pub after_sync : CaptureStream → Call → Option Position → Answered 
 after_sync c call None = stopped_in c
 after_sync c call (Some position) =
     with_outcome (seen_at c position)
-    (next_of c.status.state call (found position.gone (over_of (seen_at c position)) None))
+    (next_of c.status.state call (facts_with position.gone (over_of (seen_at c position)) None))
 
 -- the frames that `avail_update` answers after its sync
 abbrev pub with_avail : Answered (Unit {0}) → Answered ℕ
@@ -120,7 +120,7 @@ read_to c done Whole = (record c { next = c.next + done }, Ok done)
 read_to c done (Overtaken channel word) =
     with_answer 0 (with_outcome c
     (next_of state.Running call.Transfer
-    (found false None (Some (why.Overtaken (c.next + done) channel word)))))
+    (facts_with false None (Some (why.Overtaken (c.next + done) channel word)))))
 read_to c done Stopped = stopped_in c
 
 -- a read of n frames after its load of the position, by how many it loaded, and how the last load ended

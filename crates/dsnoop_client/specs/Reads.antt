@@ -10,12 +10,12 @@ use Rattle.snoop_core.specs.Port.{OnGot}
 use Rattle.dsnoop_client.specs.declared.stream.CaptureStream.{CaptureStream}
 
 -- a frame through bindings: for each of the reader's channels the sample of the card channel that it is bound to
-abbrev pub through : List ℕ → List ℤ → List ℤ
-through bindings samples = map (λ channel. slice_index_or samples channel (pos 0)) bindings
+abbrev pub bound_samples : List ℕ → List ℤ → List ℤ
+bound_samples bindings samples = map (λ channel. slice_index_or samples channel (pos 0)) bindings
 
 -- frames through bindings, interleaved
 abbrev pub through_all : List ℕ → List Frame → List ℤ
-through_all bindings frames = flat_map (λ (frame : Frame). through bindings frame.samples) frames
+through_all bindings frames = flat_map (λ (frame : Frame). bound_samples bindings frame.samples) frames
 
 -- frames one after the other, from a number on, each with all its channels
 pub record AreFrames (frames : List Frame) (first channels : ℕ) : Type 0 where

@@ -4,7 +4,7 @@ ghost use Rattle.snd_base.specs.Places.{first_frame};
 ghost use Rattle.snoop_core.specs.Port.{Gets, OnGot, frame_of};
 ghost use Rattle.course.specs.AtSnoopPort.{TakesAtSnoop};
 ghost use Rattle.dsnoop_client.specs.Course.{gets_frames};
-ghost use Rattle.dsnoop_client.specs.Reads.{Fills, through};
+ghost use Rattle.dsnoop_client.specs.Reads.{Fills, bound_samples};
 
 use bindings::Bindings;
 use mix_core::Gate;
@@ -21,7 +21,7 @@ pub(crate) struct Loads {
 fn put_through(bindings: &Bindings, frame: &[i16], part: &mut [i16])
     requires on_card { All (λ channel. channel < length frame.now) bindings.now }
     requires part { length part.old ≡ length bindings.now }
-    ensures { part.new ≡ through bindings.now frame.now }
+    ensures { part.new ≡ bound_samples bindings.now frame.now }
 {
     for client in 0..bindings.len() {
         part[client as usize] = frame[bindings.card_channel(client) as usize];
@@ -44,7 +44,7 @@ fn load_through<P: SnoopPort, G: Gate>(
     requires captured { number < (P.view port.old).seen }
     ensures step { Gets P.view P.shows P.loaded P.got P.finds G.stops G.asked port.old gate.old
         (frame_of number frame.new) result port.new gate.new }
-    ensures part { OnGot result (part.new ≡ through bindings.now frame.new) }
+    ensures part { OnGot result (part.new ≡ bound_samples bindings.now frame.new) }
 {
     match Got::of(port.load_frame(gate, number, frame)) {
         Got::Whole => {

@@ -1,6 +1,6 @@
 //! What a reader is after each part of a call, by what the part found.
 ghost use Rattle.std.specs.Prelude.{◌≡◌, ◌+◌, ◌^◌, ◌<◌};
-ghost use Rattle.dsnoop_client.specs.Calls.{configured_with, found, after_hw_free, in_state, with_answer, new_reader, over_of, read_after, read_to, seen_at, with_outcome, after_start, started_at, stopped_in, after_sync, taken_of, waits, with_avail};
+ghost use Rattle.dsnoop_client.specs.Calls.{configured_with, facts_with, after_hw_free, in_state, with_answer, new_reader, over_of, read_after, read_to, seen_at, with_outcome, after_start, started_at, stopped_in, after_sync, taken_of, waits, with_avail};
 ghost use Rattle.dsnoop_client.specs.View.{IsReady, IsReadyAt, IsReadyIf, avail_of, is_running};
 
 use crate::stream::CaptureStream;
@@ -130,7 +130,7 @@ impl CaptureStream {
 
 /// What a call found, for the state table.
 fn found(gone: bool, over: Option<(u64, u64)>, late: Option<XrunWhy>) -> Facts
-    ensures { result ≡ found gone over late }
+    ensures { result ≡ facts_with gone over late }
 {
     Facts {
         capture: true,

@@ -10,7 +10,7 @@ use Rattle.mix_core.specs.Stands.{Stands}
 use Rattle.mix_core.specs.View.{View}
 use Rattle.pcm_states.specs.declared.states.State.TheVariants.{Prepared}
 use Rattle.dmix_client.specs.declared.stream.PlaybackStream.{PlaybackStream}
-use Rattle.dmix_client.specs.Calls.{waiting}
+use Rattle.dmix_client.specs.Calls.{waiting_stretch}
 use Rattle.dmix_client.specs.Expansion.{expand}
 
 -- what a member placed, by its segment and its samples: each of its channels is in the card's of the same number
@@ -36,4 +36,4 @@ pub record IsFresh (c : PlaybackStream) (g : Geometry) (member : ℕ) : Type 0 w
   pub member_is : c.identity.member ≡ member
   pub bindings : c.setup.bindings ≡ identity g.channels
   pub state : c.status.state ≡ Prepared
-  pub stretch : c.stretch ≡ waiting 0 0
+  pub stretch : c.stretch ≡ waiting_stretch 0 0

@@ -13,7 +13,7 @@ use Rattle.hw_space.specs.Boxes.{part, with_part}
 use Rattle.hw_space.specs.BoxLaws.{part-with_part, IsBoxWithin-part}
 use Rattle.hw_space.specs.Narrowings.{with_refined, with_access, with_format}
 use Rattle.hw_space.specs.Settled.{IsVoid}
-use Rattle.hw_space.specs.Widest.{only}
+use Rattle.hw_space.specs.Widest.{mask_of_one}
 use Rattle.hw_space.specs.Proper.{IsProper}
 use Rattle.hw_space.proofs.StepLaws.{with_part-IsProper, with_formats-IsProper}
 
@@ -50,10 +50,10 @@ format-IsVoid b empty = record {
   configurations = λ x exact held. HasNumber-bits b.format x.format held.format empty;
 }
 
-pub with_access-IsVoid : (b : ParamBox) (n : ℕ) (m : Mask) → m ≡ only n → (common_mask b.access m).bits ≡ 0 → IsVoid (with_access b n)
+pub with_access-IsVoid : (b : ParamBox) (n : ℕ) (m : Mask) → m ≡ mask_of_one n → (common_mask b.access m).bits ≡ 0 → IsVoid (with_access b n)
 with_access-IsVoid b n m equal empty = access-IsVoid (with_access b n) (ap (λ x. (common_mask b.access x).bits) (sym equal) ∙ empty)
 
-pub with_format-IsVoid : (b : ParamBox) (n : ℕ) (m : Mask) → m ≡ only n → (common_mask b.format m).bits ≡ 0 → IsVoid (with_format b n)
+pub with_format-IsVoid : (b : ParamBox) (n : ℕ) (m : Mask) → m ≡ mask_of_one n → (common_mask b.format m).bits ≡ 0 → IsVoid (with_format b n)
 with_format-IsVoid b n m equal empty = format-IsVoid (with_format b n) (ap (λ x. (common_mask b.format x).bits) (sym equal) ∙ empty)
 
 pub with_format-IsProper : (b new : ParamBox) (m : Mask) → IsProper b → new ≡ record b { format = common_mask b.format m }

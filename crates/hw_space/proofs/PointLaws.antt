@@ -26,7 +26,7 @@ use Rattle.hw_space.specs.Narrowings.{with_refined, point, at_most, at_least, le
 use Rattle.hw_space.specs.Settled.{IsSettled, IsLeft, Leaves}
 use Rattle.hw_space.specs.SettledLaws.{IsSettled-IsNormal}
 use Rattle.hw_space.specs.Proper.{IsProper}
-use Rattle.hw_space.specs.Widest.{whole_from_to, only}
+use Rattle.hw_space.specs.Widest.{whole_from_to, mask_of_one}
 use Rattle.hw_space.proofs.StepLaws.{with_formats-IsBoxWithin}
 
 -- ---- the first number of a mask
@@ -172,7 +172,7 @@ parts-access b n BufferBytes = IsWithin-refl (part b BufferBytes)
 
 with_access-IsBoxWithin : (b : ParamBox) (n : ℕ) → IsBoxWithin (with_access b n) b
 with_access-IsBoxWithin b n = record {
-  access = common_mask-IsMaskWithin_left b.access (only n);
+  access = common_mask-IsMaskWithin_left b.access (mask_of_one n);
   format = IsMaskWithin-refl b.format;
   parts = parts-access b n;
 }
@@ -237,7 +237,7 @@ IsMoved-makes Settle b d makes = IsMoved-left b b d (IsBoxWithin-refl b) makes
 IsMoved-makes FirstAccess b d makes = IsMoved-left b (with_access b makes.0) d (with_access-IsBoxWithin b makes.0) makes.2
 IsMoved-makes FirstFormat b d makes =
     IsMoved-left b (with_format b makes.0) d
-    (with_formats-IsBoxWithin b (common_mask b.format (only makes.0)) (common_mask-IsMaskWithin_left b.format (only makes.0))) makes.2
+    (with_formats-IsBoxWithin b (common_mask b.format (mask_of_one makes.0)) (common_mask-IsMaskWithin_left b.format (mask_of_one makes.0))) makes.2
 IsMoved-makes (First q) b d makes = IsMoved-narrowed b d q (least_end (part b q)) makes
 IsMoved-makes (Last q) b d makes = IsMoved-narrowed b d q (greatest_end (part b q)) makes
 IsMoved-makes (Near q n) b d makes = (IsAtEnd-near b d q n makes).moved

@@ -13,7 +13,7 @@ use Rattle.hw_space.specs.declared.quantity.Quantity.{Quantity}
 use Rattle.hw_space.specs.Boxes.{part, with_part}
 use Rattle.hw_space.specs.Params.{kind_of}
 use Rattle.hw_space.specs.Settled.{Leaves}
-use Rattle.hw_space.specs.Widest.{from_to, whole_from_to, only}
+use Rattle.hw_space.specs.Widest.{from_to, whole_from_to, mask_of_one}
 
 -- ---- what a quantity is narrowed with
 
@@ -59,10 +59,10 @@ with_refined b q i = with_part b q (refinement (part b q) i)
 
 -- the access, or the format, has one number at most
 abbrev pub with_access : ParamBox → ℕ → ParamBox
-with_access b n = record b { access = common_mask b.access (only n) }
+with_access b n = record b { access = common_mask b.access (mask_of_one n) }
 
 abbrev pub with_format : ParamBox → ℕ → ParamBox
-with_format b n = record b { format = common_mask b.format (only n) }
+with_format b n = record b { format = common_mask b.format (mask_of_one n) }
 
 -- a parameter with an interval is refined with one that is made of it. Other parameters stay
 abbrev pub narrowed_by : (Interval → Interval) → ParamBox → ParamKind → ParamBox

@@ -26,15 +26,15 @@ from_to least most = record {
 }
 
 -- the mask of one number
-abbrev pub only : ℕ → Mask
-only n = record { bits = 2 ^ n }
+abbrev pub mask_of_one : ℕ → Mask
+mask_of_one n = record { bits = 2 ^ n }
 
 -- the parameters that a slave with so many channels, a rate and a ring leaves to its clients: access RW_INTERLEAVED (3)
 -- and format S16_LE (2)
 abbrev pub widest : ℕ → ℕ → ℕ → ParamBox
 widest channels rate ring = record {
-  access = only 3;
-  format = only 2;
+  access = mask_of_one 3;
+  format = mask_of_one 2;
   sample_bits = whole_from_to 1 end_max;
   frame_bits = whole_from_to 1 end_max;
   channels = whole_from_to 1 channels;

@@ -4,7 +4,7 @@ ghost use Rattle.pcm_interval.specs.Intervals.{IsNonEmpty};
 ghost use Rattle.hw_space.specs.Narrowings.{point, at_least, at_most, whole_numbers, between_ends, least_end, greatest_end, with_refined, with_access, with_format, with_kind_value, FitsKind};
 ghost use Rattle.hw_space.specs.Proper.{IsProper};
 ghost use Rattle.hw_space.specs.Settled.{Leaves, left_of};
-ghost use Rattle.hw_space.specs.Widest.{whole_from_to, from_to, only};
+ghost use Rattle.hw_space.specs.Widest.{whole_from_to, from_to, mask_of_one};
 
 use crate::param::ParamKind;
 use crate::param_box::ParamBox;
@@ -69,7 +69,7 @@ pub fn take_value(ranges: &mut ParamBox, kind: ParamKind, value: u32) -> Result<
 /// The mask of one number below 64.
 pub fn only(number: u32) -> Mask
     requires { number < 64 }
-    ensures { result ≡ only number }
+    ensures { result ≡ mask_of_one number }
 {
     Mask { bits: 1 << number }
 }

@@ -19,9 +19,9 @@ use Rattle.pcm_stream.specs.Status.{refusal_of, is_moving}
 use Rattle.pcm_stream.specs.declared.direction.Direction.TheVariants.{Playback}
 use Rattle.dmix_client.specs.declared.commit.Commit.{Commit}
 use Rattle.dmix_client.specs.declared.stream.PlaybackStream.{PlaybackStream}
-use Rattle.dmix_client.specs.Calls.{Answered, accepted_if, committed_by, draining, found_at, going_on, going_on_by, has_frames, is_running, is_stop, late_at, late_of, pending_of, with_new_base, after_resume, seen_at, with_outcome, after_start, started_in, stopped_in, after_sync, taken_of, with_number, written_after}
+use Rattle.dmix_client.specs.Calls.{Answered, accepted_if, committed_by, in_draining, found_at, going_on, going_on_by, has_frames, is_running, is_stop, late_at, late_of, pending_of, with_new_base, after_resume, seen_at, with_outcome, after_start, started_in, stopped_in, after_sync, taken_of, with_number, written_after}
 use Rattle.dmix_client.specs.Course.{if_admitted, admitted_by, drain_course, drain_on, drains, fills, number_course, course_with_number, pause_course, resumes, start_course, starts, starts_taking, sync_course, syncs, takes_more, write_course, write_on, writes_on}
-use Rattle.dmix_client.specs.Rewind.{back_of, back_on, checks, last_channel, last_laid, left_of, rewind_course, rewind_on, rewindable_course, rewindable_of, rewinds, rewound, take_frames, taken_back, takes_back, without_frames}
+use Rattle.dmix_client.specs.Rewind.{back_of, back_on, checks, last_channel, last_laid, left_of, rewind_course, rewind_on, rewindable_course, rewindable_of, rewinds, after_rewind, take_frames, taken_back, takes_back, without_frames}
 use Rattle.dmix_client.specs.View.{IsSound, avail_of}
 use Rattle.dmix_client.specs.Writes.{frames_in, starts_with}
 use Rattle.lab_actor.proofs.Gives.{Gives, Gives-behind, Gives-then, Gives-weaker}
@@ -157,7 +157,7 @@ start-fed c ring cursor = admitted-gives c call.Start _ (IsSame c.fed) (by_cours
 
 pub drain-fed : (c : PlaybackStream) (ring : List ℤ) (cursor : Cursor) → Gives (IsSame c.fed) (if_admitted c call.Drain (drain_course c ring cursor))
 drain-fed c ring cursor = admitted-gives c call.Drain _ (IsSame c.fed)
-    (by_course (IsSame c.fed) (is_moving c.status.state) _ _ (syncs-fed (draining c) call.Drain ring) (by_course (IsSame c.fed) (has_frames c) _ _ (drains-fed c ring cursor) (record { same = refl }))) (λ e. record { same = refl })
+    (by_course (IsSame c.fed) (is_moving c.status.state) _ _ (syncs-fed (in_draining c) call.Drain ring) (by_course (IsSame c.fed) (has_frames c) _ _ (drains-fed c ring cursor) (record { same = refl }))) (λ e. record { same = refl })
 
 pub number-fed : (number : PlaybackStream → ℕ) (c : PlaybackStream) (ring : List ℤ) → Gives (IsSame c.fed) (if_admitted c call.Sync (number_course number c ring))
 number-fed number c ring = admitted-gives c call.Sync _ (IsSame c.fed)
@@ -204,7 +204,7 @@ take_frames-few member card bindings samples first zero = omega arith
 take_frames-few member card bindings samples first (suc n) = Gives-behind (λ (left : Commit). left.frames ≤ suc n) _ _
     (λ end. back_on-few end n (length bindings) _ (take_frames-few member card bindings samples first n))
 
-rewound-fed : (c : PlaybackStream) (n : ℕ) (left : Commit) → IsSame (c.fed - n + left.frames) (rewound c n left)
+rewound-fed : (c : PlaybackStream) (n : ℕ) (left : Commit) → IsSame (c.fed - n + left.frames) (after_rewind c n left)
 rewound-fed c n left =
     let done : PlaybackStream = taken_back c n left in
     let o : Outcome = next_of Running call.Transfer (found_at (record { frame = 0; gone = false }) (late_at left.ended (last_laid done) (last_channel done))) in

@@ -28,7 +28,7 @@ use Rattle.dsnoop_client.specs.Calls.{Answered, in_state}
 use Rattle.dsnoop_client.specs.Course.{if_admitted, admitted_by, read_course}
 use Rattle.dsnoop_client.specs.FewerReads.{most_read, read_course-fewer}
 use Rattle.dsnoop_client.specs.Port.{Keeps}
-use Rattle.dsnoop_client.specs.Reads.{Reads, through, through_all}
+use Rattle.dsnoop_client.specs.Reads.{Reads, bound_samples, through_all}
 use Rattle.dsnoop_client.specs.View.{CanRead, CanUse, frames_in}
 use Rattle.lab_script.specs.declared.line.Op.{Op}
 use Rattle.lab_script.specs.declared.line.Op.TheVariants as op
@@ -43,7 +43,7 @@ use Rattle.lab_actor.specs.ReaderLines.{AreSamples, HasReaderCalled, HasLoaded, 
 pub length-through : (bindings : List ℕ) (frames : List Frame) → length (through_all bindings frames) ≡ length frames * length bindings
 length-through bindings [] = sym (zero-mul (length bindings))
 length-through bindings (frame ∷ frames) =
-    let here = length-append (through bindings frame.samples) (through_all bindings frames) in
+    let here = length-append (bound_samples bindings frame.samples) (through_all bindings frames) in
     let one = length-map bindings (λ (channel : ℕ). slice_index_or frame.samples channel (pos 0)) in
     let others = length-through bindings frames in
     let all = suc-mul (length frames) (length bindings) in

@@ -29,27 +29,27 @@ use Rattle.lab_actor.specs.ClientLines.{CanCall}
 use Rattle.lab_run.specs.Stretches.{got_by}
 use Rattle.lab_actor.specs.Progress.{Progress}
 use Rattle.lab_actor.specs.ReaderLines.{AreSamples, HasReaderAnswered, HasReaderCalled, HasRead}
-use Rattle.lab_actor.specs.Room.{asked_by, fitting, wanted_by}
+use Rattle.lab_actor.specs.Room.{asked_by, fitting_op, wanted_by}
 use Rattle.lab_actor.proofs.Read.{HasLoaded-none, HasRead-none, frames-none, got-none, loaded-some}
 use Rattle.lab_actor.proofs.ReaderProgress.{Progress-same, call-makes}
 
 -- a read of no more frames than there is room for counts as any read does
-got-fitting : (asked : Op) (spare : ℕ) (answer : Answer) → got_by (fitting spare asked) answer ≡ got_by asked answer
+got-fitting : (asked : Op) (spare : ℕ) (answer : Answer) → got_by (fitting_op spare asked) answer ≡ got_by asked answer
 got-fitting (op.Read n) spare (Count count) = refl
 got-fitting (op.Read n) spare other = refl
 got-fitting other spare answer = refl
 
-frames-fitting : (asked : Op) (spare : ℕ) (answer : Answer) (r : CaptureStream) → frames_by (fitting spare asked) answer r ≡ frames_by asked answer r
+frames-fitting : (asked : Op) (spare : ℕ) (answer : Answer) (r : CaptureStream) → frames_by (fitting_op spare asked) answer r ≡ frames_by asked answer r
 frames-fitting (op.Read n) spare (Count count) r = refl
 frames-fitting (op.Read n) spare other r = refl
 frames-fitting other spare answer r = refl
 
-asked-fitting : (asked : Op) (spare : ℕ) → asked_by (fitting spare asked) ≤ asked_by asked
+asked-fitting : (asked : Op) (spare : ℕ) → asked_by (fitting_op spare asked) ≤ asked_by asked
 asked-fitting (op.Read n) spare = omega arith
 asked-fitting other spare = omega arith
 
 HasRead-fitting : {S : Type 0} (P : snoopport.Ghosts S) (p q : S) (r after : CaptureStream) (before samples : List ℤ) (asked : Op) (spare : ℕ) (answer : Answer)
-    → HasRead P p q r after before samples (fitting spare asked) answer → HasRead P p q r after before samples asked answer
+    → HasRead P p q r after before samples (fitting_op spare asked) answer → HasRead P p q r after before samples asked answer
 HasRead-fitting P p q r after before samples asked spare answer has_read = record {
   usable = has_read.usable;
   same = has_read.same;
@@ -61,7 +61,7 @@ HasRead-fitting P p q r after before samples asked spare answer has_read = recor
 
 -- and it is the read that the line names, where there is room for the frames that this may get
 call-fitting : {S T : Type 0} (P : snoopport.Ghosts S) (G : gates.Ghosts T) (s t : S × T) (r d : CaptureStream) (asked : Op) (spare : ℕ) (answer : Answer)
-    → wanted_by (most_read r) asked ≤ spare → TakesAtSnoop P G s (call_of r (fitting spare asked)) t (d, answer) → TakesAtSnoop P G s (call_of r asked) t (d, answer)
+    → wanted_by (most_read r) asked ≤ spare → TakesAtSnoop P G s (call_of r (fitting_op spare asked)) t (d, answer) → TakesAtSnoop P G s (call_of r asked) t (d, answer)
 call-fitting P G s t r d (op.Read n) spare answer fits takes = by_order (nat_le n spare) refl
   where
     by_order : (few : Bool) → nat_le n spare ≡ few → TakesAtSnoop P G s (call_of r (op.Read n)) t (d, answer)
@@ -80,9 +80,9 @@ call-fitting P G s t r d other spare answer fits takes = takes
 module _ {S T : Type 0} (P : snoopport.Ghosts S) (composes : Composes P.got) (loading : Composes P.loaded) (left : T → Option ℕ) (by_gate : T → ℕ) where
   pub answered-call : (G : gates.Ghosts T) → ((first : S) (ring : Geometry) → ReaderLinesAreParts P G left by_gate first ring)
       → (s t : S × T) (r d : CaptureStream) (before samples : List ℤ) (asked : Op) (spare : ℕ) (answer : Answer) → CanCall r.status.stopped asked
-      → HasReaderCalled P G s t r d before samples (fitting spare asked) answer → HasReaderAnswered P left by_gate s t r d before samples asked spare answer
+      → HasReaderCalled P G s t r d before samples (fitting_op spare asked) answer → HasReaderAnswered P left by_gate s t r d before samples asked spare answer
   answered-call G parts s t r d before samples asked spare answer can called =
-      let makes = call-makes P G s t r d (fitting spare asked) answer called.takes in
+      let makes = call-makes P G s t r d (fitting_op spare asked) answer called.takes in
       let got = got-fitting asked spare answer in
       let few = makes.few in
       let most = asked-fitting asked spare in
@@ -91,7 +91,7 @@ module _ {S T : Type 0} (P : snoopport.Ghosts S) (composes : Composes P.got) (lo
             parts first ring s t phase number doing (record { own = Some r; frames = frames }) r asked d answer
             (record { is_open = refl; goes = can.goes; asks = can.asks }) at (call-fitting P G s t r d asked spare answer fits called.takes);
         has_read = HasRead-fitting P s.0 t.0 r d before samples asked spare answer called.has_read;
-        loaded = loaded-some P G loading s t (call_of r (fitting spare asked)) (d, answer) called.takes;
+        loaded = loaded-some P G loading s t (call_of r (fitting_op spare asked)) (d, answer) called.takes;
         progress = subst (λ (n : ℕ). Progress n r d (P.view s.0) (P.view t.0)) got makes.progress;
         few = omega (arith, few, most, got);
       }

@@ -17,7 +17,7 @@ use Rattle.snoop_core.specs.Port.{SnoopView}
 use Rattle.pcm_stream.specs.declared.setup.Setup.{Setup}
 use Rattle.dsnoop_client.specs.declared.stream.CaptureStream.{CaptureStream}
 use Rattle.dsnoop_client.specs.FewerReads.{most_read}
-use Rattle.dsnoop_client.specs.Reads.{through, through_all}
+use Rattle.dsnoop_client.specs.Reads.{bound_samples, through_all}
 use Rattle.lab_script.specs.declared.line.Actor.{Actor}
 use Rattle.lab_script.specs.declared.line.Line.{Line}
 use Rattle.lab_script.specs.declared.line.Op.{Op}
@@ -229,7 +229,7 @@ module _ {S : Type 0} (P : snoopport.Ghosts S) (composes : Composes P.got) where
         numbers_are = map-append (λ (frame : Frame). frame.number) one.frames two.frames ∙ (λ i. one.numbers_are i ++ two.numbers_are i);
         whole = All-append (λ (frame : Frame). length frame.samples ≡ r.geometry.channels) one.frames two.frames one.whole two.whole;
         samples_are = (λ i. one.samples_are i ++ two.samples_are i)
-            ∙ sym (flat_map-append (λ (frame : Frame). through r.setup.bindings frame.samples) one.frames two.frames);
+            ∙ sym (flat_map-append (λ (frame : Frame). bound_samples r.setup.bindings frame.samples) one.frames two.frames);
       }
 
   pub Appends-none : (p : S) (a : ReaderActor) → Appends P p p a a

@@ -23,7 +23,7 @@ use Rattle.pcm_states.specs.Table.{next_of}
 use Rattle.pcm_stream.specs.Status.{refusal_of}
 use Rattle.pcm_stream.specs.declared.direction.Direction.TheVariants.{Capture}
 use Rattle.dsnoop_client.specs.declared.stream.CaptureStream.{CaptureStream}
-use Rattle.dsnoop_client.specs.Calls.{Answered, found, in_state, read_after, read_to, seen_at, taken_of, waits, with_avail, with_outcome}
+use Rattle.dsnoop_client.specs.Calls.{Answered, facts_with, in_state, read_after, read_to, seen_at, taken_of, waits, with_avail, with_outcome}
 use Rattle.dsnoop_client.specs.Course.{admitted_by, counts, gets_frames, one_more, read_course, reads_first, reads_on, starts, syncs, transfer_on, transfers}
 use Rattle.dsnoop_client.specs.Reads.{count_of_answer}
 use Rattle.dsnoop_client.specs.View.{avail_of, is_running}
@@ -84,7 +84,7 @@ Progress-some count r d v w ring rising running next below had = record {
 -- ---- the state table
 
 -- a start at a card that is gone starts nothing
-starts-gone : (s : State) → is_running (next_of s call.Start (found true None None)).state ≡ true → is_running s ≡ true
+starts-gone : (s : State) → is_running (next_of s call.Start (facts_with true None None)).state ≡ true → is_running s ≡ true
 starts-gone state.Open is = is
 starts-gone state.Setup is = is
 starts-gone state.Prepared is = is
@@ -96,7 +96,7 @@ starts-gone state.Suspended is = is
 starts-gone state.Disconnected is = is
 
 -- and a read is refused there
-reads-gone : (s : State) (done : Unit {0}) → (next_of s call.Transfer (found true None None)).answer ≡ Ok done → ⊥
+reads-gone : (s : State) (done : Unit {0}) → (next_of s call.Transfer (facts_with true None None)).answer ≡ Ok done → ⊥
 reads-gone state.Open done is = cc
 reads-gone state.Setup done is = cc
 reads-gone state.Prepared done is = cc
@@ -107,7 +107,7 @@ reads-gone state.Paused done is = cc
 reads-gone state.Suspended done is = cc
 reads-gone state.Disconnected done is = cc
 
-reads-gone_state : (s : State) → is_running (next_of s call.Transfer (found true None None)).state ≡ true → is_running s ≡ true
+reads-gone_state : (s : State) → is_running (next_of s call.Transfer (facts_with true None None)).state ≡ true → is_running s ≡ true
 reads-gone_state state.Open is = is
 reads-gone_state state.Setup is = is
 reads-gone_state state.Prepared is = is
@@ -269,7 +269,7 @@ module _ {S T : Type 0} (P : snoopport.Ghosts S) (G : gates.Ghosts T) where
       Went-there s m t r _ x.0 rest.there (ap (λ (y : Answered (Unit {0})). y.0) rest.result) (load-some s m r _ position step (by_gone position.gone))
     where
       by_gone : (gone : Bool)
-          → IsOn r (in_state (if gone then seen_at r position else record r { seen = Some position.frame; next = position.frame }) (next_of r.status.state call.Start (found gone None None)).state)
+          → IsOn r (in_state (if gone then seen_at r position else record r { seen = Some position.frame; next = position.frame }) (next_of r.status.state call.Start (facts_with gone None None)).state)
           (record (P.view s.0) { seen = position.frame })
       by_gone true = λ is. inr (starts-gone r.status.state is, refl)
       by_gone false = λ is. inl refl
@@ -293,7 +293,7 @@ module _ {S T : Type 0} (P : snoopport.Ghosts S) (G : gates.Ghosts T) where
 
       by_gone : (gone : Bool)
           → Starts s m r (with_outcome (if gone then seen_at r position else record r { seen = Some position.frame; next = position.frame })
-          (next_of r.status.state call.Transfer (found gone None None)))
+          (next_of r.status.state call.Transfer (facts_with gone None None)))
       by_gone true = record {
         went = load-some s m r _ position step (λ is. inr (reads-gone_state r.status.state is, refl));
         none = λ done is. absurd (reads-gone r.status.state done is);

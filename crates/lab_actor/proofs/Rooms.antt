@@ -7,10 +7,10 @@ use Rattle.dsnoop_client.specs.declared.stream.CaptureStream.{CaptureStream}
 use Rattle.dsnoop_client.specs.FewerReads.{most_read}
 use Rattle.lab_script.specs.declared.line.Op.{Op}
 use Rattle.lab_script.specs.declared.line.Op.TheVariants as op
-use Rattle.lab_actor.specs.Room.{HasSpace, fitting, samples_wanted, spare_frames}
+use Rattle.lab_actor.specs.Room.{HasSpace, fitting_op, samples_wanted, spare_frames}
 
 -- there is room for what a line names of no more frames than there is room for
-pub fitting-fits : (r : CaptureStream) (samples : Vec ℤ) (asked : Op) → HasSpace (samples_wanted r (fitting (spare_frames r samples) asked)) samples
+pub fitting-fits : (r : CaptureStream) (samples : Vec ℤ) (asked : Op) → HasSpace (samples_wanted r (fitting_op (spare_frames r samples) asked)) samples
 fitting-fits r samples (op.Read n) =
     let channels : ℕ = length r.setup.bindings in
     let spare : ℕ = spare_frames r samples in

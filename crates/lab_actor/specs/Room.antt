@@ -57,6 +57,6 @@ spare_frames reader samples =
     (vec_capacity samples - vec_len samples) / length reader.setup.bindings
 
 -- a read asks for as many frames as there is room for
-abbrev pub fitting : ℕ → Op → Op
-fitting spare (op.Read frames) = op.Read (min frames spare)
-fitting spare other = other
+abbrev pub fitting_op : ℕ → Op → Op
+fitting_op spare (op.Read frames) = op.Read (min frames spare)
+fitting_op spare other = other

@@ -3,7 +3,7 @@ ghost use Rattle.std.specs.Prelude.{◌≡◌, ◌≤◌, ◌++◌, min, pos, re
 ghost use Rattle.dsnoop_client.specs.FewerReads.{most_read};
 ghost use Rattle.dsnoop_client.specs.View.{CanUse};
 ghost use Rattle.lab_actor.specs.ReaderLines.{HasReaderCalled, IsFewRead};
-ghost use Rattle.lab_actor.specs.Room.{GrowsBy, HasSpace, fitting, samples_wanted, spare_frames};
+ghost use Rattle.lab_actor.specs.Room.{GrowsBy, HasSpace, fitting_op, samples_wanted, spare_frames};
 
 use crate::answer::{counted, done, moved};
 use dsnoop_client::Reader;
@@ -98,7 +98,7 @@ fn spare_frames(reader: &Reader, samples: &Vec<i16>) -> u64
 
 /// What a line names, of no more frames than there is room for.
 fn fitting(reader: &Reader, samples: &Vec<i16>, asked: Op) -> Op
-    ensures { result ≡ fitting (spare_frames reader.now samples.now) asked }
+    ensures { result ≡ fitting_op (spare_frames reader.now samples.now) asked }
 {
     match asked {
         Op::Read(frames) => {
@@ -123,7 +123,7 @@ pub(crate) fn call_fitting<P: SnoopPort, G: Gate>(
     requires usable { CanUse reader.old (P.view port.old) }
     ensures called { HasReaderCalled P.SnoopPort G.Gate (port.old, gate.old) (port.new, gate.new)
         reader.old reader.new samples.old.items samples.new.items
-        (fitting (spare_frames reader.old samples.old) asked) result }
+        (fitting_op (spare_frames reader.old samples.old) asked) result }
     ensures room { vec_capacity samples.old ≤ vec_capacity samples.new }
 {
     let asked = fitting(reader, samples, asked);

@@ -8,7 +8,7 @@ use Rattle.asound_conf.specs.declared.plugin.Device.{Device}
 use Rattle.asound_conf.specs.Device.{IsCard}
 use Rattle.asound_conf.specs.Text.{card_line}
 use Rattle.lab_script.specs.declared.error.ScriptWhy.TheVariants as why
-use Rattle.lab_script.specs.Draft.{begun}
+use Rattle.lab_script.specs.Draft.{card_alone}
 use Rattle.lab_script.specs.Lexing.{lines_of}
 use Rattle.lab_script.specs.Reading.{after, on_line, refusal_at, script_at, script_of_lines}
 use Rattle.lab_conf.specs.Described.{IsScriptText, card_script}
@@ -70,5 +70,5 @@ IsScriptText-card d card =
     } in
     ap (λ t. cond t (Err (refusal_at 0 why.TooLong)) (script_of_lines (lines_of text))) fits
     ∙ ap script_of_lines (lines_of-card_line d card)
-    ∙ ap (λ card. on_line 1 card (λ made. script_at (after (begun made) [])))
+    ∙ ap (λ card. on_line 1 card (λ made. script_at (after (card_alone made) [])))
     (card_line-words (decimal d.channels) (decimal d.rate) (decimal d.period) (decimal d.ring) d.channels d.rate d.period d.ring numerals card)

@@ -24,7 +24,7 @@ use Rattle.pcm_stream.specs.Status.{is_moving, is_refusal, nothing_found, refusa
 use Rattle.dmix_client.specs.Calls.{Answered, with_accepted, accepted_if, avail_answer, committed_by, delay_answer, after_drop, end_channel, end_of_commit, facts_of, found_at, going_on, going_on_by, is_running, is_stop, late_at, late_of, over_of, after_pause, pending_of, after_prepare, with_new_base, after_resume, seen_at, with_outcome, after_start, started_in, start_count, stopped_in, sync_count, after_sync, taken_of, with_number, written_after}
 use Rattle.dmix_client.specs.Calls as calls
 use Rattle.dmix_client.specs.Course.{if_admitted, admitted_by, commits, drain_course, drain_on, drains, fills, commit_at, go_on, lay_each, lay_frame, lay_frames, lay_on, looks, nothing, number_course, course_with_number, one_frame_more, one_more, pause_course, resumes, start_course, starts, starts_taking, syncs, takes_more, write_on, writes_on}
-use Rattle.dmix_client.specs.Rewind.{back_of, checks, last_channel, last_laid, rewind_course, rewind_on, rewindable_course, rewindable_of, rewinds, rewound, take_frames, taken_back, takes_back}
+use Rattle.dmix_client.specs.Rewind.{back_of, checks, last_channel, last_laid, rewind_course, rewind_on, rewindable_course, rewindable_of, rewinds, after_rewind, take_frames, taken_back, takes_back}
 use Rattle.dmix_client.specs.View.{avail_of, ring_sample}
 use Rattle.dmix_client.specs.Writes.{count_with, ring_with, starts_with}
 use Rattle.lab_script.specs.declared.line.Op.{Op}
@@ -234,7 +234,7 @@ drain_on-kept b (c, Err e) kept = kept
 
 drain-kept : (b : List ℕ) (c : PlaybackStream) (cursor : Cursor) → c.setup.bindings ≡ b → All (Kept b) (drain_course c [] cursor)
 unfolding drains
-drain-kept b c cursor is = All-if (Kept b) (is_moving c.status.state) (syncs (calls.draining c) call.Drain []) _ (syncs-kept b (calls.draining c) call.Drain [] is)
+drain-kept b c cursor is = All-if (Kept b) (is_moving c.status.state) (syncs (calls.in_draining c) call.Drain []) _ (syncs-kept b (calls.in_draining c) call.Drain [] is)
     (All-if (Kept b) (calls.has_frames c) (drains c [] cursor) (ends (after_drop c, Ok tt))
     (All-then (Kept b) (Kept b) (starts c Draining cursor c.stretch.written []) (drain_on []) (starts-kept b c Draining cursor c.stretch.written [] is) (drain_on-kept b)) (is, tt))
 
@@ -321,7 +321,7 @@ call-named b wav marks c other not is = (is, tt)
 abbrev pub Bound : {T : Type 0} → List ℕ → PlaybackStream × T → Type 0
 Bound b (d, r) = d.setup.bindings ≡ b
 
-rewound-bound : (b : List ℕ) (c : PlaybackStream) (n : ℕ) (left : Commit) → c.setup.bindings ≡ b → Bound b (rewound c n left)
+rewound-bound : (b : List ℕ) (c : PlaybackStream) (n : ℕ) (left : Commit) → c.setup.bindings ≡ b → Bound b (after_rewind c n left)
 rewound-bound b c n left is = by_stop (is_stop left.ended)
   where
     by_answer : (d : PlaybackStream) (r : Result (Unit {0}) PcmError) → d.setup.bindings ≡ b → Bound b (with_number (λ (e : PlaybackStream). n) (d, r))
@@ -337,7 +337,7 @@ rewind_on-bound : (b : List ℕ) (floor : Cursor) (n : ℕ) (done : Answered (Un
 unfolding takes_back
 rewind_on-bound b floor n (c, Ok done) kept = All-after (Bound b) (take_frames c.identity.member c.stretch.card c.setup.bindings (ring_sample c [])
     (c.stretch.committed - back_of c (min n (rewindable_of floor c))) (back_of c (min n (rewindable_of floor c))))
-    (λ left. ends (rewound c (min n (rewindable_of floor c)) left)) (λ left. rewound-bound b c (min n (rewindable_of floor c)) left kept.0)
+    (λ left. ends (after_rewind c (min n (rewindable_of floor c)) left)) (λ left. rewound-bound b c (min n (rewindable_of floor c)) left kept.0)
 rewind_on-bound b floor n (c, Err e) kept = kept.0
 
 rewind-bound : (b : List ℕ) (c : PlaybackStream) (floor : Cursor) (n : ℕ) → c.setup.bindings ≡ b → All (Bound b) (rewind_course c [] floor n)

@@ -19,10 +19,10 @@ use Rattle.pcm_stream.specs.Status.{is_moving, nothing_found, refusal_of}
 use Rattle.course.specs.Course.{Course, ends}
 use Rattle.dmix_client.specs.declared.commit.Commit.{Commit}
 use Rattle.dmix_client.specs.declared.stream.PlaybackStream.{PlaybackStream}
-use Rattle.dmix_client.specs.Calls.{Answered, committed_by, found_at, is_prepared, is_stop, late_of, with_outcome, start_count, after_start, started_in, stopped_in, accepted_if, avail_answer, delay_answer, draining, after_drop, has_frames, in_state, is_running, late_at, pending_of, after_prepare, with_new_base, after_resume, taken_of, with_number, written_after}
+use Rattle.dmix_client.specs.Calls.{Answered, committed_by, found_at, is_prepared, is_stop, late_of, with_outcome, start_count, after_start, started_in, stopped_in, accepted_if, avail_answer, delay_answer, in_draining, after_drop, has_frames, in_state, is_running, late_at, pending_of, after_prepare, with_new_base, after_resume, taken_of, with_number, written_after}
 use Rattle.dmix_client.specs.Course.{commits, looks, nothing, starts, syncs, if_admitted, admitted_by, drain_course, drain_on, drains, fills, number_course, course_with_number, pause_course, resumes, start_course, starts_taking, sync_course, takes_more, write_on, writes_on}
 use Rattle.dmix_client.specs.Port.{IsStep}
-use Rattle.dmix_client.specs.Rewind.{back_of, checks, last_channel, last_laid, rewind_course, rewind_on, rewindable_course, rewindable_of, rewinds, rewound, take_frames, taken_back, takes_back, without_frames}
+use Rattle.dmix_client.specs.Rewind.{back_of, checks, last_channel, last_laid, rewind_course, rewind_on, rewindable_course, rewindable_of, rewinds, after_rewind, take_frames, taken_back, takes_back, without_frames}
 use Rattle.dmix_client.specs.View.{avail_of, ring_sample}
 use Rattle.dmix_client.specs.Writes.{count_with, ring_with, starts_with}
 use Rattle.lab_script.specs.declared.line.Op.{Op}
@@ -196,12 +196,12 @@ module _ (p : ℕ) (g : Geometry) (x y : ℕ) where
       by_frames true false is_so = in-state Setup m c refl refl is
       by_frames false some is_so = in-state Setup m c refl refl is
 
-      draining-begun : Begun p x y m c → Begun p x y m (draining c)
+      draining-begun : Begun p x y m c → Begun p x y m (in_draining c)
       draining-begun begun = record { bound = begun.bound; started = begun.started; unprepared = refl; past = begun.past; lies = begun.lies }
 
-      by_test : (moves : Bool) → is_moving c.status.state ≡ moves → Leads p g (OnwardAfter p x y) m (if moves then syncs (draining c) call.Drain []
+      by_test : (moves : Bool) → is_moving c.status.state ≡ moves → Leads p g (OnwardAfter p x y) m (if moves then syncs (in_draining c) call.Drain []
           else (if has_frames c then drains c [] m.cursor else ends (after_drop c, Ok tt)))
-      by_test true moves = syncs-goes (draining c) call.Drain m tt (draining-begun (moving-begun p x y m c moves is))
+      by_test true moves = syncs-goes (in_draining c) call.Drain m tt (draining-begun (moving-begun p x y m c moves is))
       by_test false moves = by_frames (is_prepared c.status.state) (nat_lt 0 c.stretch.written) refl
 
   -- ---- a resume
@@ -256,7 +256,7 @@ module _ (p : ℕ) (g : Geometry) (x y : ℕ) where
       by_test false runs = is
 
   pub rewound-goes : (c : PlaybackStream) (n : ℕ) (left : Commit) (m : Marks) → Channels c.setup.bindings → c.stretch.started ≡ true → is_prepared c.status.state ≡ false → x ≤ c.stretch.card
-      → Lies p x y c.stretch.card 0 (end_of (taken_back c n left)) m → OnwardAfter p x y m (rewound c n left)
+      → Lies p x y c.stretch.card 0 (end_of (taken_back c n left)) m → OnwardAfter p x y m (after_rewind c n left)
   rewound-goes c n left m bound started unprepared past lies = by_stop (is_stop left.ended)
     where
       done : PlaybackStream
@@ -277,7 +277,7 @@ module _ (p : ℕ) (g : Geometry) (x y : ℕ) where
   unfolding takes_back
   takes_back-goes c n m within is =
       Leads-then p g (λ k left. Lies p x y c.stretch.card 0 (end_of (taken_back c n left)) k) (OnwardAfter p x y) m
-      (take_frames c.identity.member c.stretch.card c.setup.bindings (ring_sample c []) (c.stretch.committed - back_of c n) (back_of c n)) (λ left. ends (rewound c n left))
+      (take_frames c.identity.member c.stretch.card c.setup.bindings (ring_sample c []) (c.stretch.committed - back_of c n) (back_of c n)) (λ left. ends (after_rewind c n left))
       (frames-back p g x y c.stretch.card is.past c.identity.member c.setup.bindings is.bound.whole is.bound.some (ring_sample c []) (c.stretch.committed - back_of c n) (back_of c n) m
       (record {
         low = is.lies.low;

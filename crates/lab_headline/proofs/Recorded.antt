@@ -18,7 +18,7 @@ use Rattle.lab_run.specs.Reader.{Reader}
 use Rattle.lab_run.specs.Rules.{AtPort}
 use Rattle.lab_run.specs.Stage.{Session, Setup}
 use Rattle.lab_run.specs.Stretches.{AreSlices, ReadersReadInSlices, ReadsInSlices}
-use Rattle.lab_headline.specs.Recordings.{AreRecordingsOf, IsRecordingOf, bindings_at, frames_in_runs, frames_of_runs, recording, ReadersAreBound}
+use Rattle.lab_headline.specs.Recordings.{AreRecordingsOf, IsRecordingOf, bindings_at, frames_in_runs, frames_of_runs, recording_of, ReadersAreBound}
 use Rattle.lab_headline.proofs.Sizes.{map-size, run-size}
 
 -- the frames of the runs of some frames are these frames
@@ -65,7 +65,7 @@ reader-recording session capture outcome number reads =
     let runs = runs_by number outcome.report.runs in
     let bindings = bindings_at session number in
     let frames : frames_of_runs runs ≡ reads.frames = ap frames_of_runs reads.runs ∙ runs-frames reads.frames in
-    let samples : slice_index_or outcome.recorded number [] ≡ recording session capture bindings runs =
+    let samples : slice_index_or outcome.recorded number [] ≡ recording_of session capture bindings runs =
     reads.samples ∙ ap (flat_map (λ frame. map (captured_sample session capture frame) bindings)) (sym frames) in
     record {
       frames = samples;

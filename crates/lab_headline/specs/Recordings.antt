@@ -23,8 +23,8 @@ frames_in_runs ((first, count) ∷ runs) = count + frames_in_runs runs
 
 -- the captured frames of some runs, interleaved: of each frame the channels that the bindings name, in their order, each with the sample that
 -- the capture file has of that frame and channel, or 0
-abbrev pub recording : Session → Option Sound → List ℕ → List (ℕ × ℕ) → List ℤ
-recording session capture bindings runs =
+abbrev pub recording_of : Session → Option Sound → List ℕ → List (ℕ × ℕ) → List ℤ
+recording_of session capture bindings runs =
     flat_map (λ frame. map (captured_sample session capture frame) bindings) (frames_of_runs runs)
 
 -- the card's channels that a reader's channels are bound to
@@ -36,7 +36,7 @@ bindings_at session number = bindings_of (slice_index_or session.readers number 
 pub record IsRecordingOf (session : Session) (capture : Option Sound) (report : Report)
     (number : ℕ) (samples : List ℤ) : Type 0 where
   pub frames : samples
-      ≡ recording session capture (bindings_at session number) (runs_by number report.runs)
+      ≡ recording_of session capture (bindings_at session number) (runs_by number report.runs)
   pub samples_are : length samples
       ≡ frames_in_runs (runs_by number report.runs) * length (bindings_at session number)
   pub after : Option ℕ

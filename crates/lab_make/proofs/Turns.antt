@@ -9,7 +9,7 @@ use Rattle.lab_script.specs.declared.line.Item.{Item}
 use Rattle.lab_script.specs.declared.line.Item.TheVariants as item
 use Rattle.lab_script.specs.declared.line.Line.{Line}
 use Rattle.lab_script.specs.declared.line.Op.TheVariants as op
-use Rattle.lab_script.specs.Draft.{State, begun}
+use Rattle.lab_script.specs.Draft.{State, card_alone}
 use Rattle.lab_script.specs.Lexing.{lines_of}
 use Rattle.lab_script.specs.Reading.{after, on_line, refusal_at, script_at, script_of, script_of_lines}
 use Rattle.lab_make.specs.Lines.{all_turn_lines, client_lines, made_lines, made_text, open_lines, play_lines, turn_lines, write_lines}
@@ -130,5 +130,5 @@ script_of-made_text clients turns few short =
     let fits : nat_lt 1048576 (length text) ≡ false = nat_lt-le 1048576 (length text) (omega (arith, size)) in
     ap (λ t. cond t (Err (refusal_at 0 why.TooLong)) (script_of_lines (lines_of text))) fits
     ∙ ap script_of_lines (lines_from-lines_text 1 (made_lines clients turns) (made_lines-plain clients turns few))
-    ∙ ap (λ card. on_line 1 card (λ made. script_at (after (begun made) (enumerate_from 2 lines)))) card_line-made
+    ∙ ap (λ card. on_line 1 card (λ made. script_at (after (card_alone made) (enumerate_from 2 lines)))) card_line-made
     ∙ ap script_at (after-made clients turns few short)

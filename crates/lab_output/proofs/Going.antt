@@ -9,7 +9,7 @@ use Rattle.wav_io.specs.Canonical.{sample_bytes}
 use Rattle.lab_shelf.specs.Files.{Files, bytes_under, with_file, with_change, with_first_bytes, IsPartAppended, IsPartFinished}
 use Rattle.lab_shelf.specs.Changes.{Changes, Changes-nothing, Changes-then, Changes-with_file, Changes-part}
 use Rattle.lab_output.specs.declared.file.OutputFile.{OutputFile}
-use Rattle.lab_output.specs.Files.{AreApart, begun, finished_files, nothing, open_head_of, head_of, open_file, finished_file, IsFormOf, MayHold}
+use Rattle.lab_output.specs.Files.{AreApart, unfinished_files, finished_files, nothing, open_head_of, head_of, open_file, finished_file, IsFormOf, MayHold}
 use Rattle.lab_output.specs.Going.{opened_files, OpenedInPart, closed_files, ClosedInPart, HaveHeadRoom, AreLonger, IsPartOf, IsGoingOn}
 use Rattle.lab_output.specs.GoingLaws.{AreLonger-forms, IsGoingOn-Changes, Into, open_file-more, with_outputs-Changes, written-Changes}
 use Rattle.lab_output.proofs.Shelves.{changed-first, changed-output, bytes_under-with_outputs}
@@ -17,15 +17,15 @@ use Rattle.lab_output.proofs.Forms.{length-open_head, AllForms-open, AllForms-fi
 use Rattle.lab_output.proofs.Longer.{longer-at, longer-before, longer-form, longer-length}
 
 -- outputs that were begun have an open head and no sample
-opened_files-begun : (outputs : List OutputFile) (m : Files) → opened_files outputs m ≡ begun outputs (nothing outputs) m
+opened_files-begun : (outputs : List OutputFile) (m : Files) → opened_files outputs m ≡ unfinished_files outputs (nothing outputs) m
 opened_files-begun [] m = refl
 opened_files-begun (output ∷ outputs) m =
     opened_files-begun outputs (with_file m output.name (open_head_of output))
-    ∙ ap (λ (bytes : List ℕ). begun outputs (nothing outputs) (with_file m output.name bytes)) (sym (open_file-nothing output))
+    ∙ ap (λ (bytes : List ℕ). unfinished_files outputs (nothing outputs) (with_file m output.name bytes)) (sym (open_file-nothing output))
 
 -- the same of files that may not be told
 pub opened_where-begun : (outputs : List OutputFile) (before after : Option Files) → after ≡ option_map (opened_files outputs) before
-    → after ≡ option_map (begun outputs (nothing outputs)) before
+    → after ≡ option_map (unfinished_files outputs (nothing outputs)) before
 opened_where-begun outputs None after is = is
 opened_where-begun outputs (Some m) after is = is ∙ ap Some (opened_files-begun outputs m)
 
@@ -52,18 +52,18 @@ OpenedInPart-Changes outputs before after part =
 
 -- outputs with true heads are finished
 closed_files-stored : (outputs : List OutputFile) (sounds : List (List ℤ)) (m : Files) → AreApart outputs
-    → closed_files outputs (map length sounds) (begun outputs sounds m) ≡ finished_files outputs sounds m
+    → closed_files outputs (map length sounds) (unfinished_files outputs sounds m) ≡ finished_files outputs sounds m
 closed_files-stored [] sounds m apart = refl
 closed_files-stored (output ∷ outputs) [] m apart = refl
 closed_files-stored (output ∷ outputs) (samples ∷ sounds) m apart =
     ap (closed_files outputs (map length sounds))
     (changed-first open_file (with_first_bytes (head_of output (length samples))) output outputs samples sounds m apart
-    ∙ ap (λ (bytes : List ℕ). begun outputs sounds (with_file m output.name bytes)) (finished_file-made output samples))
+    ∙ ap (λ (bytes : List ℕ). unfinished_files outputs sounds (with_file m output.name bytes)) (finished_file-made output samples))
     ∙ closed_files-stored outputs sounds (with_file m output.name (finished_file output samples)) apart.1
 
 -- the same of files that may not be told
 closed_where-stored : (outputs : List OutputFile) (sounds : List (List ℤ)) (before : Option Files) → AreApart outputs
-    → option_map (closed_files outputs (map length sounds)) (option_map (begun outputs sounds) before) ≡ option_map (finished_files outputs sounds) before
+    → option_map (closed_files outputs (map length sounds)) (option_map (unfinished_files outputs sounds) before) ≡ option_map (finished_files outputs sounds) before
 closed_where-stored outputs sounds None apart = refl
 closed_where-stored outputs sounds (Some m) apart = ap Some (closed_files-stored outputs sounds m apart)
 
@@ -74,12 +74,12 @@ pub IsGoingOn-stored : (outputs : List OutputFile) (counts : List ℕ) (sounds :
 IsGoingOn-stored outputs counts sounds before now after apart going is =
     is
     ∙ ap (option_map (closed_files outputs counts)) going.files
-    ∙ ap (λ (ns : List ℕ). option_map (closed_files outputs ns) (option_map (begun outputs sounds) before)) (sym going.counted)
+    ∙ ap (λ (ns : List ℕ). option_map (closed_files outputs ns) (option_map (unfinished_files outputs sounds) before)) (sym going.counted)
     ∙ closed_where-stored outputs sounds before apart
 
 -- outputs of which some have true heads have changed so
 closed_files-Changes : (may_hold : List ℕ → List ℕ → Type 0) (outputs : List OutputFile) (sounds : List (List ℤ)) (m : Files) (after : Option Files)
-    → AreApart outputs → Into outputs sounds may_hold → ClosedInPart outputs (map length sounds) (Some (begun outputs sounds m)) after
+    → AreApart outputs → Into outputs sounds may_hold → ClosedInPart outputs (map length sounds) (Some (unfinished_files outputs sounds m)) after
     → Changes may_hold (Some m) after
 closed_files-Changes may_hold [] sounds m after apart into is =
     subst (λ (a : Option Files). Changes may_hold (Some m) a) (sym is) (Changes-nothing may_hold (Some m))
@@ -92,20 +92,20 @@ closed_files-Changes may_hold (output ∷ outputs) (samples ∷ sounds) m after 
 closed_files-Changes may_hold (output ∷ outputs) (samples ∷ sounds) m after apart into (inl (inr part)) =
     let head : List ℕ = take part.0 (head_of output (length samples)) in
     let bytes : List ℕ = with_first_bytes head (open_file output samples) in
-    let is : after ≡ Some (begun outputs sounds (with_file m output.name bytes)) =
+    let is : after ≡ Some (unfinished_files outputs sounds (with_file m output.name bytes)) =
     part.2 ∙ ap Some (changed-first open_file (with_first_bytes head) output outputs samples sounds m apart) in
     subst (λ (a : Option Files). Changes may_hold (Some m) a) (sym is)
-    (Changes-then may_hold (Some m) (Some (with_file m output.name bytes)) (Some (begun outputs sounds (with_file m output.name bytes)))
+    (Changes-then may_hold (Some m) (Some (with_file m output.name bytes)) (Some (unfinished_files outputs sounds (with_file m output.name bytes)))
     (Changes-with_file may_hold (Some m) output.name bytes
     (into output.name bytes (inl (refl, IsFormOf-closing output samples part.0 part.1))))
     (with_outputs-Changes may_hold open_file outputs sounds sounds (with_file m output.name bytes) (AllForms-open outputs sounds)
     (λ name b may. into name b (inr may))))
 closed_files-Changes may_hold (output ∷ outputs) (samples ∷ sounds) m after apart into (inr rest) =
     let bytes : List ℕ = finished_file output samples in
-    let is : with_change (with_first_bytes (head_of output (length samples))) (begun (output ∷ outputs) (samples ∷ sounds) m) output.name
-    ≡ begun outputs sounds (with_file m output.name bytes) =
+    let is : with_change (with_first_bytes (head_of output (length samples))) (unfinished_files (output ∷ outputs) (samples ∷ sounds) m) output.name
+    ≡ unfinished_files outputs sounds (with_file m output.name bytes) =
     changed-first open_file (with_first_bytes (head_of output (length samples))) output outputs samples sounds m apart
-    ∙ ap (λ (b : List ℕ). begun outputs sounds (with_file m output.name b)) (finished_file-made output samples) in
+    ∙ ap (λ (b : List ℕ). unfinished_files outputs sounds (with_file m output.name b)) (finished_file-made output samples) in
     Changes-then may_hold (Some m) (Some (with_file m output.name bytes)) after
     (Changes-with_file may_hold (Some m) output.name bytes (into output.name bytes (inl (refl, IsFormOf-finished output samples))))
     (closed_files-Changes may_hold outputs sounds (with_file m output.name bytes) after apart.1 (λ name b may. into name b (inr may))
@@ -122,7 +122,7 @@ pub IsGoingOn-closing : (outputs : List OutputFile) (counts : List ℕ) (sounds 
 IsGoingOn-closing outputs counts sounds None now after apart going part = closed_files-untold (MayHold outputs sounds) after
 IsGoingOn-closing outputs counts sounds (Some m) now after apart going part =
     closed_files-Changes (MayHold outputs sounds) outputs sounds m after apart (λ name bytes may. may)
-    (subst (λ (ns : List ℕ). ClosedInPart outputs ns (Some (begun outputs sounds m)) after) (sym going.counted)
+    (subst (λ (ns : List ℕ). ClosedInPart outputs ns (Some (unfinished_files outputs sounds m)) after) (sym going.counted)
     (subst (λ (f : Option Files). ClosedInPart outputs counts f after) going.files part))
 
 -- the lengths of samples of which one output has others
@@ -135,8 +135,8 @@ map-length-set (sound ∷ sounds) (suc n) samples = ap (λ (ns : List ℕ). leng
 appended-begun : (outputs : List OutputFile) (sounds : List (List ℤ)) (before : Option Files) (n : ℕ) (output : OutputFile) (samples : List ℤ) (k : ℕ)
     → AreApart outputs → length sounds ≡ length outputs → n < length outputs → output ≡ get_or outputs n output
     → get_or sounds n [] ≡ take k samples
-    → option_map (λ files. with_change (λ content. content ++ flat_map sample_bytes (drop k samples)) files output.name) (option_map (begun outputs sounds) before)
-    ≡ option_map (begun outputs (set sounds n samples)) before
+    → option_map (λ files. with_change (λ content. content ++ flat_map sample_bytes (drop k samples)) files output.name) (option_map (unfinished_files outputs sounds) before)
+    ≡ option_map (unfinished_files outputs (set sounds n samples)) before
 appended-begun outputs sounds None n output samples k apart even within is first = refl
 appended-begun outputs sounds (Some m) n output samples k apart even within is first =
     ap Some (changed-output open_file (λ content. content ++ flat_map sample_bytes (drop k samples)) outputs sounds m n output samples
@@ -170,7 +170,7 @@ part-Changes : (outputs : List OutputFile) (sounds targets : List (List ℤ)) (m
     (n : ℕ) (output : OutputFile) (samples : List ℤ) (k : ℕ)
     → AreApart outputs → length sounds ≡ length outputs → n < length outputs → output ≡ get_or outputs n output
     → get_or sounds n [] ≡ take k samples → AreLonger (set sounds n samples) targets
-    → IsPartAppended (Some (begun outputs sounds m)) after output.name (flat_map sample_bytes (drop k samples))
+    → IsPartAppended (Some (unfinished_files outputs sounds m)) after output.name (flat_map sample_bytes (drop k samples))
     → Changes (MayHold outputs targets) (Some m) after
 part-Changes outputs sounds targets m after n output samples k apart even within is first longer (inl same) =
     subst (λ (a : Option Files). Changes (MayHold outputs targets) (Some m) a) (sym same)
@@ -179,7 +179,7 @@ part-Changes outputs sounds targets m after n output samples k apart even within
 part-Changes outputs sounds targets m after n output samples k apart even within is first longer (inr part) =
     let may : List ℕ → List ℕ → Type 0 = MayHold outputs targets in
     let new : List ℕ = flat_map sample_bytes (drop k samples) in
-    let now : Files = begun outputs sounds m in
+    let now : Files = unfinished_files outputs sounds m in
     let there : IsPartOf samples (get_or targets n []) =
     subst (λ (s : List ℤ). IsPartOf s (get_or targets n []))
     (get_or-set_same sounds n samples [] (omega (arith, even, within)))
@@ -250,7 +250,7 @@ opened_all-Changes outputs before after is =
 
 -- each output has room for a head while a run goes on
 rooms : (outputs : List OutputFile) (sounds : List (List ℤ)) (m : Files) → AreApart outputs → length sounds ≡ length outputs
-    → HaveHeadRoom (Some (begun outputs sounds m)) outputs
+    → HaveHeadRoom (Some (unfinished_files outputs sounds m)) outputs
 rooms [] sounds m apart even = tt
 rooms (output ∷ outputs) [] m apart even = absurd (omega (arith, even))
 rooms (output ∷ outputs) (samples ∷ sounds) m apart even = (

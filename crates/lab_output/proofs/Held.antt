@@ -7,7 +7,7 @@ use Rattle.lab_shelf.specs.Files.{Files, bytes_under, with_file, with_change}
 use Rattle.lab_stop.specs.declared.stop.Stop.{Stop}
 use Rattle.lab_stop.specs.declared.stop.Stop.TheVariants.{Write}
 use Rattle.lab_output.specs.declared.file.OutputFile.{OutputFile}
-use Rattle.lab_output.specs.Files.{AreApart, begun, open_file}
+use Rattle.lab_output.specs.Files.{AreApart, unfinished_files, open_file}
 use Rattle.lab_output.specs.Going.{HasFile, HaveFiles, IsGoingOn}
 use Rattle.lab_output.proofs.Shelves.{bytes_under-with_outputs, bytes_under-with_file_at, test}
 
@@ -50,7 +50,7 @@ file-at now outputs n output there within is =
 
 -- each output that was begun is there
 begun-there : (outputs : List OutputFile) (sounds : List (List ℤ)) (m : Files) → AreApart outputs → length sounds ≡ length outputs
-    → HaveFiles (Some (begun outputs sounds m)) outputs
+    → HaveFiles (Some (unfinished_files outputs sounds m)) outputs
 begun-there [] sounds m apart even = tt
 begun-there (output ∷ outputs) [] m apart even = absurd (omega (arith, even))
 begun-there (output ∷ outputs) (samples ∷ sounds) m apart even = (

@@ -86,8 +86,8 @@ with_outputs make (output ∷ outputs) (samples ∷ sounds) files =
     with_outputs make outputs sounds (with_file files output.name (make output samples))
 
 -- the files of a shelf while the run goes on
-abbrev pub begun : List OutputFile → List (List ℤ) → Files → Files
-begun outputs sounds files = with_outputs open_file outputs sounds files
+abbrev pub unfinished_files : List OutputFile → List (List ℤ) → Files → Files
+unfinished_files outputs sounds files = with_outputs open_file outputs sounds files
 
 -- the files of a shelf when the run is done
 abbrev pub finished_files : List OutputFile → List (List ℤ) → Files → Files

@@ -6,7 +6,7 @@ use Rattle.lab_shelf.specs.Files.{Files, bytes_under, with_file, with_change, wi
 use Rattle.lab_output.specs.declared.file.OutputFile.{OutputFile}
 use Rattle.lab_script.specs.declared.script.Script.{Script}
 use Rattle.lab_output.specs.declared.outputs.Outputs.{Outputs}
-use Rattle.lab_output.specs.Files.{IsOutputFile, AreApart, output_files, open_head_of, head_of, begun}
+use Rattle.lab_output.specs.Files.{IsOutputFile, AreApart, output_files, open_head_of, head_of, unfinished_files}
 
 -- the files, with each output begun
 abbrev pub opened_files : List OutputFile → Files → Files
@@ -68,7 +68,7 @@ pub record IsGoingOn (outputs : List OutputFile) (counts : List ℕ) (sounds : L
     (before now : Option Files) : Type 0 where
   pub counted : map length sounds ≡ counts
   pub number : length sounds ≡ length outputs
-  pub files : now ≡ option_map (begun outputs sounds) before
+  pub files : now ≡ option_map (unfinished_files outputs sounds) before
 
 -- these samples are the first of others, or all of them
 abbrev pub IsPartOf : List ℤ → List ℤ → Type 0

@@ -21,7 +21,7 @@ use Rattle.snoop_table.specs.Captured.{next_of}
 use Rattle.snoop_table.specs.Readers.{SeatGot, view_of}
 use Rattle.snoop_table.specs.Writers.{writer_geometry, writer_track}
 use Rattle.pcm_stream.specs.declared.setup.Setup as streams
-use Rattle.dsnoop_client.specs.Reads.{through, through_all}
+use Rattle.dsnoop_client.specs.Reads.{bound_samples, through_all}
 use Rattle.wav_io.specs.Sound.{Sound}
 use Rattle.card_sim.specs.declared.card.Card.{Card}
 use Rattle.card_sim.specs.Runs.{captured_if, records_of, writer_of}
@@ -132,7 +132,7 @@ map-All f g P (x ∷ xs) all same =
 -- a frame that the card stored, through bindings
 pub through-captured : (capture : Option Sound) (c : Card) (bindings : List ℕ) (frame : Frame) → records_of c ≡ true → IsCapturedUpTo capture c
     → IsCaptured (writer_geometry (writer_of c)) (writer_track (writer_of c)).stored frame → All (λ channel. channel < (geometry_of_card c).channels) bindings
-    → through bindings frame.samples ≡ map (captured_from capture (first_frame (geometry_of_card c)) frame.number) bindings
+    → bound_samples bindings frame.samples ≡ map (captured_from capture (first_frame (geometry_of_card c)) frame.number) bindings
 through-captured capture c bindings frame records up_to captured_it on_card =
     let g : Geometry = geometry_of_card c in
     let xs : List ℤ = (writer_track (writer_of c)).stored in

@@ -21,7 +21,7 @@ use Rattle.dmix_client.specs.declared.stream.PlaybackStream.{PlaybackStream}
 use Rattle.dmix_client.specs.Calls.{Answered, with_accepted, accepted_if, avail_answer, committed_by, delay_answer, after_drop, facts_of, found_at, going_on, going_on_by, is_running, is_stop, late_at, late_of, over_of, after_pause, pending_of, after_prepare, with_new_base, after_resume, seen_at, with_outcome, after_start, started_in, start_count, stopped_in, sync_count, after_sync, taken_of, with_number, written_after}
 use Rattle.dmix_client.specs.Calls as calls
 use Rattle.dmix_client.specs.Course.{if_admitted, admitted_by, commits, drain_course, drain_on, drains, fills, looks, nothing, number_course, course_with_number, pause_course, resumes, start_course, starts, starts_taking, sync_course, syncs, takes_more, write_on, writes_on}
-use Rattle.dmix_client.specs.Rewind.{back_of, checks, last_channel, last_laid, rewind_course, rewind_on, rewindable_course, rewindable_of, rewinds, rewound, take_frames, taken_back, takes_back, without_frames}
+use Rattle.dmix_client.specs.Rewind.{back_of, checks, last_channel, last_laid, rewind_course, rewind_on, rewindable_course, rewindable_of, rewinds, after_rewind, take_frames, taken_back, takes_back, without_frames}
 use Rattle.dmix_client.specs.View.{avail_of, ring_sample}
 use Rattle.dmix_client.specs.Writes.{count_with, ring_with, starts_with}
 use Rattle.lab_script.specs.declared.line.Op.{Op}
@@ -103,7 +103,7 @@ written-reports c n x is = by_test (nat_lt 0 n && nat_eq (avail_of c) 0) (is_sto
     by_test false true = (tt, is)
     by_test false false = accepted-reports (taken_of c n) (with_outcome (committed_by c x) (next_of Running call.Transfer f)) (next-reports Running call.Transfer f tt)
 
-rewound-reports : (c : PlaybackStream) (n : ℕ) (left : Commit) → HasState c → Reports (rewound c n left)
+rewound-reports : (c : PlaybackStream) (n : ℕ) (left : Commit) → HasState c → Reports (after_rewind c n left)
 rewound-reports c n left is = by_stop (is_stop left.ended)
   where
     done : PlaybackStream
@@ -179,7 +179,7 @@ drain_on-reports (c, Err e) reports = reports
 
 drain-reports : (c : PlaybackStream) (cursor : Cursor) → HasState c → All Reports (drain_course c [] cursor)
 unfolding drains
-drain-reports c cursor is = All-if Reports (is_moving c.status.state) (syncs (calls.draining c) call.Drain []) _ (syncs-reports (calls.draining c) call.Drain [] tt)
+drain-reports c cursor is = All-if Reports (is_moving c.status.state) (syncs (calls.in_draining c) call.Drain []) _ (syncs-reports (calls.in_draining c) call.Drain [] tt)
     (All-if Reports (calls.has_frames c) (drains c [] cursor) (ends (after_drop c, Ok tt))
     (All-then Reports Reports (starts c Draining cursor c.stretch.written []) (drain_on []) (starts-reports c Draining cursor c.stretch.written [] is tt) drain_on-reports) (tt, tt))
 
@@ -205,7 +205,7 @@ rewind_on-reports floor n (c, Err e) reports = reports
 rewind_on-reports floor n (c, Ok done) reports =
     let m = min n (rewindable_of floor c) in
     All-after Reports (take_frames c.identity.member c.stretch.card c.setup.bindings (ring_sample c []) (c.stretch.committed - back_of c m) (back_of c m))
-    (λ left. ends (rewound c m left)) (λ left. rewound-reports c m left reports.1)
+    (λ left. ends (after_rewind c m left)) (λ left. rewound-reports c m left reports.1)
 
 rewind-reports : (c : PlaybackStream) (floor : Cursor) (n : ℕ) → HasState c → All Reports (rewind_course c [] floor n)
 unfolding rewinds

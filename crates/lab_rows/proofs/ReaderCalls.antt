@@ -15,7 +15,7 @@ use Rattle.course.specs.Course.{◌>>=◌, Course, ends}
 use Rattle.snoop_core.specs.declared.port.Got.{Got}
 use Rattle.snoop_core.specs.declared.port.Got.TheVariants as got
 use Rattle.dsnoop_client.specs.declared.stream.CaptureStream.{CaptureStream}
-use Rattle.dsnoop_client.specs.Calls.{Answered, found, in_state, with_answer, over_of, read_after, read_to, seen_at, with_outcome, after_start, after_sync, taken_of, waits, with_avail}
+use Rattle.dsnoop_client.specs.Calls.{Answered, facts_with, in_state, with_answer, over_of, read_after, read_to, seen_at, with_outcome, after_start, after_sync, taken_of, waits, with_avail}
 use Rattle.dsnoop_client.specs.Course.{if_admitted, admitted_by, avail_course, counts, gets_frames, read_course, reads_first, reads_on, starts, sync_course, syncs, transfer_on, transfers}
 use Rattle.dsnoop_client.specs.View.{avail_of, is_running}
 use Rattle.lab_script.specs.declared.line.Op.{Op}
@@ -40,11 +40,11 @@ Reports (d, r) = CanReportIn r × HasState d
 
 after_start-reports : (r : CaptureStream) (asked : Call) (load : Option Position) → HasState r → Reports (after_start r asked load)
 after_start-reports r asked None is = (tt, is)
-after_start-reports r asked (Some p) is = next-reports r.status.state asked (found p.gone None None) is
+after_start-reports r asked (Some p) is = next-reports r.status.state asked (facts_with p.gone None None) is
 
 after_sync-reports : (r : CaptureStream) (asked : Call) (load : Option Position) → HasState r → Reports (after_sync r asked load)
 after_sync-reports r asked None is = (tt, is)
-after_sync-reports r asked (Some p) is = next-reports r.status.state asked (found p.gone (over_of (seen_at r p)) None) is
+after_sync-reports r asked (Some p) is = next-reports r.status.state asked (facts_with p.gone (over_of (seen_at r p)) None) is
 
 avail-reports : (done : Answered (Unit {0})) → Reports done → Reports (with_avail done)
 avail-reports (r, Ok done) reports = (tt, reports.1)
@@ -57,8 +57,8 @@ number-reports n (r, Err e) reports = reports
 read_to-reports : (r : CaptureStream) (done : ℕ) (ended : Got) → HasState r → Reports (read_to r done ended)
 read_to-reports r done got.Whole is = (tt, is)
 read_to-reports r done (got.Overtaken channel word) is =
-    number-reports 0 (with_outcome r (next_of Running call.Transfer (found false None (Some (why.Overtaken (r.next + done) channel word)))))
-    (next-reports Running call.Transfer (found false None (Some (why.Overtaken (r.next + done) channel word))) tt)
+    number-reports 0 (with_outcome r (next_of Running call.Transfer (facts_with false None (Some (why.Overtaken (r.next + done) channel word)))))
+    (next-reports Running call.Transfer (facts_with false None (Some (why.Overtaken (r.next + done) channel word))) tt)
 read_to-reports r done got.Stopped is = (tt, is)
 
 read-reports : (r : CaptureStream) (n done : ℕ) (ended : Got) → HasState r → Reports (read_after r n done ended)

@@ -19,7 +19,7 @@ use Rattle.course.specs.Course.{◌>>=◌, Course, ends}
 use Rattle.snoop_core.specs.declared.port.Got.{Got}
 use Rattle.snoop_core.specs.declared.port.Got.TheVariants as got
 use Rattle.dsnoop_client.specs.declared.stream.CaptureStream.{CaptureStream}
-use Rattle.dsnoop_client.specs.Calls.{Answered, found, in_state, over_of, read_after, read_to, seen_at, with_outcome, after_sync, taken_of, waits, with_avail}
+use Rattle.dsnoop_client.specs.Calls.{Answered, facts_with, in_state, over_of, read_after, read_to, seen_at, with_outcome, after_sync, taken_of, waits, with_avail}
 use Rattle.dsnoop_client.specs.Course.{if_admitted, admitted_by, avail_course, counts, get_on, gets_frames, one_more, read_course, reads_first, reads_on, starts, sync_course, syncs, transfer_on, transfers}
 use Rattle.dsnoop_client.specs.View.{avail_of, is_running}
 use Rattle.lab_script.specs.declared.line.Op.{Op}
@@ -56,12 +56,12 @@ with_outcome-begins base known d s (Ok done) low next seen = (low, next, seen)
 with_outcome-begins base known d s (Err e) low next seen = (low, λ runs. next)
 
 -- a reader that doesn't run and finds the card gone doesn't run afterwards, and its read ends there
-gone-begins : (base known : ℕ) (s : State) (d : CaptureStream) → base ≤ known → is_running s ≡ false → Begins base known (with_outcome d (next_of s call.Transfer (found true None None)))
+gone-begins : (base known : ℕ) (s : State) (d : CaptureStream) → base ≤ known → is_running s ≡ false → Begins base known (with_outcome d (next_of s call.Transfer (facts_with true None None)))
 gone-begins base known state.Running d low not = absurd (cc)
 gone-begins base known other d low not = (low, λ runs. absurd (cc))
 
 gone-stays : (base known : ℕ) (s : State) (d : CaptureStream) → base ≤ known → (is_running s ≡ true → base ≤ d.next)
-    → Stays base known (with_outcome d (next_of s call.Start (found true None None)))
+    → Stays base known (with_outcome d (next_of s call.Start (facts_with true None None)))
 gone-stays base known state.Running d low next = (low, next)
 gone-stays base known other d low next = (low, λ runs. absurd (cc))
 
@@ -70,11 +70,11 @@ unfolding starts
 starts-begins base known r low not = ((low, λ runs. absurd (cc)), λ p newer. by_gone p (omega (arith, low, newer)) p.gone)
   where
     by_gone : (p : Position) → base ≤ p.frame → (gone : Bool)
-        → Begins base p.frame (with_outcome (if gone then seen_at r p else record r { seen = Some p.frame; next = p.frame }) (next_of r.status.state call.Transfer (found gone None None)))
+        → Begins base p.frame (with_outcome (if gone then seen_at r p else record r { seen = Some p.frame; next = p.frame }) (next_of r.status.state call.Transfer (facts_with gone None None)))
     by_gone p past true = gone-begins base p.frame r.status.state (seen_at r p) past not
     by_gone p past false =
         let d : CaptureStream = record r { seen = Some p.frame; next = p.frame } in
-        let o : Outcome = next_of r.status.state call.Transfer (found false None None) in
+        let o : Outcome = next_of r.status.state call.Transfer (facts_with false None None) in
         with_outcome-begins base p.frame d o.state o.answer past past refl
 
 starts-stays : (base known : ℕ) (r : CaptureStream) → base ≤ known → IsPast base r → AllKnown (Stays base) known (starts r call.Start)
@@ -82,7 +82,7 @@ unfolding starts
 starts-stays base known r low next = ((low, next), λ p newer. by_gone p (omega (arith, low, newer)) p.gone)
   where
     by_gone : (p : Position) → base ≤ p.frame → (gone : Bool)
-        → Stays base p.frame (with_outcome (if gone then seen_at r p else record r { seen = Some p.frame; next = p.frame }) (next_of r.status.state call.Start (found gone None None)))
+        → Stays base p.frame (with_outcome (if gone then seen_at r p else record r { seen = Some p.frame; next = p.frame }) (next_of r.status.state call.Start (facts_with gone None None)))
     by_gone p past true = gone-stays base p.frame r.status.state (seen_at r p) past next
     by_gone p past false = (past, λ runs. past)
 
@@ -92,7 +92,7 @@ syncs-begins base known r asked low next = ((low, λ runs. next), λ p newer. by
   where
     by_load : (p : Position) → base ≤ p.frame → Begins base p.frame (after_sync r asked (Some p))
     by_load p past =
-        let o : Outcome = next_of r.status.state asked (found p.gone (over_of (seen_at r p)) None) in
+        let o : Outcome = next_of r.status.state asked (facts_with p.gone (over_of (seen_at r p)) None) in
         with_outcome-begins base p.frame (seen_at r p) o.state o.answer past next refl
 
 syncs-stays : (base known : ℕ) (r : CaptureStream) (asked : Call) → base ≤ known → base ≤ r.next → AllKnown (Stays base) known (syncs r asked)

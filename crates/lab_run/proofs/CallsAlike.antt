@@ -17,10 +17,10 @@ use Rattle.dmix_client.specs.declared.commit.Commit.{Commit}
 use Rattle.dmix_client.specs.declared.stream.PlaybackStream.{PlaybackStream}
 use Rattle.pcm_stream.specs.declared.direction.Direction.TheVariants.{Playback}
 use Rattle.pcm_stream.specs.Status.{is_moving, refusal_of}
-use Rattle.dmix_client.specs.Calls.{Answered, with_accepted, accepted_if, avail_answer, avail_in, commit_count, delay_answer, delay_in, draining, after_drop, has_frames, is_running, after_pause, pending_of, after_prepare, with_new_base, after_resume, start_count, after_start, started_in, sync_count, after_sync, taken_of, with_number, written_after}
+use Rattle.dmix_client.specs.Calls.{Answered, with_accepted, accepted_if, avail_answer, avail_in, commit_count, delay_answer, delay_in, in_draining, after_drop, has_frames, is_running, after_pause, pending_of, after_prepare, with_new_base, after_resume, start_count, after_start, started_in, sync_count, after_sync, taken_of, with_number, written_after}
 use Rattle.dmix_client.specs.Course.{if_admitted, admitted_by, commit_at, commits, drain_course, drain_on, drains, fills, go_on, lay_each, lay_frame, lay_frames, lay_on, looks, nothing, number_course, course_with_number, one_frame_more, one_more, pause_call, pause_course, resumes, start_course, starts, starts_taking, sync_course, syncs, takes_more, write_on, writes_on}
 use Rattle.dmix_client.specs.Course as client_calls
-use Rattle.dmix_client.specs.Rewind.{back_of, back_on, checks, left_of, rewind_course, rewind_on, rewindable_course, rewindable_of, rewinds, rewound, take_each, take_frames, takes_back, without_frames}
+use Rattle.dmix_client.specs.Rewind.{back_of, back_on, checks, left_of, rewind_course, rewind_on, rewindable_course, rewindable_of, rewinds, after_rewind, take_each, take_frames, takes_back, without_frames}
 use Rattle.dmix_client.specs.View.{ring_sample}
 use Rattle.dmix_client.specs.Writes.{count_with, frames_in, ring_with, starts_with}
 use Rattle.lab_report.specs.declared.row.Answer.{Answer}
@@ -208,8 +208,8 @@ module _ (from member : ℕ) where
 
   drain-alike : (c : PlaybackStream) (ring : List ℤ) (cursor other : Cursor) → SameFrom from cursor other
       → Alike from (SameButMember member done_answer) (drain_course c ring cursor) (drain_course (other_of c) [] other)
-  drain-alike c ring cursor other same = Alike-if from (SameButMember member done_answer) (is_moving c.status.state) (syncs (draining c) call.Drain ring) _ (syncs (draining (other_of c)) call.Drain []) _
-      (syncs-alike (draining c) call.Drain ring [])
+  drain-alike c ring cursor other same = Alike-if from (SameButMember member done_answer) (is_moving c.status.state) (syncs (in_draining c) call.Drain ring) _ (syncs (in_draining (other_of c)) call.Drain []) _
+      (syncs-alike (in_draining c) call.Drain ring [])
       (Alike-if from (SameButMember member done_answer) (has_frames c) (drains c ring cursor) (ends _) (drains (other_of c) [] other) (ends _) (drains-alike c ring [] cursor other same) (at-once done_answer (after_drop c, Ok tt)))
 
   pause-alike : (on : Bool) (c : PlaybackStream) (ring : List ℤ) (cursor other : Cursor) → SameFrom from cursor other
@@ -304,7 +304,7 @@ module _ (from member : ℕ) where
   unfolding takes_back
   takes_back-alike c ring other n =
       Alike-then from SameCommit (SameButMember member count_answer) (take_frames c.identity.member c.stretch.card c.setup.bindings (ring_sample c ring) (c.stretch.committed - back_of c n) (back_of c n)) (take_frames member c.stretch.card c.setup.bindings (ring_sample (other_of c) other) (c.stretch.committed - back_of c n) (back_of c n))
-      (λ left. ends (rewound c n left)) (λ left. ends (rewound (other_of c) n left))
+      (λ left. ends (after_rewind c n left)) (λ left. ends (after_rewind (other_of c) n left))
       (take_frames-alike c.identity.member c.stretch.card c.setup.bindings (ring_sample c ring) (ring_sample (other_of c) other) (c.stretch.committed - back_of c n) (back_of c n)) (λ x y is. rw is (rewound-word member c n x))
 
   checks-alike : (c : PlaybackStream) → Alike from (SameLook from member) (checks c) (checks (other_of c))

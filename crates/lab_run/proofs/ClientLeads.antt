@@ -16,7 +16,7 @@ use Rattle.dmix_client.specs.declared.commit.Commit.{Commit}
 use Rattle.dmix_client.specs.declared.stream.PlaybackStream.{PlaybackStream}
 use Rattle.pcm_stream.specs.declared.direction.Direction.TheVariants.{Playback}
 use Rattle.pcm_stream.specs.Status.{is_moving, refusal_of}
-use Rattle.dmix_client.specs.Calls.{Answered, accepted_if, draining, has_frames, is_running, pending_of, with_new_base, after_resume, start_count, after_start, started_in, sync_count, after_sync, taken_of, with_number, written_after}
+use Rattle.dmix_client.specs.Calls.{Answered, accepted_if, in_draining, has_frames, is_running, pending_of, with_new_base, after_resume, start_count, after_start, started_in, sync_count, after_sync, taken_of, with_number, written_after}
 use Rattle.dmix_client.specs.Course.{if_admitted, admitted_by, commit_at, commits, drain_course, drain_on, drains, fills, go_on, lay_each, lay_frame, lay_frames, lay_on, looks, number_course, course_with_number, one_frame_more, one_more, pause_course, resumes, start_course, starts, starts_taking, sync_course, syncs, takes_more, write_on, writes_on}
 use Rattle.dmix_client.specs.View.{ring_sample}
 use Rattle.dmix_client.specs.Writes.{count_with, ring_with, starts_with}
@@ -110,8 +110,8 @@ drains-first c ring cursor = first-then false (starts c Draining cursor c.stretc
     (first-of OkLed false _ (starts-led c Draining cursor c.stretch.written ring false)) (drain_on-first ring)
 
 pub drain-first : (c : PlaybackStream) (ring : List ℤ) (cursor : Cursor) → LoadsFirst false (drain_course c ring cursor)
-drain-first c ring cursor = Led-if Anything false (is_moving c.status.state) (syncs (draining c) call.Drain ring) _
-    (first-of OkLed false _ (syncs-led (draining c) call.Drain ring false))
+drain-first c ring cursor = Led-if Anything false (is_moving c.status.state) (syncs (in_draining c) call.Drain ring) _
+    (first-of OkLed false _ (syncs-led (in_draining c) call.Drain ring false))
     (Led-if Anything false (has_frames c) (drains c ring cursor) (ends _) (drains-first c ring cursor) tt)
 
 pub pause-first : (on : Bool) (c : PlaybackStream) (ring : List ℤ) (cursor : Cursor) → LoadsFirst false (pause_course on c ring cursor)

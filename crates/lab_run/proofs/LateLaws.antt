@@ -264,7 +264,7 @@ drain_on-missed (c, Err e) late = late
 
 drain-missed : (c : PlaybackStream) (cursor : Cursor) → All Missed (drain_course c [] cursor)
 unfolding drains
-drain-missed c cursor = All-if Missed (is_moving c.status.state) (syncs (calls.draining c) call.Drain []) _ (syncs-missed (calls.draining c) call.Drain [])
+drain-missed c cursor = All-if Missed (is_moving c.status.state) (syncs (calls.in_draining c) call.Drain []) _ (syncs-missed (calls.in_draining c) call.Drain [])
     (All-if Missed (calls.has_frames c) (drains c [] cursor) (ends (after_drop c, Ok tt))
     (All-then Missed Missed (starts c Draining cursor c.stretch.written []) (drain_on []) (starts-missed c Draining cursor c.stretch.written []) drain_on-missed) tt)
 

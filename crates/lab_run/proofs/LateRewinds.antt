@@ -20,7 +20,7 @@ use Rattle.dmix_client.specs.declared.commit.Commit.{Commit}
 use Rattle.dmix_client.specs.declared.stream.PlaybackStream.{PlaybackStream}
 use Rattle.dmix_client.specs.Calls.{Answered, committed_by, facts_of, found_at, is_running, is_stop, late_at, over_of, seen_at, with_outcome, stopped_in, after_sync, with_number}
 use Rattle.dmix_client.specs.Course.{if_admitted, admitted_by, nothing}
-use Rattle.dmix_client.specs.Rewind.{back_of, back_on, checks, last_channel, last_laid, left_of, rewind_course, rewind_on, rewindable_of, rewinds, rewound, take_each, take_frames, take_on, taken_back, takes_back, without_frames}
+use Rattle.dmix_client.specs.Rewind.{back_of, back_on, checks, last_channel, last_laid, left_of, rewind_course, rewind_on, rewindable_of, rewinds, after_rewind, take_each, take_frames, take_on, taken_back, takes_back, without_frames}
 use Rattle.dmix_client.specs.View.{ring_sample}
 use Rattle.lab_script.specs.declared.line.Op.{Op}
 use Rattle.lab_script.specs.declared.line.Op.TheVariants as op
@@ -91,7 +91,7 @@ number-kept : (number : PlaybackStream → ℕ) (done : Answered (Unit {0})) →
 number-kept number (c, Ok done) late = tt
 number-kept number (c, Err e) late = late
 
-rewound-kept : (c : PlaybackStream) (n : ℕ) (left : Commit) → HasLeft left → Kept (rewound c n left)
+rewound-kept : (c : PlaybackStream) (n : ℕ) (left : Commit) → HasLeft left → Kept (after_rewind c n left)
 rewound-kept c n left some = by_stop (is_stop left.ended)
   where
     done : PlaybackStream
@@ -121,7 +121,7 @@ rewind_on-kept floor n (c, Err e) late = late
 rewind_on-kept floor n (c, Ok done) late =
     let m = min n (rewindable_of floor c) in
     All-then HasLeft Kept (take_frames c.identity.member c.stretch.card c.setup.bindings (ring_sample c []) (c.stretch.committed - back_of c m) (back_of c m))
-    (λ left. ends (rewound c m left))
+    (λ left. ends (after_rewind c m left))
     (frames-left c.identity.member c.stretch.card c.setup.bindings (ring_sample c []) (c.stretch.committed - back_of c m) (back_of c m))
     (λ left some. rewound-kept c m left some)
 

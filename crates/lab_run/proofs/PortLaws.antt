@@ -16,7 +16,7 @@ use Rattle.mix_core.specs.declared.port.Ended.TheVariants.{Whole, Late, Stopped}
 use Rattle.mix_core.specs.declared.port.Entry.{Entry}
 use Rattle.mix_core.specs.declared.port.MixPort as mixport
 use Rattle.mix_core.specs.declared.port.Position as positions
-use Rattle.mix_core.specs.Gate.{placing}
+use Rattle.mix_core.specs.Gate.{placement_asks}
 use Rattle.mix_core.specs.Laid.{marks_with, marks_after, without_last}
 use Rattle.mix_core.specs.Port.{IsPast, PortView, ShowsFrom, entry_if}
 use Rattle.course.specs.AtPort.{LaysAt, LoadsAt, NoGet, TakesAt}
@@ -35,7 +35,7 @@ ask_count-again zero = refl
 ask_count-again (suc n) = omega (arith, ask_count-again n)
 
 -- a placement that was done, or late, counts two asks at most
-ask_count-placing : (n : ℕ) → 2 ≤ n → ask_count (placing n) ≡ 2
+ask_count-placing : (n : ℕ) → 2 ≤ n → ask_count (placement_asks n) ≡ 2
 ask_count-placing zero some = absurd (omega (arith, some))
 ask_count-placing (suc zero) some = absurd (omega (arith, some))
 ask_count-placing (suc (suc n)) some = omega (arith, ask_count-again n)
@@ -149,8 +149,8 @@ module _ {S T : Type 0} (P : mixport.Ghosts S) (G : gates.Ghosts T) (shown_laid 
   lay-part : (s t : S × T) (w : Doing) (e d : Entry) (ended : Ended) → IsSamePlace e d → IsAtPort P left by_gate first ring from s w → LaysAt P G s e ended t
       → (v : Doing) × DoesLay ring w d (without_word ended) v × IsAtPort P left by_gate first ring from t v
   lay-part s t (a, found) e d Whole place at step =
-      let answered = told s.1 t.1 (placing step.asks) Go a at.left_is at.by_gate_is step.asked_them in
-      let two : ask_count (placing step.asks) ≡ 2 = ask_count-placing step.asks step.asks_number in
+      let answered = told s.1 t.1 (placement_asks step.asks) Go a at.left_is at.by_gate_is step.asked_them in
+      let two : ask_count (placement_asks step.asks) ≡ 2 = ask_count-placing step.asks step.asks_number in
       let same : (P.view t.0).geometry ≡ (P.view s.0).geometry = ap (λ (v : PortView). v.geometry) step.view_is in
       let b : AtPort = record (with_gate left by_gate t.1 a) { marks = marks_after ring a.marks d } in
       let passes : lets_pass 2 a.left ≡ true = rw two at answered.0 in
@@ -174,7 +174,7 @@ module _ {S T : Type 0} (P : mixport.Ghosts S) (G : gates.Ghosts T) (shown_laid 
       let same : (P.view t.0).geometry ≡ (P.view s.0).geometry = ap (λ (v : PortView). v.geometry) step.view_is in
       let past : IsPast P.view P.shows t.0 d.frame d.channel word = rw (sym place.frame, sym place.channel) step.shown in (
         (with_gate left by_gate t.1 a, with_late d.frame d.channel found),
-        by_asks step.asks step.asks_number (told s.1 t.1 (placing step.asks) Go a at.left_is at.by_gate_is step.asked_them),
+        by_asks step.asks step.asks_number (told s.1 t.1 (placement_asks step.asks) Go a at.left_is at.by_gate_is step.asked_them),
         record {
           geometry = same ∙ at.geometry;
           after = rw (ap (λ (v : PortView). v.seen) step.view_is) (at.after);
@@ -188,12 +188,12 @@ module _ {S T : Type 0} (P : mixport.Ghosts S) (G : gates.Ghosts T) (shown_laid 
         },
       )
     where
-      by_asks : (n : ℕ) → (1 ≤ n) × (e.frame < (P.view s.0).seen → n ≡ 1) → IsAnswered (placing n) Go a (with_gate left by_gate t.1 a)
+      by_asks : (n : ℕ) → (1 ≤ n) × (e.frame < (P.view s.0).seen → n ≡ 1) → IsAnswered (placement_asks n) Go a (with_gate left by_gate t.1 a)
           → DoesLay ring (a, found) d (Late 0) (with_gate left by_gate t.1 a, with_late d.frame d.channel found)
       by_asks zero number answered = absurd (omega (arith, number.0))
       by_asks (suc zero) number answered = (0, refl, inl refl, answered.0, answered.1, refl)
       by_asks (suc (suc n)) number answered =
-          let two : ask_count (placing (suc (suc n))) ≡ 2 = ask_count-placing (suc (suc n)) (omega arith) in
+          let two : ask_count (placement_asks (suc (suc n))) ≡ 2 = ask_count-placing (suc (suc n)) (omega arith) in
           let low : a.seen ≤ d.frame = asked-on n a.seen (P.view s.0).seen d.frame (λ below. number.1 (rw place.frame below)) at.seen in
           let passes : lets_pass 2 a.left ≡ true = rw two at answered.0 in
           let after : with_gate left by_gate t.1 a ≡ with_asks 2 a = rw two at answered.1 in
@@ -201,7 +201,7 @@ module _ {S T : Type 0} (P : mixport.Ghosts S) (G : gates.Ghosts T) (shown_laid 
   lay-part s t (a, found) e d Stopped place at step =
       let same : (P.view t.0).geometry ≡ (P.view s.0).geometry = ap (λ (v : PortView). v.geometry) step.view_is in (
         (with_gate left by_gate t.1 a, found),
-        by_asks step.asks step.asks_number (told s.1 t.1 (placing step.asks) Stop a at.left_is at.by_gate_is step.asked_them),
+        by_asks step.asks step.asks_number (told s.1 t.1 (placement_asks step.asks) Stop a at.left_is at.by_gate_is step.asked_them),
         record {
           geometry = same ∙ at.geometry;
           after = rw (ap (λ (v : PortView). v.seen) step.view_is) (at.after);
@@ -215,7 +215,7 @@ module _ {S T : Type 0} (P : mixport.Ghosts S) (G : gates.Ghosts T) (shown_laid 
         },
       )
     where
-      by_asks : (n : ℕ) → (1 ≤ n) × (e.frame < (P.view s.0).seen → n ≡ 1) → IsAnswered (placing n) Stop a (with_gate left by_gate t.1 a)
+      by_asks : (n : ℕ) → (1 ≤ n) × (e.frame < (P.view s.0).seen → n ≡ 1) → IsAnswered (placement_asks n) Stop a (with_gate left by_gate t.1 a)
           → DoesLay ring (a, found) d Stopped (with_gate left by_gate t.1 a, found)
       by_asks zero number answered = absurd (omega (arith, number.0))
       by_asks (suc zero) number answered = (inl (0, inl refl, answered.0, answered.1), refl)
@@ -224,8 +224,8 @@ module _ {S T : Type 0} (P : mixport.Ghosts S) (G : gates.Ghosts T) (shown_laid 
           (inl (1, inr (refl, low), answered.0, answered.1), refl)
       by_asks (suc (suc (suc n))) number answered =
           let low : a.seen ≤ d.frame = asked-on (suc n) a.seen (P.view s.0).seen d.frame (λ below. number.1 (rw place.frame below)) at.seen in
-          let two : ask_count (without_last (placing (suc (suc (suc n))))) ≡ 2 = omega (arith, ap ask_count (again-before n), ask_count-again n) in
-          let again : last_kind (placing (suc (suc (suc n)))) ≡ Again = again-last n in
+          let two : ask_count (without_last (placement_asks (suc (suc (suc n))))) ≡ 2 = omega (arith, ap ask_count (again-before n), ask_count-again n) in
+          let again : last_kind (placement_asks (suc (suc (suc n)))) ≡ Again = again-last n in
           let passes : lets_pass 2 a.left ≡ true = rw two at answered.0 in
           let after : with_gate left by_gate t.1 a ≡ with_gate_stop (with_asks 2 a) = rw (two, again) at answered.1 in
           (inr (low, passes, after), refl)

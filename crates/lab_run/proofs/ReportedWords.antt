@@ -17,7 +17,7 @@ use Rattle.pcm_states.specs.Table.{Cell, already, done_in, draining, ebadfd, eio
 use Rattle.dmix_client.specs.declared.commit.Commit.{Commit}
 use Rattle.dmix_client.specs.declared.stream.PlaybackStream.{PlaybackStream}
 use Rattle.dmix_client.specs.Calls.{Answered, with_accepted, accepted_if, committed_by, end_channel, end_of_commit, facts_of, found_at, going_on, going_on_by, over_of, with_new_base, after_resume, seen_at, with_outcome, after_start, after_sync, taken_of, with_number, written_after}
-use Rattle.dmix_client.specs.Rewind.{rewound}
+use Rattle.dmix_client.specs.Rewind.{after_rewind}
 use Rattle.dmix_client.specs.View.{avail_of}
 use Rattle.lab_run.specs.Alike.{SameButMember}
 use Rattle.lab_run.specs.Client.{count_answer, done_answer}
@@ -145,11 +145,11 @@ module _ (member : ℕ) where
           (next-word Running call.Transfer (found_at (record { frame = 0; gone = false }) None) (end_of_commit c x) (end_channel c x) w)))
 
   pub rewound-word : (c : PlaybackStream) (n : ℕ) (left : Commit)
-      → SameButMember member count_answer (rewound c n left) (rewound (with_member member c) n (commit_without_word left))
+      → SameButMember member count_answer (after_rewind c n left) (after_rewind (with_member member c) n (commit_without_word left))
   rewound-word c n left = by_end left.ended
     where
       by_end : (e : Ended)
-          → SameButMember member count_answer (rewound c n (record left { ended = e })) (rewound (with_member member c) n (record left { ended = without_word e }))
+          → SameButMember member count_answer (after_rewind c n (record left { ended = e })) (after_rewind (with_member member c) n (record left { ended = without_word e }))
       by_end Whole = record { client = refl; answer_is = refl }
       by_end Stopped = record { client = refl; answer_is = refl }
       by_end (Late w) = record { client = refl; answer_is = refl }

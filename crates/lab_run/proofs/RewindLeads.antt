@@ -11,7 +11,7 @@ use Rattle.dmix_client.specs.declared.commit.Commit.{Commit}
 use Rattle.dmix_client.specs.declared.stream.PlaybackStream.{PlaybackStream}
 use Rattle.dmix_client.specs.Calls.{Answered, is_running, after_sync, with_number}
 use Rattle.dmix_client.specs.Course.{nothing, course_with_number}
-use Rattle.dmix_client.specs.Rewind.{back_of, back_on, checks, rewind_course, rewind_on, rewindable_course, rewindable_of, rewinds, rewound, take_each, take_frames, take_on, takes_back}
+use Rattle.dmix_client.specs.Rewind.{back_of, back_on, checks, rewind_course, rewind_on, rewindable_course, rewindable_of, rewinds, after_rewind, take_each, take_frames, take_on, takes_back}
 use Rattle.dmix_client.specs.View.{ring_sample}
 use Rattle.lab_run.proofs.Leads.{Anything, IsLed, Led, Led-if, Led-then, LoadsFirst, OkLed, first-of, first-then, is_loaded, on-ok}
 
@@ -59,7 +59,7 @@ take_frames-led member card bindings samples first (suc n) =
 takes_back-first : (c : PlaybackStream) (ring : List ℤ) (n : ℕ) → LoadsFirst true (takes_back c ring n)
 unfolding takes_back
 takes_back-first c ring n =
-    Led-then IsLed Anything true (take_frames c.identity.member c.stretch.card c.setup.bindings (ring_sample c ring) (c.stretch.committed - back_of c n) (back_of c n)) (λ left. ends (rewound c n left))
+    Led-then IsLed Anything true (take_frames c.identity.member c.stretch.card c.setup.bindings (ring_sample c ring) (c.stretch.committed - back_of c n) (back_of c n)) (λ left. ends (after_rewind c n left))
     (take_frames-led c.identity.member c.stretch.card c.setup.bindings (ring_sample c ring) (c.stretch.committed - back_of c n) (back_of c n)) (λ l x is. tt)
 
 rewind_on-first : (floor : Cursor) (ring : List ℤ) (n : ℕ) (l : Bool) (done : Answered (Unit {0})) → OkLed l done → LoadsFirst l (rewind_on floor ring n done)

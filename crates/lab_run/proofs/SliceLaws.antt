@@ -14,7 +14,7 @@ use Rattle.snoop_core.specs.declared.port.Got.{Got}
 use Rattle.snoop_core.specs.declared.port.Got.TheVariants as got
 use Rattle.course.specs.Course.{◌>>=◌, Course, ends}
 use Rattle.dsnoop_client.specs.declared.stream.CaptureStream.{CaptureStream}
-use Rattle.dsnoop_client.specs.Calls.{Answered, found, over_of, read_after, read_to, seen_at, with_outcome, after_sync, taken_of, with_avail}
+use Rattle.dsnoop_client.specs.Calls.{Answered, facts_with, over_of, read_after, read_to, seen_at, with_outcome, after_sync, taken_of, with_avail}
 use Rattle.dsnoop_client.specs.View.{avail_of}
 use Rattle.dsnoop_client.specs.Course.{counts, gets_frames, reads_on, syncs, transfer_on, transfers}
 use Rattle.lab_script.specs.declared.line.Op.{Op}
@@ -52,7 +52,7 @@ unfolding syncs
 syncs-on r asked which = by_load
   where
     by_found : (c : Call) (p : Position) → (c ≡ call.Transfer) ⊎ (c ≡ call.Sync) → (gone : Bool) (over : Option (ℕ × ℕ))
-        → Syncs r (with_outcome (seen_at (going r) p) (next_of Running c (found gone over None)))
+        → Syncs r (with_outcome (seen_at (going r) p) (next_of Running c (facts_with gone over None)))
     by_found c p (inl is) true over = rw is (record { next = refl; goes = inr refl })
     by_found c p (inl is) false (Some (avail, seen)) = rw is (record { next = refl; goes = inr refl })
     by_found c p (inl is) false None = rw is (record { next = refl; goes = refl })

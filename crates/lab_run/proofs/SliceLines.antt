@@ -20,7 +20,7 @@ use Rattle.snoop_core.specs.declared.port.Got.{Got}
 use Rattle.snoop_core.specs.declared.port.Got.TheVariants as got
 use Rattle.course.specs.Course.{◌>>=◌, Course, ends}
 use Rattle.dsnoop_client.specs.declared.stream.CaptureStream.{CaptureStream}
-use Rattle.dsnoop_client.specs.Calls.{Answered, found, over_of, read_after, read_to, seen_at, with_outcome, after_start, started_at, after_sync, taken_of, waits, with_avail}
+use Rattle.dsnoop_client.specs.Calls.{Answered, facts_with, over_of, read_after, read_to, seen_at, with_outcome, after_start, started_at, after_sync, taken_of, waits, with_avail}
 use Rattle.dsnoop_client.specs.View.{avail_of, is_running}
 use Rattle.dsnoop_client.specs.Course.{if_admitted, admitted_by, counts, gets_frames, read_course, reads_first, reads_on, starts, syncs, transfer_on, transfers}
 use Rattle.lab_script.specs.declared.line.Op.{Op}
@@ -106,7 +106,7 @@ unfolding syncs
 syncs-on r asked which = by_load
   where
     by_found : (c : Call) (p : Position) → (c ≡ call.Transfer) ⊎ (c ≡ call.Sync) → (gone : Bool) (over : Option (ℕ × ℕ))
-        → Syncs r (with_outcome (seen_at (going r) p) (next_of Running c (found gone over None)))
+        → Syncs r (with_outcome (seen_at (going r) p) (next_of Running c (facts_with gone over None)))
     by_found c p (inl is) true over = rw is (record { next = refl; stays = inl (refl, inr refl) })
     by_found c p (inl is) false (Some (avail, seen)) = rw is (record { next = refl; stays = inr refl })
     by_found c p (inl is) false None = rw is (record { next = refl; stays = (refl, refl) })
@@ -232,7 +232,7 @@ starts-well : (r : CaptureStream) → r.status.stopped ≡ false → All Opens (
 unfolding starts
 starts-well r goes = by_load
   where
-    by_state : (s : State) (d : CaptureStream) (gone : Bool) → d.status.stopped ≡ false → Opens (with_outcome d (next_of s call.Transfer (found gone None None)))
+    by_state : (s : State) (d : CaptureStream) (gone : Bool) → d.status.stopped ≡ false → Opens (with_outcome d (next_of s call.Transfer (facts_with gone None None)))
     by_state state.Prepared d true is = tt
     by_state state.Prepared d false is = (is, refl)
     by_state Running d true is = tt

@@ -24,7 +24,7 @@ use Rattle.lab_script.specs.declared.script.ClientLine.{ClientLine}
 use Rattle.lab_script.specs.declared.script.ReaderLine.{ReaderLine}
 use Rattle.lab_script.specs.declared.script.Script.{Script}
 use Rattle.lab_script.specs.Causes.{refuse_if, some_or, first_of, end_of}
-use Rattle.lab_script.specs.Draft.{State, begun, client_of, reader_of, border_of, actor_named, is_client, is_reader, or_else, is_beside, ends_lap, keywords, with_client, with_reader, with_open, with_close, with_phase, with_end, with_line, with_words, outside, inside, unknown_outside, unknown_inside, line_at}
+use Rattle.lab_script.specs.Draft.{State, card_alone, client_of, reader_of, border_of, actor_named, is_client, is_reader, or_else, is_beside, ends_lap, keywords, with_client, with_reader, with_open, with_close, with_phase, with_end, with_line, with_words, outside, inside, unknown_outside, unknown_inside, line_at}
 use Rattle.lab_script.specs.Keys.{row_of}
 use Rattle.lab_script.specs.Limits.{IsCardLine, IsClientLine, IsReaderLine, IsBorder, IsActor, IsLine, IsAlone, IsItem, IsGoneAfter, IsScript}
 use Rattle.lab_script.specs.Ops.{op_of, played_by}
@@ -71,7 +71,7 @@ laps_at_first : (lap ring : ℕ) → lap ≤ 4294967294 → lap * ring + 0 + rin
 laps_at_first lap ring h = omega (arith, mul-le-mul_right {m = lap} {n = 4294967294} ring h)
 
 -- a card alone
-pub begun-kept : (card : CardLine) → IsCardLine card → IsState (begun card)
+pub begun-kept : (card : CardLine) → IsCardLine card → IsState (card_alone card)
 begun-kept card h = record {
   card = h;
   clients = omega arith;
@@ -564,9 +564,9 @@ card_line-ranges number (word ∷ ws) card e = first_by-ranges number (row_of ke
 script_of_lines-is : (lines : List (ℕ × List (List ℕ))) (script : Script) → script_of_lines lines ≡ Ok script → IsScript script
 script_of_lines-is [] script e = absurd (cc)
 script_of_lines-is (line ∷ lines) script e =
-    let card = on_line-ok line.0 (card_line line.0 line.1) (λ c. script_at (after (begun c) lines)) script e in
-    script_at-is (after (begun card.0) lines) script card.2
-    (λ s r. after-kept (begun card.0) lines s r (begun-kept card.0 (card_line-ranges line.0 line.1 card.0 card.1)))
+    let card = on_line-ok line.0 (card_line line.0 line.1) (λ c. script_at (after (card_alone c) lines)) script e in
+    script_at-is (after (card_alone card.0) lines) script card.2
+    (λ s r. after-kept (card_alone card.0) lines s r (begun-kept card.0 (card_line-ranges line.0 line.1 card.0 card.1)))
 
 -- what is read of a text that isn't too long keeps all limits
 pub answers-valid : (lines : List (ℕ × List (List ℕ))) (r : Result Script ScriptError) → Answers (λ s. s) r (script_of_lines lines) → IfOk r IsScript

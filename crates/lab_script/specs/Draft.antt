@@ -49,8 +49,8 @@ view d = record {
 }
 
 -- a card's line, and nothing else
-abbrev pub begun : CardLine → State
-begun card = record { card = card; clients = []; readers = []; body = []; phase = None; lines = []; phases = 0; played = 0; gone = false }
+abbrev pub card_alone : CardLine → State
+card_alone card = record { card = card; clients = []; readers = []; body = []; phase = None; lines = []; phases = 0; played = 0; gone = false }
 
 -- the words that no name is, with what each begins
 abbrev pub keywords : List (List ℕ × Keyword)

@@ -7,7 +7,7 @@ use Rattle.lab_script.specs.declared.error.ScriptWhy.{ScriptWhy}
 use Rattle.lab_script.specs.declared.error.ScriptWhy.TheVariants as why
 use Rattle.lab_script.specs.declared.script.CardLine.{CardLine}
 use Rattle.lab_script.specs.declared.script.Script.{Script}
-use Rattle.lab_script.specs.Draft.{State, begun, card_of, keywords, with_words}
+use Rattle.lab_script.specs.Draft.{State, card_alone, card_of, keywords, with_words}
 use Rattle.lab_script.specs.Keys.{row_of}
 use Rattle.lab_script.specs.Lexing.{lines_of}
 
@@ -49,7 +49,7 @@ script_at (Err e) = Err e
 -- the script of the lines that have words
 abbrev pub script_of_lines : List (ℕ × List (List ℕ)) → Result Script ScriptError
 script_of_lines [] = Err (refusal_at 0 why.NoCard)
-script_of_lines (line ∷ lines) = on_line line.0 (card_line line.0 line.1) (λ card. script_at (after (begun card) lines))
+script_of_lines (line ∷ lines) = on_line line.0 (card_line line.0 line.1) (λ card. script_at (after (card_alone card) lines))
 
 -- the script that a text spells, or its first refusal
 abbrev pub script_of : List ℕ → Result Script ScriptError

@@ -1,7 +1,7 @@
 //! The reader of a script's text.
 ghost use Rattle.std.specs.Prelude.{◌≡◌, ◌≤◌, ◌+◌, ◌^◌, ◌<◌, length, IfOk, Ok};
 ghost use Rattle.lab_script.specs.Causes.{Gives};
-ghost use Rattle.lab_script.specs.Draft.{view, begun};
+ghost use Rattle.lab_script.specs.Draft.{view, card_alone};
 ghost use Rattle.lab_script.specs.Lexing.{words_between, lines_from};
 ghost use Rattle.lab_script.specs.Limits.{IsScript};
 ghost use Rattle.lab_script.specs.Reading.{card_line, after, script_at_end, script_at, script_of, script_of_lines, Answers};
@@ -31,7 +31,7 @@ fn card_line(alloc: Global, number: u32, words: &[u8]) -> Result<CardLine, Scrip
 
 /// What is read of a script after the card's line.
 fn begin(alloc: Global, card: CardLine) -> Draft
-    ensures { view result ≡ begun card }
+    ensures { view result ≡ card_alone card }
 {
     Draft {
         card,
@@ -49,7 +49,7 @@ fn begin(alloc: Global, card: CardLine) -> Draft
 /// The lines after the card's, of which the first has this number.
 fn read_lines(alloc: Global, card: CardLine, number: u32, text: &[u8]) -> Result<Draft, ScriptError>
     requires { number + length text.now < 2 ^ 32 }
-    ensures { Answers view result (after (begun card) (lines_from number text.now)) }
+    ensures { Answers view result (after (card_alone card) (lines_from number text.now)) }
 {
     let mut draft = begin(alloc, card);
     let mut number = number;

@@ -26,17 +26,17 @@ abbrev pub ◌>>=◌ : {A B : Type 0} → Result A Cause → (A → Result B Cau
 (Err e) >>= f = Err e
 
 -- the bytes that are there under a name
-abbrev pub found : List ℕ → Option (List ℕ) → Result (List ℕ) Cause
-found name None = Err (missing name)
-found name (Some bytes) = Ok bytes
+abbrev pub bytes_or_cause : List ℕ → Option (List ℕ) → Result (List ℕ) Cause
+bytes_or_cause name None = Err (missing name)
+bytes_or_cause name (Some bytes) = Ok bytes
 
 -- the first bytes of a file, at most so many of them
 abbrev pub first_bytes : Files → List ℕ → ℕ → Result (List ℕ) Cause
-first_bytes files name most = found name (piece files name 0 most)
+first_bytes files name most = bytes_or_cause name (piece files name 0 most)
 
 -- the bytes of a file from a place on, at most so many of them
 abbrev pub fetched_from : Files → List ℕ → ℕ → ℕ → Result (List ℕ) Cause
-fetched_from files name from most = found name (piece files name from most)
+fetched_from files name from most = bytes_or_cause name (piece files name from most)
 
 -- how many bytes each piece of a file has, but for the last, which has fewer
 abbrev pub piece_bytes : ℕ
@@ -44,7 +44,7 @@ piece_bytes = 65_536
 
 -- all bytes of a file
 abbrev pub content_in : Files → List ℕ → Result (List ℕ) Cause
-content_in files name = found name (bytes_under files name)
+content_in files name = bytes_or_cause name (bytes_under files name)
 
 -- why a result is none
 abbrev pub cause : {X : Type 0} → Result X Cause → Option Cause

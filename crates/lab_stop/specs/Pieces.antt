@@ -13,7 +13,7 @@ use Rattle.std.proofs.Math.Seq.{take-add}
 use Rattle.std.specs.Prelude.{Bool, Option, Some, None, Ok, Err}
 use Rattle.std.specs.Option.{option_map}
 use Rattle.lab_shelf.specs.Files.{Files, bytes_under}
-use Rattle.lab_stop.specs.Causes.{Cause, found, first_bytes, fetched_from, content_in, piece_bytes}
+use Rattle.lab_stop.specs.Causes.{Cause, bytes_or_cause, first_bytes, fetched_from, content_in, piece_bytes}
 
 -- the bytes so far are the first of a file, and all of it behind the last piece
 pub record IsFetched (files : Files) (name bytes : List ℕ) (last : Bool) : Type 0 where
@@ -68,7 +68,7 @@ abbrev IsFirst : Option (List ℕ) → List ℕ → Type 0
 IsFirst content bytes = (c : List ℕ) → content ≡ Some c → take (length bytes) c ≡ bytes
 
 first_fetched : (content : Option (List ℕ)) (name bytes : List ℕ)
-    → found name (option_map (λ (c : List ℕ). take (length bytes) (drop 0 c)) content) ≡ Ok bytes → IsFirst content bytes
+    → bytes_or_cause name (option_map (λ (c : List ℕ). take (length bytes) (drop 0 c)) content) ≡ Ok bytes → IsFirst content bytes
 first_fetched None name bytes first c is = absurd (cc)
 first_fetched (Some content) name bytes first c is =
     let same : c ≡ content = cc in
@@ -81,16 +81,16 @@ first_begun files name bytes last (inl none) c is =
 first_begun files name bytes last (inr so_far) c is = first_fetched (bytes_under files name) name bytes so_far.first c is
 
 next_first : (content : Option (List ℕ)) (name bytes piece : List ℕ) → IsFirst content bytes
-    → found name (option_map (λ (c : List ℕ). take piece_bytes (drop (length bytes) c)) content) ≡ Ok piece
-    → found name (option_map (λ (c : List ℕ). take (length (bytes ++ piece)) (drop 0 c)) content) ≡ Ok (bytes ++ piece)
+    → bytes_or_cause name (option_map (λ (c : List ℕ). take piece_bytes (drop (length bytes) c)) content) ≡ Ok piece
+    → bytes_or_cause name (option_map (λ (c : List ℕ). take (length (bytes ++ piece)) (drop 0 c)) content) ≡ Ok (bytes ++ piece)
 next_first None name bytes piece first next = absurd (cc)
 next_first (Some content) name bytes piece first next =
     let taken : take piece_bytes (drop (length bytes) content) ≡ piece = cc in
     ap Ok (first_more piece_bytes content bytes piece (first content refl) taken)
 
 next_whole : (content : Option (List ℕ)) (name bytes piece : List ℕ) → IsFirst content bytes
-    → found name (option_map (λ (c : List ℕ). take piece_bytes (drop (length bytes) c)) content) ≡ Ok piece
-    → length piece < piece_bytes → found name content ≡ Ok (bytes ++ piece)
+    → bytes_or_cause name (option_map (λ (c : List ℕ). take piece_bytes (drop (length bytes) c)) content) ≡ Ok piece
+    → length piece < piece_bytes → bytes_or_cause name content ≡ Ok (bytes ++ piece)
 next_whole None name bytes piece first next short = absurd (cc)
 next_whole (Some content) name bytes piece first next short =
     let taken : take piece_bytes (drop (length bytes) content) ≡ piece = cc in
@@ -106,15 +106,15 @@ IsFetched-next files name bytes piece last then_last so_far next short = record 
 }
 
 most_of : (content : Option (List ℕ)) (name bytes : List ℕ) (most : ℕ)
-    → found name (option_map (λ (c : List ℕ). take (length bytes) (drop 0 c)) content) ≡ Ok bytes → most ≤ length bytes
-    → found name (option_map (λ (c : List ℕ). take most (drop 0 c)) content) ≡ Ok (take most bytes)
+    → bytes_or_cause name (option_map (λ (c : List ℕ). take (length bytes) (drop 0 c)) content) ≡ Ok bytes → most ≤ length bytes
+    → bytes_or_cause name (option_map (λ (c : List ℕ). take most (drop 0 c)) content) ≡ Ok (take most bytes)
 most_of None name bytes most first enough = absurd (cc)
 most_of (Some content) name bytes most first enough =
     let taken : take (length bytes) content ≡ bytes = cc in
     ap Ok (first_most most content bytes taken enough)
 
-whole_of : (content : Option (List ℕ)) (name bytes : List ℕ) (most : ℕ) → found name content ≡ Ok bytes
-    → found name (option_map (λ (c : List ℕ). take most (drop 0 c)) content) ≡ Ok (take most bytes)
+whole_of : (content : Option (List ℕ)) (name bytes : List ℕ) (most : ℕ) → bytes_or_cause name content ≡ Ok bytes
+    → bytes_or_cause name (option_map (λ (c : List ℕ). take most (drop 0 c)) content) ≡ Ok (take most bytes)
 whole_of None name bytes most whole = absurd (cc)
 whole_of (Some content) name bytes most whole =
     let all : content ≡ bytes = cc in
@@ -127,8 +127,8 @@ IsFetched-most files name bytes last most so_far (inl all) = whole_of (bytes_und
 IsFetched-most files name bytes last most so_far (inr enough) = most_of (bytes_under files name) name bytes most so_far.first enough
 
 rest_of : (content : Option (List ℕ)) (name bytes : List ℕ)
-    → found name (option_map (λ (c : List ℕ). take (length bytes) (drop 0 c)) content) ≡ Ok bytes
-    → (rest : List ℕ) × (found name content ≡ Ok (bytes ++ rest))
+    → bytes_or_cause name (option_map (λ (c : List ℕ). take (length bytes) (drop 0 c)) content) ≡ Ok bytes
+    → (rest : List ℕ) × (bytes_or_cause name content ≡ Ok (bytes ++ rest))
 rest_of None name bytes first = absurd (cc)
 rest_of (Some content) name bytes first =
     let taken : take (length bytes) content ≡ bytes = cc in (
@@ -142,7 +142,7 @@ pub IsFetched-rest : (files : Files) (name bytes : List ℕ) (last : Bool) → I
 IsFetched-rest files name bytes last so_far = rest_of (bytes_under files name) name bytes so_far.first
 
 refused_of : (content : Option (List ℕ)) (name : List ℕ) (f g : List ℕ → List ℕ) (e : Cause)
-    → found name (option_map f content) ≡ Err e → found name (option_map g content) ≡ Err e
+    → bytes_or_cause name (option_map f content) ≡ Err e → bytes_or_cause name (option_map g content) ≡ Err e
 refused_of None name f g e refused = refused
 refused_of (Some content) name f g e refused = absurd (cc)
 
@@ -153,7 +153,7 @@ refused_alike files name from most other_from other_most e refused =
     refused_of (bytes_under files name) name (λ (c : List ℕ). take most (drop from c)) (λ (c : List ℕ). take other_most (drop other_from c)) e refused
 
 whole_refused_of : (content : Option (List ℕ)) (name : List ℕ) (f : List ℕ → List ℕ) (e : Cause)
-    → found name (option_map f content) ≡ Err e → found name content ≡ Err e
+    → bytes_or_cause name (option_map f content) ≡ Err e → bytes_or_cause name content ≡ Err e
 whole_refused_of None name f e refused = refused
 whole_refused_of (Some content) name f e refused = absurd (cc)
 

@@ -18,7 +18,7 @@ use Rattle.lab_script.specs.declared.error.ScriptError.{ScriptError}
 use Rattle.lab_script.specs.declared.script.CardLine.{CardLine}
 use Rattle.lab_script.specs.declared.script.Script.{Script}
 use Rattle.lab_script.specs.Reading.{script_of}
-use Rattle.lab_stop.specs.Causes.{Cause, content_in, first_bytes, found, ◌>>=◌}
+use Rattle.lab_stop.specs.Causes.{Cause, content_in, first_bytes, bytes_or_cause, ◌>>=◌}
 use Rattle.lab_input.specs.Input.{RunInput, as_script, capture_in, with_byte_count, input_in, most_of_run, script_in, sound_in, sounds_in, wav_in, with_weight, within_run}
 use Rattle.lab_make.specs.declared.workload.Workload.{Workload}
 use Rattle.lab_make.specs.Files.{IsMadeSound, file_name, made_sound, made_sounds}
@@ -48,7 +48,7 @@ unfolding script_in
 script_in-spelled files name text script is spelled =
     let few = short text script spelled in
     let whole : take 1048577 text ≡ text = take_all 1048577 text (omega (arith, few)) in
-    ap (λ (content : Option (List ℕ)). found name (option_map (λ (c : List ℕ). take 1048577 (drop 0 c)) content) >>= λ (t : List ℕ). as_script (script_of t)) is
+    ap (λ (content : Option (List ℕ)). bytes_or_cause name (option_map (λ (c : List ℕ). take 1048577 (drop 0 c)) content) >>= λ (t : List ℕ). as_script (script_of t)) is
     ∙ (ap (λ (t : List ℕ). as_script (script_of t)) whole ∙ ap as_script spelled)
 
 -- ---- the clients' files
@@ -130,7 +130,7 @@ sound_in-readable : (files : Files) (total : ℕ) (name : List ℕ) (sound : Sou
 unfolding sound_in wav_in
 sound_in-readable files total name sound is room =
     let test : nat_le (total + 16428) most_of_run ≡ true = grind (arith, nat_tests, room) in
-    let content : content_in files name ≡ Ok (canonical sound) = ap (found name) is.is_held in
+    let content : content_in files name ≡ Ok (canonical sound) = ap (bytes_or_cause name) is.is_held in
     let read : (content_in files name >>= λ (bytes : List ℕ). with_weight name None (length bytes) (sound_file None bytes)) ≡ Ok (sound, 16428) =
     ap (λ (r : Result (List ℕ) Cause). r >>= λ (bytes : List ℕ). with_weight name None (length bytes) (sound_file None bytes)) content
     ∙ (ap (λ (s : Result Sound WavError). with_weight name None (length (canonical sound)) s) is.back

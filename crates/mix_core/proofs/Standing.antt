@@ -19,7 +19,7 @@ use Rattle.mix_core.specs.Calls.{IsLaidBy}
 use Rattle.mix_core.specs.History.{IsHeld, IsReply, IsSample, Row, entry_of, is_taken, laid_of}
 use Rattle.mix_core.specs.HeldLaws.{HeldPlace, held-at, last_is, missed-back}
 use Rattle.mix_core.specs.KeptLaws.{AreAlike-kept, IsReply-alike, laid_of-kept}
-use Rattle.mix_core.specs.Laid.{a_withdrawal, last_entry, marks_of, own_entries, stand_after, standing, standing_of, stood, without_last}
+use Rattle.mix_core.specs.Laid.{a_withdrawal, last_entry, marks_of, own_entries, stand_after, standing, standing_of, standing_with, without_last}
 use Rattle.mix_core.specs.LegalLaws.{AreLeast, marks_of-least}
 use Rattle.mix_core.specs.MarkLaws.{without_last-more}
 use Rattle.mix_core.specs.OwnLaws.{last_entry-more, own-more, own-more_other, standing_of-other, standing_of-own}
@@ -55,7 +55,7 @@ pub keeps-add : (st : List Entry) (rows : List Row) (r : Row) (e : Entry) → en
 keeps-add st rows r e some kind k =
     let es : List Entry = laid_of rows in
     let more : laid_of (rows ++ r ∷ []) ≡ es ++ e ∷ [] = laid_of-more rows r e some in
-    let put : (held : List Entry) → stand_after held e ≡ held ++ e ∷ [] = λ held. ap (λ d. stood d held e) kind in
+    let put : (held : List Entry) → stand_after held e ≡ held ++ e ∷ [] = λ held. ap (λ d. standing_with d held e) kind in
     record {
       holds = λ m. subst (λ xs. own_entries m (st ++ e ∷ []) ≡ standing_of m xs) (sym more) (elim (cases_eq e.member m) [
         | inl same ↦ own-more m st e same ∙ (ap (λ xs. xs ++ e ∷ []) (k.holds m) ∙ sym (standing_of-own m es e same ∙ put (standing_of m es)))
@@ -126,7 +126,7 @@ keeps-withdrawal st rows r e x i some kind last k =
     let es : List Entry = laid_of rows in
     let m : ℕ = e.member in
     let more : laid_of (rows ++ r ∷ []) ≡ es ++ e ∷ [] = laid_of-more rows r e some in
-    let back : (held : List Entry) → stand_after held e ≡ without_last held = λ held. ap (λ d. stood d held e) kind in
+    let back : (held : List Entry) → stand_after held e ≡ without_last held = λ held. ap (λ d. standing_with d held e) kind in
     let was : standing_of m es ≡ last.early ++ x ∷ [] = sym (k.holds m) ∙ last.own_is in
     let left : standing_of m (es ++ e ∷ []) ≡ last.early = standing_of-own m es e refl ∙ (back (standing_of m es) ∙ (ap without_last was ∙ without_last-more last.early x)) in
     record {

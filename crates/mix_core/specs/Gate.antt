@@ -22,7 +22,7 @@ pub record AsksCompose {T : Type 0} (asked : T → T → List StepKind → Pass 
   pub joined : (g h k : T) (xs ys : List StepKind) (last : Pass) → asked g h xs Go → asked h k ys last → asked g k (xs ++ ys) last
 
 -- the first n asks of a placement or withdrawal: a look, an exchange, and then one `Again` for each further exchange
-abbrev pub placing : ℕ → List StepKind
-placing zero = []
-placing (suc zero) = Look ∷ []
-placing (suc (suc n)) = Look ∷ Exchange ∷ replicate n Again
+abbrev pub placement_asks : ℕ → List StepKind
+placement_asks zero = []
+placement_asks (suc zero) = Look ∷ []
+placement_asks (suc (suc n)) = Look ∷ Exchange ∷ replicate n Again

@@ -16,7 +16,7 @@ use Rattle.mix_core.specs.declared.turn.Turn.{Turn}
 use Rattle.mix_core.specs.Calls.{IsLaidBy}
 use Rattle.mix_core.specs.History.{IsHeld, IsInside, IsLegal, IsReply, IsSample, Row, entry_of, event_by, is_taken, laid_of, row_of, taken_of}
 use Rattle.mix_core.specs.HistoryLaws.{laid_of-append_rows}
-use Rattle.mix_core.specs.Laid.{EndsIn, a_withdrawal, an_add, count, last_entry, marks_with, marks_after, marks_of, own_entries, stand_after, standing_of, stood, without_last}
+use Rattle.mix_core.specs.Laid.{EndsIn, a_withdrawal, an_add, count, last_entry, marks_with, marks_after, marks_of, own_entries, stand_after, standing_of, standing_with, without_last}
 use Rattle.mix_core.specs.LegalLaws.{AreLeast, AreReplies-keep, entry_of-cases, marks_of-least, may_lay}
 use Rattle.mix_core.specs.MarkLaws.{Each, Each-right, IsBehind, IsHolding, IsHolding-add, IsHolding-withdraw, each_counted, each_filter, last_cases, later_up_to, place_up_to, standing-each, without_last-more}
 use Rattle.mix_core.specs.Marks.{withdrawn_at}
@@ -50,7 +50,7 @@ holds-laid g members h e may x = by_kind e.kind may where
   held : List Entry
   held = standing_of e.member (laid_of h)
 
-  by_kind : (k : Kind) → may_lay k g members h e.member e.frame e.channel e.sample → Holds g (marks_with k g (marks_of g e.member (laid_of h)) e.frame e.channel) (stood k (standing_of e.member (laid_of h)) e)
+  by_kind : (k : Kind) → may_lay k g members h e.member e.frame e.channel e.sample → Holds g (marks_with k g (marks_of g e.member (laid_of h)) e.frame e.channel) (standing_with k (standing_of e.member (laid_of h)) e)
   by_kind Added may = record {
     cursor_high = λ d. later_up_to (marks_of g e.member (laid_of h)).high _ d;
     holding = (_, IsHolding-add g (marks_of g e.member (laid_of h)) (standing_of e.member (laid_of h)) x.holding.0 e x.holding.1 x.cursor_high may.channel_in_range may.from_cursor);

@@ -50,12 +50,12 @@ without_last (x ∷ []) = []
 without_last (x ∷ y ∷ ys) = x ∷ without_last (y ∷ ys)
 
 -- the standing adds after one more entry: an add goes to their end, and a withdrawal takes the last one away
-abbrev pub stood : Kind → List Entry → Entry → List Entry
-stood Added held e = held ++ e ∷ []
-stood Withdrawn held e = without_last held
+abbrev pub standing_with : Kind → List Entry → Entry → List Entry
+standing_with Added held e = held ++ e ∷ []
+standing_with Withdrawn held e = without_last held
 
 abbrev pub stand_after : List Entry → Entry → List Entry
-stand_after held e = stood e.kind held e
+stand_after held e = standing_with e.kind held e
 
 -- the adds of a list of entries that no withdrawal took away
 abbrev pub standing : List Entry → List Entry

@@ -11,7 +11,7 @@ use Rattle.snd_base.specs.Places.{IsFrom, cursor_after, first_free}
 use Rattle.mix_core.specs.declared.marks.Marks.{Marks}
 use Rattle.mix_core.specs.declared.port.Entry.{Entry}
 use Rattle.mix_core.specs.HistoryLaws.{at-append}
-use Rattle.mix_core.specs.Laid.{at, count, is_at, stand_after, standing, stood, without_last}
+use Rattle.mix_core.specs.Laid.{at, count, is_at, stand_after, standing, standing_with, without_last}
 use Rattle.mix_core.specs.declared.port.Kind.{Kind}
 use Rattle.mix_core.specs.declared.port.Kind.TheVariants.{Added, Withdrawn}
 use Rattle.mix_core.specs.Marks.{added_at, is_before, later_of, withdrawn_at}
@@ -299,7 +299,7 @@ each_filter P test (x ∷ xs) all = elim (cases_Bool (test x)) [
 
 pub standing-each : (P : Entry → Type 0) (es : List Entry) → Each P es → Each P (standing es)
 standing-each P es all = from [] es tt all where
-  stood_each : (k : Kind) (held : List Entry) (e : Entry) → Each P held → P e → Each P (stood k held e)
+  stood_each : (k : Kind) (held : List Entry) (e : Entry) → Each P held → P e → Each P (standing_with k held e)
   stood_each Added held e all one = Each-append P held (e ∷ []) all (one, tt)
   stood_each Withdrawn held e all one = each_without P held all
 

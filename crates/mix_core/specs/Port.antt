@@ -16,7 +16,7 @@ use Rattle.mix_core.specs.declared.port.Entry.{Entry}
 use Rattle.mix_core.specs.declared.port.Placed.{Placed}
 use Rattle.mix_core.specs.declared.port.Placed.TheVariants as placed
 use Rattle.mix_core.specs.declared.port.Position.{Position}
-use Rattle.mix_core.specs.Gate.{placing, stops_after}
+use Rattle.mix_core.specs.Gate.{placement_asks, stops_after}
 use Rattle.mix_core.specs.Laid.{marks_after}
 
 -- what is plain of a port
@@ -161,5 +161,5 @@ pub record Lays {S T : Type 0} (view : S → PortView) (laid : S → S → List 
   pub asks : ℕ
   pub asks_number : IsAskNumber ended e.frame (view p).seen asks
   pub words_number : length words ≡ word_number ended asks
-  pub asked_them : asked g h (placing asks) (pass_of_end ended)
+  pub asked_them : asked g h (placement_asks asks) (pass_of_end ended)
   pub stopped : stops h ≡ stops_after (pass_of_end ended) (stops g)

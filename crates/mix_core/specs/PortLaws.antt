@@ -5,7 +5,7 @@ use Rattle.std.proofs.lemmas.List.{append-nil}
 use Rattle.std.proofs.lemmas.List.Sums.{fold-append}
 use Rattle.mix_core.specs.declared.port.Entry.{Entry}
 use Rattle.mix_core.specs.declared.port.Position.{Position}
-use Rattle.mix_core.specs.Laid.{AreAdds, stand_after, standing, stood}
+use Rattle.mix_core.specs.Laid.{AreAdds, stand_after, standing, standing_with}
 use Rattle.mix_core.specs.Port.{AreRisingFrom, IsNotBefore, last_frame}
 
 pub IsNotBefore-refl : (w : ℕ) → IsNotBefore w w
@@ -26,7 +26,7 @@ last_frame-append d (x ∷ xs) ys = last_frame-append x.frame xs ys
 pub standing-adds : (held es : List Entry) → AreAdds es → fold stand_after held es ≡ held ++ es
 standing-adds held [] adds = sym (append-nil held)
 standing-adds held (e ∷ es) adds =
-    ap (λ k. fold stand_after (stood k held e) es) adds.0 ∙ (standing-adds (held ++ e ∷ []) es adds.1 ∙ append_assoc held (e ∷ []) es)
+    ap (λ k. fold stand_after (standing_with k held e) es) adds.0 ∙ (standing-adds (held ++ e ∷ []) es adds.1 ∙ append_assoc held (e ∷ []) es)
 
 pub standing-append_adds : (es fs : List Entry) → AreAdds fs → standing (es ++ fs) ≡ standing es ++ fs
 standing-append_adds es fs adds = fold-append stand_after [] es fs ∙ standing-adds (standing es) fs adds

@@ -103,7 +103,7 @@ each_without P (x ∷ y ∷ ys) all = (all.0, each_without P (y ∷ ys) all.1)
 
 standing-each : (P : Entry → Type 0) (es : List Entry) → Each P es → Each P (standing es)
 standing-each P es all = from [] es tt all where
-  stood_each : (k : Kind) (held : List Entry) (e : Entry) → Each P held → P e → Each P (Rattle.mix_core.specs.Laid.stood k held e)
+  stood_each : (k : Kind) (held : List Entry) (e : Entry) → Each P held → P e → Each P (Rattle.mix_core.specs.Laid.standing_with k held e)
   stood_each Added held e all one = Each-append P held (e ∷ []) all (one, tt)
   stood_each Withdrawn held e all one = each_without P held all
 
@@ -241,8 +241,8 @@ pub kept_add : (g : Geometry) (places : ℕ) (es mine free : List Entry) (marks 
     → IsKept g places es mine free marks seen ended → e.kind ≡ Added → IsLaid g seen e → IsFrom marks.cursor e.frame e.channel → 0 < places
     → IsKept g places (es ++ e ∷ []) (mine ++ e ∷ []) (withdrawable_after e.kind marks free e) (marks_after g marks e) seen ended
 kept_add g places es mine free marks seen ended e x kind laid from has =
-    let held : standing (es ++ e ∷ []) ≡ standing es ++ e ∷ [] = standing-more es e ∙ ap (λ k. Rattle.mix_core.specs.Laid.stood k (standing es) e) kind in
-    let own_held : standing (mine ++ e ∷ []) ≡ standing mine ++ e ∷ [] = standing-more mine e ∙ ap (λ k. Rattle.mix_core.specs.Laid.stood k (standing mine) e) kind in
+    let held : standing (es ++ e ∷ []) ≡ standing es ++ e ∷ [] = standing-more es e ∙ ap (λ k. Rattle.mix_core.specs.Laid.standing_with k (standing es) e) kind in
+    let own_held : standing (mine ++ e ∷ []) ≡ standing mine ++ e ∷ [] = standing-more mine e ∙ ap (λ k. Rattle.mix_core.specs.Laid.standing_with k (standing mine) e) kind in
     let marks_is : marks_after g marks e ≡ added_at g marks e.frame e.channel = ap (λ k. Rattle.mix_core.specs.Laid.marks_with k g marks e.frame e.channel) kind in
     let own_marks : marks_by g (mine ++ e ∷ []) ≡ added_at g (marks_by g mine) e.frame e.channel =
     marks_by-more g mine e ∙ ap (λ k. Rattle.mix_core.specs.Laid.marks_with k g (marks_by g mine) e.frame e.channel) kind in
@@ -261,7 +261,7 @@ kept_add g places es mine free marks seen ended e x kind laid from has =
           (subst (IsHolding g (added_at g marks e.frame e.channel) (standing es ++ e ∷ [])) (sym free_is)
           (IsHolding-add g marks (standing es) free e x.holding x.marked.cursor_high laid.channel from)));
       backed = λ before.
-          fold_push stand_after before es e ∙ (ap (λ k. Rattle.mix_core.specs.Laid.stood k (fold stand_after before es) e) kind
+          fold_push stand_after before es e ∙ (ap (λ k. Rattle.mix_core.specs.Laid.standing_with k (fold stand_after before es) e) kind
           ∙ (ap (λ zs. zs ++ e ∷ []) (x.backed before) ∙ (append_assoc before (standing es) (e ∷ []) ∙ ap (λ zs. before ++ zs) (sym held))));
       few_held = λ f c. subst (λ zs. count zs f c ≤ places) (sym held) (elim (place_cases e.frame e.channel f c) [
         | inl same ↦ subst (λ y. count (standing es ++ e ∷ []) y c ≤ places) same.0 (subst (λ y. count (standing es ++ e ∷ []) e.frame y ≤ places) same.1
@@ -289,8 +289,8 @@ kept_withdraw g places es mine free marks seen ended e x kind y =
     let facts : HeldFacts g marks seen e.frame e.channel = held_facts g places es mine free marks seen ended e.frame e.channel e.sample x y in
     let laid : IsLaid g seen e = record { channel = facts.channel; low = facts.low; ahead = facts.ahead; fits = facts.fits } in
     let held : standing (es ++ e ∷ []) ≡ y.early =
-    standing-more es e ∙ (ap (λ k. Rattle.mix_core.specs.Laid.stood k (standing es) e) kind ∙ (ap without_last y.ends ∙ without_last-more y.early y.last)) in
-    let own_held : standing (mine ++ e ∷ []) ≡ without_last (standing mine) = standing-more mine e ∙ ap (λ k. Rattle.mix_core.specs.Laid.stood k (standing mine) e) kind in
+    standing-more es e ∙ (ap (λ k. Rattle.mix_core.specs.Laid.standing_with k (standing es) e) kind ∙ (ap without_last y.ends ∙ without_last-more y.early y.last)) in
+    let own_held : standing (mine ++ e ∷ []) ≡ without_last (standing mine) = standing-more mine e ∙ ap (λ k. Rattle.mix_core.specs.Laid.standing_with k (standing mine) e) kind in
     let marks_is : marks_after g marks e ≡ withdrawn_at marks e.frame e.channel = ap (λ k. Rattle.mix_core.specs.Laid.marks_with k g marks e.frame e.channel) kind in
     let own_marks : marks_by g (mine ++ e ∷ []) ≡ withdrawn_at (marks_by g mine) e.frame e.channel =
     marks_by-more g mine e ∙ ap (λ k. Rattle.mix_core.specs.Laid.marks_with k g (marks_by g mine) e.frame e.channel) kind in
@@ -317,7 +317,7 @@ kept_withdraw g places es mine free marks seen ended e x kind y =
       backed = λ before.
           let taken : fold stand_after before es ≡ (before ++ y.early) ++ y.last ∷ [] =
           x.backed before ∙ (ap (λ zs. before ++ zs) y.ends ∙ sym (append_assoc before y.early (y.last ∷ []))) in
-          fold_push stand_after before es e ∙ (ap (λ k. Rattle.mix_core.specs.Laid.stood k (fold stand_after before es) e) kind
+          fold_push stand_after before es e ∙ (ap (λ k. Rattle.mix_core.specs.Laid.standing_with k (fold stand_after before es) e) kind
           ∙ (ap without_last taken ∙ (without_last-more (before ++ y.early) y.last ∙ ap (λ zs. before ++ zs) (sym held))));
       few_held = λ f c. subst (λ zs. count zs f c ≤ places) (sym held)
           (omega (arith, count-append y.early (y.last ∷ []) f c, ap (λ zs. count zs f c) y.ends, x.few_held f c));
@@ -404,7 +404,7 @@ without_last-map f (x ∷ y ∷ ys) = ap (λ zs. f x ∷ zs) (without_last-map f
 
 pub standing-member : (m : ℕ) (es : List Entry) → standing (map (by_member m) es) ≡ map (by_member m) (standing es)
 standing-member m es = from [] es where
-  stood_member : (k : Kind) (held : List Entry) (e : Entry) → Rattle.mix_core.specs.Laid.stood k (map (by_member m) held) (by_member m e) ≡ map (by_member m) (Rattle.mix_core.specs.Laid.stood k held e)
+  stood_member : (k : Kind) (held : List Entry) (e : Entry) → Rattle.mix_core.specs.Laid.standing_with k (map (by_member m) held) (by_member m e) ≡ map (by_member m) (Rattle.mix_core.specs.Laid.standing_with k held e)
   stood_member Added held e = sym (Rattle.std.proofs.lemmas.List.map-append (by_member m) held (e ∷ []))
   stood_member Withdrawn held e = without_last-map (by_member m) held
 

@@ -16,7 +16,7 @@ use Rattle.mix_core.specs.declared.port.Ended.TheVariants.{Whole, Late, Stopped}
 use Rattle.mix_core.specs.declared.port.Entry.{Entry}
 use Rattle.mix_core.specs.declared.port.Kind.{Kind}
 use Rattle.mix_core.specs.declared.port.Kind.TheVariants.{Added, Withdrawn}
-use Rattle.mix_core.specs.Gate.{AsksCompose, placing}
+use Rattle.mix_core.specs.Gate.{AsksCompose, placement_asks}
 use Rattle.mix_core.specs.History.{IsLegal, IsReply, Row, event_by, late_row}
 use Rattle.mix_core.specs.Laid.{marks_after, standing}
 use Rattle.mix_core.specs.Port.{PortView}
@@ -363,7 +363,7 @@ seat_view_is s t m goes marks seen =
 
 -- what a step is that the gate stopped
 pub stopped_lays : {T : Type 0} (stops : T → ℕ) (asked : T → T → List StepKind → Pass → Type 0) (s t : MixSeat) (g h : T) (e : Entry) (words : List ℕ) (n before after : ℕ)
-    → HasFound s t e.frame e.channel words → length words ≡ n - 1 → 1 ≤ n → (e.frame < s.seen → n ≡ 1) → asked g h (placing n) Stop → stops h ≡ stops g + 1
+    → HasFound s t e.frame e.channel words → length words ≡ n - 1 → 1 ≤ n → (e.frame < s.seen → n ≡ 1) → asked g h (placement_asks n) Stop → stops h ≡ stops g + 1
     → after ≡ before + (n - 1) → n - 1 ≤ 1 + 3 * s.key.places
     → LaysCounted stops asked s g before e Stopped t h after
 stopped_lays stops asked s t g h e words n before after is number some early asks up counted bound = record {
@@ -390,7 +390,7 @@ stopped_lays stops asked s t g h e words n before after is number some early ask
 pub late_lays : {T : Type 0} (stops : T → ℕ) (asked : T → T → List StepKind → Pass → Type 0) (s t u : MixSeat) (g h : T) (k : Kind) (f c : ℕ) (x : ℤ)
     (words : List ℕ) (word n before after : ℕ)
     → HasFound s t f c words → HasNoted t u f c word → MayLay k s f c x → lap_of word ≢ lap s.key.geometry f
-    → length words + 1 ≡ n → (f < s.seen → n ≡ 1) → asked g h (placing n) Go → stops h ≡ stops g
+    → length words + 1 ≡ n → (f < s.seen → n ≡ 1) → asked g h (placement_asks n) Go → stops h ≡ stops g
     → after ≡ before + n → n ≤ 1 + 3 * s.key.places
     → LaysCounted stops asked s g before (entry_by s k f c x) (Late word) u h after
 late_lays stops asked s t u g h k f c x words word n before after is noted lay other number early asks same counted bound =
@@ -424,7 +424,7 @@ late_lays stops asked s t u g h k f c x words word n before after is noted lay o
 -- and one that was done
 pub whole_lays : {T : Type 0} (stops : T → ℕ) (asked : T → T → List StepKind → Pass → Type 0) (s t u : MixSeat) (g h : T) (e : Entry) (words : List ℕ) (n before after : ℕ)
     → HasFound s t e.frame e.channel words → HasLaid t u e → s.seen ≤ e.frame
-    → length words + 1 ≡ n → 2 ≤ n → asked g h (placing n) Go → stops h ≡ stops g
+    → length words + 1 ≡ n → 2 ≤ n → asked g h (placement_asks n) Go → stops h ≡ stops g
     → after ≡ before + n → n ≤ 1 + 3 * s.key.places
     → LaysCounted stops asked s g before e Whole u h after
 whole_lays stops asked s t u g h e words n before after is laid not_before number two asks same counted bound =
@@ -450,16 +450,16 @@ whole_lays stops asked s t u g h e words n before after is laid not_before numbe
     }
 
 -- the asks of a further exchange
-pub placing_more : (i : ℕ) → placing (suc (suc i)) ++ Again ∷ [] ≡ placing (suc (suc (suc i)))
+pub placing_more : (i : ℕ) → placement_asks (suc (suc i)) ++ Again ∷ [] ≡ placement_asks (suc (suc (suc i)))
 placing_more i = ap (λ ks. Look ∷ Exchange ∷ ks) (more i) where
   more : (i : ℕ) → replicate i Again ++ Again ∷ [] ≡ replicate (suc i) Again
   more zero = refl
   more (suc i) = ap (λ ks. Again ∷ ks) (more i)
 
 pub asked_again : {T : Type 0} (asked : T → T → List StepKind → Pass → Type 0) → AsksCompose asked → (g h k : T) (i : ℕ) (last : Pass)
-    → asked g h (placing (suc (suc i))) Go → asked h k (Again ∷ []) last → asked g k (placing (suc (suc (suc i)))) last
+    → asked g h (placement_asks (suc (suc i))) Go → asked h k (Again ∷ []) last → asked g k (placement_asks (suc (suc (suc i)))) last
 asked_again asked composes g h k i last first then =
-    subst (λ ks. asked g k ks last) (placing_more i) (composes.joined g h k (placing (suc (suc i))) (Again ∷ []) last first then)
+    subst (λ ks. asked g k ks last) (placing_more i) (composes.joined g h k (placement_asks (suc (suc i))) (Again ∷ []) last first then)
 
 -- the member of the entry, and its sample, are those of the seat that began
 pub laid_as : (s t u : MixSeat) (k : Kind) (f c : ℕ) (z x : ℤ) → t.member ≡ s.member → z ≡ x → HasLaid t u (entry_by t k f c z) → HasLaid t u (entry_by s k f c x)

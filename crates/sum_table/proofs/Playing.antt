@@ -24,7 +24,7 @@ use Rattle.sum_table.specs.Exact.{BeginsWith, Exact, next_at, position_at, the_t
 use Rattle.sum_table.specs.Known.{IsPlayer}
 use Rattle.ring_rule.specs.Positions.{has_all}
 use Rattle.sum_table.specs.Players.{HasTaken, IsTurnedPlayer, player_view, track_of}
-use Rattle.sum_table.specs.Steps.{Makes, position_store, word_take, taking, track_taken, unplug_store, with_gone, with_published, with_taken}
+use Rattle.sum_table.specs.Steps.{Makes, position_store, word_take, next_taken, track_taken, unplug_store, with_gone, with_published, with_taken}
 use Rattle.ring_rule.specs.Words.{index_of}
 use Rattle.ring_rule.specs.PositionLaws.{has_all-published, last_of-more}
 use Rattle.ring_rule.specs.WordLaws.{lap-le}
@@ -87,7 +87,7 @@ pub known_taken : (k : Key) (next : Cursor) (position : ℕ) (gone : Bool) (slot
 known_taken k next position gone slots i word n m r is fits told =
     let h : List Row = told.0 in
     let t : Track = told.1 in
-    let x : Taken = taking m.0.key.geometry t told.2 in
+    let x : Taken = next_taken m.0.key.geometry t told.2 in
     let w : View = with_taken m.0 h t x in
     let same : the_track m.0.track ≡ t = track_is m.0 t told.3 in
     let end : next.frame + 1 ≤ end_frame k.geometry = suc-le-end_frame k.geometry next.frame fits in
@@ -178,7 +178,7 @@ has_taken p q slots i word n z ring key next position gone value told =
     let g : Geometry = v.key.geometry in
     let h : List Row = told.0 in
     let t : Track = told.1 in
-    let x : Taken = taking g t told.2 in
+    let x : Taken = next_taken g t told.2 in
     let w : View = with_taken v h t x in
     let same : t ≡ track_of p = sym (track_is v t told.3) in
     let view : player_view q ≡ w = ap (λ (y : Me Entry View). y.0) told.6 in

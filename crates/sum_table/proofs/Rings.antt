@@ -23,7 +23,7 @@ use Rattle.mix_core.specs.Sound.{IsNow}
 use Rattle.sum_table.specs.declared.view.Track.{Track}
 use Rattle.sum_table.specs.Exact.{IsRing, next_at, position_at}
 use Rattle.sum_table.specs.Laid.{SameSums, count}
-use Rattle.sum_table.specs.Steps.{taking, track_gone, track_published, track_taken}
+use Rattle.sum_table.specs.Steps.{next_taken, track_gone, track_published, track_taken}
 use Rattle.ring_rule.specs.Words.{index_of}
 use Rattle.sum_table.proofs.Lists.{at-more_elsewhere, at-more_here, at_place, is_taken-more, place_cases, total-more_elsewhere, total-more_here}
 use Rattle.ring_rule.specs.PositionLaws.{Rising-more, last_of-more}
@@ -127,12 +127,12 @@ pub IsRing-take : (g : Geometry) (words : List ℕ) (es : List Entry) (t : Track
     → ((f c : ℕ) → first_free (next_at g t) c + g.frames ≤ f → count es f c ≡ 0)
     → StandsFor word (lap g (next_at g t).frame + 1) 0 (pos 0)
     → z ≡ clamp_of (total es (next_at g t).frame (next_at g t).channel)
-    → IsRing g (set words (index_of g (next_at g t).frame (next_at g t).channel) word) es (track_taken t (taking g t z))
+    → IsRing g (set words (index_of g (next_at g t).frame (next_at g t).channel) word) es (track_taken t (next_taken g t z))
 IsRing-take g words es t z word r fits far stands value =
     let next : Cursor = next_at g t in
     let nf : ℕ = next.frame in
     let nc : ℕ = next.channel in
-    let x : Taken = taking g t z in
+    let x : Taken = next_taken g t z in
     let channel : nc < g.channels = next_word-channel g (length t.taken) in
     let some : 0 < g.frames = omega (arith, g.frames_least) in
     let next_lap : lap g (nf + g.frames) ≡ lap g nf + 1 = add-div_right nf some in

@@ -26,7 +26,7 @@ use Rattle.sum_table.specs.declared.view.Track.{Track}
 use Rattle.sum_table.specs.declared.view.View.{View}
 use Rattle.sum_table.specs.Exact.{BeginsWith, IsHistory, IsKept, IsOwn, next_at, position_at}
 use Rattle.sum_table.specs.Laid.{SameSums, all_laid, by_member, own_entries}
-use Rattle.sum_table.specs.Steps.{IsStep, in_row, taking, track_gone, track_published, track_taken}
+use Rattle.sum_table.specs.Steps.{IsStep, in_row, next_taken, track_gone, track_published, track_taken}
 use Rattle.sum_table.proofs.Kept.{HeldFacts, IsHeldAt, held_facts, marks_by-member, standing-member}
 use Rattle.ring_rule.specs.PositionLaws.{last_of-more}
 use Rattle.sum_table.proofs.Sums.{SameSums-append, SameSums-append_right, SameSums-by_member, SameSums-joined, SameSums-put, SameSums-set}
@@ -88,7 +88,7 @@ history_gone g views t h y = record {
 pub history_take : (g : Geometry) (views : List View) (t : Track) (h : List Row) (z : ℤ)
     → IsHistory g views t h → lap g (next_at g t).frame ≢ 4294967295
     → z ≡ clamp_of (total (all_laid views) (next_at g t).frame (next_at g t).channel)
-    → IsHistory g views (track_taken t (taking g t z)) (h ++ (Take, Took (next_at g t).frame (next_at g t).channel z) ∷ [])
+    → IsHistory g views (track_taken t (next_taken g t z)) (h ++ (Take, Took (next_at g t).frame (next_at g t).channel z) ∷ [])
 history_take g views t h z y fits value =
     let f : ℕ = (next_at g t).frame in
     let c : ℕ = (next_at g t).channel in
@@ -102,7 +102,7 @@ history_take g views t h z y fits value =
         ap (λ (x : Cursor). x.channel) (sym next_is),
         value ∙ ap clamp_of (sym (y.sums.totals f c)),
       );
-      taken = taken_of-append_took h f c z ∙ ap (λ ts. ts ++ taking g t z ∷ []) y.taken;
+      taken = taken_of-append_took h f c z ∙ ap (λ ts. ts ++ next_taken g t z ∷ []) y.taken;
       position = fold_push position_after (first_frame g) h r ∙ y.position;
       sums = subst (λ es. SameSums es (all_laid views)) (sym laid) y.sums;
       owns = λ i u there lasts. ap (own_entries i) laid ∙ y.owns i u there lasts;

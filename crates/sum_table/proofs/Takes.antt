@@ -23,7 +23,7 @@ use Rattle.sum_table.specs.declared.view.Track.{Track}
 use Rattle.sum_table.specs.declared.view.View.{View}
 use Rattle.sum_table.specs.Exact.{Exact, is_tracked, IsHistory, IsPublished, IsView, next_at, position_at}
 use Rattle.sum_table.specs.Laid.{all_laid, count}
-use Rattle.sum_table.specs.Steps.{position_store, word_take, taking, track_gone, track_published, track_taken, unplug_store, with_gone, with_published, with_taken}
+use Rattle.sum_table.specs.Steps.{position_store, word_take, next_taken, track_gone, track_published, track_taken, unplug_store, with_gone, with_published, with_taken}
 use Rattle.ring_rule.specs.Words.{NotPast, index_of, rank}
 use Rattle.sum_table.proofs.Kept.{kept_later}
 use Rattle.sum_table.proofs.Keeps.{Holds, none_made}
@@ -79,10 +79,10 @@ took s slots id m at t h word lasts tracks player x here fits stands =
     let value : z ≡ clamp_of (total (all_laid s.views) next.frame next.channel) = ap clamp_of fields.2 in
     let rows : List Row = (Take, Took next.frame next.channel z) ∷ [] in
     let late : List Row = h ++ rows in
-    let u : Track = track_taken t (taking g t z) in
-    let w : View = with_taken v late t (taking g t z) in
+    let u : Track = track_taken t (next_taken g t z) in
+    let w : View = with_taken v late t (next_taken g t z) in
     let own : IsView k s.words t h v = x.views_ok.each id v here in
-    let behind_it : next_at g u ≡ cursor_after g next.frame next.channel = next_at-taken g t (taking g t z) in
+    let behind_it : next_at g u ≡ cursor_after g next.frame next.channel = next_at-taken g t (next_taken g t z) in
     let up : rank n < rank word = omega (arith, rank-of n _ _ _ stood, stood.count_fits, rank-of word _ _ _ stands) in
     let in_words : i < length s.words = omega (arith, index_of-lt g next.frame next.channel channel, x.ring.room) in
     let later : Later g s.words (set s.words i word) t u h late = record {

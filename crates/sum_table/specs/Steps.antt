@@ -60,8 +60,8 @@ abbrev pub with_position : View → List Row → ℕ → Bool → View
 with_position v h p gone = record v { history = h; positions = v.positions ++ p ∷ []; seen = p; seen_gone = gone }
 
 -- what the next word gives, where its value is this
-abbrev pub taking : Geometry → Track → ℤ → Taken
-taking g t z = record { frame = (next_at g t).frame; channel = (next_at g t).channel; value = z }
+abbrev pub next_taken : Geometry → Track → ℤ → Taken
+next_taken g t z = record { frame = (next_at g t).frame; channel = (next_at g t).channel; value = z }
 
 -- the player took a word
 abbrev pub track_taken : Track → Taken → Track
@@ -204,8 +204,8 @@ word_take s m n r =
     × (m.0.track ≡ Some t)
     × (z ≡ clamp_of (sum_of n))
     × (z ≡ clamp_of (total (laid_of h) (next_at m.0.key.geometry t).frame (next_at m.0.key.geometry t).channel))
-    × (r ≡ (with_taken m.0 h t (taking m.0.key.geometry t z), m.1))
-    × Makes m.0 (with_taken m.0 h t (taking m.0.key.geometry t z)) (λ _. (Take, Took (next_at m.0.key.geometry t).frame (next_at m.0.key.geometry t).channel z) ∷ [])
+    × (r ≡ (with_taken m.0 h t (next_taken m.0.key.geometry t z), m.1))
+    × Makes m.0 (with_taken m.0 h t (next_taken m.0.key.geometry t z)) (λ _. (Take, Took (next_at m.0.key.geometry t).frame (next_at m.0.key.geometry t).channel z) ∷ [])
 
 abbrev pub position_store : Step Entry → Me Entry View → ℕ → Me Entry View → Type 0
 position_store s m n r =

@@ -1,12 +1,12 @@
 use Rattle.std.proofs.Common.{◌≡◌, ◌+◌, ◌^◌, ◌<◌, length}
-use Rattle.lab_script.specs.Draft.{view, begun}
+use Rattle.lab_script.specs.Draft.{view, card_alone}
 use Rattle.lab_script.specs.Lexing.{lines_from}
 use Rattle.lab_script.specs.Reading.{after}
 use Rattle.lab_script.proofs.reader.read_lines.Given as goal
 
 abbrev pub invariant-loop-line : goal.invariant-loop-line
 invariant-loop-line l = record {
-  said : after (view l.draft) (lines_from l.number l.rest) ≡ after (begun l.fn.card) (lines_from l.fn.number l.fn.text);
+  said : after (view l.draft) (lines_from l.number l.rest) ≡ after (card_alone l.fn.card) (lines_from l.fn.number l.fn.text);
   small : l.number + length l.rest < 2 ^ 32;
 }
 

@@ -6,7 +6,7 @@ use Rattle.course.specs.AtPort.{TakesAt}
 use Rattle.dmix_client.specs.declared.stream.PlaybackStream.{PlaybackStream}
 use Rattle.pcm_stream.specs.Status.{refusal_of}
 use Rattle.pcm_stream.specs.declared.direction.Direction.TheVariants.{Playback}
-use Rattle.dmix_client.specs.Calls.{draining}
+use Rattle.dmix_client.specs.Calls.{in_draining}
 use Rattle.dmix_client.specs.Course.{syncs}
 use Rattle.dmix_client.specs.Growth.{AnySamples, Keeps}
 use Rattle.dmix_client.specs.Port.{CanUse}
@@ -27,7 +27,7 @@ pub returns-then-is_moving-clause-again : goal.returns-then-is_moving-clause-aga
 returns-then-is_moving-clause-again g c admitted =
     let stream = c.self.inside.stream in
     let bound = (configured-moving stream c.self.inside.ring.items c.self.invariant (search rules)).bound in
-    syncs-still g.P.MixPort g.G.Gate g.met.P.MixPort.laid_composes g.met.P.MixPort.loaded_composes (c.args.port.now, c.args.gate.now) (c.sync_call.new.port, c.sync_call.new.gate) (draining stream) c.as_slice-ring.result.now (c.sync_call.new.stream, c.sync_call.result)
+    syncs-still g.P.MixPort g.G.Gate g.met.P.MixPort.laid_composes g.met.P.MixPort.loaded_composes (c.args.port.now, c.args.gate.now) (c.sync_call.new.port, c.sync_call.new.gate) (in_draining stream) c.as_slice-ring.result.now (c.sync_call.new.stream, c.sync_call.result)
     bound refl (refusal_of-unstopped stream (subst (λ (v : ClientView). refusal_of Playback v.stream.status call.Drain ≡ None) (sym c.self.view_is) admitted))
     (subst (λ (d : PlaybackStream). TakesAt g.P.MixPort g.G.Gate (c.args.port.now, c.args.gate.now) (syncs d call.Drain c.as_slice-ring.result.now) (c.sync_call.new.port, c.sync_call.new.gate) (c.sync_call.new.stream, c.sync_call.result)) c.draining-self-inside.ensures c.sync_call.ensures.takes)
 

@@ -1,7 +1,7 @@
 use Rattle.std.proofs.Common.{◌≡◌, ◌≢◌, ◌+◌, suc, ap, sym, subst, ◌∙◌, refl, arith, [], ◌∷◌, ◌++◌, add-one}
 use Rattle.std.proofs.lemmas.List.{length-append}
 use Rattle.mix_core.specs.declared.gate.Pass.TheVariants.{Go}
-use Rattle.mix_core.specs.Gate.{placing}
+use Rattle.mix_core.specs.Gate.{placement_asks}
 use Rattle.mix_core.specs.declared.gate.StepKind.TheVariants.{Look, Exchange}
 use Rattle.std.proofs.lemmas.Int.{to_z-of_z}
 use mir.Syntax.{w16}
@@ -86,6 +86,6 @@ loop-found-preserved g c =
       trying = trying_on s c.loop-found.self c.exchange.new.self c.args.frame c.args.channel c.loop-found.word c.in-Err.found c.loop-found.invariant.lost c.args.steps.now c.loop-found.steps c.exchange.new.steps c.loop-found.invariant.trying c.in-Err.ensures.err
           (at_lay s c.args.kind c.args.frame c.args.channel c.args.sample c.requires.may) same c.exchange.ensures.ticks;
       unstopped = c.in-Ok-ask-2.ensures.answer ∙ c.loop-found.invariant.unstopped;
-      asked = subst (λ n. g.G.Gate.asked c.args.gate.now c.ask-in-loop-found.new.gate (placing (suc (suc n))) Go) (sym (add-one c.loop-found.invariant.lost))
+      asked = subst (λ n. g.G.Gate.asked c.args.gate.now c.ask-in-loop-found.new.gate (placement_asks (suc (suc n))) Go) (sym (add-one c.loop-found.invariant.lost))
           (asked_again g.G.Gate.asked g.met.G.Gate.asked_composes _ _ _ c.loop-found.invariant.lost _ c.loop-found.invariant.asked c.in-Ok-ask-2.ensures.asked);
     }

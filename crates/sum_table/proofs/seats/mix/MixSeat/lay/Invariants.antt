@@ -1,6 +1,6 @@
 use Rattle.std.proofs.Common.{◌≡◌, ℕ, ◌-◌, suc}
 use Rattle.mix_core.specs.declared.gate.Pass.TheVariants.{Go}
-use Rattle.mix_core.specs.Gate.{placing}
+use Rattle.mix_core.specs.Gate.{placement_asks}
 use Rattle.lap_word.specs.Word.{count_of}
 use Rattle.sum_table.proofs.Placing.{IsTrying}
 use Rattle.sum_table.proofs.seats.mix.MixSeat.lay.Given as goal
@@ -10,7 +10,7 @@ invariant-loop-found g l = record {
   lost : ℕ;
   trying : IsTrying l.fn.self l.self l.frame l.channel l.word lost l.fn.steps l.steps;
   unstopped : g.G.Gate.stops l.gate ≡ g.G.Gate.stops l.fn.gate;
-  asked : g.G.Gate.asked l.fn.gate l.gate (placing (suc (suc lost))) Go;
+  asked : g.G.Gate.asked l.fn.gate l.gate (placement_asks (suc (suc lost))) Go;
 }
 
 -- each exchange that is lost finds a greater count
