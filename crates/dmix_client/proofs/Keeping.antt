@@ -45,7 +45,7 @@ use Rattle.dmix_client.specs.Course.{commits, looks, resumes, starts, starts_tak
 use Rattle.dmix_client.specs.CourseLaws.{LaysFrames, TakesAt-frames, TakesAt-looks, TakesAt-step}
 use Rattle.dmix_client.specs.Growth.{AnySamples, Follows, Keeps, KeepsAccepted, StandsFor, StandsUpTo, segment_entries}
 use Rattle.dmix_client.specs.GrowthLaws.{Grows-joined}
-use Rattle.dmix_client.specs.Port.{CanUse, CountsEnd, IsCommit, IsStep, Looked, TakesStep, entries_at, least_channel}
+use Rattle.dmix_client.specs.Port.{CanUse, CountsEnd, IsCommit, IsStep, LoadsAndCommits, TakesStep, entries_at, least_channel}
 use Rattle.dmix_client.specs.RingLaws.{stored-HasRoom}
 use Rattle.dmix_client.specs.View.{ClientView, IsConfigured, IsGoing, IsLaidPast, IsMoving, IsSound, avail_of, hw_of, queued_of, ring_sample}
 use Rattle.dmix_client.specs.Writes.{count_with, ring_with, taken_after}
@@ -222,7 +222,7 @@ module _ {S T : Type 0} (P : mixport.Ghosts S) (G : gates.Ghosts T) (laid_compos
 
   -- a sync of a client that moves frames
   looked-kept : (s t : S × T) (c : PlaybackStream) (ring : List ℤ) (call : Call) (load : Option Position) (x : Commit) → IsSound c ring → is_moving c.status.state ≡ true → c.status.stopped ≡ false → IsStep c.status.state call → CanUse c (P.view s.0)
-      → IsSamePort (P.view s.0) (P.view t.0) → Looked P G s t ring (λ position. c) (sync_count c) (length c.setup.bindings) load x → Synced s t c ring IsLaidPast (after_sync c call load x)
+      → IsSamePort (P.view s.0) (P.view t.0) → LoadsAndCommits P G s t ring (λ position. c) (sync_count c) (length c.setup.bindings) load x → Synced s t c ring IsLaidPast (after_sync c call load x)
   looked-kept s t c ring call None x sound moves going step port same l = unloaded-kept s t c ring IsLaidPast sound port same l.laid_them l.stopped
   looked-kept s t c ring call (Some position) x sound moves going step port same l =
       let b : PlaybackStream = seen_at c position in
@@ -252,7 +252,7 @@ module _ {S T : Type 0} (P : mixport.Ghosts S) (G : gates.Ghosts T) (laid_compos
 
   begun-kept : (s t : S × T) (c : PlaybackStream) (ring : List ℤ) (state : State) (m : ℕ) (load : Option Position) (x : Commit) → IsSound c ring → c.status.state ≡ Prepared → is_moving state ≡ true → c.stretch.written + m ≤ c.setup.config.buffer_size
       → (P.view s.0).marks.cursor.frame ≤ end_frame c.identity.geometry → CanUse c (P.view s.0) → IsSamePort (P.view s.0) (P.view t.0)
-      → Looked P G s t ring (λ position. started_in c Running position (P.view s.0).marks.cursor) (λ position. start_count c (P.view s.0).marks.cursor position (c.stretch.written + m)) (length c.setup.bindings) load x
+      → LoadsAndCommits P G s t ring (λ position. started_in c Running position (P.view s.0).marks.cursor) (λ position. start_count c (P.view s.0).marks.cursor position (c.stretch.written + m)) (length c.setup.bindings) load x
       → Begun s t c ring state m (after_start c state (P.view s.0).marks.cursor load x)
   begun-kept s t c ring state m None x sound waits leads fits near port same l = record {
     keeps = Keeps-still s t c (stopped_in {T = ℕ} c).0 ring ring (Err error.Stopped) _ (IsSound-stopped c ring sound) (CanUse-still c _ _ _ port same refl (λ moves going. cc)) l.laid_them (λ unstopped. l.stopped) (λ samples stands. refl) refl refl (λ samples stands up. stands);

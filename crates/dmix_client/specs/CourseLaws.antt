@@ -27,7 +27,7 @@ use Rattle.dmix_client.specs.declared.stream.PlaybackStream.{PlaybackStream}
 use Rattle.dmix_client.specs.Calls.{Answered, commit_entries}
 use Rattle.dmix_client.specs.Course.{commits, go_on, lay_each, lay_frame, lay_frames, looks, one_frame_more, one_more}
 use Rattle.dmix_client.specs.Expansion.{frame_entries, run_entries}
-use Rattle.dmix_client.specs.Port.{IsCommit, IsUpTo, Looked, TakesStep, least_channel}
+use Rattle.dmix_client.specs.Port.{IsCommit, IsUpTo, LoadsAndCommits, TakesStep, least_channel}
 use Rattle.dmix_client.specs.View.{ring_sample}
 
 -- the entry of a client channel in a frame
@@ -252,11 +252,11 @@ module _ {S T : Type 0} (P : mixport.Ghosts S) (G : gates.Ghosts T) (laid_compos
       (bindings : List ℕ) (s t : S × T) (load : Option Position) (commit : Commit)
       → AreBindings bindings → ((position : Position) → (at position).setup.bindings ≡ bindings)
       → TakesAt P G s (looks at count ring) t (load, commit)
-      → Looked P G s t ring at count (length bindings) load commit
+      → LoadsAndCommits P G s t ring at count (length bindings) load commit
   unfolding looks ◌>>=◌
   TakesAt-looks at count ring bindings s t load commit are same (None, m, step, rest) =
-      subst (λ (u : S × T). Looked P G s u ring at count (length bindings) load commit) (sym rest.there)
-      (subst (λ (r : Option Position × Commit). Looked P G s m ring at count (length bindings) r.0 r.1) (sym rest.result) (record {
+      subst (λ (u : S × T). LoadsAndCommits P G s u ring at count (length bindings) load commit) (sym rest.there)
+      (subst (λ (r : Option Position × Commit). LoadsAndCommits P G s m ring at count (length bindings) r.0 r.1) (sym rest.result) (record {
         found = record { nothing = refl; commit_is = tt; in_time = tt };
         loaded_them = step.loaded_it;
         laid_them = step.laid_nothing;
@@ -270,8 +270,8 @@ module _ {S T : Type 0} (P : mixport.Ghosts S) (G : gates.Ghosts T) (laid_compos
       let c = at position in
       let x = parts.1 in
       let laid = TakesAt-frames c.identity.member c.stretch.card c.setup.bindings (ring_sample c ring) (count position) c.stretch.committed m parts.0 x (subst AreBindings (sym (same position)) are) parts.2 in
-      subst (λ (u : S × T). Looked P G s u ring at count (length bindings) load commit) (sym parts.3.there)
-      (subst (λ (r : Option Position × Commit). Looked P G s parts.0 ring at count (length bindings) r.0 r.1) (sym parts.3.result) (record {
+      subst (λ (u : S × T). LoadsAndCommits P G s u ring at count (length bindings) load commit) (sym parts.3.there)
+      (subst (λ (r : Option Position × Commit). LoadsAndCommits P G s parts.0 ring at count (length bindings) r.0 r.1) (sym parts.3.result) (record {
         found = record {
           nothing = tt;
           commit_is = subst (λ (b : List ℕ). IsCommit x.ended x.frames x.part (count position) (length b)) (same position) laid.commit_is;
@@ -297,7 +297,7 @@ module _ {S T : Type 0} (P : mixport.Ghosts S) (G : gates.Ghosts T) (laid_compos
       record {
         load = parts.1.0;
         commit = parts.1.1;
-        looked = subst (λ (u : S × T). Looked P G s u ring at count (length bindings) parts.1.0 parts.1.1) (sym parts.3.there)
+        looked = subst (λ (u : S × T). LoadsAndCommits P G s u ring at count (length bindings) parts.1.0 parts.1.1) (sym parts.3.there)
             (TakesAt-looks at count ring bindings s parts.0 parts.1.0 parts.1.1 are same parts.2);
         outcome = sym parts.3.result;
       }

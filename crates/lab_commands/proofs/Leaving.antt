@@ -21,7 +21,7 @@ use Rattle.lab_stop.specs.Stops.{IsWriteStop}
 use Rattle.lab_make.specs.declared.workload.Workload.{Workload}
 use Rattle.lab_workload.specs.Made.{IsMade, IsMadePart}
 use Rattle.lab_commands.specs.Words.{make, run}
-use Rattle.lab_commands.specs.Run.{Finished, Unfinished}
+use Rattle.lab_commands.specs.Run.{HasFinished, IsUnfinished}
 use Rattle.lab_commands.specs.Top.{Leaves}
 
 -- what the laws of runs say of each run
@@ -33,7 +33,7 @@ pub record RunLaws : Type 0 where
 -- a run that is done is finished
 pub Finished-played : (laws : RunLaws) (input : RunInput) (script out : List ℕ) (gates : Stops) (before between after : Option Files) (taken taken_after : Option (List ℕ))
     → ForSome before (λ files. input_in files script ≡ Ok input) → IsScript input.script → between ≡ before → (outcome : Outcome)
-    → HasPlayed input out gates outcome between after taken taken_after → Finished script out gates before after taken taken_after
+    → HasPlayed input out gates outcome between after taken taken_after → HasFinished script out gates before after taken taken_after
 Finished-played laws input script out gates before between after taken taken_after read valid same outcome played = record {
   input = input;
   read = read;
@@ -50,7 +50,7 @@ Finished-played laws input script out gates before between after taken taken_aft
 
 module _ (laws : RunLaws) (input : RunInput) (script out : List ℕ) (gates : Stops) (before between after : Option Files) (taken taken_after : Option (List ℕ))
     (read : ForSome before (λ files. input_in files script ≡ Ok input)) (valid : IsScript input.script) (same : between ≡ before) where
-  left-part : HasPlayedPart input out between after taken taken_after → IsUntouched before after taken taken_after ⊎ Unfinished script out before after taken taken_after
+  left-part : HasPlayedPart input out between after taken taken_after → IsUntouched before after taken taken_after ⊎ IsUnfinished script out before after taken taken_after
   left-part (inl untouched) = inl (record { files = untouched.files ∙ same; text = untouched.text })
   left-part (inr stopped) = inr (record { input = input; read = read; stopped = subst (λ (b : Option Files). HasStopped input out b after taken taken_after) same stopped })
 

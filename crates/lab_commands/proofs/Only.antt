@@ -20,7 +20,7 @@ use Rattle.lab_stop.specs.declared.stop.Stop.TheVariants.{Words, Script, Conf, W
 use Rattle.lab_stop.specs.Stops.{status_of}
 use Rattle.wav_io.specs.Sound.{Sound}
 use Rattle.lab_commands.specs.Words.{Form, run, refine, conf, make, help, version}
-use Rattle.lab_commands.specs.Run.{Finished, IsOnlyRun, IsOnlyRunOf}
+use Rattle.lab_commands.specs.Run.{HasFinished, IsOnlyRun, IsOnlyRunOf}
 use Rattle.lab_commands.specs.Top.{Leaves, OnlyIn}
 
 -- each script has one session
@@ -32,7 +32,7 @@ same-input a b r one other = let same : Ok a ≡ Ok b = sym one ∙ other in cc
 
 -- a run that is finished is the only one
 Finished-only : OneSession → (script out : List ℕ) (gates : Stops) (before after : Option Files) (taken taken_after : Option (List ℕ))
-    → Finished script out gates before after taken taken_after → IsOnlyRunOf script out gates before after taken taken_after
+    → HasFinished script out gates before after taken taken_after → IsOnlyRunOf script out gates before after taken taken_after
 Finished-only one script out gates before after taken taken_after done files is input session read session_is unmixed none =
     subst (λ (i : RunInput). (s : Session) → IsSessionOf i.script i.sounds s → AreUnmixed i.script.body → IsOnlyRun out files after taken taken_after i s)
     (same-input done.input input (input_in files script) (done.read files is) read)

@@ -18,7 +18,7 @@ use Rattle.lab_shelf.specs.Files.{Files}
 -- each gate stopped its actor at most so often (`IsRunOf`). OUT.wav is the WAV file of what the card played, and OUT.NAME.wav that of what each reader
 -- recorded; no other file changed, and the output took the report's text. Where no gate stopped an actor, and no phase has lines of the card and of
 -- others, that run is the only one, and each actor does in it what it does by itself.
-pub record Finished (script out : List ℕ) (stops : Stops) (before after : Option Files) (taken taken_after : Option (List ℕ)) : Type 0 where
+pub record HasFinished (script out : List ℕ) (stops : Stops) (before after : Option Files) (taken taken_after : Option (List ℕ)) : Type 0 where
   pub input : RunInput
   pub read : ForSome before (λ files. input_in files script ≡ Ok input)
   pub session : Session
@@ -42,7 +42,7 @@ IsOnlyRunOf script out stops before after taken taken_after =
     → AreUnmixed input.script.body → HaveNoStops stops → IsOnlyRun out files after taken taken_after input session)
 
 -- A run stopped while it was written: its input was what the files held, and what is written is of a run of it that reached a stage (`HasStopped`).
-pub record Unfinished (script out : List ℕ) (before after : Option Files) (taken taken_after : Option (List ℕ)) : Type 0 where
+pub record IsUnfinished (script out : List ℕ) (before after : Option Files) (taken taken_after : Option (List ℕ)) : Type 0 where
   pub input : RunInput
   pub read : ForSome before (λ files. input_in files script ≡ Ok input)
   pub stopped : HasStopped input out before after taken taken_after

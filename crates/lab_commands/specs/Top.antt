@@ -3,11 +3,11 @@ use Rattle.std.specs.Prelude.{◌≡◌, ◌≢◌, ◌⊎◌, ◌++◌, ℕ, Li
 use Rattle.std.specs.Option.{ForSome, option_map}
 use Rattle.asound_conf.specs.declared.error.ConfError.{ConfError}
 use Rattle.asound_conf.specs.declared.plugin.Device.{Device}
-use Rattle.lab_conf.specs.Described.{Described, DescribedPart, IsOnlyDevice, device_in}
+use Rattle.lab_conf.specs.Described.{IsDescribed, DescribedPart, IsOnlyDevice, device_in}
 use Rattle.lab_input.specs.Input.{input_in}
 use Rattle.lab_phase.specs.PhaseRuns.{Stops}
 use Rattle.lab_play.specs.Played.{HaveNoStops, IsUntouched}
-use Rattle.lab_refine.specs.Answered.{Answered, AnsweredPart, request_in}
+use Rattle.lab_refine.specs.Answered.{HasAnswered, AnsweredPart, request_in}
 use Rattle.lab_script.specs.declared.error.ScriptError.{ScriptError}
 use Rattle.lab_shelf.specs.Files.{Files, TookPart}
 use Rattle.lab_stop.specs.Causes.{Cause, cause, missing, script_refused, conf_refused, wav_refused}
@@ -16,7 +16,7 @@ use Rattle.lab_stop.specs.declared.stop.Stop.TheVariants as stops
 use Rattle.wav_io.specs.declared.error.WavError.{WavError}
 use Rattle.lab_workload.specs.Made.{IsMade, IsMadePart, IsOnlyMade}
 use Rattle.lab_commands.specs.Words.{Form, run, refine, conf, make, help, version, form_of, help_text, version_text}
-use Rattle.lab_commands.specs.Run.{Finished, IsOnlyRunOf, Unfinished}
+use Rattle.lab_commands.specs.Run.{HasFinished, IsOnlyRunOf, IsUnfinished}
 
 -- the first cause in the order of the work, form by form
 abbrev pub cause_in : Option Form → Files → Option Cause
@@ -83,9 +83,9 @@ pub record HasPutPart (text : List ℕ) (before after : Option Files) (taken tak
 -- what a command leaves that is done, form by form; the gates stopped actors so often
 abbrev pub DoneIn : Option Form → Stops → Option Files → Option Files → Option (List ℕ) → Option (List ℕ) → Type 0
 DoneIn None gates before after taken taken_after = ⊥
-DoneIn (Some (run script out)) gates before after taken taken_after = Finished script out gates before after taken taken_after
-DoneIn (Some (refine text)) gates before after taken taken_after = Answered text before after taken taken_after
-DoneIn (Some (conf file name)) gates before after taken taken_after = Described file name before after taken taken_after
+DoneIn (Some (run script out)) gates before after taken taken_after = HasFinished script out gates before after taken taken_after
+DoneIn (Some (refine text)) gates before after taken taken_after = HasAnswered text before after taken taken_after
+DoneIn (Some (conf file name)) gates before after taken taken_after = IsDescribed file name before after taken taken_after
 DoneIn (Some (make workload)) gates before after taken taken_after = IsMade workload gates before after taken taken_after
 DoneIn (Some help) gates before after taken taken_after = HasPut help_text before after taken taken_after
 DoneIn (Some version) gates before after taken taken_after = HasPut version_text before after taken taken_after
@@ -93,7 +93,7 @@ DoneIn (Some version) gates before after taken taken_after = HasPut version_text
 -- what a command leaves that ended in its output, form by form; the gates stopped actors so often
 abbrev pub PartIn : Option Form → Stops → Option Files → Option Files → Option (List ℕ) → Option (List ℕ) → Type 0
 PartIn None gates before after taken taken_after = ⊥
-PartIn (Some (run script out)) gates before after taken taken_after = Unfinished script out before after taken taken_after
+PartIn (Some (run script out)) gates before after taken taken_after = IsUnfinished script out before after taken taken_after
 PartIn (Some (refine text)) gates before after taken taken_after = AnsweredPart text before after taken taken_after
 PartIn (Some (conf file name)) gates before after taken taken_after = DescribedPart file name before after taken taken_after
 PartIn (Some (make workload)) gates before after taken taken_after = IsMadePart workload gates before after taken taken_after

@@ -55,7 +55,7 @@ pub record IsDeviceText (files : Option Files) (file name text : List ℕ) : Typ
   pub card : IsScriptText (card_line device) (card_script device)
 
 -- the lines of the device were put, and no file changed; `taken` is what the output took before, and `took` what it took by now
-pub record Described (file name : List ℕ) (before after : Option Files) (taken took : Option (List ℕ)) : Type 0 where
+pub record IsDescribed (file name : List ℕ) (before after : Option Files) (taken took : Option (List ℕ)) : Type 0 where
   pub text : List ℕ
   pub is_text : IsDeviceText before file name text
   pub files : after ≡ before

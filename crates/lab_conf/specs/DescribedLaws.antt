@@ -5,10 +5,10 @@ use Rattle.std.specs.Option.{ForSome, option_map}
 use Rattle.asound_conf.specs.declared.plugin.Device.{Device}
 use Rattle.asound_conf.specs.Text.{device_text}
 use Rattle.lab_shelf.specs.Files.{Files}
-use Rattle.lab_conf.specs.Described.{Described, IsOnlyDevice, device_in}
+use Rattle.lab_conf.specs.Described.{IsDescribed, IsOnlyDevice, device_in}
 
 -- a configuration has one device of a name
-pub Described-only : (file name : List ℕ) (before after : Option Files) (taken took : Option (List ℕ)) → Described file name before after taken took
+pub Described-only : (file name : List ℕ) (before after : Option Files) (taken took : Option (List ℕ)) → IsDescribed file name before after taken took
     → ForSome before (λ files. (device : Device) → device_in files file name ≡ Ok device → IsOnlyDevice after files taken took device)
 Described-only file name before after taken took done files is device read =
     let held : Ok done.is_text.device ≡ Ok device = sym (done.is_text.read files is) ∙ read in

@@ -27,7 +27,7 @@ pub record IsAnswerTo (files : Option Files) (name text : List ℕ) : Type 0 whe
   pub only : (other : List ℕ) → AreAnswers request other → other ≡ text
 
 -- the answers were put, and no file changed; `taken` is what the output took before, and `took` what it took by now
-pub record Answered (name : List ℕ) (before after : Option Files) (taken took : Option (List ℕ)) : Type 0 where
+pub record HasAnswered (name : List ℕ) (before after : Option Files) (taken took : Option (List ℕ)) : Type 0 where
   pub text : List ℕ
   pub answers : IsAnswerTo before name text
   pub files : after ≡ before

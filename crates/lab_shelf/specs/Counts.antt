@@ -12,10 +12,10 @@ abbrev pub Rose : ℕ → ℕ → Type 0
 Rose before now = one_more before ≤ now
 
 -- the count of a kind of call: it rises where such a call fails, and never falls
-abbrev pub Counted : {T : Type 0} → Result T ShelfFault → ℕ → ℕ → Type 0
-Counted (Ok x) before now = now ≡ before
-Counted (Err Failed) before now = (before ≤ now) × Rose before now
-Counted (Err Memory) before now = before ≤ now
+abbrev pub IsFaultCount : {T : Type 0} → Result T ShelfFault → ℕ → ℕ → Type 0
+IsFaultCount (Ok x) before now = now ≡ before
+IsFaultCount (Err Failed) before now = (before ≤ now) × Rose before now
+IsFaultCount (Err Memory) before now = before ≤ now
 
 -- a call answers as it was told beforehand, but for memory
 abbrev pub Foreseen : {T : Type 0} → Result T ShelfFault → Option Bool → Type 0

@@ -1,7 +1,7 @@
 //! The forms over real files and streams. They tell nothing of what these hold.
 ghost use Rattle.std.specs.Prelude.{◌≡◌, ◌≤◌, None, IsUtf8, IfOk, OnOk, MatchResult, vec_len};
 ghost use Rattle.std.specs.Io.KnownBytes.{Appends};
-ghost use Rattle.lab_shelf.specs.Counts.{Counted, count_after};
+ghost use Rattle.lab_shelf.specs.Counts.{IsFaultCount, count_after};
 
 use crate::fault::ShelfFault;
 use crate::traits::{Shelf, Sink};
@@ -62,7 +62,7 @@ impl<R: Files> Shelf for FileShelf<R> {
         ensures text { OnOk result (IsUtf8 name.now) }
         ensures after { self.new ≡ record self.old
             { fetch_faults = count_after result self.old.fetch_faults } }
-        ensures faults { Counted result self.old.fetch_faults self.new.fetch_faults }
+        ensures faults { IsFaultCount result self.old.fetch_faults self.new.fetch_faults }
         ensures write_faults { self.new.write_faults ≡ self.old.write_faults }
     {
         let outcome = read_piece(&self.rt, alloc, name, from, most);
@@ -76,7 +76,7 @@ impl<R: Files> Shelf for FileShelf<R> {
         ensures text { OnOk result (IsUtf8 name.now) }
         ensures after { self.new ≡ record self.old
             { write_faults = count_after result self.old.write_faults } }
-        ensures faults { Counted result self.old.write_faults self.new.write_faults }
+        ensures faults { IsFaultCount result self.old.write_faults self.new.write_faults }
         ensures fetch_faults { self.new.fetch_faults ≡ self.old.fetch_faults }
     {
         let outcome = write_file(&self.rt, name, bytes);
@@ -90,7 +90,7 @@ impl<R: Files> Shelf for FileShelf<R> {
         ensures text { OnOk result (IsUtf8 name.now) }
         ensures after { self.new ≡ record self.old
             { write_faults = count_after result self.old.write_faults } }
-        ensures faults { Counted result self.old.write_faults self.new.write_faults }
+        ensures faults { IsFaultCount result self.old.write_faults self.new.write_faults }
         ensures fetch_faults { self.new.fetch_faults ≡ self.old.fetch_faults }
     {
         self.store(name, head)
@@ -100,7 +100,7 @@ impl<R: Files> Shelf for FileShelf<R> {
         ensures text { OnOk result (IsUtf8 name.now) }
         ensures after { self.new ≡ record self.old
             { write_faults = count_after result self.old.write_faults } }
-        ensures faults { Counted result self.old.write_faults self.new.write_faults }
+        ensures faults { IsFaultCount result self.old.write_faults self.new.write_faults }
         ensures fetch_faults { self.new.fetch_faults ≡ self.old.fetch_faults }
     {
         let mut options = OpenOptions::new();
@@ -116,7 +116,7 @@ impl<R: Files> Shelf for FileShelf<R> {
         ensures text { OnOk result (IsUtf8 name.now) }
         ensures after { self.new ≡ record self.old
             { write_faults = count_after result self.old.write_faults } }
-        ensures faults { Counted result self.old.write_faults self.new.write_faults }
+        ensures faults { IsFaultCount result self.old.write_faults self.new.write_faults }
         ensures fetch_faults { self.new.fetch_faults ≡ self.old.fetch_faults }
     {
         let mut options = OpenOptions::new();
@@ -160,7 +160,7 @@ impl<W: Write> Sink for StdSink<W> {
 
     fn put(&mut self, bytes: &[u8]) -> Result<(), ShelfFault>
         ensures after { self.new ≡ count_after result self.old }
-        ensures faults { Counted result self.old self.new }
+        ensures faults { IsFaultCount result self.old self.new }
     {
         let outcome = write_through(&mut self.writer, bytes);
         if let Err(ShelfFault::Failed) = outcome {

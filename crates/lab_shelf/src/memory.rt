@@ -2,7 +2,7 @@
 ghost use Rattle.std.specs.Prelude.{◌≡◌, ◌≢◌, ◌≤◌, ◌↔◌, ◌++◌, [], None, Some, Err, IsErrOf, IsTrue, IfOk, OnOk, OnErr, vec_len};
 ghost use Rattle.std.specs.Option.{option_copied};
 ghost use Rattle.lab_shelf.specs.Files.{bytes_under, with_file, with_change, with_first_bytes, piece, IsPartWritten, IsPartAppended, IsPartFinished, IsHeld, HasRoom, TookPart};
-ghost use Rattle.lab_shelf.specs.Counts.{Counted, Foreseen};
+ghost use Rattle.lab_shelf.specs.Counts.{IsFaultCount, Foreseen};
 ghost use Rattle.lab_shelf.specs.States.{files_of, fetch_answers, write_answers, after_fetch, after_store, after_change, after_put};
 
 use crate::entries::{append_to, content_of, cut, overwrite, put_file};
@@ -106,7 +106,7 @@ impl Shelf for MemoryShelf {
         ensures foreseen { Foreseen result (Some (fetch_answers self.old name.now)) }
         ensures after { self.new ≡ after_fetch result self.old }
         ensures files { Some self.new.files ≡ Some self.old.files }
-        ensures faults { Counted result self.old.fetch_faults self.new.fetch_faults }
+        ensures faults { IsFaultCount result self.old.fetch_faults self.new.fetch_faults }
         ensures write_faults { self.new.write_faults ≡ self.old.write_faults }
         ensures reliable { self.old.failing ≡ [] → self.new.failing ≡ [] }
         ensures missing { self.old.failing ≡ [] → IsErrOf result ShelfFault.Failed
@@ -130,7 +130,7 @@ impl Shelf for MemoryShelf {
             (Some self.new.files ≡ Some (with_file self.old.files name.now bytes.now)) }
         ensures err { OnErr result
             (IsPartWritten (Some self.old.files) (Some self.new.files) name.now bytes.now) }
-        ensures faults { Counted result self.old.write_faults self.new.write_faults }
+        ensures faults { IsFaultCount result self.old.write_faults self.new.write_faults }
         ensures fetch_faults { self.new.fetch_faults ≡ self.old.fetch_faults }
         ensures reliable { self.old.failing ≡ [] → self.new.failing ≡ [] }
         ensures stores { self.old.failing ≡ [] → result ≢ Err ShelfFault.Failed }
@@ -151,7 +151,7 @@ impl Shelf for MemoryShelf {
             (Some self.new.files ≡ Some (with_file self.old.files name.now head.now)) }
         ensures err { OnErr result
             (IsPartWritten (Some self.old.files) (Some self.new.files) name.now head.now) }
-        ensures faults { Counted result self.old.write_faults self.new.write_faults }
+        ensures faults { IsFaultCount result self.old.write_faults self.new.write_faults }
         ensures fetch_faults { self.new.fetch_faults ≡ self.old.fetch_faults }
         ensures reliable { self.old.failing ≡ [] → self.new.failing ≡ [] }
         ensures begins { self.old.failing ≡ [] → result ≢ Err ShelfFault.Failed }
@@ -168,7 +168,7 @@ impl Shelf for MemoryShelf {
             ≡ Some (with_change (λ content. content ++ bytes.now) self.old.files name.now)) }
         ensures err { OnErr result
             (IsPartAppended (Some self.old.files) (Some self.new.files) name.now bytes.now) }
-        ensures faults { Counted result self.old.write_faults self.new.write_faults }
+        ensures faults { IsFaultCount result self.old.write_faults self.new.write_faults }
         ensures fetch_faults { self.new.fetch_faults ≡ self.old.fetch_faults }
         ensures reliable { self.old.failing ≡ [] → self.new.failing ≡ [] }
         ensures missing { self.old.failing ≡ [] → IsErrOf result ShelfFault.Failed
@@ -197,7 +197,7 @@ impl Shelf for MemoryShelf {
             ≡ Some (with_change (with_first_bytes head.now) self.old.files name.now)) }
         ensures err { OnErr result
             (IsPartFinished (Some self.old.files) (Some self.new.files) name.now head.now) }
-        ensures faults { Counted result self.old.write_faults self.new.write_faults }
+        ensures faults { IsFaultCount result self.old.write_faults self.new.write_faults }
         ensures fetch_faults { self.new.fetch_faults ≡ self.old.fetch_faults }
         ensures reliable { self.old.failing ≡ [] → self.new.failing ≡ [] }
         ensures missing { self.old.failing ≡ [] → IsErrOf result ShelfFault.Failed
@@ -278,7 +278,7 @@ impl Sink for MemorySink {
         ensures ok { OnOk result (Some self.new.taken ≡ Some (self.old.taken ++ bytes.now)) }
         ensures err { OnErr result (TookPart (Some self.old.taken)
             (Some self.new.taken) bytes.now) }
-        ensures faults { Counted result self.old.faults self.new.faults }
+        ensures faults { IsFaultCount result self.old.faults self.new.faults }
         ensures reliable { self.old.failing ≡ [] → self.new.failing ≡ [] }
         ensures puts { self.old.failing ≡ [] → result ≢ Err ShelfFault.Failed }
     {

@@ -2,7 +2,7 @@
 ghost use Rattle.std.specs.Prelude.{◌≡◌, ◌≢◌, ◌≤◌, ◌++◌, ℕ, List, Bool, Option, None, Some, Err, IsErrOf, IfOk, IfSome, OnOk, OnErr, vec_len};
 ghost use Rattle.std.specs.Option.{option_map};
 ghost use Rattle.lab_shelf.specs.Files.{Files, bytes_under, with_file, with_change, with_first_bytes, piece, IsPartWritten, IsPartAppended, IsPartFinished, IsHeld, HasRoom, TookPart};
-ghost use Rattle.lab_shelf.specs.Counts.{Counted, Foreseen};
+ghost use Rattle.lab_shelf.specs.Counts.{IsFaultCount, Foreseen};
 
 use crate::fault::ShelfFault;
 use std::alloc::Global;
@@ -49,7 +49,7 @@ pub trait Shelf {
         ensures piece { IfOk result (λ bytes. IfSome (files self.old)
             (λ held_files. piece held_files name.now from most ≡ Some bytes.items)) }
         ensures files { files self.new ≡ files self.old }
-        ensures faults { Counted result (fetch_faults self.old) (fetch_faults self.new) }
+        ensures faults { IsFaultCount result (fetch_faults self.old) (fetch_faults self.new) }
         ensures write_faults { write_faults self.new ≡ write_faults self.old }
         ensures foreseen { Foreseen result (fetch_works self.old name.now) }
         ensures reliable { is_reliable self.old → is_reliable self.new }
@@ -65,7 +65,7 @@ pub trait Shelf {
             (λ held_files. with_file held_files name.now bytes.now) (files self.old)) }
         ensures err { OnErr result
             (IsPartWritten (files self.old) (files self.new) name.now bytes.now) }
-        ensures faults { Counted result (write_faults self.old) (write_faults self.new) }
+        ensures faults { IsFaultCount result (write_faults self.old) (write_faults self.new) }
         ensures fetch_faults { fetch_faults self.new ≡ fetch_faults self.old }
         ensures foreseen { Foreseen result (store_works self.old) }
         ensures reliable { is_reliable self.old → is_reliable self.new }
@@ -78,7 +78,7 @@ pub trait Shelf {
             (λ held_files. with_file held_files name.now head.now) (files self.old)) }
         ensures err { OnErr result
             (IsPartWritten (files self.old) (files self.new) name.now head.now) }
-        ensures faults { Counted result (write_faults self.old) (write_faults self.new) }
+        ensures faults { IsFaultCount result (write_faults self.old) (write_faults self.new) }
         ensures fetch_faults { fetch_faults self.new ≡ fetch_faults self.old }
         ensures foreseen { Foreseen result (store_works self.old) }
         ensures reliable { is_reliable self.old → is_reliable self.new }
@@ -96,7 +96,7 @@ pub trait Shelf {
             (files self.old)) }
         ensures err { OnErr result
             (IsPartAppended (files self.old) (files self.new) name.now bytes.now) }
-        ensures faults { Counted result (write_faults self.old) (write_faults self.new) }
+        ensures faults { IsFaultCount result (write_faults self.old) (write_faults self.new) }
         ensures fetch_faults { fetch_faults self.new ≡ fetch_faults self.old }
         ensures foreseen { Foreseen result (change_works self.old name.now) }
         ensures reliable { is_reliable self.old → is_reliable self.new }
@@ -116,7 +116,7 @@ pub trait Shelf {
             (files self.old)) }
         ensures err { OnErr result
             (IsPartFinished (files self.old) (files self.new) name.now head.now) }
-        ensures faults { Counted result (write_faults self.old) (write_faults self.new) }
+        ensures faults { IsFaultCount result (write_faults self.old) (write_faults self.new) }
         ensures fetch_faults { fetch_faults self.new ≡ fetch_faults self.old }
         ensures foreseen { Foreseen result (change_works self.old name.now) }
         ensures reliable { is_reliable self.old → is_reliable self.new }
@@ -147,7 +147,7 @@ pub trait Sink {
         ensures ok { OnOk result
             (taken self.new ≡ option_map (λ before. before ++ bytes.now) (taken self.old)) }
         ensures err { OnErr result (TookPart (taken self.old) (taken self.new) bytes.now) }
-        ensures faults { Counted result (faults self.old) (faults self.new) }
+        ensures faults { IsFaultCount result (faults self.old) (faults self.new) }
         ensures foreseen { Foreseen result (put_works self.old) }
         ensures reliable { is_reliable self.old → is_reliable self.new }
         ensures puts { is_reliable self.old → result ≢ Err ShelfFault.Failed };

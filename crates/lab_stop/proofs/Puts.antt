@@ -5,7 +5,7 @@ use Rattle.std.proofs.Common.{arith}
 use Rattle.lab_shelf.specs.declared.fault.ShelfFault.{ShelfFault}
 use Rattle.lab_shelf.specs.declared.fault.ShelfFault.TheVariants.{Failed, Memory}
 use Rattle.lab_shelf.specs.Changes.{TookPart-all}
-use Rattle.lab_shelf.specs.Counts.{Counted}
+use Rattle.lab_shelf.specs.Counts.{IsFaultCount}
 use Rattle.lab_shelf.specs.Files.{TookPart}
 
 -- all of the bytes were taken, or the first of them
@@ -15,7 +15,7 @@ TookPart-put (Ok done) before after bytes all part = TookPart-all before after b
 TookPart-put (Err fault) before after bytes all part = part
 
 -- a count of faults never falls
-pub Counted-most : (result : Result (Unit {0}) ShelfFault) (before after : ℕ) → Counted result before after → before ≤ after
+pub Counted-most : (result : Result (Unit {0}) ShelfFault) (before after : ℕ) → IsFaultCount result before after → before ≤ after
 Counted-most (Ok done) before after counted = omega (arith, counted)
 Counted-most (Err Failed) before after counted = counted.0
 Counted-most (Err Memory) before after counted = counted

@@ -1,6 +1,6 @@
 //! A report's text that is kept in memory.
 ghost use Rattle.std.specs.Prelude.{◌≡◌, ◌≢◌, ◌++◌, [], Err, OnErr, OnOk, Some, ⊤};
-ghost use Rattle.lab_shelf.specs.Counts.{Counted};
+ghost use Rattle.lab_shelf.specs.Counts.{IsFaultCount};
 ghost use Rattle.lab_shelf.specs.Files.{TookPart};
 
 use lab_shelf::{ShelfFault, Sink};
@@ -49,7 +49,7 @@ impl Sink for KeptText {
     fn put(&mut self, bytes: &[u8]) -> Result<(), ShelfFault>
         ensures ok { OnOk result (Some self.new ≡ Some (self.old ++ bytes.now)) }
         ensures err { OnErr result (TookPart (Some self.old) (Some self.new) bytes.now) }
-        ensures faults { Counted result 0 0 }
+        ensures faults { IsFaultCount result 0 0 }
         ensures puts { ⊤ → result ≢ Err ShelfFault.Failed }
     {
         self.bytes.extend_from_slice(bytes)?;

@@ -1,6 +1,6 @@
 //! A shelf with a large file, which is nowhere as a whole, and which counts its fetches.
 ghost use Rattle.std.specs.Prelude.{◌≡◌, ◌≤◌, None, IfOk, vec_len};
-ghost use Rattle.lab_shelf.specs.Counts.{Counted};
+ghost use Rattle.lab_shelf.specs.Counts.{IsFaultCount};
 
 use lab_shelf::{Shelf, ShelfFault};
 use std::alloc::{AllocError, Global};
@@ -43,7 +43,7 @@ fn piece_of(
     most: u64,
 ) -> Result<Vec<u8>, ShelfFault>
     ensures most { IfOk result (λ piece. vec_len piece ≤ most) }
-    ensures faults { Counted result 0 0 }
+    ensures faults { IsFaultCount result 0 0 }
 {
     let count = bytes.saturating_sub(from).min(most).min(zeros.len() as u64) as usize;
     let mut piece = Vec::from_slice(alloc, &zeros[..count])?;
