@@ -1,3 +1,4 @@
+//! Why a configuration text, or a device in it, is refused.
 use std::alloc::{AllocError, AllocFailed};
 use thiserror::Error;
 

@@ -1,3 +1,4 @@
+//! The device of a name in a configuration.
 ghost use Rattle.std.specs.Prelude.{◌≡◌, IfOk};
 ghost use Rattle.asound_conf.specs.Device.{IsCard, device_of};
 

@@ -1,3 +1,4 @@
+//! Files as users have them, and the line of each refusal.
 use asound_conf::{device, print_device, read_conf};
 use std::alloc::Global;
 use std::test::Fail;

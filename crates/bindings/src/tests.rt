@@ -1,3 +1,4 @@
+//! Lists of channels, the bindings that they give, and their first defects.
 use super::*;
 use snd_base::Why;
 use std::test::Fail;

@@ -1,3 +1,4 @@
+//! Frames that are played and published, up to the last lap.
 ghost use Rattle.std.specs.Prelude.{◌≤◌, IfOk};
 ghost use Rattle.sum_table.specs.Rings.{GaveNone};
 

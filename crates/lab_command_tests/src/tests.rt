@@ -1,5 +1,5 @@
-// What no clause says of the commands: that they are done where there is memory, the line on the errors' stream
-// for each refusal, and what a fault leaves.
+//! What no clause says of the commands: that they are done where there is memory, the line on the errors' stream
+//! for each refusal, and what a fault leaves.
 mod conf;
 mod refine;
 mod refusals;

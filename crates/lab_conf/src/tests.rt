@@ -1,5 +1,5 @@
-// What no clause says: the lines of a device byte for byte, worked out by hand, that the card's line is
-// read as a whole script, the cause of each refusal, and how a failed fetch ends.
+//! What no clause says: the lines of a device byte for byte, worked out by hand, that the card's line is
+//! read as a whole script, the cause of each refusal, and how a failed fetch ends.
 use super::describe_device;
 use lab_script::{Script, Share, read_script};
 use lab_shelf::MemoryShelf;

@@ -1,3 +1,3 @@
-// Runs with gates.
+//! Runs with gates.
 mod at_once;
 mod dying;

@@ -1,4 +1,4 @@
-// Runs of mixed phases, and a checker of their reports.
+//! Runs of mixed phases, and a checker of their reports.
 mod changed;
 mod checker;
 mod mixed;

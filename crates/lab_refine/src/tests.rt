@@ -1,5 +1,5 @@
-// What no clause says: answers byte for byte, worked out by hand, the cause of each refusal, and how
-// a failed fetch ends.
+//! What no clause says: answers byte for byte, worked out by hand, the cause of each refusal, and how
+//! a failed fetch ends.
 use super::refine_file;
 use lab_shelf::MemoryShelf;
 use lab_stop::Stop;

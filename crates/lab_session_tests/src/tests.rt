@@ -1,5 +1,5 @@
-// What no clause says: that runs succeed where there is memory, and what is in the report and in the files
-// byte for byte.
+//! What no clause says: that runs succeed where there is memory, and what is in the report and in the files
+//! byte for byte.
 mod calls;
 mod idle;
 mod plugs;

@@ -1,3 +1,4 @@
+//! Intervals and masks: refinements, products and quotients, worked out by hand.
 use super::*;
 use std::alloc::AllocError;
 use std::test::Fail;

@@ -1,3 +1,4 @@
+//! Numbers and names of the states, and the table of calls cell by cell.
 use super::*;
 use snd_base::{PcmError, XrunWhy};
 use std::process::Abort;

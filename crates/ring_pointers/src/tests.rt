@@ -1,3 +1,4 @@
+//! Pointers on both sides of the boundary.
 use super::*;
 
 const BOUNDARY: u64 = 4611686018427387904;

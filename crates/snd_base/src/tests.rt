@@ -1,3 +1,4 @@
+//! The numbers of errno.h, as the refusals have them.
 use super::*;
 use std::test::Fail;
 

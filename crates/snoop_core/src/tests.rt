@@ -1,3 +1,4 @@
+//! Frames that are stored, loaded and overtaken, and loads that a gate stops.
 ghost use Rattle.std.specs.Prelude.{◌≤◌};
 
 use super::*;

@@ -1,3 +1,4 @@
+//! Samples that are placed, withdrawn, late and taken, at seats of one ring.
 ghost use Rattle.std.specs.Prelude.{◌≡◌, ◌+◌, ◌<◌, ◌≤◌, Some, IfOk, IfErr};
 ghost use Rattle.sum_table.specs.Rings.{GaveNone, key_of_ring};
 ghost use Rattle.std.specs.Prelude.{[], ◌∷◌, Ok};

@@ -1,3 +1,4 @@
+//! WAV files of a few bytes, read and written, whole, cut short and refused.
 mod pieces;
 mod real_files;
 

@@ -1,4 +1,4 @@
-// Calls that aren't done: the status, the line on `errors`, and that no file changed.
+//! Calls that aren't done: the status, the line on `errors`, and that no file changed.
 use lab_calls::{MONO, call, files_of};
 use std::alloc::{AllocError, Global};
 use std::test::Fail;

@@ -1,4 +1,4 @@
-// Workloads: which words give one, that each has one summary, and that what is stored of it is what `run` leaves.
+//! Workloads: which words give one, that each has one summary, and that what is stored of it is what `run` leaves.
 use lab_calls::{Left, call, text_in};
 use std::alloc::{AllocError, Global};
 use std::test::Fail;

@@ -1,5 +1,5 @@
-// Clients that run at the same time: gates of the tests' own let each go on only once the other one has got so far. A run that did
-// one after the other would wait in vain, and stop one of them.
+//! Clients that run at the same time: gates of the tests' own let each go on only once the other one has got so far. A run that did
+//! one after the other would wait in vain, and stop one of them.
 use lab_calls::{MONO, call_gated, files_of, text_in, wav_of};
 use mix_core::{Gate, Pass, StepKind};
 use std::sync::atomic::{AtomicU64, Ordering};

@@ -1,4 +1,4 @@
-// A client that stops before each of its steps, by its own `die` and by the gate that is handed in.
+//! A client that stops before each of its steps, by its own `die` and by the gate that is handed in.
 use lab_calls::{MONO, STEREO, call, call_gated, files_of, text_in, wav_around, wav_of};
 use mix_core::{Gate, Pass, StepKind};
 use std::alloc::{AllocError, Global};

@@ -1,4 +1,4 @@
-// The checker of mixed phases accepts a right report, and refuses it after each of these changes.
+//! The checker of mixed phases accepts a right report, and refuses it after each of these changes.
 use super::checker::{Plan, Sounds, check, check_report};
 use super::mixed::{captured, left_of, opened, push_phase, sounds_of};
 use lab_calls::{Left, STEREO, text_in};

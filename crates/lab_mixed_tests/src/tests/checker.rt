@@ -1,5 +1,5 @@
-// What must hold of a run whose threads may go in any order: a plan, which is a script and how the rows of its report begin, and a
-// check of the report and the files against it.
+//! What must hold of a run whose threads may go in any order: a plan, which is a script and how the rows of its report begin, and a
+//! check of the report and the files against it.
 use super::stretches::{Placed, Stretches};
 use lab_calls::{Left, text_in, wav_around};
 use lab_shelf::MemoryShelf;

@@ -1,5 +1,5 @@
-// Mixed phases, in which clients and readers run while the card plays. What each sees of the card depends on the order of the
-// threads, so these runs are repeated, and each is checked by what must hold in every order.
+//! Mixed phases, in which clients and readers run while the card plays. What each sees of the card depends on the order of the
+//! threads, so these runs are repeated, and each is checked by what must hold in every order.
 use super::checker::{Plan, Sounds, check};
 use lab_calls::{Left, MONO, STEREO, call, files_of, text_in, wav_around, wav_of};
 use std::alloc::{AllocError, Global};

@@ -1,4 +1,4 @@
-// What the rows of a client say of its segments: from which frame of its file each of them is, and how long it is.
+//! What the rows of a client say of its segments: from which frame of its file each of them is, and how long it is.
 use super::checker::{Refusal, number_at};
 use std::alloc::Global;
 

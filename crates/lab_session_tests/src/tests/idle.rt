@@ -1,4 +1,4 @@
-// A reader that does nothing changes nothing of a run, though the card stores what it captures only where there is a reader.
+//! A reader that does nothing changes nothing of a run, though the card stores what it captures only where there is a reader.
 use super::runs::RUNS;
 use super::{Run, files_of_run};
 use lab_calls::{call, text_in};

@@ -1,4 +1,4 @@
-// Clients whose files have other samples, rates and channels than the card: what is played of them.
+//! Clients whose files have other samples, rates and channels than the card: what is played of them.
 use lab_calls::{MONO, call, text_in, wav_around};
 use std::alloc::{AllocError, Global};
 use std::test::Fail;

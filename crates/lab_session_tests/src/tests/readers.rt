@@ -1,5 +1,5 @@
-// Runs with readers, whose rows, runs and recorded samples were worked out by hand. The card plays and captures in periods of 64
-// frames, with rings of 256.
+//! Runs with readers, whose rows, runs and recorded samples were worked out by hand. The card plays and captures in periods of 64
+//! frames, with rings of 256.
 use super::{Act, Run};
 use lab_calls::{MONO, STEREO};
 

@@ -1,5 +1,5 @@
-// Runs of scripts with places, rewinds, pauses, stops, keys of clients and a card that is unplugged. Rows, segments and samples
-// were worked out by hand. Where nothing else is said the card plays in periods of 64 frames from a ring of 256.
+//! Runs of scripts with places, rewinds, pauses, stops, keys of clients and a card that is unplugged. Rows, segments and samples
+//! were worked out by hand. Where nothing else is said the card plays in periods of 64 frames from a ring of 256.
 use super::{Act, Run};
 use lab_calls::{MONO, STEREO};
 

@@ -1,7 +1,7 @@
-// Sessions whose rows, segments and played samples were worked out by hand. A card plays in periods of 64
-// frames from a ring of 256, so a client starts 64 frames past the position that it loads, its buffer has
-// 256 frames, and it is an xrun when 256 or more are free. A client's frames can be laid up to 256 frames
-// past the position.
+//! Sessions whose rows, segments and played samples were worked out by hand. A card plays in periods of 64
+//! frames from a ring of 256, so a client starts 64 frames past the position that it loads, its buffer has
+//! 256 frames, and it is an xrun when 256 or more are free. A client's frames can be laid up to 256 frames
+//! past the position.
 
 use lab_calls::{MONO, STEREO};
 
