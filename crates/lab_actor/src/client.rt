@@ -260,7 +260,7 @@ impl ClientActor {
         self.left = countdown.end();
     }
 
-    /// Does the lines of a phase that are this client's, in order, at its port and behind its gate.
+    /// Does the lines of a phase that are this client's, in order, at its port and with its gate.
     ///
     /// The caller has taken the room of the lines (`take_room`), and has the client at its port with its file (`IsReady`); no
     /// write is of more than 4,194,304 frames.

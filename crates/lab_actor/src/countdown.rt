@@ -17,7 +17,7 @@ pub struct Countdown<'g, G, L: Ledger> {
     deaths: Steps<L>,
 }
 
-/// Counts an ask down, and tells whether it may go on to the actor's gate.
+/// Counts an ask down, and says whether it may go on to the actor's gate.
 fn count_down(left: &mut Option<u32>) -> bool
     ensures passes { result ≡ lets_pass 1 left.old }
     ensures left { left.new ≡ left_after 1 left.old }

@@ -9,7 +9,7 @@ use std::marker::Model;
 
 /// The frames that a reader read, in the order of reading, as runs: each has the number of its first frame and how many
 /// frames it has, one after the other. A run is as long as it can be: a new one begins only where a frame isn't the one
-/// behind the last.
+/// after the last.
 ///
 /// Contracts see the runs, and for how many more of them there is room.
 #[derive(Drop)]
@@ -31,7 +31,7 @@ impl Model for FrameRuns {
     ghost invariant = { λ r. AreApart r.runs.items };
 }
 
-/// Whether a frame is the one behind a run.
+/// Whether a frame is the one after a run.
 fn is_next(run: (u64, u64), frame: u64) -> bool
     ensures { IsTrue result ↔ (run.0 + run.1 ≡ frame) }
 {
@@ -75,7 +75,7 @@ impl FrameRuns {
         self.runs.reserve(count)
     }
 
-    /// Appends frames from a first one on, which are one run more at most, for which there is room: where they begin behind
+    /// Appends frames from a first one on, which are one run more at most, for which there is room: where they begin after
     /// the last frame, its run goes on with them.
     pub fn push(&mut self, first: u64, count: u64)
         requires room { 1 ≤ self.old.room }

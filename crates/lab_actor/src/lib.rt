@@ -1,4 +1,4 @@
-//! How the lab runs the lines of one client or one reader in a phase, at any port and behind any gate.
+//! How the lab runs the lines of one client or one reader in a phase, at any port and with any gate.
 #![tactic(auto)]
 
 mod answer;

@@ -241,7 +241,7 @@ impl ReaderActor {
         self.left = countdown.end();
     }
 
-    /// Does the lines of a phase that are this reader's, in order, at its port and behind its gate.
+    /// Does the lines of a phase that are this reader's, in order, at its port and with its gate.
     ///
     /// The caller has taken the room of the lines (`take_room`), and has the reader at a port that it can use
     /// (`Reader::can_use`); no read is of more than 4,194,304 frames (`reads_are_few`).

@@ -243,7 +243,7 @@ impl<'a> CardActor<'a> {
     /// The caller has taken the room of the lines (`take_room`), and knows that the frames that they play are before the rings'
     /// end (`can_run`), as those of each script are.
     ///
-    /// By `play` the card takes the next frames from the sum ring, whose samples come behind those that it has, and captures the
+    /// By `play` the card takes the next frames from the sum ring, whose samples come after those that it has, and captures the
     /// file's frames of the same numbers, counted from the card's first, where it records; it publishes its position at each
     /// multiple of its period, and at the end. `unplug` unplugs it from both rings. Each line appends its row.
     pub fn run_lines(&mut self, capture: Option<&Wav>, phase: u32, lines: &[Line])

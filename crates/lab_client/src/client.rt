@@ -132,7 +132,7 @@ impl<'r> LabClient<'r> {
         }
     }
 
-    /// Does its lines of a phase behind its gate, at its seat (`ClientActor::run_lines`); where it isn't open, each of them is refused
+    /// Does its lines of a phase with its gate, at its seat (`ClientActor::run_lines`); where it isn't open, each of them is refused
     /// with `BadState` and nothing is done.
     ///
     /// The caller has taken the room of the lines (`take_room`), and has the client with its file; no write is of more than 4,194,304

@@ -1,4 +1,4 @@
-//! One client of a script in the lab, open or not, from phase to phase: it is opened with the seat of a place, does its lines behind
+//! One client of a script in the lab, open or not, from phase to phase: it is opened with the seat of a place, does its lines with
 //! a gate, meets the card before them and after them, and is closed.
 #![tactic(auto)]
 

@@ -13,7 +13,7 @@ use mix_core::Gate;
 use std::thread::Threads;
 use wav_io::Wav;
 
-/// All clients do their lines at once, each behind its gate and in a thread of its own where one can be made. The gates
+/// All clients do their lines at once, each with its gate and in a thread of its own where one can be made. The gates
 /// beyond the clients are as they were.
 pub(crate) fn run_at_once<R: Threads + Sync, G: Gate + Send>(
     rt: &R,

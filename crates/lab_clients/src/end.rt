@@ -26,7 +26,7 @@ impl<'r> LabClients<'r> {
     ghost use Rattle.lab_clients.specs.Opening.{AreOfRun, open_at};
 
     /// So many clients, none of which is open, with the places of a new ring, by the seat that has all of them. The caller shows that
-    /// nothing was laid by the seat.
+    /// nothing was placed by the seat.
     ///
     /// It refuses, with `Memory`, only where no memory is left; the seat has ended then.
     pub fn new(
@@ -73,7 +73,7 @@ impl<'r> LabClients<'r> {
         Ok(all)
     }
 
-    /// At the end of a run: closes the clients that are still open, and joins the seats of all places. The one seat has all that was laid
+    /// At the end of a run: closes the clients that are still open, and joins the seats of all places. The one seat has all that was placed
     /// for the clients: at each frame and channel the sum of what their segments say.
     pub fn into_seat(mut self) -> MixSeat<'r>
         requires { AreOfRun self }

@@ -71,7 +71,7 @@ impl LabClients<'_> {
         inform_clients(card, self.clients.as_mut_slice());
     }
 
-    /// All clients do their lines of a phase, one client after the other, each with its file and behind the gate of its number. A
+    /// All clients do their lines of a phase, one client after the other, each with its file and with the gate of its number. A
     /// client that isn't open is refused each of its lines with `BadState`. The gates beyond the clients are as they were.
     ///
     /// The caller has taken the room of the lines (`take_room`), and has at least as many gates as clients, and the files that they were

@@ -90,7 +90,7 @@ pub(crate) fn hear_clients(card: &mut Card<'_, '_>, clients: &mut [LabClient<'_>
     }
 }
 
-/// All clients do their lines, one client after the other, each behind its gate. The gates beyond the clients are as they were.
+/// All clients do their lines, one client after the other, each with its gate. The gates beyond the clients are as they were.
 pub(crate) fn run_in_turn<G: Gate>(
     clients: &mut [LabClient<'_>],
     gates: &mut [G],

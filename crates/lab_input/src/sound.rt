@@ -123,7 +123,7 @@ fn weight(shape: Option<Shape>, bytes: u64, wav: &Wav) -> u64
 }
 
 /// The sound in a WAV file, converted where there is a shape, and how many bytes of a run's limit it takes. The file is
-/// fetched piece by piece, at most one piece behind the last byte that a WAV file may have, and only its samples are kept.
+/// fetched piece by piece, at most one piece past the last byte that a WAV file may have, and only its samples are kept.
 ///
 /// It stops with `Wav`, the file's name and why it is refused, and with `Read` and its name where the
 /// shelf fails, which counts that; with `Memory` where no memory is left.

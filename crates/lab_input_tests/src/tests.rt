@@ -222,7 +222,7 @@ fn a_file_of_one_full_piece_takes_two_fetches(rt: HostRuntime) -> Result<(), Fai
 fn a_file_that_is_too_long_is_fetched_up_to_one_piece_more(rt: HostRuntime) -> Result<(), Fail> {
     let alloc = rt.alloc();
     let script = b"card\nclient a large\n";
-    // A file of 67,108,864 bytes has 1,024 full pieces, and one of no byte behind them.
+    // A file of 67,108,864 bytes has 1,024 full pieces, and one of no byte after them.
     let mut shelf = LargeShelf::new(alloc, script, 67_108_864)?;
     assert!(rt; read_input(&mut shelf, alloc, b"s").is_ok());
     assert_eq!(rt; shelf.fetches, 1026);

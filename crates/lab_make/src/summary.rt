@@ -18,7 +18,7 @@ pub struct Summary {
     pub phases: u32,
     /// How many frames the card played.
     pub played: u64,
-    /// How many segments the clients laid into the ring.
+    /// How many segments the clients placed in the ring.
     pub segments: u64,
     /// How many words of the ring the segments filled.
     pub laid: u128,

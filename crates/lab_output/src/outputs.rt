@@ -79,7 +79,7 @@ impl Outputs {
     /// appended so far. `samples` are all of them, interleaved: frame by frame.
     ///
     /// It stops with `Write` where the shelf fails, and with `Memory` only where no memory is left; the
-    /// file holds the first bytes of what it would hold then. A reliable shelf that tells its files
+    /// file holds the first bytes of what it would hold then. A reliable shelf whose files are known
     /// doesn't fail here while a run goes on. It copies the bytes that it appends.
     pub fn append<S: Shelf>(
         &mut self,
@@ -131,7 +131,7 @@ impl Outputs {
     ///
     /// The files have to be such as `begin` and `append` left them. It stops with `Write` where the shelf
     /// fails, and with `Memory` only where no memory is left; the files before that one are finished then.
-    /// A reliable shelf that tells its files doesn't fail here.
+    /// A reliable shelf whose files are known doesn't fail here.
     pub fn finish<S: Shelf>(&self, shelf: &mut S) -> Result<(), Stop>
         requires outputs { AreOutputs self.now }
         requires going_on { SomeGoOn self.now (S.files shelf.old) }

@@ -47,7 +47,7 @@ impl<'a> Places<'a> {
     ghost use Rattle.lab_places.specs.Laid.{IsLaidWith, IsUnlaid, KeepsLaid};
 
     /// The places of a new ring, by the seat that has all of them, each free, and the channels of its card. The caller shows
-    /// that nothing was laid by the seat.
+    /// that nothing was placed by the seat.
     ///
     /// It refuses, with `Memory`, only where no memory is left; the seat has ended then.
     pub fn new(alloc: Global, seat: MixSeat<'a>, share: Share) -> Result<Places<'a>, PcmError>

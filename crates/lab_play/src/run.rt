@@ -78,7 +78,7 @@ pub fn play<R: Threads + Sync, S: Shelf, K: Sink, G: Gate + Send>(
 
     ensures reliable { S.is_reliable shelf.old → S.is_reliable shelf.new }
 
-    // Over a reliable shelf that tells its files, and a reliable output, nothing fails but for want of memory.
+    // Over a reliable shelf whose files are known, and a reliable output, nothing fails but for want of memory.
     ensures never { S.is_reliable shelf.old → K.is_reliable out.old → IsSome (S.files shelf.old)
         → result ≢ Err stops.Write }
 {

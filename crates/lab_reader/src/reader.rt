@@ -202,7 +202,7 @@ impl<'r> LabReader<'r> {
         }
     }
 
-    /// Does its lines of a phase, in order, at its seat and behind its gate; where it isn't open, each is answered `BadState`
+    /// Does its lines of a phase, in order, at its seat and with its gate; where it isn't open, each is answered `BadState`
     /// (EBADFD), and nothing is done.
     ///
     /// The caller has taken the room of the lines (`take_room`) and has a reader that can use its seat (`can_run`); no read is of

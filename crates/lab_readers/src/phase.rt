@@ -65,7 +65,7 @@ impl LabReaders<'_> {
         inform_readers(card, self.readers.as_mut_slice());
     }
 
-    /// They do their lines of a phase, one reader after the other, each at its seat and behind the gate of its number.
+    /// They do their lines of a phase, one reader after the other, each at its seat and with the gate of its number.
     ///
     /// The caller has taken the room of the lines (`take_room`), and then had each meet a note of the card (`inform`); there is a gate
     /// for each reader, and no read is of more than 4,194,304 frames (`reads_are_few`).

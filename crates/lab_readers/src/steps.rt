@@ -53,7 +53,7 @@ pub(crate) fn hear_readers(card: &mut Card<'_, '_>, readers: &mut [LabReader<'_>
     }
 }
 
-/// All readers do their lines, one reader after the other, each behind its gate.
+/// All readers do their lines, one reader after the other, each with its gate.
 pub(crate) fn run_in_turn<G: Gate>(
     readers: &mut [LabReader<'_>],
     gates: &mut [G],

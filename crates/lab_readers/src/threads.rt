@@ -13,7 +13,7 @@ use mix_core::Gate;
 use std::marker::{Send, Sync};
 use std::thread::Threads;
 
-/// All readers do their lines at once, each behind its gate and in a thread of its own where one can be made.
+/// All readers do their lines at once, each with its gate and in a thread of its own where one can be made.
 pub(crate) fn run_at_once<R: Threads + Sync, G: Gate + Send>(
     rt: &R,
     readers: &mut [LabReader<'_>],

@@ -5,16 +5,16 @@ use thiserror::Error;
 /// Why a text is no report of a script.
 #[derive(Clone, Copy, Debug, PartialEq, Eq, Error)]
 pub enum ReportWhy {
-    /// A word isn't the one, or one of those, that can stand here; or the line ends before it.
+    /// A word isn't the one, or one of those, that can be here; or the line ends before it.
     #[error("Word")]
     Word,
-    /// A word isn't a number in its decimal form, where a number must stand.
+    /// A word isn't a number in its decimal form, where a number must be.
     #[error("Number")]
     Number,
     /// The text ends before a word, a line or a line feed that must follow.
     #[error("Ended")]
     Ended,
-    /// A word stands behind a line that is whole, or a line behind `end`.
+    /// A word is after a line that is whole, or a line after `end`.
     #[error("Extra")]
     Extra,
     /// Memory ran out.

@@ -69,7 +69,7 @@ fn push_tail(text: &mut String, report: &Report, script: &Script) -> Result<(), 
 
 /// Appends the line of a row of a run of this script to the bytes of a report's text.
 ///
-/// The row's actor has to be the script's, and its answer and state such as a report can tell: no answer is
+/// The row's actor has to be the script's, and its answer and state such as a report can say: no answer is
 /// `PcmError::LapEnd` or `PcmError::Memory`, the cause of an `Invalid` is `Why::Config`, the field `seen` of an
 /// `Xrun` is 0, and no state is `State::Suspended`.
 ///

@@ -136,7 +136,7 @@ fn add_head(draft: &mut Draft, line: &[u8]) -> Result<(), ReportWhy>
     Ok(())
 }
 
-/// One more line, where the rows tell of these requests.
+/// One more line, where the rows are about these requests.
 fn add_line(
     front: &mut String,
     draft: &mut Draft,
@@ -202,7 +202,7 @@ fn nothing(alloc: Global) -> Draft
     }
 }
 
-/// Reads the lines of a text, where the rows tell of these requests.
+/// Reads the lines of a text, where the rows are about these requests.
 fn read_lines(
     alloc: Global,
     script: &Script,

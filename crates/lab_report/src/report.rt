@@ -85,7 +85,7 @@ impl Segments {
 }
 
 /// The runs of a report, in order: each is the number of a reader, counted from 0 in the order of the
-/// readers' lines, the number of the first frame that it took, and how many frames it took one behind
+/// readers' lines, the number of the first frame that it took, and how many frames it took one after
 /// the other. Contracts see the list of these triples.
 #[derive(Debug, Drop)]
 pub struct Runs {
@@ -131,7 +131,7 @@ pub struct Report {
     pub rows: Rows,
     /// Which samples of which client were committed, and where.
     pub segments: Segments,
-    /// Which frames each reader took, one behind the other.
+    /// Which frames each reader took, one after the other.
     pub runs: Runs,
     /// The number of the first frame that the card played.
     pub first: u64,

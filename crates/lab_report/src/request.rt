@@ -111,7 +111,7 @@ fn push_phase(requests: &mut Vec<Request>, phase: u32, lines: &[Line]) -> Result
     Ok(())
 }
 
-/// Appends the requests of an item of a script's body, behind so many phases.
+/// Appends the requests of an item of a script's body, after so many phases.
 fn push_item(requests: &mut Vec<Request>, phases: u32, item: &Item) -> Result<(), AllocError>
     requires { phases < 4294967295 }
     ensures { OnOk result

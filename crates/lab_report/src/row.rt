@@ -10,7 +10,7 @@ use snd_base::PcmError;
 /// What a line of a script was answered.
 #[derive(Clone, Copy, Debug, PartialEq, Eq)]
 pub enum Answer {
-    /// The line was done, and there is no number to tell.
+    /// The line was done, and there is no number to give.
     Done,
     /// How many frames were written, read, played or taken back, or are available, delayed or can be taken back.
     Count(u64),

@@ -17,7 +17,7 @@ use crate::words::{expect_words, feed_of, space_of};
 use lab_script::Script;
 use pcm_states::State;
 
-/// What is left of a line after the front of a row that tells of this request. The front is printed in a text whose
+/// What is left of a line after the front of a row that is about this request. The front is printed in a text whose
 /// memory is used again from row to row.
 fn after_front<'a>(
     front: &mut String,
@@ -46,7 +46,7 @@ fn row_end(rest: &[u8]) -> Result<(State, Option<u64>), ReportWhy>
     Ok((state, seen))
 }
 
-/// The row of a line that tells of this request.
+/// The row of a line that is about this request.
 #[tactic(auto, using(crate::proofs::Ends::row_at_steps))]
 pub fn row_at(
     front: &mut String,

@@ -62,7 +62,7 @@ pub fn runs_go_on()
 {}
 
 /// Each call of a client and of a reader is the course of it in a run, but for the samples that it
-/// lays and the words that it finds, and of a client with whichever member; and it is that at a port
+/// places and the words that it finds, and of a client with whichever member; and it is that at a port
 /// which others used before, where its marks are the same from a frame on.
 ///
 /// It does nothing.
@@ -74,7 +74,7 @@ pub fn calls_are_alike()
 {}
 
 /// A client at a place has the place's number as member, and in a run it has its own. It is opened
-/// the same with either, a report has the same of it, and what it lays has the same frames, channels
+/// the same with either, a report has the same of it, and what it places has the same frames, channels
 /// and samples.
 ///
 /// It does nothing.
@@ -83,8 +83,8 @@ pub fn members_are_unreported()
     ensures entries { (member other : ℕ) → MembersLayAlike member other }
 {}
 
-/// At a port which others used up to a frame, the last frame that was laid is an actor's own, or,
-/// where it laid none, the last one before it. So an actor's own is the port's, unless that is
+/// At a port which others used up to a frame, the last frame that was placed is an actor's own, or,
+/// where it placed none, the last one before it. So an actor's own is the port's, unless that is
 /// below the frame. This stays from phase to phase.
 ///
 /// It does nothing.
@@ -140,7 +140,7 @@ pub fn readers_read_on()
 {}
 
 /// A row of a client that is answered late names the frame and channel of the first sample of its
-/// stretch that isn't laid; where it is of a rewind it names the last one, which the rewind
+/// stretch that isn't placed; where it is of a rewind it names the last one, which the rewind
 /// couldn't take back.
 ///
 /// It does nothing.

@@ -1,4 +1,4 @@
-//! The lines of a text and the words of a line, lent from the text.
+//! The lines of a text and the words of a line, borrowed from the text.
 ghost use Rattle.std.specs.Prelude.{◌≡◌, ℕ, ◌+◌, ◌<◌, ◌≤◌, ◌^◌, ◌==◌, ◌≢◌, [], length, option_map, IfNone, IfSome, Some};
 ghost use Rattle.std.specs.List.{before_first, position};
 ghost use Rattle.lab_script.specs.Lexing.{first_and_rest, is_blank, is_hash, is_of_word, lines_from, put_line, without_return, words_between, words_in};

@@ -169,7 +169,7 @@ enum Act<'a> {
 }
 
 // A run: its name; the lines of the card, the clients and the readers; the body, whose lines are in the order of the report; the
-// report's lines behind the rows; the WAV files that are read, and those that are written.
+// report's lines after the rows; the WAV files that are read, and those that are written.
 struct Run<'a> {
     name: &'a str,
     declared: &'a [&'a str],
@@ -179,7 +179,7 @@ struct Run<'a> {
     stored: &'a [(&'a str, &'a [u8], &'a [(u16, i16, i16)])],
 }
 
-// The script of a run, with more lines behind those of its actors.
+// The script of a run, with more lines after those of its actors.
 fn script_of_run(alloc: Global, run: &Run<'_>, more: &str) -> Result<Vec<u8>, AllocError> {
     let mut text = String::new(alloc);
     for line in run.declared {
@@ -218,7 +218,7 @@ fn report_of_run(alloc: Global, run: &Run<'_>) -> Result<Vec<u8>, AllocError> {
     Ok(text.into_bytes())
 }
 
-// The files that a run reads: the script `s`, with more lines behind those of its actors, and the WAV files.
+// The files that a run reads: the script `s`, with more lines after those of its actors, and the WAV files.
 fn files_of_run(
     alloc: Global,
     run: &Run<'_>,

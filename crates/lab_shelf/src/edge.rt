@@ -1,4 +1,4 @@
-//! The forms over real files and streams. They tell nothing of what these hold.
+//! The forms over real files and streams. They say nothing of what these hold.
 ghost use Rattle.std.specs.Prelude.{◌≡◌, ◌≤◌, None, IsUtf8, IfOk, OnOk, MatchResult, vec_len};
 ghost use Rattle.std.specs.Io.KnownBytes.{Appends};
 ghost use Rattle.lab_shelf.specs.Counts.{IsFaultCount, count_after};

@@ -1,4 +1,4 @@
-//! Names with their bytes, of which the first of a name stands.
+//! Names with their bytes, of which the first of a name counts.
 ghost use Rattle.std.specs.Prelude.{◌≡◌, ◌≤◌, ◌++◌, length, take, drop, position, bytes_eq, None, IfSome, IsSome, IfErr, IsErrOf, OnOk, OnErr, option_map};
 ghost use Rattle.std.specs.Option.{option_copied};
 ghost use Rattle.lab_shelf.specs.Files.{bytes_under, with_file, with_change, with_first_bytes};

@@ -41,7 +41,7 @@ impl Model for MemoryShelf {
 
 impl MemoryShelf {
     /// A shelf that holds these files, each a name and its bytes. Of two with one name the first
-    /// stands. The calls whose numbers are in `failing` fail.
+    /// counts. The calls whose numbers are in `failing` fail.
     pub fn new(files: Vec<(Vec<u8>, Vec<u8>)>, failing: Vec<u64>) -> MemoryShelf
         ensures { result ≡ record {
           files = files_of files.items;

@@ -7,13 +7,13 @@ ghost use Rattle.lab_shelf.specs.Counts.{IsFaultCount, Foreseen};
 use crate::fault::ShelfFault;
 use std::alloc::Global;
 
-/// Files by name. A contract sees a finite map from names to bytes, where the shelf tells it, and
+/// Files by name. A contract sees a finite map from names to bytes, where it is known, and
 /// two counts of faults: of fetches that failed, and of writes that failed. Neither count falls,
-/// and each stands still at `u64::MAX`. A reliable shelf stays reliable: its fetches, appends and
+/// and each stays at `u64::MAX`. A reliable shelf stays reliable: its fetches, appends and
 /// finishes fail only for names that it doesn't hold, and its stores and begins never fail, but for
 /// want of memory.
 pub trait Shelf {
-    // The files, where the shelf tells them.
+    // The files, where they are known.
     ghost files: { Self → Option Files };
 
     // How many fetches failed.
@@ -22,13 +22,13 @@ pub trait Shelf {
     // How many stores, begins, appends and finishes failed.
     ghost write_faults: { Self → ℕ };
 
-    // Whether the next fetch of a name works, where the shelf tells that.
+    // Whether the next fetch of a name works, where that is known.
     ghost fetch_works: { Self → List ℕ → Option Bool } = { λ _ _. None };
 
-    // Whether the next store or begin works, where the shelf tells that.
+    // Whether the next store or begin works, where that is known.
     ghost store_works: { Self → Option Bool } = { λ _. None };
 
-    // Whether the next append to a name or finish of it works, where the shelf tells that.
+    // Whether the next append to a name or finish of it works, where that is known.
     ghost change_works: { Self → List ℕ → Option Bool } = { λ _ _. None };
 
     // Whether its calls fail only for a name that it doesn't hold, or for want of memory.
@@ -37,7 +37,7 @@ pub trait Shelf {
     /// Gives the bytes of the file `name` from the byte `from` on: `most` of them, or as many as
     /// there are. `Failed` comes where the file can't be read, and `fetch_faults` counts it;
     /// `Memory` where there is no room for the bytes. The files stay as they are. A reliable shelf
-    /// that tells its files answers `Failed` only where it holds none of this name.
+    /// whose files are known answers `Failed` only where it holds none of this name.
     fn fetch(
         &mut self,
         alloc: Global,
@@ -87,7 +87,7 @@ pub trait Shelf {
     /// Adds `bytes` at the end of the file `name`, which isn't read. After an error it holds the
     /// first bytes of what it would hold, or is as it was. `Failed` comes where there is no such
     /// file or it can't be written, and `write_faults` counts it; `Memory` where there is no room
-    /// for the bytes. No other file changes. A reliable shelf that tells its files answers `Failed`
+    /// for the bytes. No other file changes. A reliable shelf whose files are known answers `Failed`
     /// only where it holds none of this name.
     fn append(&mut self, name: &[u8], bytes: &[u8]) -> Result<(), ShelfFault>
         ensures held { OnOk result (IsHeld (files self.old) name.now) }
@@ -106,8 +106,8 @@ pub trait Shelf {
     /// Finishes the file `name`: replaces its first bytes, which are there, by as many of `head`. The
     /// others aren't touched, and none is read. After an error some first bytes may be those of
     /// `head`, and all others are as they were. `Failed` comes where there is no such file or it
-    /// can't be written, and `write_faults` counts it. No other file changes. A reliable shelf that
-    /// tells its files answers `Failed` only where it holds none of this name.
+    /// can't be written, and `write_faults` counts it. No other file changes. A reliable shelf whose
+    /// files are known answers `Failed` only where it holds none of this name.
     fn finish(&mut self, name: &[u8], head: &[u8]) -> Result<(), ShelfFault>
         requires room { HasRoom (files self.old) name.now head.now }
         ensures held { OnOk result (IsHeld (files self.old) name.now) }
@@ -124,17 +124,17 @@ pub trait Shelf {
             → IfSome (files self.old) (λ held_files. bytes_under held_files name.now ≡ None) };
 }
 
-/// A stream that takes bytes. A contract sees the bytes that it took, where the sink tells them,
-/// and a count of faults, which never falls and stands still at `u64::MAX`. A reliable sink stays
+/// A stream that takes bytes. A contract sees the bytes that it took, where they are known,
+/// and a count of faults, which never falls and stays at `u64::MAX`. A reliable sink stays
 /// reliable, and its puts never fail, but for want of memory.
 pub trait Sink {
-    // The bytes that were taken, in order, where the sink tells them.
+    // The bytes that were taken, in order, where they are known.
     ghost taken: { Self → Option (List ℕ) };
 
     // How many puts failed.
     ghost faults: { Self → ℕ };
 
-    // Whether the next put works, where the sink tells that.
+    // Whether the next put works, where that is known.
     ghost put_works: { Self → Option Bool } = { λ _. None };
 
     // Whether its puts fail only for want of memory.

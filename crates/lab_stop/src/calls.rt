@@ -14,7 +14,7 @@ use std::alloc::Global;
 pub const PIECE_BYTES: usize = 65_536;
 
 /// The piece of a file of the shelf that begins at the byte `from`: `PIECE_BYTES` bytes, or as many
-/// as there are. A piece that has fewer is the file's last; behind a full one there may be another,
+/// as there are. A piece that has fewer is the file's last; after a full one there may be another,
 /// also one of no byte.
 ///
 /// It stops with `Read` and the file's name where the shelf fails, which counts that, and with

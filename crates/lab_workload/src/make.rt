@@ -60,7 +60,7 @@ pub fn make_workload<R: Threads + Sync, S: Shelf, K: Sink, G: Gate + Send>(
     ensures faults { OutputFaults result (S.write_faults shelf.old) (S.write_faults shelf.new)
         (K.faults out.old) (K.faults out.new) }
 
-    // Over a reliable shelf that tells its files, and a reliable output, nothing fails but for want of memory.
+    // Over a reliable shelf whose files are known, and a reliable output, nothing fails but for want of memory.
     ensures never { S.is_reliable shelf.old → K.is_reliable out.old → IsSome (S.files shelf.old)
         → result ≢ Err stops.Write }
 {

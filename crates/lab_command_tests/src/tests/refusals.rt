@@ -167,7 +167,7 @@ fn refused_scripts_are_named(rt: HostRuntime) -> Result<(), Fail> {
     Ok(())
 }
 
-// A script with so many lines of one kind, the first of them numbered 2, and the number behind the last.
+// A script with so many lines of one kind, the first of them numbered 2, and the number after the last.
 fn script_of_lines(
     alloc: Global,
     before: &str,

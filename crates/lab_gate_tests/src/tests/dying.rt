@@ -159,7 +159,7 @@ fn a_gate_stops_its_client_alone(rt: HostRuntime) -> Result<(), Fail> {
 const READERS: &str =
     "card channels 1 rate 48000 period 64 ring 256 capture c.wav\nreader r\nreader q\nopen r\nopen q\nphase\nr start\nq start\nend\nphase\ncard play 4\nend\nphase\nr read 4\nq read 4\nq sync\nend\nopen q\n";
 
-// The gates of readers are behind the 64 of clients.
+// The gates of readers are after the 64 of clients.
 #[test]
 fn a_gate_stops_its_reader_alone(rt: HostRuntime) -> Result<(), Fail> {
     let alloc = rt.alloc();

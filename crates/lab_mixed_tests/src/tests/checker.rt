@@ -351,7 +351,7 @@ impl Found {
     }
 }
 
-// Checks the lines behind the rows, and the files.
+// Checks the lines after the rows, and the files.
 fn check_tail(
     alloc: Global,
     lines: Lines<'_>,

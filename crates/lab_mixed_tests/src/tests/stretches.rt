@@ -16,7 +16,7 @@ pub(super) struct Placed {
 }
 
 impl Placed {
-    // The frame behind the whole ones.
+    // The frame after the whole ones.
     pub(super) fn end(&self) -> usize {
         self.card.wrapping_add(self.whole)
     }
@@ -45,7 +45,7 @@ struct Stretch {
 }
 
 impl Stretch {
-    // The frame of the file behind those that were accepted, where they are known.
+    // The frame of the file after those that were accepted, where they are known.
     fn end(&self) -> Option<usize> {
         if self.is_known {
             Some(self.source?.wrapping_add(self.accepted))
@@ -142,7 +142,7 @@ impl Stretches {
         Ok(())
     }
 
-    // A client that is opened begins with its file, and one that is prepared behind the frames that were accepted.
+    // A client that is opened begins with its file, and one that is prepared after the frames that were accepted.
     fn begin(&mut self, client: usize) -> Result<(), Refusal> {
         let mut source = Some(0);
         for stretch in self.all.iter() {

@@ -129,7 +129,7 @@ fn a_file_is_fetched_in_pieces(rt: HostRuntime) -> Result<(), Fail> {
     Ok(())
 }
 
-// A reader's file is begun, appended to and finished behind the card's. A phase in which nothing is played or recorded appends nothing.
+// A reader's file is begun, appended to and finished after the card's. A phase in which nothing is played or recorded appends nothing.
 #[test]
 fn the_files_of_readers_follow_the_cards(rt: HostRuntime) -> Result<(), Fail> {
     let alloc = rt.alloc();

@@ -76,7 +76,7 @@ pub(super) const READERS: [Run<'static>; 9] = [
             ("o.r.wav", MONO, &[(64, 0, 1)]),
         ],
     },
-    // Without a stop threshold the ring itself decides: of 256 frames behind the position all are still there, of 257 the first
+    // Without a stop threshold the ring itself decides: of 256 frames before the position all are still there, of 257 the first
     // isn't. Runs that touch are one, also over a restart.
     Run {
         name: "an overtaken reader",

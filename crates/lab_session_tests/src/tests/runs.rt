@@ -48,7 +48,7 @@ pub(super) const RUNS: [Run<'static>; 20] = [
         stored: &[("o.wav", MONO, &[]), ("o.r.wav", MONO, &[])],
     },
     // Without a stop threshold a client is late where another one has an xrun. The refused write accepted nothing, so the
-    // same 64 frames are placed behind the position, at 192 + 64.
+    // same 64 frames are placed after the position, at 192 + 64.
     Run {
         name: "a late commit",
         declared: &[ONE, "client a a.wav stop never"],

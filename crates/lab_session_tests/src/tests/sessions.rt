@@ -1,13 +1,13 @@
 //! Sessions whose rows, segments and played samples were worked out by hand. A card plays in periods of 64
 //! frames from a ring of 256, so a client starts 64 frames past the position that it loads, its buffer has
-//! 256 frames, and it is an xrun when 256 or more are free. A client's frames can be laid up to 256 frames
+//! 256 frames, and it is an xrun when 256 or more are free. A client's frames can be placed up to 256 frames
 //! past the position.
 
 use lab_calls::{MONO, STEREO};
 
 // Its name; the card; the clients, each with its name, its file and keys, and what its opening is answered; the lines of
 // each phase, each with its answer, the client's state and the position that it saw; the segments and what
-// is played, as the report tells them; the WAV files, and the samples of the file that is stored.
+// is played, as the report gives them; the WAV files, and the samples of the file that is stored.
 pub(super) struct Session<'a> {
     pub(super) name: &'a str,
     pub(super) card: &'a str,
@@ -26,7 +26,7 @@ const THREE: &[u8] =
 const EIGHT: &[u8] =
     b"WAVEfmt \x10\x00\x00\x00\x01\x00\x08\x00\x80\xbb\x00\x00\x00\xb8\x0b\x00\x10\x00\x10\x00";
 
-// one channel behind a LIST chunk of three bytes and its pad byte,
+// one channel after a LIST chunk of three bytes and its pad byte,
 const LISTED: &[u8] =
     b"WAVELIST\x03\x00\x00\x00abc\x00fmt \x10\x00\x00\x00\x01\x00\x01\x00\x80\xbb\x00\x00\x00\x77\x01\x00\x02\x00\x10\x00";
 
@@ -84,7 +84,7 @@ pub(super) const SESSIONS: [Session<'static>; 22] = [
         ],
     },
 
-    // One client, whose frames stand one period behind the position at which it began.
+    // One client, whose frames are one period after the position at which it began.
     Session {
         name: "one write",
         card: ONE,
@@ -109,7 +109,7 @@ pub(super) const SESSIONS: [Session<'static>; 22] = [
         head: MONO,
         played: &[],
     },
-    // The sum is cut once: 30000 + 10000 - 20000 is 20000.
+    // The sum is saturated once: 30000 + 10000 - 20000 is 20000.
     Session {
         name: "a sum that is cut once",
         card: ONE,
@@ -138,7 +138,7 @@ pub(super) const SESSIONS: [Session<'static>; 22] = [
         head: MONO,
         played: &[(64, 0), (1, 20000)],
     },
-    // 30000 + 10000 is cut to 32767.
+    // 30000 + 10000 is saturated to 32767.
     Session {
         name: "a sum that is cut",
         card: ONE,
@@ -156,7 +156,7 @@ pub(super) const SESSIONS: [Session<'static>; 22] = [
         head: MONO,
         played: &[(64, 0), (64, 32767)],
     },
-    // A write takes what the buffer holds, 256 of 300 frames, and lays what fits between its start at 64 and
+    // A write takes what the buffer holds, 256 of 300 frames, and places what fits between its start at 64 and
     // 256 frames past the position: 192.
     Session {
         name: "a long write",
@@ -172,7 +172,7 @@ pub(super) const SESSIONS: [Session<'static>; 22] = [
         played: &[(64, 0), (191, 5), (1, 6)],
     },
     // Without bindings a client's channel is the card's of the same number: the mono client is in channel 0
-    // alone, where 1000 + 10 is played, and 32000 + 900 is cut.
+    // alone, where 1000 + 10 is played, and 32000 + 900 is saturated.
     Session {
         name: "a mono client of a stereo card",
         card: TWO,
@@ -289,8 +289,8 @@ pub(super) const SESSIONS: [Session<'static>; 22] = [
         head: MONO,
         played: &[(64, 0), (64, 9)],
     },
-    // A client that starts again while its earlier frames stand in the ring begins behind them, at 256, and
-    // can lay nothing there before the card has played. What was pending at the drop, frames 192 to 255 of
+    // A client that starts again while its earlier frames are in the ring begins after them, at 256, and
+    // can place nothing there before the card has played. What was pending at the drop, frames 192 to 255 of
     // its file, is lost. At 256 there are 256 frames written and none played, so none are free and it is no
     // xrun.
     Session {
@@ -355,7 +355,7 @@ pub(super) const SESSIONS: [Session<'static>; 22] = [
         head: MONO,
         played: &[(64, 0), (99, 1), (1, 2)],
     },
-    // Drains of full buffers. Client a's sync at 100 lays the 64 frames that were pending, since they stand
+    // Drains of full buffers. Client a's sync at 100 places the 64 frames that were pending, since they are
     // below 356, and at 320 all of it was played. Client b isn't looked at before 300: its next frame, 256,
     // was played, which is an xrun also while it drains. So is client c's drain at 400, although all that it
     // wrote would have been played by then. A drop ends a drain.
@@ -409,7 +409,7 @@ pub(super) const SESSIONS: [Session<'static>; 22] = [
         played: &[(64, 0), (192, 21), (64, 2), (80, 0)],
     },
     // A full buffer. At 0 and at 64 no frame of the client was played, since it began at 64: none are free,
-    // and a write of some frames must wait, though the sync in it lays what the card made room for. At 164
+    // and a write of some frames must wait, though the sync in it places what the card made room for. At 164
     // 100 were played, so 100 are taken. A write of no frames never has to wait. At 420 all 356 frames were
     // played: an xrun. The client goes on with the 244 frames that its file has left, one period past 420; at
     // 420 192 of them fit below 676, and of its buffer 12 are free. At 700 the next frame, 676, was played:
@@ -466,9 +466,9 @@ pub(super) const SESSIONS: [Session<'static>; 22] = [
     },
     // A late commit names the frame and the client's channel of the card. At 300 the buffer has 256 - (256 - 236)
     // = 236 frames free, fewer than the stop threshold, and the next frame, 256, was played. The refused write
-    // accepts nothing, and the stretch behind it begins with the file's frame 256, since the 64 that were
+    // accepts nothing, and the stretch after it begins with the file's frame 256, since the 64 that were
     // pending had been accepted. Client b is looked at when 400 frames were played: 256 - (256 - 336) = 336
-    // are free, which is an xrun before anything is laid, so it isn't late.
+    // are free, which is an xrun before anything is placed, so it isn't late.
     Session {
         name: "late commits",
         card: TWO,
@@ -570,7 +570,7 @@ pub(super) const SESSIONS: [Session<'static>; 22] = [
         head: MONO,
         played: &[(64, 0), (64, 9), (72, 0)],
     },
-    // What each call is answered in PAUSED: nothing is loaded any more, so all tell of position 0, while the card plays
+    // What each call is answered in PAUSED: nothing is loaded any more, so all have position 0, while the card plays
     // what was committed.
     Session {
         name: "a paused stream",
@@ -599,7 +599,7 @@ pub(super) const SESSIONS: [Session<'static>; 22] = [
     },
     // Openings are refused for a file of another rate, for one with more channels than the card, and for
     // bindings of fewer or of more channels than the file has. Each of their lines is refused too. They keep
-    // their numbers, so the client behind them plays under its own: from 74 on, one period past 10.
+    // their numbers, so the client after them plays under its own: from 74 on, one period past 10.
     Session {
         name: "refused openings",
         card: TWO,
@@ -640,8 +640,8 @@ pub(super) const SESSIONS: [Session<'static>; 22] = [
         played: &[(149, 0), (1, 7), (1, 0), (1, 8)],
     },
     // A client that is prepared again goes on in its file where it was. After the drain it starts one period
-    // past 68, and after the drop right behind what stands in the ring there, at 135. A stretch in which
-    // nothing was laid has no segment. A delay that finds all played answers 0.
+    // past 68, and after the drop just past what is in the ring there, at 135. A stretch in which
+    // nothing was placed has no segment. A delay that finds all played answers 0.
     Session {
         name: "stretches",
         card: ONE,
@@ -675,7 +675,7 @@ pub(super) const SESSIONS: [Session<'static>; 22] = [
         head: MONO,
         played: &[(64, 0), (4, 1), (64, 0), (3, 2), (2, 3), (1, 4)],
     },
-    // Client a starts late, one period past 5, and its segment stands before b's, whose line is the second. A
+    // Client a starts late, one period past 5, and its segment is before b's, whose line is the second. A
     // file without frames leaves its client prepared. At 85 client a's 12 frames and 4 more were played.
     Session {
         name: "a late start",
