@@ -199,7 +199,7 @@ fn a_stream_that_runs_out_is_an_xrun(rt: HostRuntime) -> Result<(), Fail> {
     Ok(())
 }
 
-// A call that the gate stops lays nothing after the stop, though the gate would let it: of its asks the first is for the
+// A call that the gate stops places nothing after the stop, though the gate would let it: of its asks the first is for the
 // position, and each frame of one channel has two, for the load of its word and for the exchange.
 #[test]
 fn a_call_that_is_stopped_lays_nothing_more(rt: HostRuntime) -> Result<(), Fail> {
@@ -221,7 +221,7 @@ fn a_call_that_is_stopped_lays_nothing_more(rt: HostRuntime) -> Result<(), Fail>
     Ok(())
 }
 
-// A stream that is dropped and prepared again starts behind what it has laid.
+// A stream that is dropped and prepared again starts after what it has placed.
 #[test]
 fn a_stream_restarts_behind_what_it_laid(rt: HostRuntime) -> Result<(), Fail> {
     let (mut core, mut client) = opened(rt.alloc())?;
@@ -314,7 +314,7 @@ fn a_drain_is_done_once_all_is_played(rt: HostRuntime) -> Result<(), Fail> {
     Ok(())
 }
 
-// Exchanged bindings lay the client's channel 0 in the card's channel 1.
+// Exchanged bindings place the client's channel 0 in the card's channel 1.
 #[test]
 fn exchanged_channels_are_exchanged(rt: HostRuntime) -> Result<(), Fail> {
     let stereo = Geometry {

@@ -203,7 +203,7 @@ fn a_reader_restarts_at_the_position(rt: HostRuntime) -> Result<(), Fail> {
 }
 
 // Without a stop threshold a reader may come so late that a later frame was stored over its next one: how many frames it
-// waits for, and the first frame that it can't read. A word tells the lap of its frame, and one, and its sample and 32768.
+// waits for, and the first frame that it can't read. A word holds the lap of its frame plus one, and its sample plus 32768.
 #[test]
 fn a_late_reader_misses_a_frame(rt: HostRuntime) -> Result<(), Fail> {
     for (waits, missed) in [(256i16, false), (257, true), (300, true), (512, true)] {

@@ -33,7 +33,7 @@ fn new_ring(alloc: Global, channels: u8, first_lap: u32, places: u32) -> Result<
     Ok(SumRing::new(alloc, geometry, places)?)
 }
 
-// Lays a sample where the seat may, as seen at run time, and says whether it was laid in time.
+// Places a sample where the seat may, as seen at run time, and says whether it was placed in time.
 #[tactic(auto, using(crate::proofs::Trying::stays))]
 fn try_lay(seat: &mut MixSeat<'_>, frame: u64, channel: u8, sample: i16) -> bool
     ensures { IsLaterSeat seat.old seat.new }
@@ -49,7 +49,7 @@ fn try_lay(seat: &mut MixSeat<'_>, frame: u64, channel: u8, sample: i16) -> bool
     seat.place(&mut NeverStops, frame, channel, sample) == Ok(Placed::In)
 }
 
-// Lays a sample in each of some frames, in channel 0, and says whether all were laid in time.
+// Places a sample in each of some frames, in channel 0, and says whether all were placed in time.
 fn lay_frames(seat: &mut MixSeat<'_>, first: u64, count: u64, sample: i16) -> bool
     ensures { IsLaterSeat seat.old seat.new }
 {
@@ -112,7 +112,7 @@ impl Hall<'_> {
         }
     }
 
-    // The seat that was handed out last lays a sample in some frames.
+    // The seat that was handed out last places a sample in some frames.
     fn lay(&mut self, first: u64, count: u64, sample: i16) -> Result<(), Fail> {
         let Some(mut seat) = self.out.pop() else {
             return Err("no seat".into());
@@ -173,7 +173,7 @@ fn busy(until: u64, seen: u64) -> PcmError {
     }
 }
 
-// A client lays 64 frames from frame 64 on and goes. Its place is silent from frame 128 on, and the next client gets it once
+// A client places 64 frames from frame 64 on and goes. Its place is silent from frame 128 on, and the next client gets it once
 // the card has played so far.
 #[test]
 fn a_place_is_given_anew_once_it_is_silent(rt: HostRuntime) -> Result<(), Fail> {
@@ -238,7 +238,7 @@ fn a_refusal_names_the_first_silence(rt: HostRuntime) -> Result<(), Fail> {
     Ok(())
 }
 
-// Each of 64 places is given once, lowest first; a seat by which nothing was laid is free from the first frame on.
+// Each of 64 places is given once, lowest first; a seat by which nothing was placed is free from the first frame on.
 #[test]
 fn a_lobby_has_up_to_64_places(rt: HostRuntime) -> Result<(), Fail> {
     let mut ring = new_ring(rt.alloc(), 1, 2, 64)?;
@@ -263,7 +263,7 @@ fn a_lobby_has_up_to_64_places(rt: HostRuntime) -> Result<(), Fail> {
     Ok(())
 }
 
-// All 16 places attach, lay one frame each in the same frame, are played, and go, forty times over.
+// All 16 places attach, place one frame each in the same frame, are played, and go, forty times over.
 #[test]
 fn sixteen_places_are_used_over_and_over(rt: HostRuntime) -> Result<(), Fail> {
     let mut ring = new_ring(rt.alloc(), 1, 0, 16)?;

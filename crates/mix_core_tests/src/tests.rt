@@ -55,7 +55,7 @@ fn lay(
     place_once(&mut turn, &mut NeverStops, frame, channel, sample)
 }
 
-// Lays a sample where the member may, as seen at run time.
+// Places a sample where the member may, as seen at run time.
 fn try_lay(
     core: &mut Core,
     member: u32,

@@ -1,4 +1,4 @@
-//! One thread, which lays a lap and then takes it.
+//! One thread, which fills a lap and then takes it.
 ghost use Rattle.std.specs.Prelude.{◌≤◌};
 
 use crate::lap::{Best, FRAMES, LAPS, check, lay, new_ring, play};
@@ -8,7 +8,7 @@ use std::io;
 use std::time::{Clock, Instant};
 use sum_table::{MixSeat, PlayerSeat};
 
-/// Lays and takes one lap, and times both.
+/// Fills and takes one lap, and times both.
 fn time_lap<R: Clock>(
     rt: &R,
     player: &mut PlayerSeat<'_>,
@@ -26,7 +26,7 @@ fn time_lap<R: Clock>(
     Ok(Best { place, take })
 }
 
-/// The fastest lap of a ring of one place that one thread lays and takes.
+/// The fastest lap of a ring of one place that one thread fills and takes.
 pub(crate) fn time_alone<R: Clock + Alloc<A = Global>>(rt: &R, channels: u8) -> io::Result<Best>
     requires one { 1 ≤ channels }
     requires most { channels ≤ 8 }

@@ -1,4 +1,4 @@
-//! Two or four threads, which lay one lap of a ring together.
+//! Two or four threads, which fill one lap of a ring together.
 ghost use Rattle.std.specs.Prelude.{◌≤◌};
 
 use crate::lap::{Best, FRAMES, LAPS, check, lay, new_ring, play};
@@ -9,8 +9,8 @@ use std::thread::{Threads, join_mut};
 use std::time::{Clock, Instant};
 use sum_table::{MixSeat, PlayerSeat};
 
-/// How the threads share the frames of a lap: each lays at the same ones, from the first one on, or each at its own, one
-/// thread's after another's. Each lays at as many frames, and all together as many samples as the ring has frames.
+/// How the threads share the frames of a lap: each places samples at the same ones, from the first one on, or each at its own, one
+/// thread's after another's. Each places them at as many frames, and all together as many samples as the ring has frames.
 #[derive(Clone, Copy, PartialEq, Eq)]
 pub(crate) enum Share {
     Same,
@@ -29,7 +29,7 @@ impl Share {
     }
 }
 
-/// How many threads lay.
+/// How many threads place samples.
 #[derive(Clone, Copy, PartialEq, Eq)]
 pub(crate) enum Workers {
     Two,
@@ -71,8 +71,8 @@ impl Seats<'_> {
     }
 }
 
-/// Lays `count` frames by each of two seats in a thread of its own, from these offsets on, and answers how many samples were
-/// laid.
+/// Places `count` frames by each of two seats in a thread of its own, from these offsets on, and answers how many samples were
+/// placed.
 fn lay_two<R: Threads + Sync>(
     rt: &R,
     left: &mut PaddedSeat<'_>,
@@ -109,7 +109,7 @@ fn lay_four<R: Threads + Sync>(rt: &R, seats: &mut Seats<'_>, step: u32, count: 
     a.saturating_add(b)
 }
 
-/// Lays one lap by two or four threads.
+/// Fills one lap by two or four threads.
 fn lay_shared<R: Threads + Sync>(
     rt: &R,
     seats: &mut Seats<'_>,
@@ -134,7 +134,7 @@ fn lay_shared<R: Threads + Sync>(
     }
 }
 
-/// Lays one lap by the threads, and takes it, and times both.
+/// Fills one lap by the threads, and takes it, and times both.
 fn time_lap<R: Clock + Threads + Sync>(
     rt: &R,
     player: &mut PlayerSeat<'_>,
@@ -153,7 +153,7 @@ fn time_lap<R: Clock + Threads + Sync>(
     Ok(Best { place, take })
 }
 
-/// The fastest lap of a ring of one channel and four places that some threads lay and one takes.
+/// The fastest lap of a ring of one channel and four places that some threads fill and one takes.
 pub(crate) fn time_beside<R: Clock + Threads + Sync + Alloc<A = Global>>(
     rt: &R,
     threads: Workers,

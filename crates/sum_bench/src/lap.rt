@@ -1,4 +1,4 @@
-//! One lap of a ring: each word of it laid by a mix seat, and each word taken by the player.
+//! One lap of a ring: a mix seat places a sample in each word of it, and the player takes each word.
 ghost use Rattle.std.specs.Prelude.{◌≡◌, ℕ, ◌+◌, ◌<◌, ◌≤◌, true, IfOk};
 ghost use Rattle.snd_base.specs.Places.{IsFrom};
 ghost use Rattle.sum_table.specs.Players.{PlayerGoes};
@@ -17,7 +17,7 @@ pub(crate) const FRAMES: u32 = 16384;
 /// How many laps are timed. The fastest one counts.
 pub(crate) const LAPS: u32 = 400;
 
-/// The sample that is laid everywhere: what is taken from the ring is then how many samples were laid.
+/// The sample that is placed everywhere: what is taken from the ring is then how many samples were placed.
 const SAMPLE: i16 = 1;
 
 /// The nanoseconds of the fastest lap that placed, and of the fastest lap that took.
@@ -64,7 +64,7 @@ pub(crate) fn new_ring(alloc: Global, channels: u8, places: u32) -> io::Result<S
     }
 }
 
-/// Lays the sample at a frame and channel, and answers how many were laid: 1, or 0 where it was late.
+/// Places the sample at a frame and channel, and answers how many were placed: 1, or 0 where it was late.
 #[inline(always)]
 fn lay_word(seat: &mut MixSeat<'_>, frame: u64, channel: u8) -> u64
     requires can_add { CanAdd seat.old }
@@ -84,7 +84,7 @@ fn lay_word(seat: &mut MixSeat<'_>, frame: u64, channel: u8) -> u64
     }
 }
 
-/// Lays the sample in each channel of a frame, and answers how many were laid.
+/// Places the sample in each channel of a frame, and answers how many were placed.
 #[inline(always)]
 fn lay_frame(seat: &mut MixSeat<'_>, frame: u64, channels: u8) -> u64
     requires channels { channels ≡ (geometry_of seat.old).channels }
@@ -103,7 +103,7 @@ fn lay_frame(seat: &mut MixSeat<'_>, frame: u64, channels: u8) -> u64
     laid
 }
 
-/// Whether a seat may lay in all frames from `first` up to `end`, as seen at run time.
+/// Whether a seat may place in all frames from `first` up to `end`, as seen at run time.
 fn can_lay(seat: &MixSeat<'_>, first: u64, end: u64) -> bool
     ensures can_add { result ≡ true → CanAdd seat.now }
     ensures from_cursor { result ≡ true → IsFrom (cursor_of_seat seat.now) first 0 }
@@ -113,8 +113,8 @@ fn can_lay(seat: &MixSeat<'_>, first: u64, end: u64) -> bool
     seat.can_add() && seat.cursor().first_free(0) <= first && end <= ahead
 }
 
-/// Lays the sample in each channel of `count` frames, of which the first one is `offset` frames past the position that the
-/// seat has seen, and answers how many samples were laid: 0 where the seat may not lay in all of them.
+/// Places the sample in each channel of `count` frames, of which the first one is `offset` frames past the position that the
+/// seat has seen, and answers how many samples were placed: 0 where the seat may not place in all of them.
 #[inline(always)]
 pub(crate) fn lay(seat: &mut MixSeat<'_>, offset: u32, count: u32) -> u64
     ensures { IsLaterSeat seat.old seat.new }
@@ -158,7 +158,7 @@ pub(crate) fn play(player: &mut PlayerSeat<'_>, words: u64) -> u64
     sum
 }
 
-/// The error where what was laid or taken isn't what was asked for.
+/// The error where what was placed or taken isn't what was asked for.
 pub(crate) fn check(laid: u64, taken: u64, wanted: u64) -> io::Result<()> {
     if laid == wanted && taken == wanted {
         Ok(())

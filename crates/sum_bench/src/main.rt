@@ -10,7 +10,7 @@ use beside::{Share, Workers, time_beside};
 use std::{env, io};
 
 /// `sum_bench time` prints a line for each measurement: what was done, and the nanoseconds of the fastest lap of the ring.
-/// Without a word it does nothing. It ends with an error where a sample wasn't laid or another value was taken, where memory
+/// Without a word it does nothing. It ends with an error where a sample wasn't placed or another value was taken, where memory
 /// runs out, and where the clock can't be read.
 fn main(rt: HostRuntime) -> io::Result<()> {
     if env::args(&rt)?.skip(1).next().is_none() {

@@ -161,7 +161,7 @@ fn a_withdrawn_sample_is_placed_anew(rt: HostRuntime) -> Result<(), Fail> {
     lay_anew::<Brand, _>(&rt, rt.alloc(), Blank::new(1))
 }
 
-// The largest ring is made where there is memory for it, and its last word is laid.
+// The largest ring is made where there is memory for it, and a sample is placed in its last word.
 #[test]
 fn the_largest_ring_is_made(rt: HostRuntime) -> Result<(), Fail> {
     let geometry = Geometry {
@@ -195,13 +195,13 @@ fn sum_three<L: Ledger, A: Abort>(rt: &A, alloc: Global, blank: Blank) -> Result
     Ok(())
 }
 
-// 30000, 10000 and -20000 are summed before the cut: 20000 is played.
+// 30000, 10000 and -20000 are summed before the sum is saturated: 20000 is played.
 #[test]
 fn three_samples_share_one_word(rt: HostRuntime) -> Result<(), Fail> {
     sum_three::<Brand, _>(&rt, rt.alloc(), Blank::new(1))
 }
 
-// Seats are split off, lay, meet the player, are joined again, and end with it.
+// Seats are split off, place, meet the player, are joined again, and end with it.
 #[test]
 fn seats_end_where_they_began(rt: HostRuntime) -> Result<(), Fail> {
     let mut ring = new_ring(rt.alloc(), 2, 3)?;

@@ -260,7 +260,7 @@ fn compare(
     Ok(tally)
 }
 
-// Rings of one to eight channels, from their first lap on, and of which the last comes to its end.
+// Rings of one to eight channels, from their first lap on, and of which the last reaches its end.
 #[test]
 fn ring_and_core_give_the_same_answers(rt: HostRuntime) -> Result<(), Fail> {
     let table = [(64, 1, 0), (96, 2, 7), (64, 8, 0), (64, 1, 4294967290)];

@@ -3,7 +3,7 @@
 use super::*;
 use std::thread::{Threads, join_mut};
 
-// A client that lays 64 frames from frame 64 on, and whether it could.
+// A client that places 64 frames from frame 64 on, and whether it could.
 #[derive(Drop)]
 struct Client<'a> {
     seat: MixSeat<'a>,
@@ -30,7 +30,7 @@ fn new_client<'a>(lobby: &mut Lobby<'a>, sample: i16) -> Result<Client<'a>, Fail
     })
 }
 
-// Two seats that a lobby handed out lay in threads of their own, and the card plays their sums.
+// Two seats that a lobby handed out place in threads of their own, and the card plays their sums.
 #[test]
 fn seats_of_a_lobby_lay_in_threads(rt: HostRuntime) -> Result<(), Fail> {
     let mut ring = new_ring(rt.alloc(), 1, 0, 2)?;

@@ -96,7 +96,7 @@ impl Reading<'_> {
         self.next = self.next.saturating_add(1);
     }
 
-    // Loads until the last frame is behind it.
+    // Loads until it is past the last frame.
     fn load_all(&mut self) {
         for _ in 0..LOOKS {
             if self.next >= STORED {

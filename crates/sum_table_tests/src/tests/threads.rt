@@ -11,7 +11,7 @@ const PLAYED: usize = 25600;
 
 const LOOKS: usize = 50_000_000;
 
-// A client: it lays one sample everywhere that it can reach, and counts for each word what it laid there in time.
+// A client: it places one sample everywhere that it can reach, and counts for each word what it placed there in time.
 #[derive(Drop)]
 struct Client<'a> {
     seat: MixSeat<'a>,
@@ -21,7 +21,7 @@ struct Client<'a> {
 }
 
 impl Client<'_> {
-    // Lays at the next frame and channel, and says whether it was in time.
+    // Places at the next frame and channel, and says whether it was in time.
     fn lay_next(&mut self) -> bool {
         let geometry = self.seat.geometry();
         let seen = self.seat.seen();
@@ -57,7 +57,7 @@ impl Client<'_> {
         }
     }
 
-    // Lays until the position `end` is seen.
+    // Places until the position `end` is seen.
     fn lay_all(&mut self, end: u64) {
         for _ in 0..LOOKS {
             if self.seat.seen() >= end {
