@@ -29,7 +29,7 @@ fn remove_all(table: &mut Table, group: u32, name: Name)
     }
 }
 
-/// Leaves a group as a part of a key does before it goes on: without the part's node, where `!` stands before the part.
+/// Leaves a group as a part of a key does before it goes on: without the part's node, where `!` is before the part.
 #[inline(always)]
 fn clear(table: &mut Table, group: u32, part: Part)
     ensures value { group_of group table.new.rows

@@ -1,4 +1,4 @@
-//! Nodes that are lent from a table.
+//! Nodes that are borrowed from a table.
 ghost use Rattle.std.specs.Prelude.{◌≡◌, ◌<◌, ◌≤◌, ◌^◌, length, option_map};
 ghost use Rattle.std.specs.Fmt.{decimal};
 ghost use Rattle.asound_conf.specs.Device.{count_of};
@@ -9,7 +9,7 @@ ghost use Rattle.asound_conf.specs.Tree.{get};
 use crate::cell::Key;
 use crate::table::Table;
 
-/// A group that is lent from a table.
+/// A group that is borrowed from a table.
 #[derive(Clone, Copy)]
 pub struct Group<'a> {
     /// The table.
@@ -18,7 +18,7 @@ pub struct Group<'a> {
     pub number: u32,
 }
 
-/// A node that is lent from a table.
+/// A node that is borrowed from a table.
 #[derive(Clone, Copy)]
 pub enum Node<'a> {
     /// A text.

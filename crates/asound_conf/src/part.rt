@@ -15,7 +15,7 @@ use std::alloc::AllocError;
 /// A part of a key: the name of a node in its group.
 #[derive(Clone, Copy)]
 pub struct Part {
-    /// Whether `!` stands before the part: the node of this name is removed first.
+    /// Whether `!` is before the part: the node of this name is removed first.
     pub removes: bool,
     /// The node's name.
     pub name: Name,

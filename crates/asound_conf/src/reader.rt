@@ -20,7 +20,7 @@ fn start_before(text: &[u8], rest: &[u8], after: usize, bytes: &[u8]) -> u32
     (text.len() - (bytes.len() + after + rest.len())) as u32
 }
 
-/// Where the bytes of a token are in a text, which ends with them, the quote behind them, and what follows.
+/// Where the bytes of a token are in a text, which ends with them, the quote after them, and what follows.
 fn start_of(text: &[u8], lexeme: Lexeme<'_>) -> u32
     requires small { length text.now < 2 ^ 32 }
     requires before { IsBefore text.now lexeme.rest.now lexeme.token }

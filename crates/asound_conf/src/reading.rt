@@ -23,7 +23,7 @@ const DEEPEST: usize = 16;
 pub struct Reading {
     /// The nodes so far.
     table: Table,
-    /// The parts of keys that lead to the innermost group that is open, and behind them those of a key that lead from there
+    /// The parts of keys that lead to the innermost group that is open, and after them those of a key that lead from there
     /// to the place of what comes next.
     path: Vec<Part>,
     /// The innermost bracket that is open, or the text itself.
@@ -34,7 +34,7 @@ pub struct Reading {
     awaits: Awaits,
 }
 
-/// The parts of a key, which are behind so many others.
+/// The parts of a key, which are after so many others.
 fn key_behind(path: &[Part], names: usize) -> &[Part]
     requires { names ≤ length path.now }
     ensures { result.now ≡ drop names path.now }
@@ -111,7 +111,7 @@ impl Reading {
         Ok(())
     }
 
-    /// Goes to where a value is put, and says whether one can come: behind a key, or within `[ ]`.
+    /// Goes to where a value is put, and says whether one can come: after a key, or within `[ ]`.
     fn go_to_value(&mut self) -> Result<bool, ConfWhy>
         requires valid { IsReading self.old }
         ensures place { Places result (state_of self.old) (state_of self.new)
@@ -150,7 +150,7 @@ impl Reading {
         }
     }
 
-    /// Takes a key, whose parts are behind those of the path.
+    /// Takes a key, whose parts are after those of the path.
     fn take_key(&mut self) -> Result<(), ConfWhy>
         requires valid { IsBeforeKey self.old }
         requires some { 1 ≤ length (key_of self.old) }

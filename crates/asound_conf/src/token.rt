@@ -1,4 +1,4 @@
-//! The tokens of a configuration text, lent from it.
+//! The tokens of a configuration text, borrowed from it.
 ghost use Rattle.std.specs.Prelude.{◌≡◌, ℕ, ◌+◌, ◌<◌, ◌≤◌, ◌^◌, ◌==◌, ◌∷◌, [], length, option_map, IfNone, IfSome, drop, IsTrue, position, slice_index, true, false, ◌||◌};
 ghost use Rattle.std.specs.List.{list_any};
 ghost use Rattle.asound_conf.specs.Start.{IsBefore, IsSuffix};
@@ -164,7 +164,7 @@ fn quoted_token(quote: u8, text: &[u8]) -> Token<'_>
     Token::Quoted(content)
 }
 
-/// How long a quoted text is with its first quote, which stands before this text, and its last one.
+/// How long a quoted text is with its first quote, which is before this text, and its last one.
 fn quoted_size(quote: u8, text: &[u8]) -> usize
     requires quote { IsTrue (is_quote quote) }
     requires small { length text.now < 2 ^ 32 }

@@ -86,7 +86,7 @@ impl Bindings {
     }
 }
 
-/// At most 8 numbers in 8 places, with zeros behind them.
+/// At most 8 numbers in 8 places, with zeros after them.
 fn in_eight_places(list: &[u8]) -> [u8; 8]
     requires { length list.now ≤ 8 }
     ensures { result ≡ in_eight_places list.now }

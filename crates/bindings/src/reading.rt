@@ -12,7 +12,7 @@ impl Bindings {
     /// - `BindingsEmpty`: the list has no entry.
     /// - `BindingsTooMany`: it has more than 8.
     /// - `BindingRange(channel)`: the first entry with a defect is a channel that the card does not have.
-    /// - `BindingTwice(channel)`: the first entry with a defect is a channel that stood earlier in the list.
+    /// - `BindingTwice(channel)`: the first entry with a defect is a channel that came earlier in the list.
     pub fn read(list: &[u32], card_channels: u8) -> Result<Bindings, Why>
         ensures answer { result ≡ answer_of list.now card_channels }
         ensures below { IfOk result (λ bindings.
@@ -50,7 +50,7 @@ fn defect(list: &[u32], card_channels: u8, place: usize) -> Option<Why>
     None
 }
 
-/// Whether a channel stands in a list.
+/// Whether a channel is in a list.
 fn stands_in(list: &[u32], channel: u32) -> bool
     ensures { result ≡ list_any (λ bound. bound == channel) list.now }
 {

@@ -101,7 +101,7 @@ impl Client {
         self.stream.fed
     }
 
-    /// What the client has laid into the card's ring since the last `prepare`, or the last resume that based its counts anew.
+    /// What the client has placed in the card's ring since the last `prepare`, or the last resume that based its counts anew.
     pub fn segment(&self) -> Segment
         ensures { result ≡ segment_of self.now.stream }
     {
@@ -182,7 +182,7 @@ impl Client {
         self.stream.setup.set_params(params)
     }
 
-    /// Prepares the stream (`snd_pcm_prepare`): what is pending is discarded, and nothing is written or laid since now.
+    /// Prepares the stream (`snd_pcm_prepare`): what is pending is discarded, and a new stretch has nothing written or placed.
     /// PREPARED, from SETUP, PREPARED or XRUN. A refused call changes nothing.
     pub fn prepare(&mut self) -> Result<(), PcmError>
         ensures refused { (e : PcmError) →

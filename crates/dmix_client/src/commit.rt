@@ -1,4 +1,4 @@
-//! Frames are placed in the card's ring through a port: a commit, alone and behind a load of the position.
+//! Frames are placed in the card's ring through a port: a commit, alone and after a load of the position.
 ghost use Rattle.std.specs.Prelude.{◌≡◌, ℕ, ◌+◌, ◌*◌, ◌%◌, ◌^◌, ◌<◌, ◌≤◌, true, false, pos, IfSome, length, slice_index, slice_index_or, unwrap_or};
 ghost use Rattle.snd_base.specs.Places.{IsFrom, end_frame};
 ghost use Rattle.mix_core.specs.Laid.{an_add};
@@ -16,7 +16,7 @@ use mix_core::{Ended, Gate, MixPort, Position};
 use pcm_states::State;
 use snd_base::Cursor;
 
-/// What a commit laid: whole frames, and then `part` channels of one more, by rising card channel; and how its last
+/// What a commit placed: whole frames, and then `part` channels of one more, by rising card channel; and how its last
 /// placement ended.
 #[derive(Clone, Copy, Debug, PartialEq, Eq)]
 pub struct Commit {
@@ -26,7 +26,7 @@ pub struct Commit {
 }
 
 impl Commit {
-    /// A commit that had nothing to lay.
+    /// A commit that had nothing to place.
     pub const NOTHING: Commit = Commit {
         frames: 0,
         part: 0,
@@ -41,7 +41,7 @@ struct Channels {
     pub ended: Ended,
 }
 
-/// What a load, None where the gate stopped it, and the commit behind it came to.
+/// What a load, None where the gate stopped it, and the commit after it ended in.
 #[derive(Clone, Copy)]
 pub(crate) struct Found {
     pub load: Option<Position>,
@@ -178,8 +178,8 @@ fn place_frame<P: MixPort, G: Gate>(
     }
 }
 
-/// Lays `count` frames of the local ring, from the first that is not committed on, up to one that is late or stopped. They
-/// are laid in runs, each up to the end of the local ring.
+/// Places `count` frames of the local ring, from the first that is not committed on, up to one that is late or stopped. They
+/// are placed in runs, each up to the end of the local ring.
 pub(crate) fn lay_frames<P: MixPort, G: Gate>(
     port: &mut P,
     gate: &mut G,
@@ -230,7 +230,7 @@ pub(crate) fn lay_frames<P: MixPort, G: Gate>(
     }
 }
 
-/// Lays `count` frames from number `first` on, which follow one another in the local ring. For one channel and for two
+/// Places `count` frames from number `first` on, which follow one another in the local ring. For one channel and for two
 /// there is code of its own, without a loop over the channels.
 #[inline(never)]
 fn lay_run<P: MixPort, G: Gate>(

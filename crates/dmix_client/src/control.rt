@@ -108,12 +108,12 @@ pub(crate) fn start_and_drain<P: MixPort, G: Gate>(
 }
 
 impl Client {
-    /// Starts the stream (`snd_pcm_start`). In ALSA it starts at once; here its first frame stands at the larger of two
+    /// Starts the stream (`snd_pcm_start`). In ALSA it starts at once; here its first frame is at the larger of two
     /// frames: the position loaded plus the lead, and the first frame that the port may still add to. What is written is
     /// committed there.
     ///
     /// From PREPARED it leads to RUNNING. `Xrun(Empty)` comes exactly where nothing is written; then nothing is loaded and
-    /// the state stays. A card that is gone and a frame that is late lead to the states that `sync` tells, and `Stopped`
+    /// the state stays. A card that is gone and a frame that is late lead to the states that `sync` names, and `Stopped`
     /// comes as there. In every other state it is refused with `BadState`, in DISCONNECTED with `NoDevice`.
     pub fn start<P: MixPort, G: Gate>(&mut self, port: &mut P, gate: &mut G) -> Result<(), PcmError>
         requires { CanUse self.old.stream (P.view port.old) }

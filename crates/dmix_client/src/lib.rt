@@ -1,4 +1,4 @@
-//! The client of a mixed playback: a PCM stream that lays its frames into the card's ring through a port.
+//! The client of a mixed playback: a PCM stream that places its frames in the card's ring through a port.
 #![tactic(auto)]
 
 mod client;

@@ -61,7 +61,7 @@ impl Client {
     ///
     /// A resume of a stream with pending frames is a start of these: it begins a new segment, as after a `prepare`, at the
     /// larger of the position loaded plus the lead and the first frame that the port may still add to, and leads to RUNNING.
-    /// A card that is gone, a frame that is late and a stop lead to the states that `start` tells; a stop before the
+    /// A card that is gone, a frame that is late and a stop lead to the states that `start` names; a stop before the
     /// position was loaded leaves the stream in PAUSED with its counts. A resume without pending frames is a `prepare`: it
     /// leads to PREPARED without a load.
     ///

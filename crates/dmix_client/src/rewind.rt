@@ -76,7 +76,7 @@ fn take_back<P: MixPort, G: Gate>(
     answer
 }
 
-/// The frames that a client which runs can take back, behind its load.
+/// The frames that a client which runs can take back, after its load.
 fn rewindable_running<P: MixPort, G: Gate>(
     stream: &mut PlaybackStream,
     port: &mut P,
@@ -140,7 +140,7 @@ impl Client {
     /// frames are withdrawn once at most, so a client that wrote over withdrawn frames withdraws none of those again.
     ///
     /// In RUNNING the position is loaded, and a card that is gone and a stop threshold that is reached lead to the states that
-    /// `sync` tells; nothing is committed. In PREPARED nothing is loaded, and these are all that is written. In every other
+    /// `sync` names; nothing is committed. In PREPARED nothing is loaded, and these are all that is written. In every other
     /// state it is refused as a write is. `Stopped` comes as in `sync`.
     pub fn rewindable<P: MixPort, G: Gate>(
         &mut self,
@@ -182,7 +182,7 @@ impl Client {
     ///
     /// `Xrun(Late)` comes exactly where a sample that was to be withdrawn was taken before. The state is XRUN then, and the
     /// stream has the frames that are left in the ring, of which the last may be left in a part of its channels: `segment`
-    /// tells. `Stopped` behind the load leaves the same counts. In every other state than RUNNING and PREPARED it is refused as
+    /// says. `Stopped` after the load leaves the same counts. In every other state than RUNNING and PREPARED it is refused as
     /// a write is.
     ///
     /// The caller knows that the port's standing adds end in the committed frames that aren't played, as far as the client

@@ -69,7 +69,7 @@ impl PlaybackStream {
         }
     }
 
-    /// The card's frame of the last sample that is laid.
+    /// The card's frame of the last sample that is placed.
     fn last_laid(&self) -> u64
         requires { self.now.stretch.card + self.now.stretch.committed < 2 ^ 64 }
         ensures { result ≡ last_laid self.now }
@@ -81,7 +81,7 @@ impl PlaybackStream {
         }
     }
 
-    /// The card's channel of the last sample that is laid.
+    /// The card's channel of the last sample that is placed.
     fn last_channel(&self) -> u8
         requires { self.now.stretch.part < length self.now.setup.bindings }
         ensures { result ≡ last_channel self.now }

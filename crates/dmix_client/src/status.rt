@@ -1,4 +1,4 @@
-//! The calls that ask how a stream stands, as alsa-lib groups them: each loads the position and commits what is pending.
+//! The calls that ask for a stream's status, as alsa-lib groups them: each loads the position and commits what is pending.
 ghost use Rattle.std.specs.Prelude.{◌≡◌, ℕ, true, false, OnOk, Option};
 ghost use Rattle.pcm_states.specs.declared.calls.Call.TheVariants as call;
 ghost use Rattle.course.specs.AtPort.{TakesAt};
@@ -67,12 +67,12 @@ impl Client {
     ///
     /// In RUNNING and DRAINING the position is loaded. Where the card is gone the stream is DISCONNECTED, with
     /// `NoDevice`; where in RUNNING as many frames are available as the stop threshold says, it is XRUN, with `Avail`.
-    /// Then all pending frames that are within the ring of the position are laid, and one that comes too late leads to
+    /// Then all pending frames that are within the ring of the position are placed, and one that comes too late leads to
     /// XRUN, with `Late`, whatever the stop threshold. A stream in DRAINING whose frames are played then is SETUP.
     ///
     /// In PREPARED it does nothing. In XRUN it is refused with `Already`, in DISCONNECTED with `NoDevice`, in OPEN and
     /// SETUP with `BadState`. `Stopped` comes exactly where the client was stopped before, or the gate's count of stops
-    /// rose in this call; what was laid stays.
+    /// rose in this call; what was placed stays.
     pub fn sync<P: MixPort, G: Gate>(&mut self, port: &mut P, gate: &mut G) -> Result<(), PcmError>
         requires { CanUse self.old.stream (P.view port.old) }
         ensures takes { TakesAt P.MixPort G.Gate (port.old, gate.old)

@@ -94,7 +94,7 @@ impl PlaybackStream {
         }
     }
 
-    /// A commit laid frames.
+    /// A commit placed frames.
     pub(crate) fn committed_by(&self, commit: Commit) -> PlaybackStream
         requires { self.now.stretch.committed + commit.frames < 2 ^ 64 }
         ensures { result ≡ committed_by self.now commit }
@@ -142,7 +142,7 @@ impl PlaybackStream {
         }
     }
 
-    /// How many frames a commit at a position is to lay, of those before one.
+    /// How many frames a commit at a position is to place, of those before one.
     pub(crate) fn commit_count(&self, position: u64, upto: u64) -> u64
         requires { position < 2 ^ 63 }
         ensures { result ≡ commit_count self.now position upto }
@@ -167,7 +167,7 @@ impl PlaybackStream {
         }
     }
 
-    /// The client is prepared: nothing is written, and nothing is laid since now.
+    /// The client is prepared: a new stretch, with nothing written or placed.
     pub(crate) fn prepared(&self) -> PlaybackStream
         ensures { result ≡ after_prepare self.now }
     {
@@ -259,7 +259,7 @@ fn going_on(stream: PlaybackStream, state: State, outcome: Outcome) -> Answered<
     }
 }
 
-/// What a start found, or a commit behind a sync.
+/// What a start found, or a commit after a sync.
 pub(crate) fn found_at(position: Position, late: Option<XrunWhy>) -> Facts
     ensures { result ≡ found_at position late }
 {
@@ -417,7 +417,7 @@ impl PlaybackStream {
         self.stretch.written.saturating_sub(self.stretch.committed)
     }
 
-    /// What is pending is all that is written, and nothing is laid since now.
+    /// A new stretch: what is pending is all that is written of it, and nothing is placed.
     pub(crate) fn rebased(&self) -> PlaybackStream
         ensures { result ≡ with_new_base self.now }
     {

@@ -100,7 +100,7 @@ fn left_of(frames: u64, left: u8, channels: u8, ended: Ended) -> Commit
     }
 }
 
-/// Withdraws the last `count` committed frames, up to a sample that is late or stopped, and tells what is left of them.
+/// Withdraws the last `count` committed frames, up to a sample that is late or stopped, and says what is left of them.
 pub(crate) fn take_frames<P: MixPort, G: Gate>(
     port: &mut P,
     gate: &mut G,

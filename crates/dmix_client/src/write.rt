@@ -25,7 +25,7 @@ use pcm_states::{Call, State};
 use pcm_stream::Direction;
 use snd_base::PcmError;
 
-/// Commits, of a client that moves frames, what it has with `taken` frames behind what is written, at the position that it
+/// Commits, of a client that moves frames, what it has with `taken` frames after what is written, at the position that it
 /// has seen.
 fn commit_taken<P: MixPort, G: Gate>(
     stream: &PlaybackStream,
@@ -78,7 +78,7 @@ fn write_taken<P: MixPort, G: Gate>(
     answer
 }
 
-/// Stores the first `taken` frames of some samples behind what is written.
+/// Stores the first `taken` frames of some samples after what is written.
 fn store_taken(stream: &PlaybackStream, ring: &mut [i16], samples: &[i16], taken: u64)
     requires sound { IsSound stream.now ring.old }
     requires configured { stream.now.setup.configured ≡ true }
@@ -234,7 +234,7 @@ impl Client {
     ///   reached. A full stream takes none.
     /// - In XRUN it is refused with `Already`, in DISCONNECTED with `NoDevice`, and else with `BadState`.
     ///
-    /// The frames of a call that answers an error are not accepted. What was laid of them stays in the card's ring, and
+    /// The frames of a call that answers an error are not accepted. What was placed of them stays in the card's ring, and
     /// `segment` shows it.
     pub fn writei<P: MixPort, G: Gate>(
         &mut self,

@@ -174,7 +174,7 @@ impl Reader {
     ///   fewer frames does nothing: it answers `Again`, or 0 frames where there is no room.
     /// - `Again` further comes exactly where there is room and no frame was captured since the last one read.
     /// - Then the frames from the reader's next one on are loaded, as many as there is room for and as were captured, each
-    ///   through the bindings, and the reader's next frame is behind them. Where a later frame was stored over one of
+    ///   through the bindings, and the reader's next frame is after them. Where a later frame was stored over one of
     ///   them, the stream is XRUN, with `Overtaken`.
     /// - In XRUN it is refused with `Already`, in DISCONNECTED with `NoDevice`, and else with `BadState`.
     ///

@@ -88,7 +88,7 @@ impl Reader {
         self.stream.seen
     }
 
-    /// The frame that the next read begins with, a frame number: once the stream was started, the one behind those that it
+    /// The frame that the next read begins with, a frame number: once the stream was started, the one after those that it
     /// read.
     pub fn next(&self) -> u64
         ensures { result ≡ self.now.next }

@@ -1,4 +1,4 @@
-//! The lobby: a place's seat is handed out only where the frames that were laid by it earlier are played.
+//! The lobby: a place's seat is handed out only where the frames that were placed by it earlier are played.
 ghost use Rattle.std.specs.Prelude.{◌≡◌, ◌<◌, ◌≤◌, ◌++◌, ◌∷◌, [], Some, vec_capacity, vec_len};
 ghost use Rattle.lobby.specs.Seats.{ArePlaces};
 ghost use Rattle.sum_table.specs.Seats.{key_of, places_of_seat, ring_of, view_of};
@@ -14,7 +14,7 @@ use sum_table::{MixSeat, PlayerSeat};
 /// each is given anew only once it is silent, is this project's own rule.
 ///
 /// A place is the right of one client to add once at each frame and channel. While no client has it, the lobby keeps the
-/// seat of each place, with all that was laid by it, and hands it out as the seat of the next client: the place's number is
+/// seat of each place, with all that was placed by it, and hands it out as the seat of the next client: the place's number is
 /// the seat's member. The meaning of a lobby is the list of these seats by place, each while it is free, the position that it
 /// saw last, and the number of clients that were reaped.
 ///
@@ -41,7 +41,7 @@ impl<'a> Lobby<'a> {
     ghost use Rattle.lobby.specs.Seats.{AreFree, KeepsLasts, last_of, lowest_free};
 
     /// A lobby of all places that the seat has, each free, with members from 0 upwards. The caller shows that nothing was
-    /// laid by the seat.
+    /// placed by the seat.
     ///
     /// It refuses, with `Memory`, only where no memory is left; the seat has ended then, and its places with it.
     pub fn new(alloc: Global, seat: MixSeat<'a>) -> Result<Lobby<'a>, PcmError>
@@ -65,7 +65,7 @@ impl<'a> Lobby<'a> {
         })
     }
 
-    /// Hands out the seat of the lowest place that is free and silent: its last frame, if anything was laid by it, is below
+    /// Hands out the seat of the lowest place that is free and silent: its last frame, if anything was placed by it, is below
     /// the card's position. The seat of the lowest free place loads this position, once, and no other seat of the lobby loads
     /// one.
     ///
@@ -189,7 +189,7 @@ impl<'a> Lobby<'a> {
     }
 
     /// Takes the seat of a client back, and answers the position from which the place is silent: the seat's last frame plus
-    /// one, or the first frame where nothing was laid by it. The caller shows that the lobby can take it back, and that it is
+    /// one, or the first frame where nothing was placed by it. The caller shows that the lobby can take it back, and that it is
     /// of the lobby's ring.
     pub fn detach(&mut self, seat: MixSeat<'a>) -> u64
         requires one_ring { OneRing (ring_of seat) (key_of seat)
@@ -235,7 +235,7 @@ impl<'a> Lobby<'a> {
         are_free(self.seats.as_slice())
     }
 
-    /// Joins the seats of all places into one, which has all places and all that was laid by them. The caller shows that each
+    /// Joins the seats of all places into one, which has all places and all that was placed by them. The caller shows that each
     /// place is free.
     pub fn close(self) -> MixSeat<'a>
         requires { AreFree (free_seats self) }

@@ -1,4 +1,4 @@
-//! The mixing core: the port through which a client lays samples into a ring, the gate that it asks before each step,
+//! The mixing core: the port through which a client places samples in a ring, the gate that it asks before each step,
 //! and a core over one owner that answers adds, takes and publications as a history of lists does.
 #![tactic(auto)]
 

@@ -87,13 +87,13 @@ pub trait MixPort {
     // Whether the member's standing adds end in a list.
     ghost ends_in: { Self → List Entry → Type 0 };
 
-    // Which entries were laid between two states, in order.
+    // Which entries were placed between two states, in order.
     ghost laid: { Self → Self → List Entry → Type 0 };
 
     // Which positions were loaded between two states, in order.
     ghost loaded: { Self → Self → List Position → Type 0 };
 
-    // What an attempt to lay an entry that ended so found, word by word, between two states.
+    // What an attempt to place an entry that ended so found, word by word, between two states.
     ghost finds: { Self → Self → Entry → Ended → List ℕ → Type 0 };
 
     /// The ring's geometry.
@@ -185,9 +185,8 @@ pub trait MixPort {
             (ended_of result) self.new gate.new }
         ensures only_stopped { IfErr result (λ e. e ≡ PcmError.Stopped) };
 
-    // What was laid between two states moves the marks, and the words that are shown never fall.
-    ghost laid_marks: { (p q : Self) (es : List Entry) → laid p q es
-        → (view q).marks ≡ marks_from (view p).geometry (view p).marks es };
+    // What was placed between two states moves the marks, and the words that are shown never fall.
+    ghost laid_marks: { (p q : Self) (es : List Entry) → laid p q es → (view q).marks ≡ marks_from (view p).geometry (view p).marks es };
 
     ghost shown_laid: { (p q : Self) (es : List Entry) (f c word : ℕ) → laid p q es
         → shows p f c ≡ Some word → ShowsFrom shows q f c word };

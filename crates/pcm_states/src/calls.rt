@@ -2,7 +2,7 @@
 use crate::states::State;
 use snd_base::{PcmError, XrunWhy};
 
-/// A call on a PCM stream, by the function of alsa/pcm.h that it stands for.
+/// A call on a PCM stream, by the function of alsa/pcm.h that it represents.
 #[derive(Clone, Copy, Debug, PartialEq, Eq)]
 pub enum Call {
     /// `snd_pcm_hw_params`.

@@ -82,7 +82,7 @@ impl Setup {
 
     /// Sets the software parameters (`snd_pcm_sw_params`), for a configuration whose buffer size is at least 1.
     ///
-    /// `Invalid` comes exactly where they have a defect, with the first one, as `SwParams::check` tells it; then the
+    /// `Invalid` comes exactly where they have a defect, with the first one, as `SwParams::check` gives it; then the
     /// setup stays as it was.
     pub fn set_params(&mut self, params: SwParams) -> Result<(), PcmError>
         requires { 1 ≤ self.old.config.buffer_size }

@@ -88,7 +88,7 @@ impl Converter {
         self.rates.advance(course, &frame, out)
     }
 
-    /// Takes all whole frames of these bytes, and returns the bytes behind them.
+    /// Takes all whole frames of these bytes, and returns the bytes after them.
     fn take_frames<'a>(
         &self,
         course: &mut Course,
@@ -135,7 +135,7 @@ impl Converter {
         Ok(())
     }
 
-    /// Takes the bytes that the begun frame lacks, and returns the bytes behind them.
+    /// Takes the bytes that the begun frame lacks, and returns the bytes after them.
     fn fill<'a>(&self, part: &mut Part, bytes: &'a [u8]) -> &'a [u8]
         requires { length (part_of part.old) ≤ frame_bytes (conversion_of self.now) }
         ensures same { part_of part.new ++ result.now ≡ part_of part.old ++ bytes.now }

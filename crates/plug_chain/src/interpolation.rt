@@ -130,7 +130,7 @@ impl Rates {
         Ok(())
     }
 
-    /// Appends each output frame that lies behind the last frame.
+    /// Appends each output frame that lies after the last frame.
     pub(crate) fn end(self, course: Course, out: &mut Vec<i16>) -> Result<(), AllocError>
         requires { IsOn self (length (samples_of course.last)) course }
         ensures ok { OnOk result (Ends self (length (samples_of course.last)) course

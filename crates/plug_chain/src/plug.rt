@@ -96,7 +96,7 @@ impl Plug {
         }
     }
 
-    /// Ends the conversion, and appends what is left of it: the output frames that lie behind the last frame, which stays.
+    /// Ends the conversion, and appends what is left of it: the output frames that lie after the last frame, which stays.
     /// It refuses, with `Memory`, only where no memory is left; then `out` is as before.
     pub fn finish(self, out: &mut Vec<i16>) -> Result<(), PcmError>
         ensures ok { OnOk result (Completes self out.old.items out.new.items) }

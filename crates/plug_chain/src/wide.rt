@@ -35,7 +35,7 @@ impl Wide {
         }
     }
 
-    /// The sample of 16 bits that these bytes stand for: a number of more bits is rounded down to its high 16 bits.
+    /// The sample of 16 bits that these bytes represent: a number of more bits is rounded down to its high 16 bits.
     pub(crate) fn sample(self, bytes: &[u8]) -> i16
         requires { length bytes.now ≡ bytes_of self }
         ensures { result ≡ wide_sample self bytes.now }

@@ -8,7 +8,7 @@ use std::marker::Model;
 ///
 /// Both count frames and wrap at the boundary, a multiple of the size that is so large that two
 /// pointers never come a boundary apart (`snd_pcm_sw_params_get_boundary` and
-/// `snd_pcm_forwardable` of alsa/pcm.h). So they stand for two counts that never wrap: as long as
+/// `snd_pcm_forwardable` of alsa/pcm.h). So they represent two counts that never wrap: as long as
 /// these differ by less than 2 to the power 48, the frames that are available are the plain
 /// difference of the counts.
 #[derive(Clone, Copy, Debug, PartialEq, Eq)]
@@ -125,7 +125,7 @@ impl Pointers {
     }
 }
 
-/// A pointer after `frames` more, going on at 0 behind the boundary.
+/// A pointer after `frames` more, going on at 0 past the boundary.
 fn moved_on(pointer: u64, frames: u64, boundary: u64) -> u64
     requires below { pointer < boundary }
     requires few { frames ≤ boundary }
@@ -140,7 +140,7 @@ fn moved_on(pointer: u64, frames: u64, boundary: u64) -> u64
     }
 }
 
-/// The frames from one pointer on to another, going on at 0 behind the boundary.
+/// The frames from one pointer on to another, going on at 0 past the boundary.
 fn frames_between(from: u64, to: u64, boundary: u64) -> u64
     requires below { from < boundary }
     requires to_below { to < boundary + boundary }

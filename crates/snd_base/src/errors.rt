@@ -1,4 +1,4 @@
-//! The refusals of PCM calls, with their error numbers: those of errno.h that stand for such refusals in ALSA's PCM
+//! The refusals of PCM calls, with their error numbers: those of errno.h that mean such refusals in ALSA's PCM
 //! interface. When each comes is this project's own rule.
 ghost use Rattle.std.specs.Prelude.{◌≡◌};
 ghost use Rattle.snd_base.specs.declared.errors.PcmError.TheVariants.{Memory};

@@ -4,7 +4,7 @@ ghost use Rattle.std.specs.Prelude.{◌≤◌};
 /// The shape of a ring of sample words, of playback or of capture.
 ///
 /// `frames` is the ring's length in frames (ALSA's buffer size of the slave), `channels` the number of samples in a
-/// frame. Frame numbers are absolute and never wrap: frame f stands in slot `f % frames`, in lap `f / frames`. The
+/// frame. Frame numbers are absolute and never wrap: frame f is in slot `f % frames`, in lap `f / frames`. The
 /// first frame is the first one of lap `first_lap`.
 #[derive(Clone, Copy, Debug, PartialEq, Eq)]
 pub struct Geometry {
@@ -43,7 +43,7 @@ impl Geometry {
         frame / self.frames as u64
     }
 
-    /// Where the word of a frame and channel stands among the ring's words: slot by slot, channels in order.
+    /// Where the word of a frame and channel is among the ring's words: slot by slot, channels in order.
     pub fn word_index(&self, frame: u64, channel: u8) -> usize
         requires { channel < self.now.channels }
         ensures value { result ≡ word_index self.now frame channel }

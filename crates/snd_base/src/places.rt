@@ -12,7 +12,7 @@ pub struct Cursor {
 }
 
 impl Cursor {
-    /// The cursor that stands right behind a frame and channel: at the frame's next channel, or, after its last one,
+    /// The cursor that is right after a frame and channel: at the frame's next channel, or, after its last one,
     /// at channel 0 of the next frame.
     pub fn behind(geometry: &Geometry, frame: u64, channel: u8) -> Cursor
         requires channel { channel < geometry.now.channels }
@@ -32,7 +32,7 @@ impl Cursor {
         }
     }
 
-    /// The first frame whose given channel is at this cursor or behind it.
+    /// The first frame whose given channel is at this cursor or after it.
     pub fn first_free(&self, channel: u8) -> u64
         requires { self.now.frame + 1 < 2 ^ 64 }
         ensures { result ≡ first_free self.now channel }
@@ -45,9 +45,9 @@ impl Cursor {
     }
 }
 
-/// What one stretch of a client laid into the ring, from one `prepare` to the next.
+/// What one stretch of a client placed in the ring, from one `prepare` to the next.
 ///
-/// Frames from `source` of the client's own samples stand from frame `card` of the card on: `whole` whole frames, and
+/// Frames from `source` of the client's own samples are from frame `card` of the card on: `whole` whole frames, and
 /// then `part` channels of one more frame, in rising order of the card's channels.
 #[derive(Clone, Copy, Debug, PartialEq, Eq)]
 pub struct Segment {

@@ -20,7 +20,7 @@ pub fn snoop_word(laps: u32, sample: i16) -> u64
     laps as u64 * LAP_UNIT + (sample as i32 + SAMPLE_OFFSET) as u64
 }
 
-/// The laps that any word tells of: one more than the lap of the frame that it holds.
+/// The laps that any word says: one more than the lap of the frame that it holds.
 #[inline]
 pub fn laps(word: u64) -> u32
     ensures { result ≡ laps_of word }

@@ -1,4 +1,4 @@
-//! Placements and withdrawals: a look at a word and exchanges on it, until the entry is laid or the word has a later lap.
+//! Placements and withdrawals: a look at a word and exchanges on it, until the entry is placed or the word has a later lap.
 ghost use Rattle.std.specs.Prelude.{◌≡◌, ◌+◌, ◌<◌, ◌≤◌, ◌↔◌, IfErr, IsErrOf, ◌⊎◌};
 ghost use Rattle.snd_base.specs.Places.{IsFrom, lap};
 ghost use Rattle.mix_core.specs.Laid.{an_add};
@@ -76,7 +76,7 @@ impl MixSeat<'_> {
         self.place_counted(gate, frame, channel, sample, &mut steps)
     }
 
-    // Lays an entry of a kind at its word's spot: looks at the word, and exchanges it until the entry is laid, or a word of a later
+    // Places an entry of a kind at its word's spot: looks at the word, and exchanges it until the entry is placed, or a word of a later
     // lap was found, or the gate stops a step. Each word that an exchange finds has a greater count than the one before.
     #[inline(always)]
     pub(crate) fn lay<G: Gate, L: Ledger>(

@@ -13,7 +13,7 @@ use snd_base::{Geometry, PcmError};
 use std::alloc::Global;
 
 /// The ring in which the samples of all clients are summed, between threads, as ALSA's dmix plugin sums them (alsa-lib,
-/// `snd_pcm_dmix`): one word of 64 bits for each slot and channel, with the lap of the ring, the number of samples laid
+/// `snd_pcm_dmix`): one word of 64 bits for each slot and channel, with the lap of the ring, the number of samples placed
 /// there and their sum, and one word for the card's position. Here sum and lap are one word, so that one exchange adds.
 ///
 /// A ring gives its seats once. All seats borrow it.
@@ -31,7 +31,7 @@ impl SumRing {
     ghost use Rattle.std.specs.Prelude.{◌≤◌, ◌↔◌, IsTrue, IfOk, IfErr};
     ghost use Rattle.sum_table.specs.Rings.{GaveNone, HasSeats, IsNewRing, key_of_ring};
 
-    /// A ring of this geometry with 1 to 64 places, with nothing laid. It refuses, with `Memory`, only where no memory is
+    /// A ring of this geometry with 1 to 64 places, with nothing placed. It refuses, with `Memory`, only where no memory is
     /// left.
     pub fn new(alloc: Global, geometry: Geometry, places: u32) -> Result<SumRing, PcmError>
         requires least { 1 ≤ places }

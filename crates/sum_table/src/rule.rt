@@ -5,7 +5,7 @@ use crate::view::{Key, View};
 use atomic_table::TableRule;
 use mix_core::Entry;
 
-/// The rule of the sum ring. Its table has no slots; the type of the slots serves to tell a step which entry it lays.
+/// The rule of the sum ring. Its table has no slots; the type of the slots serves to give a step the entry that it places.
 pub struct Exactly;
 
 impl TableRule<Entry, View, Key> for Exactly {

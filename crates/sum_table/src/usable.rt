@@ -5,7 +5,7 @@ ghost use Rattle.sum_table.specs.Seats.{key_of, places_of_seat, view_of};
 use crate::seats::MixSeat;
 
 impl MixSeat<'_> {
-    /// Whether nothing was laid by this seat or by one that was joined into it, as `split` asks.
+    /// Whether nothing was placed by this seat or by one that was joined into it, as `split` asks.
     pub fn is_fresh(&self) -> bool
         ensures { IsTrue result ↔ ((view_of self.now).laid ≡ []) }
     {

@@ -29,8 +29,8 @@ pub struct Sighting {
 
 /// What one seat knows of the ring, and what it did there.
 ///
-/// `laid` has all entries that the seat laid or took over from seats that were joined into it, and `mine` those that it
-/// laid itself; `free` are the standing adds that it may still withdraw. `positions` are the positions that it saw, `seen`
+/// `laid` has all entries that the seat placed or took over from seats that were joined into it, and `mine` those that it
+/// placed itself; `free` are the standing adds that it may still withdraw. `positions` are the positions that it saw, `seen`
 /// the greatest one, `seen_gone` whether it saw the card gone. `sightings` are all words that the seat itself found, in
 /// order, and `noted` has at each word's index at most one word, the last that was seen there. `history` is the ring's
 /// history up to the seat's last step, and `heard` that of the seat that was joined into it last. The player's part is

@@ -1,4 +1,4 @@
-//! Withdrawals of the sample that a seat laid last.
+//! Withdrawals of the sample that a seat placed last.
 ghost use Rattle.std.specs.Prelude.{◌≡◌, ◌<◌, [], ◌∷◌, IfErr};
 ghost use Rattle.snd_base.specs.Places.{IsFrom};
 ghost use Rattle.mix_core.specs.Laid.{a_withdrawal, an_add};

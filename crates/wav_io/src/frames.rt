@@ -14,7 +14,7 @@ pub struct Whole<'a> {
 }
 
 /// Completes a part of a frame of `size` bytes, where the bytes after it are enough. It gives the frame or nothing, and
-/// the bytes behind.
+/// the bytes that follow.
 fn complete<'a>(part: &mut Kept, size: usize, body: &'a [u8]) -> (Kept, &'a [u8])
     requires room { size ≤ 40 }
     requires part { length part.old < size }

@@ -94,7 +94,7 @@ pub fn after_format(depths: Depths, pad: usize, body: &[u8]) -> Place
     }
 }
 
-/// The place after the head of a format chunk with a body of this size, behind a format or not.
+/// The place after the head of a format chunk with a body of this size, after a format or not.
 fn after_format_head(format: Option<Format>, size: usize) -> Place
     ensures { (depths : Depths) (name : List ℕ) → LeadsTo depths result
         (λ more. finding_after (format_chunk depths format (chunk_of_size name size more))
@@ -112,7 +112,7 @@ fn after_format_head(format: Option<Format>, size: usize) -> Place
     }
 }
 
-/// The place after a chunk's head of eight bytes, behind a format or not.
+/// The place after a chunk's head of eight bytes, after a format or not.
 pub fn after_head(format: Option<Format>, head: &[u8]) -> Place
     requires in_order { IfSome format IsFormat }
     requires eight { length head.now ≡ 8 }

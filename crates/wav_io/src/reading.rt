@@ -34,10 +34,10 @@ fn read_whole(alloc: Global, bytes: &[u8]) -> Result<Wav, WavError>
 
 /// The content of a WAV file (RIFF WAVE, signed 16-bit little-endian PCM of 1 to 8 channels) of at most 67,108,864 bytes.
 ///
-/// The chunks behind `RIFF`, four bytes that aren't looked at, and `WAVE` are gone through in their order. Each is a name
+/// The chunks after `RIFF`, four bytes that aren't looked at, and `WAVE` are gone through in their order. Each is a name
 /// of four bytes, a size of four, a body of that size, and a pad byte where the size is odd; fewer than eight bytes are
 /// the end. The first `data` chunk has the samples, interleaved, as many bytes as its size says or as there are; whole
-/// frames are taken and a rest is dropped, and nothing behind it is looked at. The `fmt ` chunk before it says the
+/// frames are taken and a rest is dropped, and nothing after it is looked at. The `fmt ` chunk before it says the
 /// channels and the rate in Hz; an extensible format (tag 65534) is read where its sub-format begins with tag 1. Other
 /// chunks are skipped.
 ///

@@ -35,7 +35,7 @@ pub struct Part<'a> {
     pub body: &'a [u8],
 }
 
-/// Why a file without data is refused, behind a format or not.
+/// Why a file without data is refused, after a format or not.
 fn without_data(format: Option<Format>) -> WavError
     ensures value { at_end (ended format) ≡ Err result }
     ensures refused { result ≢ Memory }
@@ -58,7 +58,7 @@ impl Scan {
         }
     }
 
-    /// Goes on by a step, and gives the bytes behind; `None` in the data and after a refusal.
+    /// Goes on by a step, and gives the bytes that follow; `None` in the data and after a refusal.
     fn step<'a>(&mut self, depths: Depths, bytes: &'a [u8]) -> Option<&'a [u8]>
         requires place { IsPlace self.old.place self.old.kept }
         requires some { 0 < length bytes.now }
@@ -80,7 +80,7 @@ impl Scan {
         Some(behind)
     }
 
-    /// Goes on up to the data, to a refusal or to the end of the bytes, and gives the bytes behind.
+    /// Goes on up to the data, to a refusal or to the end of the bytes, and gives the bytes that follow.
     fn walk<'a>(&mut self, depths: Depths, bytes: &'a [u8]) -> &'a [u8]
         requires place { IsPlace self.old.place self.old.kept }
         ensures goes_on { GoesOn depths self.old.place self.old.kept bytes.now self.new.place

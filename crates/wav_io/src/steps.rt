@@ -10,7 +10,7 @@ use crate::judging::{after_format, after_head, after_opening};
 use crate::kept::Kept;
 use crate::place::Place;
 
-/// Goes on in the 12 bytes before the first chunk, and gives the bytes behind.
+/// Goes on in the 12 bytes before the first chunk, and gives the bytes that follow.
 pub fn opening<'a>(kept: &mut Kept, bytes: &'a [u8]) -> (Place, &'a [u8])
     requires place { IsPlace Opening kept.old }
     requires some { 0 < length bytes.now }
@@ -27,7 +27,7 @@ pub fn opening<'a>(kept: &mut Kept, bytes: &'a [u8]) -> (Place, &'a [u8])
     (place, behind)
 }
 
-/// Goes on before a chunk's head, and gives the bytes behind.
+/// Goes on before a chunk's head, and gives the bytes that follow.
 fn gap(format: Option<Format>, skip: usize, bytes: &[u8]) -> (Place, &[u8])
     requires skip { 0 < skip }
     requires some { 0 < length bytes.now }
@@ -44,7 +44,7 @@ fn gap(format: Option<Format>, skip: usize, bytes: &[u8]) -> (Place, &[u8])
     (place, behind)
 }
 
-/// Goes on before a chunk's head or in it, and gives the bytes behind.
+/// Goes on before a chunk's head or in it, and gives the bytes that follow.
 pub fn head<'a>(
     kept: &mut Kept,
     format: Option<Format>,
@@ -69,7 +69,7 @@ pub fn head<'a>(
     (place, behind)
 }
 
-/// Goes on in the body of a format chunk, and gives the bytes behind.
+/// Goes on in the body of a format chunk, and gives the bytes that follow.
 pub fn format_body<'a>(
     kept: &mut Kept,
     depths: Depths,

@@ -29,7 +29,7 @@ impl WritePlace {
         }
     }
 
-    /// The place right behind this one.
+    /// The place right after this one.
     #[inline(always)]
     pub(super) fn behind(&self, geometry: &Geometry) -> WritePlace
         requires place { IsPlace geometry.now self.now }

@@ -1,4 +1,4 @@
-//! What each kind of step on the words tells the seat that makes it.
+//! What each kind of step on the words shows the seat that makes it.
 ghost use Rattle.std.specs.Prelude.{ℕ};
 ghost use Rattle.snoop_table.specs.Steps.{quiet_load, position_load, word_load, position_store, sample_store, unplug_store};
 
@@ -13,7 +13,7 @@ impl Play<(), View> for Locate {
     ghost then = { position_load };
 }
 
-/// A frame and a channel that a type stands for, in proofs alone.
+/// A frame and a channel that a type represents, in proofs alone.
 pub(super) trait Place {
     ghost frame: { ℕ };
 
@@ -56,7 +56,7 @@ impl Play<(), View> for Unplug {
     ghost then = { unplug_store };
 }
 
-/// A load of the position that notes nothing: it tells what the rule says of the seat's view.
+/// A load of the position that notes nothing: it gives what the rule says of the seat's view.
 pub(super) struct Learn;
 
 impl Play<(), View> for Learn {

@@ -26,7 +26,7 @@ impl<'a> MixSeat<'a> {
     ghost use Rattle.sum_table.specs.Seats.{key_of, places_of_seat, ring_of, view_of};
 
     /// Moves some of this seat's places to a new seat of this member. The new seat has seen as much as this one, and has
-    /// laid nothing. The caller shows that this seat has so many places, and that nothing was laid by it (`is_fresh`).
+    /// placed nothing. The caller shows that this seat has so many places, and that nothing was placed by it (`is_fresh`).
     pub fn split(&mut self, places: u32, member: u32) -> MixSeat<'a>
         requires places { places ≤ places_of_seat self.old }
         requires laid_nothing { (view_of self.old).laid ≡ [] }
@@ -57,7 +57,7 @@ impl<'a> MixSeat<'a> {
         }
     }
 
-    /// Takes over the other seat's places, its laid entries and all that it has seen; the later cursor stays. The caller
+    /// Takes over the other seat's places, its placed entries and all that it has seen; the later cursor stays. The caller
     /// shows that both seats are of one ring.
     pub fn join(&mut self, other: MixSeat<'_>)
         requires { OneRing (ring_of other) (key_of other) (ring_of self.old) (key_of self.old) }

@@ -14,9 +14,9 @@ use ring_rule::{LapStart, Spot};
 use snd_base::Steps;
 use std::sync::ledger::Ledger;
 
-/// A client's seat at a sum ring, which it borrows: with it a client lays samples, in any thread.
+/// A client's seat at a sum ring, which it borrows: with it a client places samples, in any thread.
 ///
-/// Its meaning is its view: the places that it has, the entries that it laid, the cursor behind the last of them, the
+/// Its meaning is its view: the places that it has, the entries that it placed, the cursor after the last of them, the
 /// positions that it saw, the words that it found, and for each word at most one noted word. A place is the right of one client to add once at each
 /// frame and channel. A seat is the port of its member (`MixPort`), and can add where it has at least one place.
 #[derive(Drop)]
@@ -61,8 +61,8 @@ impl<'a> MixSeat<'a> {
         self.places
     }
 
-    /// The greatest frame that the seat laid in, or took over from a seat that was joined into it: the last one before its high. Neither the
-    /// cursor nor the floor is past the frame after it, or past the first frame where nothing was laid.
+    /// The greatest frame that the seat placed in, or took over from a seat that was joined into it: the last one before its high. Neither the
+    /// cursor nor the floor is past the frame after it, or past the first frame where nothing was placed.
     pub fn last(&self) -> Option<u64>
         ensures value { result ≡ last_of_seat self.now }
         ensures of_view { result ≡ last_frame (view_of self.now).laid }
@@ -170,7 +170,7 @@ impl<'a> MixSeat<'a> {
     }
 
     /// Adds a sample to the word `old`, which the seat noted at this frame and channel and which has the frame's lap, by
-    /// one compare-exchange, which `steps` counts. `Ok` says that the word was still `old`: the sample is laid, and the
+    /// one compare-exchange, which `steps` counts. `Ok` says that the word was still `old`: the sample is placed, and the
     /// cursor is right after it. `Err` comes exactly where another word was found, which the seat notes: it is past
     /// `old` by lap and then by count.
     pub fn exchange_word<L: Ledger>(
@@ -231,7 +231,7 @@ impl<'a> MixSeat<'a> {
         )
     }
 
-    // One compare-exchange that lays an entry of this kind, which `steps` counts, at the word of its frame and channel.
+    // One compare-exchange that places an entry of this kind, which `steps` counts, at the word of its frame and channel.
     #[inline(always)]
     pub(crate) fn exchange<L: Ledger>(
         &mut self,

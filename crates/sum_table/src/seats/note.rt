@@ -5,7 +5,7 @@ ghost use Rattle.sum_table.specs.Exact.{start_marks};
 use super::mix::MixSeat;
 
 /// What a seat had seen when it gave this note: the positions, whether the card was gone, and its noted words. A note has
-/// no places and nothing laid. It is met by a seat of the same ring, in any thread.
+/// no places and nothing placed. It is met by a seat of the same ring, in any thread.
 #[derive(Drop)]
 pub struct SeatNote<'a> {
     pub(super) seat: MixSeat<'a>,

@@ -15,7 +15,7 @@ impl Split<View> for Deal {
     ghost right = { λ v. part_of v v.places };
 }
 
-/// A number of places that a type stands for, in proofs alone.
+/// A number of places that a type represents, in proofs alone.
 pub(super) trait Amount {
     ghost amount: { ℕ };
 }

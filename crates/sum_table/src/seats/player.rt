@@ -50,7 +50,7 @@ impl PlayerSeat<'_> {
         self.position
     }
 
-    /// The next word to be taken: the word behind everything that was taken, in the order of frames and channels.
+    /// The next word to be taken: the word after everything that was taken, in the order of frames and channels.
     pub fn next(&self) -> Cursor
         ensures value { result ≡ next_of_player self.now }
         ensures behind_taken { result ≡ next_at (player_geometry self.now) (track_of self.now) }

@@ -1,5 +1,5 @@
-//! What each kind of step on the words tells the seat that makes it.
-ghost use Rattle.sum_table.specs.Steps.{word_exchange, quiet_load, position_load, word_load, position_store, word_take, unplug_store};
+//! What each kind of step on the words shows the seat that makes it.
+ghost use Rattle.sum_table.specs.Steps.{exchanged, learned, located, looked, published, taken, unplugged};
 
 use crate::view::View;
 use atomic_table::Play;
@@ -19,7 +19,7 @@ impl Play<Entry, View> for Look {
     ghost then = { word_load };
 }
 
-/// A compare-exchange on the word of a slot and channel, with the entry that it lays.
+/// A compare-exchange on the word of a slot and channel, with the entry that it places.
 pub(super) struct Exchange;
 
 impl Play<Entry, View> for Exchange {
@@ -47,7 +47,7 @@ impl Play<Entry, View> for Unplug {
     ghost then = { unplug_store };
 }
 
-/// A load of the position that notes nothing: it tells what the rule says of the seat's view.
+/// A load of the position that notes nothing: it gives what the rule says of the seat's view.
 pub(super) struct Learn;
 
 impl Play<Entry, View> for Learn {

@@ -1,4 +1,4 @@
-//! How far a seat has laid, and what it may still withdraw.
+//! How far a seat has placed samples, and what it may still withdraw.
 ghost use Rattle.std.specs.Prelude.{◌≡◌, ◌+◌, ◌<◌, ◌^◌};
 ghost use Rattle.snd_base.specs.Places.{IsFrom, cursor_after};
 ghost use Rattle.mix_core.specs.declared.port.Kind.TheVariants.{Added, Withdrawn};
@@ -10,9 +10,9 @@ use mix_core::{Kind, Marks, later};
 use snd_base::{Cursor, Geometry};
 use std::marker::Model;
 
-/// How far a seat has laid: its marks, and the greatest frame that it laid in.
+/// How far a seat has placed samples: its marks, and the greatest frame that it placed in.
 ///
-/// Mostly the cursor and the high are both right behind the sample that was added last, and that sample's frame is the
+/// Mostly the cursor and the high are both right after the sample that was added last, and that sample's frame is the
 /// greatest one. Then only its frame and channel are kept, so that an add stores these two alone: the compare-exchange of the
 /// next one waits for all stores before it.
 #[derive(Drop)]
@@ -24,7 +24,7 @@ pub struct Reach {
     apart: Option<Apart>,
 }
 
-/// The cursor, the high and the greatest frame laid in, where they aren't those of the sample that was added last: before
+/// The cursor, the high and the greatest frame placed in, where they aren't those of the sample that was added last: before
 /// the first add, after a withdrawal, and after a join.
 #[derive(Clone, Copy, Debug, PartialEq, Eq)]
 pub struct Apart {
@@ -45,7 +45,7 @@ impl Model for Reach {
 }
 
 impl Reach {
-    /// Before anything was laid.
+    /// Before anything was placed.
     pub(super) fn start(geometry: Geometry) -> Reach
         ensures { result ≡ start_extent geometry }
     {
@@ -73,7 +73,7 @@ impl Reach {
         }
     }
 
-    /// The greatest frame that the seat laid in.
+    /// The greatest frame that the seat placed in.
     pub(super) fn last(&self) -> Option<u64>
         ensures { result ≡ self.now.last }
     {
