@@ -31,7 +31,7 @@ positions_by period from (asked ∷ ops) =
 abbrev pub unplugs_by : List Op → Bool
 unplugs_by ops = list_any is_unplug ops
 
--- a card of a run played so many frames, and published these positions: the samples that it took are behind those that it has, and it captured the
+-- a card of a run played so many frames, and published these positions: the samples that it took are after those that it has, and it captured the
 -- next ones of the capture file
 pub record CardDid (capture : Option Sound) (a b : CardActor) (frames : ℕ)
     (positions : List ℕ) (unplugged : Bool) : Type 0 where

@@ -1,4 +1,4 @@
--- What the meets before a phase and after it tell of what an actor found in it: it is what the phase allows.
+-- What the meets before a phase and after it say of what an actor found in it: it is what the phase allows.
 use Rattle.std.specs.Prelude.{◌≡◌, suc, ◌⊎◌, ℕ, ◌+◌, ◌%◌, ◌<◌, ◌≤◌, ◌||◌, ◌-◌, ◌*◌, ◌/◌, nat_lt, if◌then◌else◌, Bool, true, false, List, [], ◌∷◌, ◌++◌, length, map, max, All, Contains, Option, None, Some}
 use Rattle.std.specs.List.{list_any, slice_index_or}
 use Rattle.std.proofs.Common.{refl, sym, ap, subst, ◌∙◌, arith, inl, inr, append_assoc}

@@ -81,7 +81,7 @@ IsOpenAt-heard c ring key wav last number o p a heard is =
 -- ---- the lines of an open client
 
 module _ (ring : TableId) (key : Key) (wav : Sound) (last : Option ℕ) (number base before after phase : ℕ) (lines : List Line) (p q : OpenClient) (a : AtPort) where
-  -- before its lines it has found nothing yet, behind a gate that stopped it so often
+  -- before its lines it has found nothing yet, with a gate that stopped it so often
   at-first : IsOpenAt ring key wav last number p a → a.by_gate + base ≡ before
       → IsAtPort seat_port left_in stops_in p.seat key.geometry p.opened_at (p.seat, (p.actor.left, before)) (with_more_stops base a, nothing_found)
   at-first is counts = record {
@@ -125,7 +125,7 @@ module _ (ring : TableId) (key : Key) (wav : Sound) (last : Option ℕ) (number 
         since = subst (λ (n : ℕ). IsLastSince n last (high_frame key.geometry (marks_of_seat q.seat))) (sym seat_is) (own.since last is.since);
       }
 
--- ---- what was laid
+-- ---- what was placed
 
 HasLaid-same : (samples : List ℤ) (x y v w : List Entry) (c d e f : PlaybackStream) (ended : List Segment) → v ≡ x → w ≡ y → e ≡ c → f ≡ d → HasLaid samples x y c d ended
     → HasLaid samples v w e f ended
@@ -154,7 +154,7 @@ HasLaid-extends samples s t c d ended extends =
 
 -- ---- a phase
 
--- In a phase a client of a run did its lines, with these rows, as the phase allows it, behind a gate that had stopped it so often before the first
+-- In a phase a client of a run did its lines, with these rows, as the phase allows it, with a gate that had stopped it so often before the first
 -- phase and so often after this one; and its segments grew by these.
 pub record PhaseRun (phase : ℕ) (wav : Sound) (number : ℕ) (rules : Rules)
     (lines : List Line) (base after : ℕ) (IsAfter : AtPort → Type 0) (Laid : List Segment → Type 0)

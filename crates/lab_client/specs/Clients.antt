@@ -136,7 +136,7 @@ pub record IsClientHeard (c : Card) (d e : LabClient) : Type 0 where
   pub own : Stays (IsHeard c) (e.rows ≡ d.rows) (open_of d) (open_of e)
   pub rest : IsSameRest d e
 
--- what was laid for a client in a phase, in which its segments grew by these
+-- what was placed for a client in a phase, in which its segments grew by these
 abbrev pub HasLaidBy : Sound → List Segment → OpenClient → OpenClient → Type 0
 HasLaidBy wav ended o p =
     HasLaid wav.samples (view_of o.seat).laid (view_of p.seat).laid (stream_of o)

@@ -29,7 +29,7 @@ stream_of o = o.actor.client.stream
 abbrev pub IsReadyAt : Sound → OpenClient → Type 0
 IsReadyAt wav o = IsReady seat_port wav o.seat o.actor.client
 
--- An open client of a number, with its file, is at its place of a ring as a client of a run is at its port; the last frame that was laid by the
+-- An open client of a number, with its file, is at its place of a ring as a client of a run is at its port; the last frame that was placed by the
 -- place before is known. The place's marks, which former clients moved, are to it what those of the client in the run are.
 pub record IsOpenAt (ring : TableId) (key : Key) (wav : Sound) (last : Option ℕ)
     (number : ℕ) (o : OpenClient) (a : AtPort) : Type 0 where
@@ -65,7 +65,7 @@ pub record IsInformed (c : Card) (o p : OpenClient) : Type 0 where
   pub actor : p.actor ≡ o.actor
   pub same : IsSameOpening o p
 
--- in it the open client did its lines, behind a gate that had stopped so often before and so often after them
+-- in it the open client did its lines, with a gate that had stopped so often before and so often after them
 pub record HasRun (before after : ℕ) (phase : ℕ) (wav : Sound) (lines : List Line)
     (o p : OpenClient) : Type 0 where
   pub part : ClientPart seat_port left_in stops_in (o.seat, (o.actor.left, before))
@@ -81,8 +81,8 @@ pub record IsHeard (c : Card) (o p : OpenClient) : Type 0 where
   pub actor : p.actor ≡ o.actor
   pub same : IsSameOpening o p
 
--- What a seat laid for a client in a phase, by the samples of its file: the client had a stretch there before. At the end of the seat's standing adds
--- its stretches, those that it ended and then the present one, took the place of that one; and they give each sum as much more as the seat laid.
+-- What a seat placed for a client in a phase, by the samples of its file: the client had a stretch there before. At the end of the seat's standing adds
+-- its stretches, those that it ended and then the present one, took the place of that one; and they give each sum as much more as the seat placed.
 pub record HasLaid (samples : List ℤ) (before after : List Entry) (c d : PlaybackStream)
     (ended : List Segment) : Type 0 where
   pub totals : (f k : ℕ)

@@ -1,4 +1,4 @@
--- The clients of the lab are the clients of a run at a stage of it, with the places and the channels that they hold, and with what was laid for them.
+-- The clients of the lab are the clients of a run at a stage of it, with the places and the channels that they hold, and with what was placed for them.
 use Rattle.std.specs.Prelude.{◌≡◌, ℕ, ◌≤◌, ◌+ℤ◌, ℤ, pos, false, List, [], ◌∷◌, ◌++◌, length, Option, Some, None, slice_index_or, ⊤}
 use Rattle.snd_base.specs.Places as rings
 use Rattle.mix_core.specs.Laid.{total}
@@ -70,7 +70,7 @@ pub record IsClientAt (session : Session) (ring : TableId) (key : Key)
   pub goes : is_stopped x.1.own ≡ false
   pub rows : rows_of d ≡ []
 
--- what was laid by the seats of all open clients, at a frame and channel
+-- what was placed by the seats of all open clients, at a frame and channel
 abbrev pub laid_for : Option OpenClient → ℕ → ℕ → ℤ
 laid_for None f k = pos 0
 laid_for (Some o) f k = total (view_of o.seat).laid f k
@@ -79,7 +79,7 @@ abbrev pub laid_open : List LabClient → ℕ → ℕ → ℤ
 laid_open [] f k = pos 0
 laid_open (d ∷ ds) f k = laid_for (open_of d) f k +ℤ laid_open ds f k
 
--- all that was laid is what the segments say
+-- all that was placed is what the segments say
 abbrev pub IsReported : Session → List (Option MixSeat) → List LabClient
     → List (AtPort × Client) → Type 0
 IsReported session seats ds xs =

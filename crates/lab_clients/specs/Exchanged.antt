@@ -1,4 +1,4 @@
--- Lists of clients in which one is exchanged: what all others are and hold stays, and so do the sums of what was laid, and the segments, but for the one's.
+-- Lists of clients in which one is exchanged: what all others are and hold stays, and so do the sums of what was placed, and the segments, but for the one's.
 use Rattle.std.specs.Prelude.{◌≡◌, ◌≢◌, ℕ, zero, suc, ◌+◌, ◌≤◌, ◌<◌, ◌+ℤ◌, ℤ, List, [], ◌∷◌, ◌++◌, map, length, nat_eq, if◌then◌else◌, Bool, true, false, Option, None, slice_index_or, slice_set}
 use Rattle.std.proofs.Common.{refl, sym, ◌∙◌, ap, subst, arith}
 use Rattle.std.proofs.lemmas.Bool.Decides.{nat_tests}
@@ -50,7 +50,7 @@ AreEach-set R T number (suc at) (a ∷ xs) (b ∷ ys) x y others own are = (
   AreEach-set R T (number + 1) at xs ys x y (λ n c d differ is. others n c d (λ same. differ (omega (arith, same))) is) (subst (λ n. T n x y) (omega arith) own) are.1,
 )
 
--- ---- what was laid, and the segments
+-- ---- what was placed, and the segments
 
 -- the seat of a place, or none, is exchanged
 pub laid_free-set : (seats : List (Option MixSeat)) (place : ℕ) (seat : Option MixSeat) (f k : ℕ) → place < length seats
@@ -88,7 +88,7 @@ MovesLaid seats d after e =
     (f k : ℕ) → laid_free after f k +ℤ laid_for (open_of e) f k
     ≡ laid_free seats f k +ℤ laid_for (open_of d) f k
 
--- all that was laid is still what the segments say
+-- all that was placed is still what the segments say
 pub IsReported-exchanged : (session : Session) (seats after : List (Option MixSeat)) (ds : List LabClient) (at : ℕ) (d e : LabClient) (xs : List (AtPort × Client)) (x y : AtPort × Client)
     → at < length ds → segments_of y.1 ≡ segments_of (slice_index_or xs at x).1 → MovesLaid seats (slice_index_or ds at d) after e → IsReported session seats ds xs
     → IsReported session after (slice_set ds at e) (slice_set xs at y)
@@ -189,7 +189,7 @@ module _ (Is : Relation (AtPort × Client)) (keeps : KeepsHolding Is) (session :
     reported = subst (λ items. IsReported session (free_seats (lobby_of (places_of ds))) items (slice_set xs number y)) (sym clients) reported;
   }
 
--- The clients stay, and their places are others: what is held is still what they hold, and nothing was laid in between.
+-- The clients stay, and their places are others: what is held is still what they hold, and nothing was placed in between.
 pub AreIn-places : (Is : Relation (AtPort × Client)) (session : Session) (held after : Held) (xs : List (AtPort × Client)) (cs ds : LabClients) (are : AreIn Is session held xs cs)
     → IsSameCard (places_of cs) (places_of ds) → clients_of ds ≡ clients_of cs → IsHeldBy (places_of ds) after → AreHeld (share_of (places_of cs)) after are.holdings
     → IsLaidAlike (free_seats (lobby_of (places_of cs))) (free_seats (lobby_of (places_of ds))) → AreIn Is session after xs ds

@@ -100,7 +100,7 @@ IsClientIn-same session ring key holdings number d e x same is =
       setup = IsSetUp-same (slice_index_or session.clients number None) ring key wav is.last (number_of d) (number_of e) x.0 x.0 (open_of d) (open_of e) opened is.at at is.setup;
     }
 
--- and as much was laid for it
+-- and as much was placed for it
 pub laid_for-same : (d e : LabClient) (f k : ℕ) → IsSameBut d e → laid_for (open_of e) f k ≡ laid_for (open_of d) f k
 laid_for-same d e f k same = by_open (open_of d) (open_of e) same.own
   where

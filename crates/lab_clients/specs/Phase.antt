@@ -76,15 +76,15 @@ pub record CardInPhase (session : Session) (stage : Stage) (lines : List Line)
 
 -- ---- one client
 
--- a client took room for its lines, met a note of the card, did its lines behind its gate, and gave a note to the card
+-- a client took room for its lines, met a note of the card, did its lines with its gate, and gave a note to the card
 abbrev pub GoesThrough : {G : Type 0} → (G → ℕ) → List G → List G → List Sound
     → ℕ → List Line → Card → Card → ℕ → LabClient → LabClient → Type 0
 GoesThrough stops gates after sounds phase lines c d =
     AreJoined (AreJoined (AreJoined (HasTakenRoom lines) (IsInformedBy c))
     (RunsAt stops gates after sounds phase lines)) (IsHeardBy d)
 
--- A client did in a phase what a run allows to the client of its number, and is that client then: behind a gate that had stopped it so often
--- since the lab began. What was laid for it is what its segments grew by.
+-- A client did in a phase what a run allows to the client of its number, and is that client then: with a gate that had stopped it so often
+-- since the lab began. What was placed for it is what its segments grew by.
 pub record ClientGoes (session : Session) (stage : Stage) (lines : List Line)
     (ring : TableId) (key : Key) (holdings : Holdings) (base after : ℕ → ℕ) (number : ℕ)
     (d : LabClient) (x : AtPort × Client) (e : LabClient) : Type 0 where
@@ -213,7 +213,7 @@ module _ (session : Session) (stage : Stage) (lines : List Line) (ring : TableId
 
 -- ---- the clients of the lab
 
--- The steps of a phase, one after the other: all clients took room for their lines, met notes of the card, did their lines each behind its
+-- The steps of a phase, one after the other: all clients took room for their lines, met notes of the card, did their lines each with its
 -- gate, gave notes to the card, and gave their rows to the lab.
 pub record ClientSteps {G : Type 0} (stops : G → ℕ) (gates after : List G)
     (sounds : List Sound) (phase : ℕ) (lines : List Line) (c d : Card)

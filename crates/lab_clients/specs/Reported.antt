@@ -1,4 +1,4 @@
--- In a phase the seat of a client lays what its segments grow by.
+-- In a phase the seat of a client places what its segments grow by.
 use Rattle.std.specs.Prelude.{◌≡◌, ℕ, ◌+◌, ◌<◌, ◌+ℤ◌, ◌&&◌, ℤ, nat_eq, Bool, true, false, if◌then◌else◌, List, [], ◌∷◌, ◌++◌, length, map, Option, None, Some, slice_get, slice_index_or}
 use Rattle.std.specs.List.{flat_map}
 use Rattle.std.proofs.Common.{refl, sym, ◌∙◌, ap, arith}
@@ -28,7 +28,7 @@ use Rattle.lab_client.specs.OpenClients.{stream_of}
 use Rattle.lab_clients.specs.AtStage.{IsSetUp, laid_for}
 use Rattle.lab_clients.specs.Steps.{sound_at}
 
--- the members of clients lay alike (lab_run: `members_are_unreported`)
+-- the members of clients place alike (lab_run: `members_are_unreported`)
 abbrev pub AllLayAlike : Type 0
 AllLayAlike = (member other : ℕ) → MembersLayAlike member other
 
@@ -53,7 +53,7 @@ given_by-append session xs ys f k =
 
 -- ---- the entries of a stretch
 
--- a stretch in which nothing was laid has no entries
+-- a stretch in which nothing was placed has no entries
 segment_entries-none : (c : PlaybackStream) (samples : List ℤ) → c.stretch.committed ≡ 0 → c.stretch.part ≡ 0 → segment_entries c samples ≡ []
 segment_entries-none c samples no_frame no_part =
     ap (λ (n : ℕ). run_entries c.identity.member c.setup.bindings (λ j. sample_at samples (length c.setup.bindings) (c.stretch.source + j)) c.stretch.card 0 n c.stretch.part) no_frame
@@ -125,7 +125,7 @@ module _ (session : Session) (number : ℕ) (alike : AllLayAlike) (c : PlaybackS
 
 -- ---- a client in a phase
 
--- The seat of an open client laid as much more as its segments give more.
+-- The seat of an open client placed as much more as its segments give more.
 laid_for-run : (session : Session) (number : ℕ) → AllLayAlike → (o p : OpenClient) (ended : List Segment) → IsOpenOf session number (stream_of o)
     → IsOpenOf session number (stream_of p) → p.actor.ended.items ≡ o.actor.ended.items ++ ended → HasLaidBy (sound_at session.sounds number) ended o p → (f k : ℕ)
     → laid_for (Some p) f k +ℤ given_by session (map (with_number number) (o.actor.ended.items ++ stretch_of (stream_of o))) f k

@@ -57,7 +57,7 @@ pub record IsHeardBy (c : Card) (i : ℕ) (d e : LabClient) : Type 0 where
   pub same : IsSameCard c card
   pub heard : IsClientHeard card d e
 
--- a client did its lines behind its gate
+-- a client did its lines with its gate
 abbrev pub RunsAt : {G : Type 0} → (G → ℕ) → List G → List G → List Sound → ℕ
     → List Line → ℕ → LabClient → LabClient → Type 0
 RunsAt stops gates after sounds phase lines i d e =

@@ -36,7 +36,7 @@ pub record IsConverting (r : PlugReader) (seen : List ℕ) : Type 0 where
   pub shape : IsShape r.shape
   pub so_far : IsSoFar r.shape r.reader r.plug fed r.samples.items
 
--- a piece more is read of a file with this head: the bytes of its samples came behind those that are converted
+-- a piece more is read of a file with this head: the bytes of its samples came after those that are converted
 pub record IsFed (r : PlugReader) (channels rate bits : ℕ) (seen : List ℕ) : Type 0 where
   pub fed : List ℕ
   pub same : (more : List ℕ)

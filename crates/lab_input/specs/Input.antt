@@ -3,7 +3,7 @@
 --     input_in files name      what a run of the script in this file reads
 --     script_in files name      the script in a file
 --     capture_in files name      the sound of the file that a card captures, if it names one, and how many bytes that file has
---     sounds_in files total card clients      the clients' sounds, in order, behind WAV files of this many bytes
+--     sounds_in files total card clients      the clients' sounds, in order, after WAV files of this many bytes
 --     sound_in files total shape name      the sound in a WAV file of a run, and how many bytes the run's WAV files have so far
 --     wav_in files shape name      the sound in a WAV file, converted where there is a shape, and how many bytes it takes
 --     within_run total sound      the sound, where the run's WAV files up to it have at most `most_of_run` bytes
@@ -80,7 +80,7 @@ capture_in files (Some name) = do
   read ← sound_in files 0 None name
   Ok (Some read.0, read.1)
 
--- the sounds of some clients of a card, in order, behind WAV files of this many bytes; that of a client with `plug` is what
+-- the sounds of some clients of a card, in order, after WAV files of this many bytes; that of a client with `plug` is what
 -- its file is converted to
 unfoldable pub sounds_in : Files → ℕ → CardLine → List ClientLine → Result (List Sound) Cause
 sounds_in files total card [] = Ok []

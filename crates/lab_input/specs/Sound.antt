@@ -19,7 +19,7 @@ sound_with r more = with_samples r.samples.items (sound_to_come r.reader more)
 pub record IsPlainAfter (r : SoundReader) (seen : List ℕ) : Type 0 where
   pub same : (more : List ℕ) → sound_with r more ≡ wav_file (seen ++ more)
 
--- the same of a reader that has these bytes behind it, for a file that is converted to a shape or not
+-- the same of a reader that has these bytes after it, for a file that is converted to a shape or not
 abbrev pub IsReading : FileReader → Option Shape → List ℕ → Type 0
 IsReading (Plain r) None seen = IsPlainAfter r seen
 IsReading (Plain r) (Some s) seen = ⊥

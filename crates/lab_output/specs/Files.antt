@@ -44,7 +44,7 @@ abbrev pub output_files : Script → List ℕ → List OutputFile
 output_files script out =
     played_file script.card out ∷ map (recorded_file script.card out) script.readers
 
--- a file has 1 to 8 channels, and a rate that the head of a WAV file can tell
+-- a file has 1 to 8 channels, and a rate that the head of a WAV file can hold
 pub record IsOutputFile (file : OutputFile) : Type 0 where
   pub some_channel : 1 ≤ file.channels
   pub few_channels : file.channels ≤ 8

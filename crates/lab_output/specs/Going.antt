@@ -39,17 +39,17 @@ ClosedInPart (output ∷ outputs) (samples ∷ counts) before after =
     (option_map (λ files. with_change (with_first_bytes (head_of output samples)) files output.name) before)
     after
 
--- a file of this name, where it is told, has room for a head
+-- a file of this name, where it is known, has room for a head
 abbrev pub HasHeadRoom : Option Files → List ℕ → Type 0
 HasHeadRoom files name =
     IfSome files (λ m. IfSome (bytes_under m name) (λ content. 44 ≤ length content))
 
--- each output, where the files are told, has room for a head
+-- each output, where the files are known, has room for a head
 abbrev pub HaveHeadRoom : Option Files → List OutputFile → Type 0
 HaveHeadRoom files outputs =
     AllByRecursion (λ (output : OutputFile). HasHeadRoom files output.name) outputs
 
--- the files are told, and one of them has this name
+-- the files are known, and one of them has this name
 abbrev pub HasFile : Option Files → List ℕ → Type 0
 HasFile files name = IsSomeAnd files (λ m. IsSome (bytes_under m name))
 

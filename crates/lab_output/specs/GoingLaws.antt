@@ -22,7 +22,7 @@ pub AreLonger-same : (sounds : List (List ℤ)) → AreLonger sounds sounds
 AreLonger-same [] = tt
 AreLonger-same (sound ∷ sounds) = ((length sound, sym (take-length sound)), AreLonger-same sounds)
 
--- an output with the samples so far and those behind them is one with all of them
+-- an output with the samples so far and those after them is one with all of them
 pub open_file-more : (output : OutputFile) (samples : List ℤ) (sound : List ℤ) (k : ℕ) → sound ≡ take k samples
     → open_file output sound ++ flat_map sample_bytes (drop k samples) ≡ open_file output samples
 open_file-more output samples sound k is =
@@ -76,7 +76,7 @@ with_outputs-Changes may_hold form (output ∷ outputs) (samples ∷ sounds) (ta
     (with_outputs-Changes may_hold form outputs sounds targets (with_file m output.name (form output samples)) forms.1
     (λ name bytes may. into name bytes (inr may)))
 
--- the same of files that may not be told
+-- the same of files that may not be known
 pub written-Changes : (form : OutputFile → List ℤ → List ℕ) (outputs : List OutputFile) (sounds targets : List (List ℤ)) (before : Option Files)
     → AllForms form outputs sounds targets
     → Changes (MayHold outputs targets) before (option_map (with_outputs form outputs sounds) before)

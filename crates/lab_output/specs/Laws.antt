@@ -1,5 +1,5 @@
 -- Laws on what a run writes, by which a caller joins the clauses of its calls.
---     rows_text-joined      the lines put so far and those of the rows behind them are those of all rows
+--     rows_text-joined      the lines put so far and those of the rows after them are those of all rows
 --     text_so_far-next      the text so far, once the rows were put that weren't
 --     text_so_far-part      the text so far, where that put failed
 --     report_text-put       the whole report, once its tail was put
@@ -19,20 +19,20 @@ use Rattle.lab_shelf.specs.Files.{TookPart}
 use Rattle.lab_shelf.specs.Changes.{TookPart-first, TookPart-then}
 use Rattle.lab_output.specs.Text.{head_text, rows_text, text_so_far, tail_from}
 
--- the lines of some rows, and those of the rows behind them
+-- the lines of some rows, and those of the rows after them
 pub rows_text-joined : (script : Script) (k : ℕ) (rows : List Row)
     → flat_map (row_line script) (take k rows) ++ rows_text script k rows ≡ flat_map (row_line script) rows
 rows_text-joined script k rows =
     sym (flat_map-append (row_line script) (take k rows) (drop k rows)) ∙ ap (flat_map (row_line script)) (take-append-drop k rows)
 
--- the text so far, and the lines of the rows behind it
+-- the text so far, and the lines of the rows after it
 pub text_so_far-joined : (script : Script) (k : ℕ) (rows : List Row)
     → text_so_far script (take k rows) ++ rows_text script k rows ≡ text_so_far script rows
 text_so_far-joined script k rows =
     append_assoc head_text (flat_map (row_line script) (take k rows)) (rows_text script k rows)
     ∙ ap (λ (t : List ℕ). head_text ++ t) (rows_text-joined script k rows)
 
--- the text so far of a report, and what is behind it
+-- the text so far of a report, and what is after it
 pub report_text-joined : (script : Script) (k : ℕ) (report : Report)
     → text_so_far script (take k report.rows) ++ tail_from script k report ≡ report_text script report
 report_text-joined script k report =

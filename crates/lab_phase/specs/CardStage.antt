@@ -73,7 +73,7 @@ PlaysAll-new a none_played none_taken first =
           zero_frames ∙ ap (λ (n : ℕ). n * (geometry_of_card a.card).channels) (sym since));
     }
 
--- a card that met notes, or whose seats were lent, and that played nothing
+-- a card that met notes, or whose seats were borrowed, and that played nothing
 pub record IsSameActor (a b : CardActor) : Type 0 where
   pub card : IsSameCard a.card b.card
   pub played : b.played.items ≡ a.played.items

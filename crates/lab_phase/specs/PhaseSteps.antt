@@ -42,7 +42,7 @@ pub record HaveRoom (lines : List Line) (a b : CardActor) (cs ds : LabClients)
   pub places : places_of ds ≡ places_of cs
   pub readers : EachReader (readers.HasTakenRoom lines) rs ss
 
--- the card did its lines; the clients, and the readers, did theirs, each behind its gate
+-- the card did its lines; the clients, and the readers, did theirs, each with its gate
 abbrev pub CardHasRun : Asks → CardActor → CardActor → Type 0
 CardHasRun asked a b = CardPart asked.capture asked.phase a b (ops_by is_of_card asked.lines)
 

@@ -1,4 +1,4 @@
--- What a card played in all, once its ring is closed: each sample is the saturated total of what was laid there.
+-- What a card played in all, once its ring is closed: each sample is the saturated total of what was placed there.
 use Rattle.std.specs.Prelude.{◌≡◌, ℕ, zero, suc, ◌+◌, ◌*◌, ◌/◌, ◌%◌, ◌<◌, ℤ, List, [], ◌∷◌, length, map, slice_index_or, pos}
 use Rattle.std.specs.List.{range_with_len}
 use Rattle.std.proofs.Common.{refl, sym, ap, ◌∙◌, arith}
@@ -40,7 +40,7 @@ value-words_at g at (x ∷ xs) (suc i) d t inside = value-words_at g (cursor_aft
 no_word : Taken
 no_word = record { frame = 0; channel = 0; value = pos 0 }
 
--- The played samples, of which all words were taken in order and each with the total of what was laid there, are the mix of segments whose entries give
+-- The played samples, of which all words were taken in order and each with the total of what was placed there, are the mix of segments whose entries give
 -- the same totals.
 pub played-mix_of : (session : Session) (segments : List (ℕ × Segment)) (g : Geometry) (at : Cursor) (xs : List ℤ) (es : List Entry) (frames : ℕ)
     → g.channels ≡ session.card.channels → places.first_frame g ≡ first_frame session.card → AreInOrder g (words_at g at xs) → AreExact es (words_at g at xs)

@@ -48,7 +48,7 @@ opened_held sharing number channels position held =
     opened_if sharing number channels position held
     (claim_refusal sharing held.claims channels position)
 
--- a client that laid its last sample so gives its place and its channels back
+-- a client that placed its last sample so gives its place and its channels back
 abbrev pub closed_held : Share → ℕ → List ℕ → Option ℕ → Held → Held
 closed_held sharing number channels last held =
     record {
@@ -62,7 +62,7 @@ HoldsNone client [] = ⊤
 HoldsNone client (first ∷ places) =
     (is_held_by client first.holder ≡ false) × HoldsNone client places
 
--- a client holds the place of a number, and no other; this is the last frame that was laid by it before
+-- a client holds the place of a number, and no other; this is the last frame that was placed by it before
 abbrev pub HoldsPlace : ℕ → ℕ → Option ℕ → List Place → Type 0
 HoldsPlace client place last [] = ⊥
 HoldsPlace client zero last (first ∷ places) =
@@ -72,7 +72,7 @@ HoldsPlace client (suc place) last (first ∷ places) =
 
 -- ---- at the lobby and the shares
 
--- the seat of a place, while that is free, is a place of a run: with the last frame that was laid by it
+-- the seat of a place, while that is free, is a place of a run: with the last frame that was placed by it
 abbrev pub IsAtPlace : Option MixSeat → Place → Type 0
 IsAtPlace None place = is_free place ≡ false
 IsAtPlace (Some s) place = (is_free place ≡ true) × (place.last ≡ seats.last_of s)
@@ -121,7 +121,7 @@ pub record IsSameLobby (p q : Places) : Type 0 where
   pub share : q.share ≡ p.share
   pub channels : (shares_of q).channels ≡ (shares_of p).channels
 
--- the seat that a client is given at a position: it has seen this position, and nothing was laid by it at the position or past it
+-- the seat that a client is given at a position: it has seen this position, and nothing was placed by it at the position or past it
 pub record IsGiven (p : Places) (position : ℕ) (s : MixSeat) : Type 0 where
   pub place : seats.IsPlace (ring_of_places p) (key_of_places p) (member_of s) s
   pub seen : position ≤ seen_of s

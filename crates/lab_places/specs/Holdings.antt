@@ -15,7 +15,7 @@ use Rattle.lab_places.specs.Held.{CanClose, HoldsNone, HoldsPlace, IsHeldBy, clo
 use Rattle.lab_places.specs.HeldLaws.{CanTakeBack-held, HoldsNone-closed, HoldsNone-closed_held, HoldsNone-new, HoldsNone-opened_held, HoldsPlace-closed_held, HoldsPlace-opened_held, opened_held-refused}
 use Rattle.lab_places.specs.OwnedLaws.{AreDisjoint, AreDisjoint-opened, AreDisjoint-sym, CanRelease-owned, OwnsChannels, OwnsChannels-closed_held, OwnsChannels-opened, OwnsChannels-opened_held}
 
--- what an open client holds: the number of its place, the last frame that was laid there before it, and its channels of the card
+-- what an open client holds: the number of its place, the last frame that was placed there before it, and its channels of the card
 pub record Holding : Type 0 where
   pub place : ℕ
   pub before : Option ℕ

@@ -38,7 +38,7 @@ use Rattle.lab_reader.specs.Readers.{CanRun, IsAt, IsOpenAt, IsSeatedAt, OnSeat,
 use Rattle.lab_reader.specs.Runs.{HasRefused, HasRun, HasRunAt, HasRunOpen, IsHeard, IsInformed}
 use Rattle.lab_reader.specs.Seen.{SeesPlayed, sees-played}
 
--- the steps of a reader in a phase, which its card begins at c and ends at d: it met a note, its lines were done behind a gate that stopped so often
+-- the steps of a reader in a phase, which its card begins at c and ends at d: it met a note, its lines were done with a gate that stopped so often
 -- before them and after them, and the card met its note
 pub record Steps (c d : Card) (phase stops after : ℕ) (lines : List Line)
     (r s t u : LabReader) : Type 0 where

@@ -49,7 +49,7 @@ pub record IsNew (number : ℕ) (r : LabReader) : Type 0 where
   pub samples : r.actor.samples.items ≡ []
   pub rows : r.actor.rows.items ≡ []
 
--- what lines made of an open reader at its seat, behind a gate that stopped so often before them and after them, in a phase in which the card plays so
+-- what lines made of an open reader at its seat, with a gate that stopped so often before them and after them, in a phase in which the card plays so
 -- many frames
 pub record HasRunOpen (phase stops after played : ℕ) (ops : List Op) (a b : ReaderActor)
     (seat later : ReaderSeat) : Type 0 where

@@ -75,7 +75,7 @@ IsOver-phase ring geometry capture phase c a b d lines is over =
 
 -- ---- the readers
 
--- The steps of all readers in a phase: they took the room of their lines, met notes of the card, did their lines behind their gates, the card met
+-- The steps of all readers in a phase: they took the room of their lines, met notes of the card, did their lines with their gates, the card met
 -- their notes, and their rows were taken.
 pub record ReadersSteps (c d : Card) (phase : ℕ) (stops after : ℕ → ℕ)
     (lines : List Line) (before end : LabReaders) (rows : List Row) : Type 0 where

@@ -52,7 +52,7 @@ pub record IsHeardBy (c : Card) (number : ℕ) (r s : LabReader) : Type 0 where
   pub same : IsSameCard c card
   pub heard : IsHeard card r s
 
--- a reader did its lines behind the gate of its number, which stopped so often before them and after them
+-- a reader did its lines with the gate of its number, which stopped so often before them and after them
 abbrev pub RunsBehind : (ℕ → ℕ) → (ℕ → ℕ) → ℕ → List Line → ℕ → LabReader → LabReader → Type 0
 RunsBehind stops after phase lines number r s = HasRun phase (stops number) (after number) lines r s
 

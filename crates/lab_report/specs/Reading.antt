@@ -44,7 +44,7 @@ row_end rest = do
   end ← feed_of seen.1
   Ok (state.0, seen.0)
 
--- the row of a line that tells of this request
+-- the row of a line that is about this request
 unfoldable pub row_at : Script → Request → List ℕ → Result Row ReportWhy
 row_at script request line = do
   front ← expect_words (slice_split is_space (front_text script request)) line
@@ -148,7 +148,7 @@ head_at s line = do
   end ← feed_of version
   Ok (record s { head = true })
 
--- what one more line makes of what is read, where the rows tell of these requests
+-- what one more line makes of what is read, where the rows are about these requests
 abbrev pub with_line : Script → List Request → State → List ℕ → Result State ReportWhy
 with_line script requests s line = if s.head then after_head script s (slice_get requests (length s.rows)) line else head_at s line
 

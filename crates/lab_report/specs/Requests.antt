@@ -33,13 +33,13 @@ before_place lines (suc place) = before_place lines place ++ of_place lines plac
 abbrev pub in_order : List Line → List Line
 in_order lines = before_place lines 129
 
--- the requests of an item of a body, behind so many phases
+-- the requests of an item of a body, after so many phases
 abbrev pub item_requests : ℕ → Item → List Request
 item_requests phases (item.Opens number actor) = (record { phase = phases; actor = actor; op = op.Opens }) ∷ []
 item_requests phases (item.Closes number actor) = (record { phase = phases; actor = actor; op = op.Closes }) ∷ []
 item_requests phases (item.Phase lines) = map (request_of (phases + 1)) (in_order lines)
 
--- the requests of a body, behind so many phases
+-- the requests of a body, after so many phases
 abbrev pub requests_from : ℕ → List Item → List Request
 requests_from phases [] = []
 requests_from phases (i ∷ items) = item_requests phases i ++ requests_from (phases + length (phases_of (i ∷ []))) items

@@ -45,7 +45,7 @@ abbrev pub number_or_dash : Option ℕ → List ℕ
 number_or_dash None = codes "-"
 number_or_dash (Some n) = decimal n
 
--- why there was an xrun; what was seen stands elsewhere in the row
+-- why there was an xrun; what was seen is elsewhere in the row
 abbrev pub xrun_text : XrunWhy → List ℕ
 xrun_text Empty = codes "empty"
 xrun_text Already = codes "already"
@@ -101,17 +101,17 @@ run_line script (reader, first, count) =
 abbrev pub played_line : ℕ → ℕ → List ℕ
 played_line first frames = codes "played " ++ decimal first ++ 32 ∷ decimal frames ++ 10 ∷ []
 
--- what stands below the rows: a line for each segment, one for each run, what was played, and the end
+-- what is below the rows: a line for each segment, one for each run, what was played, and the end
 abbrev pub tail_text : Script → Report → List ℕ
 tail_text script report =
     flat_map (segment_line script) report.segments ++ flat_map (run_line script) report.runs
     ++ played_line report.first report.frames ++ codes "end\n"
 
--- the text of a report of a script: the head, a line for each row, and what stands below them
+-- the text of a report of a script: the head, a line for each row, and what is below them
 abbrev pub report_text : Script → Report → List ℕ
 report_text script report = codes "dmixlab 1\n" ++ flat_map (row_line script) report.rows ++ tail_text script report
 
--- an xrun that a report can tell: what isn't printed is 0
+-- an xrun that a report can say: what isn't printed is 0
 abbrev pub HasXrunText : XrunWhy → Type 0
 HasXrunText Empty = Unit {0}
 HasXrunText Already = Unit {0}
@@ -119,7 +119,7 @@ HasXrunText (Avail avail seen) = seen ≡ 0
 HasXrunText (Late frame channel seen) = seen ≡ 0
 HasXrunText (Overtaken frame channel seen) = seen ≡ 0
 
--- a refusal that a report can tell
+-- a refusal that a report can say
 abbrev pub HasErrorText : PcmError → Type 0
 HasErrorText LapEnd = ⊥
 HasErrorText Memory = ⊥
@@ -127,13 +127,13 @@ HasErrorText (Xrun why) = HasXrunText why
 HasErrorText (Invalid why) = why ≡ Config
 HasErrorText error = Unit {0}
 
--- an answer that a report can tell
+-- an answer that a report can say
 abbrev pub HasText : Answer → Type 0
 HasText Done = Unit {0}
 HasText (Count n) = Unit {0}
 HasText (Failed error) = HasErrorText error
 
--- a state that a report can tell
+-- a state that a report can say
 abbrev pub HasStateText : State → Type 0
 HasStateText Suspended = ⊥
 HasStateText state = Unit {0}
@@ -152,7 +152,7 @@ IsSegmentOf script (client, segment) = client < length script.clients
 abbrev pub IsRunOf : Script → (ℕ × ℕ × ℕ) → Type 0
 IsRunOf script (reader, first, count) = reader < length script.readers
 
--- what stands below the rows is of actors of the script
+-- what is below the rows is of actors of the script
 pub record IsTailOf (script : Script) (report : Report) : Type 0 where
   pub segments : All (IsSegmentOf script) report.segments
   pub runs : All (IsRunOf script) report.runs

@@ -19,7 +19,7 @@ claim_refusal Dshare claims channels position =
     if list_all (is_free_channel claims position) channels then None
     else Some (busy claims channels position)
 
--- the claims after one of some channels, and after their release by an owner that laid up to a frame, if it laid anything
+-- the claims after one of some channels, and after their release by an owner that placed up to a frame, if it placed anything
 abbrev pub with_claim : Share → List ℕ → List Row → List Row
 with_claim Dmix channels claims = claims
 with_claim Dshare channels claims = claimed channels ∷ claims

@@ -139,7 +139,7 @@ pub record IsOneRun (session : Session) (capture : Option Sound) (body : List It
       → LabRun session capture body (λ n. 0) (λ n. 0) outcome
       → outcome ≡ lab_text session capture body
 
--- a stage that the first items of a body may reach is one from which the others can go on: with the rows so far and more behind them, and
+-- a stage that the first items of a body may reach is one from which the others can go on: with the rows so far and more after them, and
 -- with no more stops by an actor's own gate
 pub record GoesOn (session : Session) (done others : List Item) (stage : Stage) : Type 0 where
   pub may : ItemsMay session (first_stage session) (done ++ others)

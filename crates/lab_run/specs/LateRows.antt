@@ -1,4 +1,4 @@
--- What a row that is answered late names: the first sample that the client hasn't laid, or, of a rewind, the last one that it couldn't take back.
+-- What a row that is answered late names: the first sample that the client hasn't placed, or, of a rewind, the last one that it couldn't take back.
 use Rattle.std.specs.Prelude.{◌≡◌, ℕ, ◌+◌, ◌<◌, Bool, true, false, slice_index, Some}
 use Rattle.snd_base.specs.declared.errors.PcmError.TheVariants.{Xrun}
 use Rattle.snd_base.specs.declared.errors.XrunWhy.TheVariants.{Late}
@@ -14,7 +14,7 @@ use Rattle.lab_run.specs.Client.{Client, client_kind}
 use Rattle.lab_run.specs.Lines.{LineMay}
 use Rattle.lab_run.specs.Rules.{AtPort, Rules}
 
--- a frame and channel are those of the first sample that a client hasn't laid
+-- a frame and channel are those of the first sample that a client hasn't placed
 abbrev pub IsNext : PlaybackStream → ℕ → ℕ → Type 0
 IsNext c frame channel =
     (frame ≡ c.stretch.card + c.stretch.committed)
@@ -26,7 +26,7 @@ abbrev pub is_rewind : Op → Bool
 is_rewind (op.Rewind n) = true
 is_rewind other = false
 
--- an open client after a line: where it was late, the row names the first sample that isn't laid
+-- an open client after a line: where it was late, the row names the first sample that isn't placed
 pub record NamesNext (after : Client) (answer : Answer) : Type 0 where
   pub own : PlaybackStream
   pub is_own : after.own ≡ Some own

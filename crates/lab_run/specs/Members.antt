@@ -1,5 +1,5 @@
 -- The member of a client: at a place of the ring it is the place's number, and in a run it is the client's own. Nothing of a report depends
--- on it, and no frame, channel or sample that is laid.
+-- on it, and no frame, channel or sample that is placed.
 use Rattle.std.specs.Prelude.{◌≡◌, ℕ, ℤ, List, map, Some}
 use Rattle.snd_base.specs.declared.geometry.Geometry.{Geometry}
 use Rattle.snd_base.specs.declared.places.Segment.{Segment}
@@ -33,7 +33,7 @@ pub record MembersAreUnreported (member : ℕ) : Type 0 where
       ≡ ended_by asked answer c d
 
 -- the entries of one member have the frames, channels, samples and kinds of those of another: those of a segment and its file, and those of
--- any samples that a client lays from frame to frame; and they give each frame and channel the same total
+-- any samples that a client places from frame to frame; and they give each frame and channel the same total
 pub record MembersLayAlike (member other : ℕ) : Type 0 where
   pub segment : (segment : Segment) (samples : List ℤ) (bindings : List ℕ)
       → expand member segment samples bindings

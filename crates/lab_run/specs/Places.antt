@@ -1,10 +1,10 @@
--- The places of a ring: who holds each, and the last frame that was laid in through it.
+-- The places of a ring: who holds each, and the last frame in which a sample was placed through it.
 use Rattle.std.specs.Prelude.{ℕ, zero, suc, ◌+◌, ◌&&◌, Bool, true, false, nat_lt, nat_eq, min, if◌then◌else◌, is_none, List, [], ◌∷◌, map, replicate, Option, Some, None, Result, Ok, Err}
 use Rattle.std.specs.List.{list_any, position}
 use Rattle.snd_base.specs.declared.errors.PcmError.{PcmError}
 use Rattle.snd_base.specs.declared.errors.PcmError.TheVariants.{Busy}
 
--- a place: the number of the client that holds it, if one does, and the last frame that was laid in through it, if one was
+-- a place: the number of the client that holds it, if one does, and the last frame in which a sample was placed through it, if one was
 pub record Place : Type 0 where
   pub holder : Option ℕ
   pub last : Option ℕ
@@ -27,7 +27,7 @@ abbrev pub is_below : Option ℕ → ℕ → Bool
 is_below None position = true
 is_below (Some last) position = nat_lt last position
 
--- a place can be handed out at a position: it is free, and nothing was laid through it at the position or past it
+-- a place can be handed out at a position: it is free, and nothing was placed through it at the position or past it
 abbrev pub is_silent : ℕ → Place → Bool
 is_silent position place = is_free place && is_below place.last position
 
@@ -67,7 +67,7 @@ after_attach client at lobby =
     then attached_by (position (is_silent at) lobby.places) client at lobby
     else (lobby, Err (Busy None lobby.seen))
 
--- a client that laid so gives its place back
+-- a client that placed so gives its place back
 abbrev pub is_held_by : ℕ → Option ℕ → Bool
 is_held_by client None = false
 is_held_by client (Some holder) = nat_eq holder client

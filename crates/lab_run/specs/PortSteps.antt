@@ -59,7 +59,7 @@ pub record CountsDown {T : Type 0} (asked : T → T → List StepKind → Pass �
 abbrev pub IsLow : ℕ → Cursor → Type 0
 IsLow from at = first_free at 0 ≤ from
 
--- an actor laid no sample: its own high is still that of a new port, and its port's is where it was before; neither of these nor a floor is past
+-- an actor placed no sample: its own high is still that of a new port, and its port's is where it was before; neither of these nor a floor is past
 -- a frame
 pub record HasLaidNone (ring : Geometry) (from : ℕ) (before : Cursor)
     (own port : Marks) : Type 0 where
@@ -70,13 +70,13 @@ pub record HasLaidNone (ring : Geometry) (from : ℕ) (before : Cursor)
   pub own_floor : IsLow from own.floor
   pub port_floor : IsLow from port.floor
 
--- a sample was laid at a frame or past it, so the high is past both the frame and the ring's first place
+-- a sample was placed at a frame or past it, so the high is past both the frame and the ring's first place
 pub record IsPastFrame (ring : Geometry) (from : ℕ) (high : Cursor) : Type 0 where
   pub after_start : is_before (start_of ring) high ≡ true
   pub after_frame : from < first_free high 0
 
--- The marks of an actor, and those of its port, which others may have used before, up to a frame. The actor laid no sample, and the cursors aren't
--- past the frame, or a withdrawal moved both; or it laid a sample.
+-- The marks of an actor, and those of its port, which others may have used before, up to a frame. The actor placed no sample, and the cursors aren't
+-- past the frame, or a withdrawal moved both; or it placed a sample.
 pub data MarksAlike (ring : Geometry) (from : ℕ) (before : Cursor) (own port : Marks) : Type 0 where
   untouched : HasLaidNone ring from before own port → IsLow from own.cursor → IsLow from port.cursor → MarksAlike ring from before own port
   moved : HasLaidNone ring from before own port → own.cursor ≡ port.cursor → MarksAlike ring from before own port
@@ -88,7 +88,7 @@ abbrev pub last_from : ℕ → Option ℕ → Option ℕ
 last_from from None = None
 last_from from (Some last) = if nat_le from last then Some last else None
 
--- the last frame of a port is the one at an opening, unless it was laid since, and so isn't below a frame
+-- the last frame of a port is the one at an opening, unless it was placed since, and so isn't below a frame
 abbrev pub IsLastSince : ℕ → Option ℕ → Option ℕ → Type 0
 IsLastSince from opening last = last ≡ last_of (last_from from last) opening
 
@@ -102,7 +102,7 @@ pub record HasOwnLast (ring : Geometry) (from : ℕ) (before own port : Marks) :
   pub since : (opening : Option ℕ) → IsLastSince from opening (high_frame ring before)
       → IsLastSince from opening (high_frame ring port)
 
--- An actor at a port, which others used up to a frame, with what it found since a first state of the port. Where it laid no sample yet, the port's
+-- An actor at a port, which others used up to a frame, with what it found since a first state of the port. Where it placed no sample yet, the port's
 -- high is that of the first state.
 pub record IsAtPort {S T : Type 0} (P : mixport.Ghosts S) (left : T → Option ℕ) (by_gate : T → ℕ)
     (first : S) (ring : Geometry) (from : ℕ) (s : S × T) (doing : Doing) : Type 0 where

@@ -60,7 +60,7 @@ with_stop a = with_stop_by (lets_pass 1 a.left) a
 abbrev pub with_load : ℕ → AtPort → AtPort
 with_load position a = record (with_asks 1 a) { seen = position }
 
--- after an entry was laid, which is two asks
+-- after an entry was placed, which is two asks
 abbrev pub with_entry : Geometry → Entry → AtPort → AtPort
 with_entry ring e a = record (with_asks 2 a) { marks = marks_after ring a.marks e }
 
@@ -77,7 +77,7 @@ MayLoad rules a (Some position) after =
 abbrev pub MayAsk : AtPort → Entry → ℕ → Type 0
 MayAsk a e asks = (asks ≡ 0) ⊎ ((asks ≡ 1) × (a.seen ≤ e.frame))
 
--- An entry is laid, unless its frame is below the position seen. It may be late where the card plays its frame by the end of the
+-- An entry is placed, unless its frame is below the position seen. It may be late where the card plays its frame by the end of the
 -- phase; the word that shows it isn't part of a report, and is 0 here. A stop is at the look, at the exchange, or at a further
 -- exchange, which a `die` doesn't count.
 abbrev pub MayLay : Rules → AtPort → Entry → Ended → AtPort → Type 0

@@ -59,7 +59,7 @@ pub record Stage : Type 0 where
   pub readers : List (AtPort × Reader)
   pub rows : List Row
 
--- a new port of an actor that its own gate stopped so often: it saw no position and laid nothing, and no `die` counts
+-- a new port of an actor that its own gate stopped so often: it saw no position and placed nothing, and no `die` counts
 abbrev pub new_port : Geometry → ℕ → AtPort
 new_port ring stops = record { seen = 0; marks = start_marks ring; left = None; by_gate = stops }
 

@@ -1,6 +1,6 @@
 -- Changes of files that compose.
 --     ChangesOnly may_hold before after      each file is as it was, or holds bytes that it may hold
---     Changes may_hold before after      the same of files that are told, and go on being told
+--     Changes may_hold before after      the same of files that are known, and stay known
 --     PartOf name bytes      the named file may hold the first of these bytes
 --     Changes-nothing, Changes-then, Changes-wider      no change, two changes, more that a file may hold
 --     Changes-with_file, Changes-part      a file that was written, or written in part
@@ -19,7 +19,7 @@ abbrev pub ChangesOnly : (List ℕ → List ℕ → Type 0) → Files → Files 
 ChangesOnly may_hold before after =
     (name : List ℕ) → (bytes_under after name ≡ bytes_under before name) ⊎ ((bytes : List ℕ) × ((bytes_under after name ≡ Some bytes) × may_hold name bytes))
 
--- the same of files that are told, and go on being told
+-- the same of files that are known, and stay known
 abbrev pub Changes : (List ℕ → List ℕ → Type 0) → Option Files → Option Files → Type 0
 Changes may_hold before after = ForSome before (λ m. (n : Files) × ((after ≡ Some n) × ChangesOnly may_hold m n))
 

@@ -1,4 +1,4 @@
--- Counts of faults, which rise at each fault and stand still at the greatest value of a counter.
+-- Counts of faults, which rise at each fault and stay at the greatest value of a counter.
 use Rattle.std.specs.Prelude.{◌≡◌, ◌≤◌, ◌+◌, ◌-◌, ◌^◌, ℕ, min, Bool, true, false, Option, Some, None, Result, Ok, Err, ⊤}
 use Rattle.lab_shelf.specs.declared.fault.ShelfFault.{ShelfFault}
 use Rattle.lab_shelf.specs.declared.fault.ShelfFault.TheVariants.{Failed, Memory}
@@ -7,7 +7,7 @@ use Rattle.lab_shelf.specs.declared.fault.ShelfFault.TheVariants.{Failed, Memory
 abbrev pub one_more : ℕ → ℕ
 one_more count = min (count + 1) (2 ^ 64 - 1)
 
--- the count rose, or stands at the greatest value of a counter
+-- the count rose, or is at the greatest value of a counter
 abbrev pub Rose : ℕ → ℕ → Type 0
 Rose before now = one_more before ≤ now
 
@@ -17,7 +17,7 @@ IsFaultCount (Ok x) before now = now ≡ before
 IsFaultCount (Err Failed) before now = (before ≤ now) × Rose before now
 IsFaultCount (Err Memory) before now = before ≤ now
 
--- a call answers as it was told beforehand, but for memory
+-- a call answers as was known beforehand, but for memory
 abbrev pub Foreseen : {T : Type 0} → Result T ShelfFault → Option Bool → Type 0
 Foreseen result None = ⊤
 Foreseen (Ok x) (Some works) = works ≡ true

@@ -47,7 +47,7 @@ abbrev pub IsPartWritten : Option Files → Option Files → List ℕ → List �
 IsPartWritten before after name bytes =
     (after ≡ before) ⊎ ((k : ℕ) × (after ≡ option_map (λ files. with_file files name (take k bytes)) before))
 
--- the files are as they were, or the named one, if it is there, holds the first of its bytes and these behind them
+-- the files are as they were, or the named one, if it is there, holds the first of its bytes and these after them
 abbrev pub IsPartAppended : Option Files → Option Files → List ℕ → List ℕ → Type 0
 IsPartAppended before after name bytes =
     (after ≡ before) ⊎ ((k : ℕ) × (after ≡ option_map (λ files. with_change (λ content. take k (content ++ bytes)) files name) before))
@@ -57,11 +57,11 @@ abbrev pub IsPartFinished : Option Files → Option Files → List ℕ → List 
 IsPartFinished before after name head =
     (after ≡ before) ⊎ ((k : ℕ) × (k ≤ length head) × (after ≡ option_map (λ files. with_change (with_first_bytes (take k head)) files name) before))
 
--- there is a file of this name, where the files are told
+-- there is a file of this name, where the files are known
 abbrev pub IsHeld : Option Files → List ℕ → Type 0
 IsHeld files name = IfSome files (λ m. IsSome (bytes_under m name))
 
--- where the files are told and there is one of this name, it has as many bytes as the head
+-- where the files are known and there is one of this name, it has as many bytes as the head
 abbrev pub HasRoom : Option Files → List ℕ → List ℕ → Type 0
 HasRoom files name head = IfSome files (λ m. IfSome (bytes_under m name) (λ content. length head ≤ length content))
 

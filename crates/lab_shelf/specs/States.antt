@@ -51,7 +51,7 @@ counts_code =
     code_by (ℕ × ℕ) (coded× coded_ℕ coded_ℕ) (λ s. (s.fetch_faults, s.write_faults))
     (λ p. record { fetch_faults = p.0; write_faults = p.1 }) (λ _. refl)
 
--- the files of a list of names with their bytes; of two with one name the first stands
+-- the files of a list of names with their bytes; of two with one name the first counts
 abbrev pub files_of : List (Vec ℕ × Vec ℕ) → Files
 files_of entries = from_entries (map (λ e. (e.0.items, e.1.items)) entries)
 

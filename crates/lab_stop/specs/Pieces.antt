@@ -1,5 +1,5 @@
 -- A file that is fetched piece by piece: what is known of it after some pieces.
---     IsFetched      the bytes so far are the first of a file, and all of it behind the last piece
+--     IsFetched      the bytes so far are the first of a file, and all of it after the last piece
 --     IsBegun      the same, or nothing is fetched yet
 --     IsFetched-next      one piece more is fetched
 --     IsFetched-most      the first bytes of a file, once enough of them are fetched
@@ -15,7 +15,7 @@ use Rattle.std.specs.Option.{option_map}
 use Rattle.lab_shelf.specs.Files.{Files, bytes_under}
 use Rattle.lab_stop.specs.Causes.{Cause, bytes_or_cause, first_bytes, fetched_from, content_in, piece_bytes}
 
--- the bytes so far are the first of a file, and all of it behind the last piece
+-- the bytes so far are the first of a file, and all of it after the last piece
 pub record IsFetched (files : Files) (name bytes : List ℕ) (last : Bool) : Type 0 where
   pub first : first_bytes files name (length bytes) ≡ Ok bytes
   pub whole : last ≡ true → content_in files name ≡ Ok bytes
@@ -38,7 +38,7 @@ short_all n xs short =
       | inr all ↦ take_all n xs all
     ]
 
--- the first bytes, and the next piece behind them
+-- the first bytes, and the next piece after them
 first_more : (n : ℕ) (content bytes piece : List ℕ) → take (length bytes) content ≡ bytes
     → take n (drop (length bytes) content) ≡ piece → take (length (bytes ++ piece)) content ≡ bytes ++ piece
 first_more n content bytes piece first next =
@@ -48,7 +48,7 @@ first_more n content bytes piece first next =
     ∙ ap (λ (p : List ℕ). bytes ++ take (length p) (drop (length bytes) content)) (sym next)
     ∙ ap (λ (p : List ℕ). bytes ++ p) (take_taken n (drop (length bytes) content) ∙ next)
 
--- behind a short piece there is nothing
+-- after a short piece there is nothing
 first_all : (n : ℕ) (content bytes piece : List ℕ) → take (length bytes) content ≡ bytes
     → take n (drop (length bytes) content) ≡ piece → length piece < n → content ≡ bytes ++ piece
 first_all n content bytes piece first next short =
