@@ -43,13 +43,13 @@ at_number s = record s {
   awaits = Value false;
 }
 
--- where a value can come: behind a key, or within `[ ]`
+-- where a value can come: after a key, or within `[ ]`
 abbrev pub value_place : State → Awaits → Bool → Option State
 value_place s (Value equals) array = Some s
 value_place s (Item separator) true = Some (at_number s)
 value_place s (Item separator) false = None
 
--- behind an item
+-- after an item
 abbrev pub after_item : State → Entries → State
 after_item s root = record s { root = root; path = take s.here.names s.path; awaits = Item true }
 
@@ -57,7 +57,7 @@ after_item s root = record s { root = root; path = take s.here.names s.path; awa
 abbrev pub put_text : State → List ℕ → Result State ConfWhy
 put_text s t = answer_view (after_item s) (put_or_clash (Some t) s.path s.root)
 
--- behind a key's parts, which lead on from where the reader is
+-- after a key's parts, which lead on from where the reader is
 abbrev pub at_key : State → List Part → Result State ConfWhy
 at_key s path =
     if nat_lt 16 (length path) then Err why.Deep else
@@ -97,7 +97,7 @@ abbrev pub open_at : Option State → ℕ → Bool → Result State ConfWhy
 open_at (Some place) line array = open_group place line array
 open_at None line array = Err why.Key
 
--- behind what was open, which is a value of what is around it
+-- after what was open, which is a value of what is around it
 abbrev pub close_to : State → List Bracket → Result State ConfWhy
 close_to s [] = Err why.Close
 close_to s (around ∷ outer) = Ok (record s { path = take around.names s.path; here = around; outer = outer; awaits = Item true })
@@ -118,7 +118,7 @@ equals_at s (Value true) = Ok (record s { awaits = Value false })
 equals_at s (Value false) = Err why.Value
 equals_at s (Item separator) = Err (why_misplaced s)
 
--- the one `,` or `;` behind an item
+-- the one `,` or `;` after an item
 abbrev pub separator_at : State → Awaits → Result State ConfWhy
 separator_at s (Value equals) = Err why.Value
 separator_at s (Item true) = Ok (record s { awaits = Item false })

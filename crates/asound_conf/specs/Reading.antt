@@ -13,7 +13,7 @@ use Rattle.asound_conf.specs.Tree.{Entries}
 abbrev pub path_of : Reading → List Part
 path_of r = take r.here.names r.path.items
 
--- the parts of a key behind them
+-- the parts of a key after them
 abbrev pub key_of : Reading → List Part
 key_of r = drop r.here.names r.path.items
 

@@ -26,7 +26,7 @@ pub record AreBefore (text rest : List ℕ) (after : ℕ) (bytes : List ℕ) : T
   pub room : length bytes + after + length rest ≤ length text
   pub are : take (length bytes) (drop (length text - (length bytes + after + length rest)) text) ≡ bytes
 
--- the last of a text are the bytes of a token, the quote behind it, and this text
+-- the last of a text are the bytes of a token, the quote after it, and this text
 abbrev pub IsBefore : List ℕ → List ℕ → Token → Type 0
 IsBefore text rest (lent.Word w) = AreBefore text rest 0 w.now
 IsBefore text rest (lent.Quoted q) = AreBefore text rest 1 q.now

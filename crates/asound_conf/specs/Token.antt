@@ -86,7 +86,7 @@ token_by b text = mark_or (mark_of b) (
 unfoldable pub token_at : List ℕ → Token
 token_at text = token_by (slice_index text 0) text
 
--- where a quoted text at the front of a text ends, behind its closing quote where there is one
+-- where a quoted text at the front of a text ends, after its closing quote where there is one
 abbrev pub quoted_size : ℕ → List ℕ → ℕ
 quoted_size quote text = if slice_index text (quoted_end quote text) == quote then quoted_end quote text + 2 else quoted_end quote text + 1
 
@@ -113,7 +113,7 @@ tokens zero line (b ∷ text) =
     let rest = tokens (token_end (b ∷ text) - 1) (line_after line b) text in
     if is_skipped b then rest else record { line = line; token = token_at (b ∷ text) } ∷ rest
 
--- the token that is lent from a text
+-- the token that is borrowed from a text
 abbrev pub token_of : code.Token → Token
 token_of (lent.Word w) = word w.now
 token_of (lent.Quoted q) = quoted q.now

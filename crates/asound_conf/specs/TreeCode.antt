@@ -1,4 +1,4 @@
--- How a proof tells groups apart.
+-- How a proof distinguishes groups.
 use Rattle.std.specs.Prelude.{◌≡◌, ℕ, List}
 use Rattle.std.proofs.Common.{ap}
 use base.Stored.{Coded, coded_ℕ, coded_list, Gv, gnil, gnum, gcons}

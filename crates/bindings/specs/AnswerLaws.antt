@@ -28,7 +28,7 @@ or_first-nothing : (list : List ℕ) (defects : List Why) → or_first list defe
 or_first-nothing list [] is = refl
 or_first-nothing list (why ∷ later) is = absurd (cc)
 
--- an entry without a defect is below the card's channels, and did not stand earlier
+-- an entry without a defect is below the card's channels, and did not come earlier
 pub entry_defect-None : (list : List ℕ) (card_channels k : ℕ) → entry_defect list card_channels k ≡ None
     → (get_or list k 0 < card_channels) × (list_any (λ bound. bound == get_or list k 0) (take k list) ≡ false)
 entry_defect-None list card_channels k none = cases (nat_le card_channels (get_or list k 0)) (list_any (λ bound. bound == get_or list k 0) (take k list)) refl refl none

@@ -4,7 +4,7 @@ use Rattle.std.specs.List.{filter_map, list_any, range_with_len}
 use Rattle.snd_base.specs.declared.errors.Why.{Why}
 use Rattle.snd_base.specs.declared.errors.Why.TheVariants.{BindingsEmpty, BindingsTooMany, BindingRange, BindingTwice}
 
--- the defect of the entry at a place: a channel that the card does not have, or one that stood earlier
+-- the defect of the entry at a place: a channel that the card does not have, or one that came earlier
 abbrev pub entry_defect : List ℕ → ℕ → ℕ → Option Why
 entry_defect list card_channels place =
     let channel = slice_index list place in

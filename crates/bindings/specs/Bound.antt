@@ -34,15 +34,15 @@ count_below bindings card_channel = count_by (λ bound. nat_lt bound card_channe
 abbrev pub zeros : ℕ → List ℕ
 zeros n = replicate n 0
 
--- a list of at most 8 numbers in 8 places, with zeros behind it
-abbrev pub in_eight_places : List ℕ → List ℕ
-in_eight_places list = list ++ zeros (8 - length list)
+-- a list of at most 8 numbers in 8 places, with zeros after it
+abbrev pub padded : List ℕ → List ℕ
+padded list = list ++ zeros (8 - length list)
 
 -- the list that the fields hold
 abbrev pub list_of : Inside → List ℕ
 list_of b = take b.len b.channels
 
--- what the fields keep: the list, its order, and nothing behind them
+-- what the fields keep: the list, its order, and nothing after them
 pub record IsHeld (b : Inside) : Type 0 where
   pub length_is : length (list_of b) ≡ b.len
   pub channels_are : b.channels ≡ in_eight_places (list_of b)

@@ -1,4 +1,4 @@
--- Laws of the client channels by rising card channel: each stands there once, and their card channels rise.
+-- Laws of the client channels by rising card channel: each is there once, and their card channels rise.
 use Rattle.std.specs.Prelude.{◌≡◌, ◌≢◌, ℕ, ◌+◌, ◌-◌, ◌<◌, ◌≤◌, ◌==◌, Bool, true, false, if◌then◌else◌, nat_lt, nat_le, ◌&&◌, List, [], ◌∷◌, length, slice_index, Option, Some, None}
 use Rattle.std.specs.List.{cons_option, range_with_len, position_or_len}
 use Rattle.std.proofs.Common.{refl, sym, ap, subst, ◌∙◌, arith, suc, zero, inl, inr}
@@ -73,7 +73,7 @@ pub rising_from-rises : (bindings : List ℕ) (first n i j : ℕ) → i < j → 
 rising_from-rises bindings first zero i j before within = absurd (omega arith)
 rising_from-rises bindings first (suc n) i j before within = rises_here bindings first n (bound_to bindings first) refl (rising_from-rises bindings (first + 1) n) i j before within
 
--- a place in a list at which a number stands
+-- a place in a list at which a number is
 pub record StandsIn (list : List ℕ) (number : ℕ) : Type 0 where
   pub place : ℕ
   pub within : place < length list
@@ -83,7 +83,7 @@ StandsIn-cons : (o : Option ℕ) (list : List ℕ) (number : ℕ) → StandsIn l
 StandsIn-cons None list number at = at
 StandsIn-cons (Some x) list number at = record { place = suc at.place; within = omega (arith, at.within); is = at.is }
 
--- each client channel stands there
+-- each client channel is there
 pub rising_from-complete : (bindings : List ℕ) (first n client : ℕ) → AreBindings bindings → client < length bindings
     → first ≤ slice_index bindings client → slice_index bindings client < first + n → StandsIn (rising_from bindings first n) client
 rising_from-complete bindings first zero client are within least most = absurd (omega arith)
@@ -181,12 +181,12 @@ pub rising-rises : (bindings : List ℕ) (i j : ℕ) → AreBindings bindings �
 unfolding rising
 rising-rises bindings i j are before within = rising_from-rises bindings 0 256 i j before (omega (arith, length-rising bindings are))
 
--- each client channel stands there
+-- each client channel is there
 pub rising-complete : (bindings : List ℕ) (client : ℕ) → AreBindings bindings → client < length bindings → StandsIn (rising bindings) client
 unfolding rising
 rising-complete bindings client are within = rising_from-complete bindings 0 256 client are within (omega arith) (are.below client 0 within)
 
--- the client channel of the m-th card channel of a row stands behind those of the card channels before it
+-- the client channel of the m-th card channel of a row is after those of the card channels before it
 slice_index-rising_from : (bindings : List ℕ) (first m n client : ℕ) → m < n → bound_to bindings (first + m) ≡ Some client
     → (length (rising_from bindings first m) < length (rising_from bindings first n)) × (slice_index (rising_from bindings first n) (length (rising_from bindings first m)) ≡ client)
 slice_index-rising_from bindings first m zero client within is = absurd (omega arith)
@@ -213,7 +213,7 @@ rising-place bindings client are within =
     let place : length (rising_from bindings 0 channel) ≡ count_below bindings channel = length-rising_from bindings channel are.distinct in
     (omega (arith, at.0, place, length-rising bindings are), ap (slice_index (rising_from bindings 0 256)) (sym place) ∙ at.1)
 
--- the identity's client channels stand in their own order
+-- the identity's client channels are in their own order
 bound_to-range : (a n channel : ℕ) → a ≤ channel → channel < a + n → bound_to (range_with_len a n) channel ≡ Some (channel - a)
 bound_to-range a n channel least most =
     let test : ℕ → Bool = λ bound. bound == channel in

@@ -41,14 +41,14 @@ frames_in p out = length out / (geometry_of p).channels
 abbrev pub frames_left : CardPlayer → List ℤ → ℕ
 frames_left p out = min (end_frame (geometry_of p) - frame_of p) (frames_in p out)
 
--- the samples of so many frames at the beginning of a buffer, and what is behind them
+-- the samples of so many frames at the beginning of a buffer, and what is after them
 abbrev pub samples_of : CardPlayer → ℕ → List ℤ → List ℤ
 samples_of p frames out = take (frames * (geometry_of p).channels) out
 
 abbrev pub rest_of : CardPlayer → ℕ → List ℤ → List ℤ
 rest_of p frames out = drop (frames * (geometry_of p).channels) out
 
--- the word behind so many words with these values, and the words themselves, in the order of frames and then channels
+-- the word after so many words with these values, and the words themselves, in the order of frames and then channels
 abbrev pub behind_words : Geometry → Cursor → List ℤ → Cursor
 behind_words g at [] = at
 behind_words g at (x ∷ xs) = behind_words g (cursor_after g at.frame at.channel) xs

@@ -20,7 +20,7 @@ abbrev pub GetsAtSnoop : {S T : Type 0} → snoopport.Ghosts S → gates.Ghosts 
 GetsAtSnoop P G s number got t =
     (samples : List ℤ) × Gets P.view P.shows P.loaded P.got P.finds G.stops G.asked s.0 s.1 (frame_of number samples) got t.0 t.1
 
--- nothing is laid at a port to captured frames
+-- nothing is placed at a port to captured frames
 abbrev pub NoLay : {S : Type 0} → S → Entry → Ended → S → Type 0
 NoLay s e ended t = ⊥
 

@@ -5,7 +5,7 @@ use Rattle.mix_core.specs.declared.port.Entry.{Entry}
 use Rattle.mix_core.specs.declared.port.Position.{Position}
 use Rattle.snoop_core.specs.declared.port.Got.{Got}
 
--- it ends with a result, or it loads the position (none, where the gate stops it), lays an entry (adds a sample or withdraws
+-- it ends with a result, or it loads the position (none, where the gate stops it), places an entry (adds a sample or withdraws
 -- one), or loads a captured frame, and goes on by what came of it
 pub data Course (X : Type 0) : Type 0 where
   ends : X → Course X

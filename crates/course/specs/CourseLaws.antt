@@ -22,7 +22,7 @@ module _ {S : Type 0} (L : S → Option Position → S → Type 0) (P : S → En
       → Takes L P G s m t x → f x ≡ y → Takes L P G s (m >>= λ z. ends (f z)) t y
   Takes-map s t m f x y takes is = Takes-then s t t m (λ z. ends (f z)) x y takes (record { there = refl; result = sym is })
 
-  -- one course behind another was taken in two parts
+  -- one course after another was taken in two parts
   pub Takes-parts : {A B : Type 0} (s u : S) (m : Course A) (f : A → Course B) (y : B)
       → Takes L P G s (m >>= f) u y → (t : S) × (x : A) × Takes L P G s m t x × Takes L P G t (f x) u y
   unfolding ◌>>=◌
@@ -46,7 +46,7 @@ Takes-keeps L P K none then by_load by_lay s t (lays e next) y (ended, m, step, 
     then s m t (by_lay s m e ended step) (Takes-keeps L P K none then by_load by_lay m t (next ended) y rest)
 Takes-keeps L P K none then by_load by_lay s t (gets frame next) y (got, m, step, rest) = absurd step
 
--- the same of a course that lays nothing
+-- the same of a course that places nothing
 pub Takes-keeps_getting : {S X : Type 0} (L : S → Option Position → S → Type 0) (G : S → ℕ → Got → S → Type 0) (K : S → S → Type 0)
     → ((s : S) → K s s) → ((s m t : S) → K s m → K m t → K s t)
     → ((s t : S) (load : Option Position) → L s load t → K s t) → ((s t : S) (frame : ℕ) (got : Got) → G s frame got t → K s t)

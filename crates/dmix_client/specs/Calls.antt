@@ -1,5 +1,5 @@
 -- What each call of a client makes of it, by the parts that the call does one after the other: with the positions that
--- its loads gave, and with what its commits came to.
+-- its loads gave, and with what its commits ended in.
 use Rattle.std.specs.Prelude.{ℕ, ◌+◌, ◌-◌, Bool, true, false, not, ◌&&◌, ◌||◌, nat_le, nat_lt, nat_eq, if◌then◌else◌, min, max, ℤ, List, slice_index, Option, Some, None, is_some, unwrap_or, Result, Ok, Err}
 use Rattle.snd_base.specs.declared.errors.PcmError.{PcmError}
 use Rattle.snd_base.specs.declared.errors.PcmError.TheVariants.{Again, Stopped}
@@ -72,9 +72,9 @@ new_client g member lead = record {
   fed = 0;
 }
 
--- nothing is written, and nothing is laid since now
-abbrev pub after_prepare : PlaybackStream → PlaybackStream
-after_prepare c = record (in_state c Prepared) { stretch = waiting_stretch 0 c.fed }
+-- a new stretch, with nothing written or placed
+abbrev pub prepared : PlaybackStream → PlaybackStream
+prepared c = record (in_state c Prepared) { stretch = waiting 0 c.fed }
 
 -- the client runs with a configuration, with the default thresholds
 abbrev pub configured_with : PlaybackStream → Config → List ℕ → PlaybackStream
@@ -124,7 +124,7 @@ started_in c state position cursor =
 abbrev pub window_end : Geometry → ℕ → ℕ
 window_end g position = min (position + g.frames) (end_frame g)
 
--- how many frames a commit at a position is to lay, of those before one
+-- how many frames a commit at a position is to place, of those before one
 abbrev pub commit_count : PlaybackStream → ℕ → ℕ → ℕ
 commit_count c position upto =
     min upto (window_end c.identity.geometry position - c.stretch.card) - c.stretch.committed
@@ -147,7 +147,7 @@ abbrev pub end_channel : PlaybackStream → Commit → ℕ
 end_channel c commit =
     slice_index c.setup.bindings (slice_index (rising c.setup.bindings) commit.part)
 
--- what a commit laid of the local ring
+-- what a commit placed of the local ring
 abbrev pub commit_entries : PlaybackStream → List ℤ → Commit → List Entry
 commit_entries c ring commit =
     run_entries c.identity.member c.setup.bindings (ring_sample c ring) c.stretch.card
@@ -182,7 +182,7 @@ over_of c position =
     if is_running c.status.state && nat_le c.setup.params.stop_threshold (avail_of c)
     then Some (avail_of c, position.frame) else None
 
--- the facts for the state table: of a client after its commit, with what stood at the load
+-- the facts for the state table: of a client after its commit, with what held at the load
 abbrev pub facts_of : PlaybackStream → Position → Option (ℕ × ℕ) → Option XrunWhy → Facts
 facts_of c position over late =
     record {
@@ -211,7 +211,7 @@ after_sync c call (Some position) commit =
     else with_outcome done (next_of c.status.state call
     (facts_of done position (over_of loaded position) (late_of loaded commit)))
 
--- the facts of a start, or of a commit behind a sync, that isn't empty
+-- the facts of a start, or of a commit after a sync, that isn't empty
 abbrev pub found_at : Position → Option XrunWhy → Facts
 found_at position late =
     record {
@@ -266,9 +266,9 @@ is_paused other = false
 abbrev pub pending_of : PlaybackStream → ℕ
 pending_of c = c.stretch.written - c.stretch.committed
 
--- the counts based anew: what is pending is all that is written, and nothing is laid since now
-abbrev pub with_new_base : PlaybackStream → PlaybackStream
-with_new_base c = record (in_state c Prepared) { stretch = waiting_stretch (pending_of c) (c.fed - pending_of c) }
+-- the counts based anew: a new stretch, of which what is pending is all that is written, and nothing is placed
+abbrev pub rebased : PlaybackStream → PlaybackStream
+rebased c = record (in_state c Prepared) { stretch = waiting (pending_of c) (c.fed - pending_of c) }
 
 -- a client that a call found as the first of these and left as the second begins with its counts based anew where it is no
 -- longer paused

@@ -32,7 +32,7 @@ Reaches c (Some position) avail frame =
     (position.gone ≡ false) × (c.status.state ≡ Running) × (c.setup.params.stop_threshold ≤ avail)
     × (avail ≡ avail_of (seen_at c position)) × (frame ≡ position.frame)
 
--- a frame and channel are the first of a client's segment in which nothing is laid, and the port shows that they were taken
+-- a frame and channel are the first of a client's segment in which nothing is placed, and the port shows that they were taken
 pub record IsMissed {S : Type 0} (view : S → PortView) (shows : S → ℕ → ℕ → Option ℕ) (q : S)
     (d : PlaybackStream) (frame channel word : ℕ) : Type 0 where
   pub frame_is : frame ≡ d.stretch.card + d.stretch.committed

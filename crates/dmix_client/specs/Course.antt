@@ -21,7 +21,7 @@ use Rattle.dmix_client.specs.Calls.{Answered, with_accepted, accepted_if, in_dra
 use Rattle.dmix_client.specs.View.{ring_sample}
 use Rattle.dmix_client.specs.Writes.{count_with, frames_in, ring_with, starts_with}
 
--- the samples of a frame are laid one after the other, by client channels, up to the first that isn't: how many were, and how
+-- the samples of a frame are placed one after the other, by client channels, up to the first that isn't: how many were, and how
 -- it ended
 abbrev pub one_more : ℕ × Ended → ℕ × Ended
 one_more (done, ended) = (done + 1, ended)
@@ -41,7 +41,7 @@ abbrev pub lay_frame : ℕ → ℕ → List ℕ → (ℕ → ℤ) → Course (�
 lay_frame member frame bindings sample_of =
     lay_each member frame bindings sample_of (rising bindings)
 
--- so many frames are laid, from a first one on, up to the first sample that isn't
+-- so many frames are placed, from a first one on, up to the first sample that isn't
 abbrev pub one_frame_more : Commit → Commit
 one_frame_more commit = record commit { frames = commit.frames + 1 }
 
@@ -65,13 +65,13 @@ commits c ring count =
     lay_frames c.identity.member c.stretch.card c.setup.bindings (ring_sample c ring) count
     c.stretch.committed
 
--- a commit behind a load, of a client as it is then
+-- a commit after a load, of a client as it is then
 abbrev pub commit_at : (Position → PlaybackStream) → (Position → ℕ) → List ℤ → Option Position
     → Course Commit
 commit_at at count ring None = ends nothing
 commit_at at count ring (Some position) = commits (at position) ring (count position)
 
--- a load, and the commit behind it
+-- a load, and the commit after it
 unfoldable pub looks : (Position → PlaybackStream) → (Position → ℕ) → List ℤ
     → Course (Option Position × Commit)
 looks at count ring = loads (λ load. commit_at at count ring load >>= λ commit. ends (load, commit))
@@ -145,7 +145,7 @@ abbrev pub number_course : (PlaybackStream → ℕ) → PlaybackStream → List 
 number_course number c ring = if is_moving c.status.state
     then course_with_number number (syncs c call.Sync ring) else ends (c, Ok (number c))
 
--- a write behind its sync: frames are taken, stored and committed
+-- a write after its sync: frames are taken, stored and committed
 unfoldable pub takes_more : PlaybackStream → List ℤ → List ℤ → ℕ → Course (Answered ℕ)
 takes_more c ring samples n =
     commits c (ring_with c ring samples (taken_of c n)) (count_with c (taken_of c n))

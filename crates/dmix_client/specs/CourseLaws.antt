@@ -1,4 +1,4 @@
--- What courses of a client came to at a port: what was laid and loaded, how it ended, and what the gate counted.
+-- What courses of a client did at a port: what was placed and loaded, how it ended, and what the gate counted.
 use Rattle.std.specs.Prelude.{◌≡◌, ℕ, zero, suc, ◌+◌, ◌<◌, ◌≤◌, ℤ, List, [], ◌∷◌, ◌++◌, length, map, take, slice_index, Option, None, Some}
 use Rattle.std.specs.List.{flat_map, range_with_len}
 use Rattle.std.proofs.Common.{refl, sym, ◌∙◌, ap, subst, arith, add-zero}
@@ -34,7 +34,7 @@ use Rattle.dmix_client.specs.View.{ring_sample}
 abbrev pub entry_of : ℕ → ℕ → List ℕ → (ℕ → ℤ) → ℕ → Entry
 entry_of member frame bindings sample_of q = an_add member frame (slice_index bindings q) (sample_of q)
 
--- what some channels of a frame came to
+-- what some channels of a frame ended in
 pub record LaysFrame {S T : Type 0} (P : mixport.Ghosts S) (G : gates.Ghosts T) (s t : S × T)
     (member frame : ℕ) (bindings : List ℕ) (sample_of : ℕ → ℤ) (qs : List ℕ) (done : ℕ)
     (ended : Ended) : Type 0 where
@@ -49,7 +49,7 @@ pub record LaysFrame {S T : Type 0} (P : mixport.Ghosts S) (G : gates.Ghosts T) 
   pub free : (c : ℕ) → first_free (P.view s.0).marks.cursor c ≤ frame + 1
       → first_free (P.view t.0).marks.cursor c ≤ frame + 1
 
--- what some frames came to
+-- what some frames ended in
 pub record LaysFrames {S T : Type 0} (P : mixport.Ghosts S) (G : gates.Ghosts T) (s t : S × T)
     (member card : ℕ) (bindings : List ℕ) (samples : ℕ → ℕ → ℤ) (count first : ℕ)
     (x : Commit) : Type 0 where
@@ -197,7 +197,7 @@ module _ {S T : Type 0} (P : mixport.Ghosts S) (G : gates.Ghosts T) (laid_compos
         free = λ c is. OnWhole-map x.ended _ _ (λ low. omega (arith, low, at)) (later.free c (omega (arith, frame.free c (omega (arith, is)))));
       }
 
-  -- what some frames came to, by the first, and by what those behind it come to
+  -- what some frames ended in, by the first, and by what those after it end in
   frames-by : (member card : ℕ) (bindings : List ℕ) (samples : ℕ → ℕ → ℤ) (count first : ℕ)
       (s m t : S × T) (done : ℕ) (ended : Ended) (x : Commit) → AreBindings bindings
       → LaysFrame P G s m member (card + first) bindings (samples first) (rising bindings) done
@@ -247,7 +247,7 @@ module _ {S T : Type 0} (P : mixport.Ghosts S) (G : gates.Ghosts T) (laid_compos
       (TakesAt-frame member (card + first) bindings (samples first) (rising bindings) s parts.0 parts.1.0 parts.1.1 parts.2)
       (λ u y more. TakesAt-frames member card bindings samples count (first + 1) parts.0 u y are more) parts.3
 
-  -- a load, and the commit behind it
+  -- a load, and the commit after it
   pub TakesAt-looks : (at : Position → PlaybackStream) (count : Position → ℕ) (ring : List ℤ)
       (bindings : List ℕ) (s t : S × T) (load : Option Position) (commit : Commit)
       → AreBindings bindings → ((position : Position) → (at position).setup.bindings ≡ bindings)

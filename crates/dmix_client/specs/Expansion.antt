@@ -1,4 +1,4 @@
--- What a segment stands for: the entries that the client laid.
+-- What a segment represents: the entries that the client placed.
 use Rattle.mix_core.specs.declared.port.Kind.TheVariants.{Added}
 use Rattle.std.specs.Prelude.{ℕ, ◌+◌, ◌*◌, ℤ, pos, List, ◌++◌, length, map, slice_index, slice_index_or, take}
 use Rattle.std.specs.List.{flat_map, range_with_len}
@@ -24,7 +24,7 @@ frame_entries member bindings sample_of channels card =
     })
     (take channels (rising bindings))
 
--- the entries of whole frames and then of so many channels of one more, where frame j stands at the card's frame
+-- the entries of whole frames and then of so many channels of one more, where frame j is at the card's frame
 -- `card + j`, from a first one on
 abbrev pub run_entries : ℕ → List ℕ → (ℕ → ℕ → ℤ) → ℕ → ℕ → ℕ → ℕ → List Entry
 run_entries member bindings sample_of card first whole part =

@@ -1,4 +1,4 @@
--- How the entries of a segment grow by what a commit lays.
+-- How the entries of a segment grow by what a commit places.
 use Rattle.mix_core.specs.declared.port.Kind.TheVariants.{Added}
 use Rattle.std.specs.Prelude.{◌≡◌, ℕ, ◌+◌, ◌<◌, ◌≤◌, nat_lt, if◌then◌else◌, ℤ, List, [], ◌∷◌, ◌++◌, length, map, slice_index, take}
 use Rattle.std.specs.List.{flat_map, range_with_len}
@@ -23,7 +23,7 @@ range_with_len-append a (suc n) k =
     ap (range_with_len a) (let same : suc n + k ≡ suc (n + k) = omega arith in same)
     ∙ ap (λ (ks : List ℕ). a ∷ ks) (range_with_len-append (a + 1) n k ∙ ap (λ (b : ℕ). range_with_len (a + 1) n ++ range_with_len b k) (omega arith))
 
--- a run of whole frames, and the run behind it
+-- a run of whole frames, and the run after it
 pub run_entries-append : (member : ℕ) (bindings : List ℕ) (sample_of : ℕ → ℕ → ℤ)
     (card first n k part : ℕ)
     → run_entries member bindings sample_of card first (n + k) part
@@ -40,7 +40,7 @@ run_entries-append member bindings sample_of card first n k part =
     ∙ ap (λ (j : ℕ). flat_map frame (range_with_len first n) ++ (flat_map frame (range_with_len (first + n) k) ++ rest j)) at
     ∙ ap (λ (es : List Entry). es ++ (flat_map frame (range_with_len (first + n) k) ++ rest (first + n + k))) (sym (append-nil (flat_map frame (range_with_len first n))))
 
--- a list of accepted frames, of which those from one to before another stand in the local ring
+-- a list of accepted frames, of which those from one to before another are in the local ring
 abbrev pub Holds : PlaybackStream → List ℤ → List ℤ → ℕ → ℕ → Type 0
 Holds c ring samples from to = (j q : ℕ) → from ≤ j → j < to → q < length c.setup.bindings → ring_sample c ring j q ≡ sample_at samples (length c.setup.bindings) j q
 
@@ -50,7 +50,7 @@ pub map-same : {X : Type 0} (f g : ℕ → X) (xs : List ℕ)
 map-same f g [] same = refl
 map-same f g (x ∷ xs) same = cc (same 0 (omega arith), map-same f g xs (λ k h. same (suc k) (omega arith)))
 
--- a frame's entries are told by the samples of the client's channels
+-- a frame's entries are given by the samples of the client's channels
 pub frame_entries-same : (member : ℕ) (bindings : List ℕ) (s t : ℕ → ℤ) (channels card : ℕ)
     → AreBindings bindings
     → ((q : ℕ) → q < length bindings → s q ≡ t q)
@@ -72,7 +72,7 @@ flat_map-same f g a (suc n) same =
     ap (λ (es : List Entry). es ++ flat_map f (range_with_len (a + 1) n)) (same a (omega arith) (omega arith))
     ∙ ap (λ (es : List Entry). g a ++ es) (flat_map-same f g (a + 1) n (λ j least most. same j (omega arith) (omega arith)))
 
--- the frames up to the end of a run: one more where a channel of it was laid
+-- the frames up to the end of a run: one more where a channel of it was placed
 abbrev pub frames_used : ℕ → ℕ → ℕ
 frames_used whole part = if nat_lt 0 part then whole + 1 else whole
 
@@ -100,7 +100,7 @@ run_entries-same member bindings s t card first whole part are same =
     ap (λ (es : List Entry). es ++ frame_entries member bindings (s (first + whole)) part (card + (first + whole))) frames
     ∙ ap (λ (es : List Entry). flat_map (λ j. frame_entries member bindings (t j) (length bindings) (card + j)) (range_with_len first whole) ++ es) last
 
--- what a commit laid of the local ring is what it laid of the accepted frames
+-- what a commit placed of the local ring is what it placed of the accepted frames
 pub commit_entries-accepted : (c : PlaybackStream) (ring samples : List ℤ) (commit : Commit) (to : ℕ)
     → AreBindings c.setup.bindings → Holds c ring samples c.stretch.committed to
     → c.stretch.committed + frames_used commit.frames commit.part ≤ to
@@ -111,7 +111,7 @@ commit_entries-accepted c ring samples commit to are holds within =
     run_entries-same c.identity.member c.setup.bindings (ring_sample c ring) (sample_at samples (length c.setup.bindings)) c.stretch.card c.stretch.committed commit.frames commit.part are
     (λ j q least most h. holds j q least (omega (arith, most, within)) h)
 
--- the entries of a segment grow by exactly what a commit laid
+-- the entries of a segment grow by exactly what a commit placed
 pub expand-grows : (c : PlaybackStream) (ring samples : List ℤ) (commit : Commit) (to : ℕ)
     → AreBindings c.setup.bindings → Holds c ring samples c.stretch.committed to
     → c.stretch.committed + frames_used commit.frames commit.part ≤ to → c.stretch.part ≡ 0

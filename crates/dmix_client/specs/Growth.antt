@@ -1,4 +1,4 @@
--- For which accepted frames a client stands, and how its segment grows by what a port laid for it.
+-- Which accepted frames a client represents, and how its segment grows by what a port placed for it.
 use Rattle.std.specs.Prelude.{◌≡◌, ℕ, ◌+◌, ◌<◌, ◌≤◌, false, fold, min, ℤ, ◌+ℤ◌, List, ◌++◌, length, Result, ⊤}
 use Rattle.snd_base.specs.declared.errors.PcmError.{PcmError}
 use Rattle.mix_core.specs.declared.gate.Gate as gates
@@ -12,18 +12,18 @@ use Rattle.course.specs.Stops.{CountsStop}
 use Rattle.dmix_client.specs.Port.{CanUse}
 use Rattle.dmix_client.specs.View.{ClientView, IsSound, hw_of, ring_sample}
 
--- of some samples, interleaved, the frames of a client before one that are not both laid and played stand in its local
+-- of some samples, interleaved, the frames of a client before one that are not both placed and played are in its local
 -- ring: frame j since the last prepare is frame `source + j` of the samples
 abbrev pub StandsUpTo : PlaybackStream → List ℤ → List ℤ → ℕ → Type 0
 StandsUpTo c ring samples to =
     (j q : ℕ) → min c.stretch.committed (hw_of c) ≤ j → j < to → q < length c.setup.bindings
     → ring_sample c ring j q ≡ sample_at samples (length c.setup.bindings) (c.stretch.source + j) q
 
--- a client stands for some samples: its accepted frames are theirs, as far as it still needs them
+-- a client represents some samples: its accepted frames are theirs, as far as it still needs them
 abbrev pub StandsFor : PlaybackStream → List ℤ → List ℤ → Type 0
 StandsFor c ring samples = StandsUpTo c ring samples c.stretch.written
 
--- some samples have n frames that are offered behind those that a client accepted
+-- some samples have n frames that are offered after those that a client accepted
 abbrev pub Follows : PlaybackStream → List ℤ → List ℤ → ℕ → Type 0
 Follows c samples offered n =
     (k q : ℕ) → k < n → q < length c.setup.bindings
@@ -34,7 +34,7 @@ Follows c samples offered n =
 abbrev pub segment_entries : PlaybackStream → List ℤ → List Entry
 segment_entries c samples = expand c.identity.member (segment_of c) samples c.setup.bindings
 
--- a port laid exactly the entries by which a client's segment grew, by some samples
+-- a port placed exactly the entries by which a client's segment grew, by some samples
 pub record Grows {S : Type 0} (laid : S → S → List Entry → Type 0) (p q : S) (c d : PlaybackStream)
     (samples : List ℤ) : Type 0 where
   pub entries : List Entry
@@ -45,7 +45,7 @@ pub record Grows {S : Type 0} (laid : S → S → List Entry → Type 0) (p q : 
 
 -- what every call that takes steps at a port keeps: the client's counts fit each other and its ring, it can use the port again,
 -- the gate's count rose exactly where it answers `Stopped`, and for each list of samples which the client represents, and for which
--- this fact holds, its segment grew by exactly what was laid, and it represents the list afterwards
+-- this fact holds, its segment grew by exactly what was placed, and it represents the list afterwards
 pub record Keeps {S T X : Type 0} (P : mixport.Ghosts S) (G : gates.Ghosts T) (s t : S × T)
     (c d : ClientView) (answer : Result X PcmError) (For : List ℤ → Type 0) : Type 0 where
   pub sound : IsSound d.stream d.ring
@@ -57,7 +57,7 @@ pub record Keeps {S T X : Type 0} (P : mixport.Ghosts S) (G : gates.Ghosts T) (s
       → StandsFor d.stream d.ring samples
 
 -- a port lost at the end of its standing adds: they ended in some entries, and end in others now, whatever is before these; what
--- it laid in between takes the one to the other, and gives each sum what these gain or lose
+-- it placed in between takes the one to the other, and gives each sum what these gain or lose
 pub record TakesAway {S : Type 0} (laid : S → S → List Entry → Type 0)
     (ends_in : S → List Entry → Type 0) (p q : S) (before after : List Entry) : Type 0 where
   pub entries : List Entry

@@ -1,4 +1,4 @@
--- For which samples a client stands that has just begun, and how what it laid adds up.
+-- Which samples a client represents that has just begun, and how what it placed adds up.
 use Rattle.std.specs.Prelude.{◌≡◌, ℕ, ◌+◌, ◌-◌, ◌*◌, ◌%◌, ℤ, pos, List, ◌++◌, length}
 use Rattle.std.proofs.Common.{arith, ap, sym, ◌∙◌, append_assoc, get_or}
 use Rattle.std.proofs.lemmas.Bool.Decides.{nat_tests}
@@ -11,12 +11,12 @@ use Rattle.dmix_client.specs.Expansion.{sample_at}
 use Rattle.dmix_client.specs.Growth.{Grows, StandsFor, segment_entries}
 use Rattle.dmix_client.specs.View.{IsSound}
 
--- a client with nothing written, as after `hw_params` and `prepare`, stands for all samples
+-- a client with nothing written, as after `hw_params` and `prepare`, represents all samples
 pub StandsFor-nothing : (c : PlaybackStream) (ring samples : List ℤ) → c.stretch.written ≡ 0
     → StandsFor c ring samples
 StandsFor-nothing c ring samples none j q low high in_range = absurd (omega (arith, high, none))
 
--- a paused client that stands for some samples does so with its counts based anew
+-- a paused client that represents some samples does so with its counts based anew
 pub StandsFor-rebased : (c : PlaybackStream) (ring samples : List ℤ) → IsSound c ring
     → c.status.state ≡ Paused → StandsFor c ring samples → StandsFor (with_new_base c) ring samples
 StandsFor-rebased c ring samples sound is stands j q low high in_range =

@@ -1,4 +1,4 @@
--- What a port did for a client: what it loaded and laid, what it kept, and how a commit ended there.
+-- What a port did for a client: what it loaded and placed, what it kept, and how a commit ended there.
 use Rattle.std.specs.Prelude.{◌≡◌, ℕ, ◌+◌, ◌<◌, ◌≤◌, true, false, ℤ, List, [], Option, None, Some, IfNone, IfSome, Result, Ok, Err, ⊤, All, slice_index, unwrap_or}
 use Rattle.std.specs.Option.{option_to_list}
 use Rattle.snd_base.specs.declared.errors.PcmError.{PcmError}
@@ -34,7 +34,7 @@ IsUpTo Whole done all = done ≡ all
 IsUpTo (Late word) done all = done < all
 IsUpTo Stopped done all = done < all
 
--- a commit that was to lay so many whole frames of so many channels
+-- a commit that was to place so many whole frames of so many channels
 abbrev pub IsCommit : Ended → ℕ → ℕ → ℕ → ℕ → Type 0
 IsCommit Whole frames part count channels = (frames ≡ count) × (part ≡ 0)
 IsCommit (Late word) frames part count channels = (frames < count) × (part < channels)
@@ -69,12 +69,12 @@ pub record CanUse (c : PlaybackStream) (v : PortView) : Type 0 where
   pub newer : is_moving c.status.state ≡ true → c.status.stopped ≡ false
       → unwrap_or c.seen 0 ≤ v.seen
 
--- what a load and the commit behind it laid, by the client at the commit
+-- what a load and the commit after it placed, by the client at the commit
 abbrev pub entries_at : Option Position → (Position → PlaybackStream) → List ℤ → Commit → List Entry
 entries_at None at ring commit = []
 entries_at (Some position) at ring commit = commit_entries (at position) ring commit
 
--- the answer to the last ask of a load and the commit behind it
+-- the answer to the last ask of a load and the commit after it
 abbrev pub pass_of_found : Option Position → Ended → Pass
 pass_of_found None ended = Stop
 pass_of_found (Some position) ended = pass_of_end ended
@@ -82,7 +82,7 @@ pass_of_found (Some position) ended = pass_of_end ended
 abbrev pub CountsFound : Option Position → Ended → ℕ → ℕ → Type 0
 CountsFound load ended before after = after ≡ stops_after (pass_of_found load ended) before
 
--- a load and the commit behind it: the client `at` the commit had `count` frames to lay
+-- a load and the commit after it: the client `at` the commit had `count` frames to place
 pub record IsFound (load : Option Position) (commit : Commit) (at : Position → PlaybackStream)
     (count : Position → ℕ) (channels : ℕ) : Type 0 where
   pub nothing : IfNone load (commit ≡ record { frames = 0; part = 0; ended = Whole })
@@ -92,8 +92,8 @@ pub record IsFound (load : Option Position) (commit : Commit) (at : Position →
   pub in_time : IfSome load (λ (position : Position). 0 < commit.frames + commit.part
       → position.frame ≤ (at position).stretch.card + (at position).stretch.committed)
 
--- what one load and the commit behind it did at a port and its gate
-pub record LoadsAndCommits {S T : Type 0} (P : mixport.Ghosts S) (G : gates.Ghosts T) (s t : S × T)
+-- what one load and the commit after it did at a port and its gate
+pub record Looked {S T : Type 0} (P : mixport.Ghosts S) (G : gates.Ghosts T) (s t : S × T)
     (ring : List ℤ) (at : Position → PlaybackStream) (count : Position → ℕ) (channels : ℕ)
     (load : Option Position) (commit : Commit) : Type 0 where
   pub found : IsFound load commit at count channels
@@ -111,7 +111,7 @@ pub record LoadsAndCommits {S T : Type 0} (P : mixport.Ghosts S) (G : gates.Ghos
       → OnWhole commit.ended (IsFrom (P.view t.0).marks.cursor (end_of_commit (at position) commit)
       (least_channel (at position).setup.bindings)))
 
--- a call made one load and the commit behind it, and came to this by what they found
+-- a call made one load and the commit after it, and ended in this by what they found
 pub record TakesStep {S T X : Type 0} (P : mixport.Ghosts S) (G : gates.Ghosts T) (s t : S × T)
     (ring : List ℤ) (at : Position → PlaybackStream) (count : Position → ℕ) (channels : ℕ)
     (call : Option Position → Commit → Answered X) (done : Answered X) : Type 0 where

@@ -101,7 +101,7 @@ take_frames member card bindings samples first (suc n) =
     take_each member (card + (first + n)) bindings (samples (first + n)) (length bindings)
     >>= λ end. back_on end n (length bindings) (take_frames member card bindings samples first n)
 
--- the load of a client that runs, behind which nothing is committed
+-- the load of a client that runs, after which nothing is committed
 unfoldable pub checks : PlaybackStream → Course (Answered (Unit {0}))
 checks c = loads (λ load. ends (after_sync c call.Transfer load nothing))
 

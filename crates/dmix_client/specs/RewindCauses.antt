@@ -36,7 +36,7 @@ pub record IsKeptCause {S X : Type 0} (view : S → PortView) (shows : S → ℕ
       → IsKept view shows q d frame channel word
   pub never_lap_end : answer ≡ Err LapEnd → ⊥
 
--- what a load did behind which nothing is committed, and why the call answered so by its position
+-- what a load did after which nothing is committed, and why the call answered so by its position
 pub record ExplainsCheck {S T X : Type 0} (P : mixport.Ghosts S) (G : gates.Ghosts T) (s t : S × T)
     (c : PlaybackStream) (call : Option Position → Answered X) (done : Answered X) : Type 0 where
   pub load : Option Position

@@ -1,4 +1,4 @@
--- What stands in a local ring after frames were stored in it.
+-- What is in a local ring after frames were stored in it.
 use Rattle.std.proofs.Common.{◌≡◌, ℕ, zero, suc, ◌<◌, ◌≤◌, ◌+◌, ◌*◌, ◌%◌, List, [], ◌++◌, refl, sym, ◌∙◌, ap, arith, inl, inr, length, take, drop, get_or, append_assoc}
 use Rattle.std.proofs.Math.Nat.{mod-add-mod, mod-lt, mod-eq_of_lt, mul-le-mul_right}
 use Rattle.std.proofs.Math.Seq.{drop-append-add, take-add, take-append_seam}
@@ -110,7 +110,7 @@ elsewhere ring part channels a b q room one in_range apart = elim (cases_lt a b)
     slots_follow : (channels b a : ℕ) → b < a → b * channels + channels ≤ a * channels
     slots_follow channels b a less = let scaled : (b + 1) * channels ≤ a * channels = mul-le-mul_right channels (let h : b + 1 ≤ a = omega arith in h) in omega (arith, scaled)
 
--- a frame that was stored stands in its slot
+-- a frame that was stored is in its slot
 pub stored-new : (buffer channels : ℕ) (ring : List ℤ) (from : ℕ) (samples : List ℤ) (n k q : ℕ)
     → HasRoom buffer channels ring → n * channels ≤ length samples → n ≤ buffer
     → k < n → q < channels
@@ -136,7 +136,7 @@ stored-new buffer channels ring from samples (suc n) k q has room few within in_
           ∙ stored-new buffer channels ring from samples n k q has (omega arith) (omega arith) (omega arith) in_range
     ]
 
--- and the frames before them that are not a buffer behind stand where they stood
+-- and the frames before them that are at most a buffer before the end of these are where they were
 pub stored-old : (buffer channels : ℕ) (ring : List ℤ) (from : ℕ) (samples : List ℤ) (n j q : ℕ)
     → HasRoom buffer channels ring → n * channels ≤ length samples
     → j < from → from + n ≤ j + buffer → q < channels
@@ -160,7 +160,7 @@ written_over-none ring place =
     ∙ ap (λ (n : ℕ). take place ring ++ drop n ring) (let same : place + 0 ≡ place = omega arith in same)
     ∙ take-append-drop place ring
 
--- a part written over right behind another is one part written over
+-- a part written over right after another is one part written over
 written_over-twice : (ring a b : List ℤ) (place : ℕ)
     → place + (length a + length b) ≤ length ring
     → written_over (written_over ring place a) (place + length a) b

@@ -52,7 +52,7 @@ AreAdds-segment c samples =
     (AreAdds-frame c.identity.member c.setup.bindings (λ q. sample_at samples (length c.setup.bindings) (c.stretch.source + (0 + c.stretch.committed)) q) c.stretch.part (c.stretch.card + (0 + c.stretch.committed)))
 
 module _ {S T : Type 0} (P : mixport.Ghosts S) (G : gates.Ghosts T) where
-  -- a client that laid nothing and has nothing written, at a port whose standing adds end in nothing
+  -- a client that placed nothing and has nothing written, at a port whose standing adds end in nothing
   pub IsBacked-new : (p : S) (c : ClientView) (samples : List ℤ) → c.stream.stretch.written ≡ 0
       → c.stream.stretch.committed ≡ 0 → c.stream.stretch.part ≡ 0 → P.ends_in p []
       → IsBacked P.ends_in p c samples
@@ -64,7 +64,7 @@ module _ {S T : Type 0} (P : mixport.Ghosts S) (G : gates.Ghosts T) where
         )) stand;
   }
 
-  -- after a call that lays entries
+  -- after a call that places entries
   pub IsBacked-grows : {X : Type 0} (s t : S × T) (c d : ClientView) (answer : Result X PcmError)
       (For : List ℤ → Type 0) (samples : List ℤ)
       → ((p q : S) (xs es : List Entry) → AreAdds es → P.laid p q es → P.ends_in p xs

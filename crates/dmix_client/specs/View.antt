@@ -35,7 +35,7 @@ queued_of c = c.stretch.written - hw_of c
 abbrev pub channels_of : PlaybackStream → ℕ
 channels_of c = length c.setup.bindings
 
--- the counts are near each other, so that the frames available are told by pointers that wrap
+-- the counts are near each other, so that the frames available are given by pointers that wrap
 pub record IsReady (c : PlaybackStream) : Type 0 where
   pub buffer_least : 1 ≤ c.setup.config.buffer_size
   pub buffer_most : c.setup.config.buffer_size ≤ 16384
@@ -60,7 +60,7 @@ pub record RunsWith (g : Geometry) (setup : Setup) (ring : List ℤ) : Type 0 wh
 abbrev pub IsConfigured : PlaybackStream → List ℤ → Type 0
 IsConfigured c ring = RunsWith c.identity.geometry c.setup ring
 
--- how far a stretch is that was started: all whole frames up to one are laid, and what isn't played fits the buffer, and so does
+-- how far a stretch is that was started: all whole frames up to one are placed, and what isn't played fits the buffer, and so does
 -- what is pending
 pub record IsUnderWay (stretch : Stretch) (seen : Option ℕ) (buffer_size : ℕ) : Type 0 where
   pub started : stretch.started ≡ true
@@ -73,7 +73,7 @@ pub record IsUnderWay (stretch : Stretch) (seen : Option ℕ) (buffer_size : ℕ
 abbrev pub IsMoving : PlaybackStream → Type 0
 IsMoving c = IsUnderWay c.stretch c.seen c.setup.config.buffer_size
 
--- the frames that are played, as far as the client saw, are laid: so it is after each sync that goes on
+-- the frames that are played, as far as the client saw, are placed: so it is after each sync that goes on
 abbrev pub IsLaidPast : PlaybackStream → Type 0
 IsLaidPast c = min c.stretch.written (hw_of c) ≤ c.stretch.committed
 
@@ -82,7 +82,7 @@ pub record IsGoing (c : PlaybackStream) : Type 0 where
   pub unstopped : c.status.stopped ≡ false
   pub moves : (c.status.state ≡ state.Setup → ⊥) → is_moving c.status.state ≡ true
 
--- a stretch that waits for its start: nothing is laid, and what is written fits the buffer
+-- a stretch that waits for its start: nothing is placed, and what is written fits the buffer
 pub record IsWaiting (stretch : Stretch) (buffer_size : ℕ) : Type 0 where
   pub waiting : stretch.started ≡ false
   pub no_frame : stretch.committed ≡ 0

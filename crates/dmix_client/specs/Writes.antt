@@ -8,7 +8,7 @@ use Rattle.dmix_client.specs.Ring.{with_frames}
 abbrev pub frames_in : PlaybackStream → List ℤ → ℕ
 frames_in c samples = length samples / length c.setup.bindings
 
--- the ring of a client with frames behind what is written
+-- the ring of a client with frames after what is written
 abbrev pub ring_with : PlaybackStream → List ℤ → List ℤ → ℕ → List ℤ
 ring_with c ring samples n =
     with_frames c.setup.config.buffer_size (length c.setup.bindings) ring

@@ -13,7 +13,7 @@ pub data Row : Type 0 where
 abbrev pub has_channel : List ℕ → ℕ → Bool
 has_channel channels c = list_any (λ k. k == c) channels
 
--- The owner of a channel: the last claim that holds it and isn't released, by the number of rows before it. The rows stand
+-- The owner of a channel: the last claim that holds it and isn't released, by the number of rows before it. The rows are
 -- with the last one first.
 abbrev pub owner_of : List Row → ℕ → Option ℕ
 owner_of [] c = None
@@ -47,16 +47,16 @@ abbrev pub greatest : List ℕ → Option ℕ
 greatest [] = None
 greatest (x ∷ xs) = later (Some x) (greatest xs)
 
--- the position behind a frame, if a number of 64 bits is one
-abbrev pub position_past : Option ℕ → Option ℕ
-position_past None = None
-position_past (Some frame) = if nat_lt (frame + 1) (2 ^ 64) then Some (frame + 1) else None
+-- the position after a frame, if a number of 64 bits is one
+abbrev pub behind : Option ℕ → Option ℕ
+behind None = None
+behind (Some frame) = if nat_lt (frame + 1) (2 ^ 64) then Some (frame + 1) else None
 
 -- some of these channels has an owner
 abbrev pub any_owned : List Row → List ℕ → Bool
 any_owned h channels = list_any (λ c. is_some (owner_of h c)) channels
 
--- from when on the channels are free, where that is known: not while one is owned, and else behind the greatest last frame
+-- from when on the channels are free, where that is known: not while one is owned, and else after the greatest last frame
 abbrev pub free_from : List Row → List ℕ → Option ℕ
 free_from h channels = if any_owned h channels then None else position_past (greatest (flat_map (last_frames h) channels))
 

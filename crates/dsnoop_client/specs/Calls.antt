@@ -1,5 +1,5 @@
 -- What each call of a reader makes of it, by the parts that the call does one after the other: with the positions that its
--- loads gave, and with what its frames came to.
+-- loads gave, and with what its frames ended in.
 use Rattle.std.specs.Prelude.{ℕ, ◌+◌, ◌&&◌, Bool, true, false, nat_eq, nat_le, nat_lt, if◌then◌else◌, min, List, Option, None, Some, Result, Ok, Err, unwrap_or}
 use Rattle.snd_base.specs.declared.errors.PcmError.{PcmError}
 use Rattle.snd_base.specs.declared.errors.PcmError.TheVariants as error

@@ -32,7 +32,7 @@ starts c call = loads (λ load. ends (after_start c call load))
 unfoldable pub syncs : CaptureStream → Call → Course (Answered (Unit {0}))
 syncs c call = loads (λ load. ends (after_sync c call load))
 
--- the frames of a read, behind its load
+-- the frames of a read, after its load
 unfoldable pub transfers : CaptureStream → ℕ → Course (Answered ℕ)
 transfers c n = gets_frames (taken_of c n) c.next >>= λ end. ends (read_after c n end.0 end.1)
 

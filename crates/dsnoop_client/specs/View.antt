@@ -31,7 +31,7 @@ abbrev pub is_running : State → Bool
 is_running Running = true
 is_running other = false
 
--- the counts are near each other, so that the frames available are told by pointers that wrap
+-- the counts are near each other, so that the frames available are given by pointers that wrap
 pub record IsReady (c : CaptureStream) : Type 0 where
   pub buffer_least : 1 ≤ c.setup.config.buffer_size
   pub buffer_most : c.setup.config.buffer_size ≤ 16384

@@ -66,7 +66,7 @@ pub record IsNewLobby (whole : MixSeat) (l : Lobby) : Type 0 where
   pub saw_none : seen_of_lobby l ≡ first_frame (key_of whole).geometry
   pub reaped_none : reaped_of l ≡ 0
 
--- the seat of one free place loaded the position, and laid nothing; no other seat did anything
+-- the seat of one free place loaded the position, and placed nothing; no other seat did anything
 pub record LoadsAt (load : MixSeat → MixSeat → Type 0) (before : List (Option MixSeat)) (place : ℕ) (after : List (Option MixSeat)) : Type 0 where
   pub seat : MixSeat
   pub loaded : MixSeat
@@ -111,7 +111,7 @@ pub record TakesBack (l m : Lobby) (s : MixSeat) : Type 0 where
   pub seats : free_seats m ≡ slice_set (free_seats l) (member_of s) (Some s)
   pub seen : seen_of_lobby m ≡ seen_of_lobby l
 
--- what the seats of all places laid, in the order of the places
+-- what the seats of all places placed, in the order of the places
 abbrev pub laid_by : Option MixSeat → List Entry
 laid_by None = []
 laid_by (Some s) = (view_of s).laid

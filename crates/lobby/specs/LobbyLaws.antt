@@ -1,4 +1,4 @@
--- What was laid by the seats of a lobby, place by place, after an attach.
+-- What was placed by the seats of a lobby, place by place, after an attach.
 use Rattle.std.specs.Prelude.{◌≡◌, ◌≢◌, ℕ, ◌<◌, List, Option, None, Some, length, slice_set}
 use Rattle.std.proofs.Common.{arith, ap, inl, inr, sym, ◌∙◌}
 use Rattle.std.proofs.Math.ListN.{get_or-eq_default}
@@ -16,7 +16,7 @@ within seats place s at = elim (cases_lt place (length seats)) [
   | inr past ↦ absurd (none-some s (sym (get_or-eq_default seats None (omega arith)) ∙ at))
 ]
 
--- the load of a seat keeps what was laid by the seat of each place
+-- the load of a seat keeps what was placed by the seat of each place
 pub LoadsAt-laid : (load : MixSeat → MixSeat → Type 0) (before : List (Option MixSeat)) (place : ℕ) (after : List (Option MixSeat)) (i : ℕ)
     → LoadsAt load before place after → laid_by (seat_at after i) ≡ laid_by (seat_at before i)
 LoadsAt-laid load before place after i is = ap (λ seats. laid_by (seat_at seats i)) is.after_is ∙ elim (cases_eq i place) [
@@ -27,7 +27,7 @@ LoadsAt-laid load before place after i is = ap (λ seats. laid_by (seat_at seats
   | inr other ↦ ap laid_by (get_or-set_other before place i (Some is.loaded) None other)
 ]
 
--- the seat that is handed out keeps what was laid by the seat of its place
+-- the seat that is handed out keeps what was placed by the seat of its place
 pub HandsOut-laid : (load : MixSeat → MixSeat → Type 0) (p : ℕ) (before : List (Option MixSeat)) (place : ℕ) (between : List (Option MixSeat)) (s : MixSeat) (after : List (Option MixSeat))
     → LoadsAt load before place between → HandsOut p before between s after → (view_of s).laid ≡ laid_by (seat_at before (member_of s))
 HandsOut-laid load p before place between s after loads out = ap laid_by (sym out.found) ∙ LoadsAt-laid load before place between (member_of s) loads

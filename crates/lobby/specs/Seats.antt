@@ -37,7 +37,7 @@ AreFree seats = All (λ o. is_some o ≡ true) seats
 abbrev pub lowest_free : List (Option MixSeat) → Option ℕ
 lowest_free seats = position is_some seats
 
--- the last frame in which a seat laid
+-- the last frame in which a seat placed a sample
 abbrev pub last_of : MixSeat → Option ℕ
 last_of s = last_frame (view_of s).laid
 

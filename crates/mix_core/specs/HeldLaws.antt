@@ -35,7 +35,7 @@ last_is st f c s is = elim (last_cases st) [
       (some.0, some.1, some.2, one.0, one.1, one.2)
 ]
 
--- a member's standing adds stand in the order of its marks
+-- a member's standing adds are in the order of its marks
 pub record Holds (g : Geometry) (m : Marks) (held : List Entry) : Type 0 where
   pub cursor_high : (c : ℕ) → first_free m.cursor c ≤ first_free m.high c
   pub holding : (free : List Entry) × IsHolding g m held free
@@ -169,7 +169,7 @@ may_in-add v m f c s inside channel from ahead fits h st all untaken =
 pub may_in-back : (v : View) (m f c : ℕ) (s : ℤ) → MayIn v (a_withdrawal m f c s)
 may_in-back v m f c s h st held untaken = (held, untaken)
 
--- a turn laid one entry
+-- a turn placed one entry
 pub TurnLaid-one : (t u : Turn) (e : Entry) → u.core.ghost_name ≡ t.core.ghost_name → u.member ≡ t.member → e.member ≡ t.member → IsLaidBy (core_of t) (core_of u) e
     → first_free (core_of t).next e.channel ≤ e.frame → MayIn (core_of t) e → TurnLaid t u (e ∷ [])
 TurnLaid-one t u e core member own_it laid untaken may = record {

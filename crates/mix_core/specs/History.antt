@@ -35,13 +35,13 @@ row_of e = (event_of e, In)
 abbrev pub late_row : Entry → Row
 late_row e = (event_of e, Late)
 
--- the entry that a row laid: that of an add or a withdrawal with the reply `In`
+-- the entry that a row placed: that of an add or a withdrawal with the reply `In`
 abbrev pub entry_of : Row → Option Entry
 entry_of (Add m f c s, In) = Some (an_add m f c s)
 entry_of (Withdraw m f c s, In) = Some (a_withdrawal m f c s)
 entry_of (e, r) = None
 
--- the entries that a history laid, in order
+-- the entries that a history placed, in order
 abbrev pub laid_of : List Row → List Entry
 laid_of h = filter_map entry_of h
 
@@ -121,7 +121,7 @@ AreReplies g members h (r ∷ rs) = IsReply g members h r × AreReplies g member
 abbrev pub IsLegal : Geometry → ℕ → List Row → Type 0
 IsLegal g members h = AreReplies g members [] h
 
--- where a taken word stood
+-- where a taken word was
 abbrev pub place_of : Taken → Cursor
 place_of t = record { frame = t.frame; channel = t.channel }
 

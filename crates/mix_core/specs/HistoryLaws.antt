@@ -1,4 +1,4 @@
--- What histories that were joined laid and took, and the sums of lists of entries that were joined.
+-- What histories that were joined placed and took, and the sums of lists of entries that were joined.
 use Rattle.std.specs.Prelude.{◌≡◌, ℕ, None, Some, List, [], ◌∷◌, ◌++◌, ℤ, pos, ◌+ℤ◌, filter, fold, map}
 use Rattle.std.proofs.Common.{refl, ap, ◌∙◌, arith}
 use Rattle.std.proofs.lemmas.Int.{ints}
@@ -13,7 +13,7 @@ use Rattle.mix_core.specs.declared.port.Entry.{Entry}
 use Rattle.mix_core.specs.History.{Row, entry_of, event_by, event_of, laid_of, late_row, position_after, row_of, taken_of, taking_of}
 use Rattle.mix_core.specs.Laid.{at, is_at, sum_of_samples, total, value_of}
 
--- the row of an entry laid it, and took nothing
+-- the row of an entry placed it, and took nothing
 pub entry_of-row : (e : Entry) → entry_of (row_of e) ≡ Some e
 entry_of-row e = by_kind e.kind e.member e.frame e.channel e.sample where
   by_kind : (k : Kind) (m f c : ℕ) (s : ℤ) → entry_of (event_by k m f c s, In) ≡ Some (record { member = m; frame = f; channel = c; sample = s; kind = k })
@@ -38,7 +38,7 @@ position_after-row p e r = by_kind e.kind e.member e.frame e.channel e.sample wh
   by_kind Added m f c s = refl
   by_kind Withdrawn m f c s = refl
 
--- the rows of entries laid these, and took nothing
+-- the rows of entries placed these, and took nothing
 pub laid_of-rows : (es : List Entry) → laid_of (map row_of es) ≡ es
 laid_of-rows [] = refl
 laid_of-rows (e ∷ es) = rw (entry_of-row e) (ap (λ xs. e ∷ xs) (laid_of-rows es))

@@ -1,4 +1,4 @@
--- Rows with the reply `Outside` may be left out of a history: what it laid and took and its position stay the same, and
+-- Rows with the reply `Outside` may be left out of a history: what it placed and took and its position stay the same, and
 -- so do the replies that it determines.
 use Rattle.std.specs.Prelude.{◌↔◌, ◌≡◌, ◌≢◌, ℕ, ◌+◌, ◌<◌, Bool, length, true, false, Option, None, List, [], ◌∷◌, ◌++◌, fold, filter, ℤ}
 use Rattle.std.specs.List.{filter_map}
@@ -34,7 +34,7 @@ fold-filter f p same y (x ∷ xs) = elim (cases_Bool (p x)) [
   | inr not_here ↦ rw (not_here, same y x not_here) (fold-filter f p same y xs)
 ]
 
--- a row that is left out lays nothing, takes nothing and leaves the position alone
+-- a row that is left out places nothing, takes nothing and leaves the position alone
 entry_of-outside : (r : Row) → is_kept r ≡ false → entry_of r ≡ None
 entry_of-outside (Add m f c s, In) out = cc
 entry_of-outside (Withdraw m f c s, In) out = cc
@@ -48,7 +48,7 @@ position_after-outside : (position : ℕ) (r : Row) → is_kept r ≡ false → 
 position_after-outside position (Publish, Published frame) out = cc
 position_after-outside position (e, r) out = refl
 
--- what a history laid and took, and its position, without the rows that are left out
+-- what a history placed and took, and its position, without the rows that are left out
 pub laid_of-kept : (h : List Row) → laid_of (kept_rows h) ≡ laid_of h
 laid_of-kept h = filter_map-filter entry_of is_kept entry_of-outside h
 
@@ -58,7 +58,7 @@ taken_of-kept h = filter_map-filter taking_of is_kept taking_of-outside h
 pub position_of-kept : (g : Geometry) (h : List Row) → position_of g (kept_rows h) ≡ position_of g h
 position_of-kept g h = fold-filter position_after is_kept position_after-outside (first_frame g) h
 
--- two histories that laid and took the same, with one position
+-- two histories that placed and took the same, with one position
 pub record AreAlike (g : Geometry) (h k : List Row) : Type 0 where
   pub laid : laid_of h ≡ laid_of k
   pub taken : taken_of h ≡ taken_of k

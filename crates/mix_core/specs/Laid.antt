@@ -1,4 +1,4 @@
--- What was laid into a ring: a list of entries, each by its member, frame, channel, sample and kind.
+-- What was placed in a ring: a list of entries, each by its member, frame, channel, sample and kind.
 use Rattle.std.specs.Prelude.{◌≡◌, ℕ, Bool, ◌==◌, ◌&&◌, Option, None, Some, List, [], ◌∷◌, ◌++◌, map, filter, fold, length, ⊤, ℤ, pos, ◌+ℤ◌, ◌-ℤ◌}
 use Rattle.snd_base.specs.declared.geometry.Geometry.{Geometry}
 use Rattle.snd_base.specs.declared.places.Cursor.{Cursor}
@@ -23,7 +23,7 @@ signed_sample Withdrawn s = pos 0 -ℤ s
 abbrev pub value_of : Entry → ℤ
 value_of e = signed_sample e.kind e.sample
 
--- whether an entry was laid at a frame and channel
+-- whether an entry was placed at a frame and channel
 abbrev pub is_at : ℕ → ℕ → Entry → Bool
 is_at f c e = (e.frame == f) && (e.channel == c)
 
@@ -39,7 +39,7 @@ sum_of_samples samples = fold (λ a s. a +ℤ s) (pos 0) samples
 abbrev pub total : List Entry → ℕ → ℕ → ℤ
 total es f c = sum_of_samples (at es f c)
 
--- how many entries stand at a frame and channel
+-- how many entries are at a frame and channel
 abbrev pub count : List Entry → ℕ → ℕ → ℕ
 count es f c = length (at es f c)
 
@@ -81,7 +81,7 @@ marks_with Withdrawn g at f c = withdrawn_at at f c
 abbrev pub marks_after : Geometry → Marks → Entry → Marks
 marks_after g at e = marks_with e.kind g at e.frame e.channel
 
--- the marks behind some entries of one member
+-- the marks after some entries of one member
 abbrev pub marks_from : Geometry → Marks → List Entry → Marks
 marks_from g m es = fold (marks_after g) m es
 

@@ -1,4 +1,4 @@
--- What is true of every legal history: how it goes on, and where its cursors and its next word stand.
+-- What is true of every legal history: how it goes on, and where its cursors and its next word are.
 use Rattle.std.specs.Prelude.{◌≡◌, ◌≢◌, ◌⊎◌, ℕ, ◌*◌, ◌<◌, ◌≤◌, None, Some, List, [], ◌∷◌, ◌++◌, length, ℤ}
 use Rattle.std.proofs.Common.{refl, sym, subst, ap, ◌∙◌, append_assoc, arith, inl, inr}
 use Rattle.std.proofs.Math.Nat.{div-lt_iff_lt-mul}
@@ -37,7 +37,7 @@ AreReplies-last g members h [] r are = subst (λ x. IsReply g members x r) (sym 
 AreReplies-last g members h (x ∷ xs) r are =
     subst (λ y. IsReply g members y r) (append_assoc h (x ∷ []) xs) (AreReplies-last g members (h ++ x ∷ []) xs r are.1)
 
--- what each reply keeps true stands after all of them
+-- what each reply keeps true holds after all of them
 pub AreReplies-keep : (g : Geometry) (members : ℕ) (P : List Row → Type 0)
     → ((h : List Row) (r : Row) → IsReply g members h r → P h → P (h ++ r ∷ []))
     → (h rs : List Row) → P h → AreReplies g members h rs → P (h ++ rs)
@@ -53,7 +53,7 @@ may_lay Withdrawn g members h m f c s = IsHeld g members h m f c s
 abbrev pub MayLay : Geometry → ℕ → List Row → Entry → Type 0
 MayLay g members h e = may_lay e.kind g members h e.member e.frame e.channel e.sample
 
--- a row lays nothing, or one entry where its member may
+-- a row places nothing, or one entry where its member may
 pub entry_of-cases : (g : Geometry) (members : ℕ) (h : List Row) (r : Row) → IsReply g members h r
     → (entry_of r ≡ None) ⊎ ((e : Entry) × ((entry_of r ≡ Some e) × MayLay g members h e))
 entry_of-cases g members h (Add m f c s, In) is = inr (an_add m f c s, (refl, is.0))
@@ -98,7 +98,7 @@ AreLeast-marked g Added m f c least l = record {
 }
 AreLeast-marked g Withdrawn m f c least l = record { cursor = least; floor = l.floor; high = l.high }
 
--- the frame of an entry that its member may lay is not before the first
+-- the frame of an entry that its member may place is not before the first
 laid-least : (g : Geometry) (members : ℕ) (h : List Row) (k : Kind) (m f c : ℕ) (s : ℤ) → AreLeast g (marks_of g m (laid_of h)) → may_lay k g members h m f c s → first_frame g ≤ f
 laid-least g members h Added m f c s l may = grind (arith, nat_tests, l.cursor, may.from_cursor)
 laid-least g members h Withdrawn m f c s l may = grind (arith, nat_tests, l.floor, may.from_floor)
@@ -136,12 +136,12 @@ frame-before_end g f within other =
     let fits : lap g f < 4294967296 = (div-lt_iff_lt-mul some).1 below in
     (div-lt_iff_lt-mul some).0 (omega (arith, other, fits))
 
--- the word behind one before the end is none past it
-behind-within : (g : Geometry) (at : Cursor) (c : ℕ) → at.frame < end_frame g → first_free (cursor_after g at.frame at.channel) c ≤ end_frame g
+-- the word after one before the end is none past it
+behind-within : (g : Geometry) (at : Cursor) (c : ℕ) → at.frame < end_frame g → first_free (behind g at.frame at.channel) c ≤ end_frame g
 behind-within g at c before = grind (arith, nat_tests)
 
--- after one more take the next word is the one right behind it, and after any other row it is the same
-pub next_of-took : (g : Geometry) (h : List Row) (r : Row) (t : Taken) → taking_of r ≡ Some t → next_of g (h ++ r ∷ []) ≡ cursor_after g (next_of g h).frame (next_of g h).channel
+-- after one more take the next word is the one right after it, and after any other row it is the same
+pub next_of-took : (g : Geometry) (h : List Row) (r : Row) (t : Taken) → taking_of r ≡ Some t → next_of g (h ++ r ∷ []) ≡ behind g (next_of g h).frame (next_of g h).channel
 next_of-took g h r t one =
     let more : taken_of (h ++ r ∷ []) ≡ taken_of h ++ t ∷ [] = rw (filter_map-append taking_of h (r ∷ []), one) refl in
     ap (λ ts. next_word g (length ts)) more ∙ (ap (next_word g) (length-append (taken_of h) (t ∷ [])) ∙ next_word-suc g (length (taken_of h)))

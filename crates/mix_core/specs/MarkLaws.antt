@@ -1,4 +1,4 @@
--- How many entries may stand where, and which adds may still be withdrawn: what marks say of the entries behind them.
+-- How many entries may be where, and which adds may still be withdrawn: what marks say of the entries that they come from.
 use Rattle.std.specs.Prelude.{◌≡◌, ◌⊎◌, ℕ, ◌+◌, ◌<◌, ◌≤◌, Bool, true, false, List, [], ◌∷◌, ◌++◌, drop, fold, length, ⊤, filter}
 use Rattle.std.proofs.Common.{get_or, refl, sym, subst, ap, ◌∙◌, append_assoc, arith, inl, inr}
 use Rattle.std.proofs.lemmas.Bool.{cases_Bool, cases_eq, cases_lt}
@@ -30,7 +30,7 @@ up_to_later a b c = grind (arith, nat_tests)
 pub later_up_to : (a b : Cursor) (c : ℕ) → first_free b c ≤ first_free (later_of a b) c
 later_up_to a b c = grind (arith, nat_tests)
 
--- a place from a cursor on stands from it on in each channel
+-- a place from a cursor on is from it on in each channel
 pub up_to_place : (at : Cursor) (f c d : ℕ) → IsFrom at f c → first_free at d ≤ first_free (record { frame = f; channel = c }) d
 up_to_place at f c d from = grind (arith, nat_tests)
 
@@ -209,7 +209,7 @@ AreRising-less g (x ∷ xs) e rising =
     let last : Each (λ y. IsBehind g (place_at y) x) (e ∷ []) = Each-right (λ y. IsBehind g (place_at y) x) xs (e ∷ []) rising.0 in
     ((Each-left (λ y. IsBehind g (place_at y) x) xs (e ∷ []) rising.0, rest.0), (last.0, rest.1))
 
--- which standing adds may still be withdrawn: all stand before the cursor; behind those that stand before the floor they end
+-- which standing adds may still be withdrawn: all are before the cursor; after those that are before the floor they end
 -- in these, which rise
 pub record IsHolding (g : Geometry) (m : Marks) (held free : List Entry) : Type 0 where
   pub before : Each (IsBehind g m.cursor) held
@@ -284,7 +284,7 @@ IsHolding-withdraw g m early free e x from =
       ends = (x.ends.0, same, x.ends.2);
     }
 
--- what holds of each entry holds of those that stand
+-- what holds of each holds of all but the last one
 pub each_without : {X : Type 0} (P : X → Type 0) (xs : List X) → Each P xs → Each P (without_last xs)
 each_without P [] all = tt
 each_without P (x ∷ []) all = tt

@@ -35,6 +35,6 @@ withdrawn_at m f c = record { cursor = record { frame = f; channel = c }; floor 
 abbrev pub last_before : Cursor → ℕ
 last_before at = if nat_eq at.channel 0 then at.frame - 1 else at.frame
 
--- the last frame in which a member with these marks laid a sample, withdrawn or not, if it laid one
+-- the last frame in which a member with these marks placed a sample, withdrawn or not, if it placed one
 abbrev pub high_frame : Geometry → Marks → Option ℕ
 high_frame g marks = if is_before (start_of g) marks.high then Some (last_before marks.high) else None

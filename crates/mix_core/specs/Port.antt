@@ -59,7 +59,7 @@ OnLate Whole P = ⊤
 OnLate (Late word) P = P word
 OnLate Stopped P = ⊤
 
--- what a step laid: its entry where it was done
+-- what a step placed: its entry where it was done
 abbrev pub entry_if : Ended → Entry → List Entry
 entry_if Whole e = e ∷ []
 entry_if (Late word) e = []

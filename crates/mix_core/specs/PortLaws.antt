@@ -1,4 +1,4 @@
--- Words that never fall, positions that never rise and fall, and standing adds behind further adds.
+-- Words that never fall, positions that never rise and fall, and standing adds after further adds.
 use Rattle.std.specs.Prelude.{◌≡◌, ℕ, List, [], ◌∷◌, ◌++◌, fold}
 use Rattle.std.proofs.Common.{refl, sym, ap, ◌∙◌, append_assoc, arith}
 use Rattle.std.proofs.lemmas.List.{append-nil}

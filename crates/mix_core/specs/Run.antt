@@ -51,7 +51,7 @@ pub record IsRun (v w : View) (es : List Event) (rs : List Reply) : Type 0 where
   pub replies : (h : List Row) → Stands v h → AreRepliesSince v.geometry (length v.marks) h [] (zip es rs)
   pub stands : (h : List Row) → Stands v h → Stands w (h ++ kept_rows (zip es rs))
 
--- a list holds the standing adds of all members after some rows, and these follow whatever stood before the rows
+-- a list holds the standing adds of all members after some rows, and these follow whatever was before the rows
 pub record Keeps (st : List Entry) (rows : List Row) : Type 0 where
   pub holds : (m : ℕ) → own_entries m st ≡ standing_of m (laid_of rows)
   pub backed : (m : ℕ) (before : List Entry) → fold stand_after before (own_entries m (laid_of rows)) ≡ before ++ standing_of m (laid_of rows)
@@ -80,7 +80,7 @@ pub record IsLastOf (st : List Entry) (m i : ℕ) : Type 0 where
   pub none_later : own_entries m (drop (i + 1) st) ≡ []
 
 -- a withdrawal's member has this standing add last: it is the sample that is withdrawn, from the floor on, and before the cursor and
--- the ring's length past the position, as everything that stands is
+-- the ring's length past the position, as each standing add is
 pub record MayWithdraw (v : View) (e last : Entry) : Type 0 where
   pub member_in_range : e.member < length v.marks
   pub channel_in_range : e.channel < v.geometry.channels

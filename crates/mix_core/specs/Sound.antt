@@ -8,7 +8,7 @@ use Rattle.snd_base.specs.Places.{IsWithin, end_frame, first_frame, first_free, 
 use Rattle.lap_word.specs.Word.{count_of, lap_of, sum_of}
 use Rattle.mix_core.specs.View.{View, word_at}
 
--- how many entries of a member may stand at a frame and channel: none from its high on, two from its cursor on, one from its
+-- how many entries of a member may be at a frame and channel: none from its high on, two from its cursor on, one from its
 -- floor on, and else three
 abbrev pub hold_at : ℕ → ℕ → ℕ → ℕ → ℕ
 hold_at f floor cursor high = if nat_lt f high then (if nat_lt f cursor then (if nat_lt f floor then 3 else 1) else 2) else 0

@@ -1,4 +1,4 @@
--- What a turn lays and loads: its core is a value behind a reference, and every history that the core stands for goes on.
+-- What a turn places and loads: its core is a value behind a reference, and every history that the core represents goes on.
 use Rattle.std.specs.Prelude.{◌≡◌, ◌≢◌, ◌<◌, ◌≤◌, ℕ, true, Option, Some, List, [], ◌∷◌, ◌++◌, All, ⊤, ℤ, length, map, slice_index}
 use Rattle.std.specs.Borrow.{MutBor}
 use Rattle.std.specs.List.{slice_index_or}
@@ -18,7 +18,7 @@ use Rattle.snd_base.specs.declared.geometry.Geometry.{Geometry}
 use Rattle.mix_core.specs.Stands.{Stands}
 use Rattle.mix_core.specs.View.{View, cursor_at, marks_at, word_at}
 
--- the core behind a turn, as it is now
+-- the core of a turn, as it is now
 abbrev pub core_of : Turn → View
 core_of t = t.core.now
 
@@ -41,7 +41,7 @@ view_of_turn t = record { geometry = t.core.now.geometry; member = t.member; can
 abbrev pub word_of_turn : Turn → ℕ → ℕ → Option ℕ
 word_of_turn t f c = Some (word_at t.core.now f c)
 
--- the member's standing adds end in a list, in a history that the core stands for
+-- the member's standing adds end in a list, in a history that the core represents
 abbrev pub TurnEndsIn : Turn → List Entry → Type 0
 TurnEndsIn t es = (h : List Row) × (Stands t.core.now h × EndsIn (standing_of t.member (laid_of h)) es)
 
@@ -59,7 +59,7 @@ abbrev pub AllContinue : Geometry → ℕ → List Row → List Entry → Type 0
 AllContinue g members h [] = ⊤
 AllContinue g members h (e ∷ es) = Continues g members h e × AllContinue g members (h ++ row_of e ∷ []) es
 
--- the turn holds the core that a reference lends
+-- the turn holds the core that a reference borrows
 abbrev pub HoldsCore : Turn → MutBor View → Type 0
 HoldsCore t core = t.core.ghost_name ≡ core.ghost_name
 
@@ -71,7 +71,7 @@ pub record KeepsRest (v w : View) : Type 0 where
   pub position : w.position ≡ v.position
   pub gone : w.gone ≡ v.gone
 
--- a turn laid some entries of its member: each history that the core stood for has their adds at its end, all in time
+-- a turn placed some entries of its member: each history that the core represented has their adds at its end, all in time
 pub record TurnLaid (t u : Turn) (es : List Entry) : Type 0 where
   pub same_core : u.core.ghost_name ≡ t.core.ghost_name
   pub same_member : u.member ≡ t.member
@@ -85,7 +85,7 @@ pub record TurnLaid (t u : Turn) (es : List Entry) : Type 0 where
   pub others : (m : ℕ) (d : Marks) → m ≢ t.member → slice_index_or (core_of u).marks m d ≡ slice_index_or (core_of t).marks m d
   pub stands : (h : List Row) → Stands (core_of t) h → AllContinue (core_of t).geometry (length (core_of t).marks) h es → Stands (core_of u) (h ++ map row_of es)
 
--- a turn's add of an entry was late: each history that the core stood for has this add at its end
+-- a turn's add of an entry was late: each history that the core represented has this add at its end
 abbrev pub TurnMissed : Turn → Turn → Entry → Type 0
 TurnMissed t u e =
     (h : List Row) → Stands (core_of t) h → Continues (core_of t).geometry (length (core_of t).marks) h e → Stands (core_of u) (h ++ late_row e ∷ [])
@@ -96,7 +96,7 @@ AreFound [] word = ⊤
 AreFound (w ∷ []) word = w ≡ word
 AreFound (w ∷ v ∷ ws) word = ⊥
 
--- what a turn finds where it is to lay an entry: it is done only where the frame and channel aren't taken yet, and late only where
+-- what a turn finds where it is to place an entry: it is done only where the frame and channel aren't taken yet, and late only where
 -- they are, and each history has the late row then
 pub record TurnFinds (t u : Turn) (e : Entry) (ended : Ended) (words : List ℕ) : Type 0 where
   pub in_time : OnWhole ended (first_free (core_of t).next e.channel ≤ e.frame)

@@ -1,4 +1,4 @@
--- What a turn lays and loads in two steps is joined, and an add that is late goes on each history.
+-- What a turn places and loads in two steps is joined, and an add that is late goes on each history.
 use Rattle.std.specs.Prelude.{◌≡◌, ◌+◌, ◌<◌, ◌≤◌, ℕ, ℤ, true, All, Some, List, [], ◌∷◌, ◌++◌, length, map, nat_lt, slice_index, ◌/◌, ◌==◌}
 use Rattle.std.proofs.Common.{suc, get_or, refl, sym, subst, ap, ◌∙◌, append_assoc, arith}
 use Rattle.std.proofs.lemmas.Bool.Decides.{nat_tests}
@@ -35,7 +35,7 @@ KeepsRest-joined u v w first then = record {
   gone = then.gone ∙ first.gone;
 }
 
--- the rows of joined lists stand behind each other
+-- the rows of joined lists are one after the other
 pub rows-joined : (h : List Row) (xs ys : List Entry) → (h ++ map row_of xs) ++ map row_of ys ≡ h ++ map row_of (xs ++ ys)
 rows-joined h xs ys = append_assoc h (map row_of xs) (map row_of ys) ∙ ap (λ rs. h ++ rs) (sym (map-append row_of xs ys))
 
@@ -148,13 +148,13 @@ inside-missed v h e can s = record {
   ahead = subst (λ p. e.frame < p + v.geometry.frames) s.position can.ahead;
 }
 
--- an add that is late goes on each history that the core stands for
+-- an add that is late goes on each history that the core represents
 pub Stands-missed : (v : View) (h : List Row) (e : Entry) → CanMiss v e → Stands v h → Stands v (h ++ late_row e ∷ [])
 Stands-missed v h e can s =
     let may : MayLay v.geometry (length v.marks) h e = subst (λ k. may_lay k v.geometry (length v.marks) h e.member e.frame e.channel e.sample) (sym can.kind) (inside-missed v h e can s) in
     Stands-late v h e may can.channel (least-missed v h e can s) can.taken s
 
--- from a turn whose member may add at a frame and channel that were taken, a turn that laid nothing missed this add
+-- from a turn whose member may add at a frame and channel that were taken, a turn that placed nothing missed this add
 pub TurnLaid-late : (t u : Turn) (e : Entry) → e.kind ≡ Added → e.member ≡ t.member
     → e.channel < (core_of t).geometry.channels → IsFrom (cursor_of_turn t) e.frame e.channel
     → e.frame < (core_of t).position + (core_of t).geometry.frames → e.frame < first_free (core_of t).next e.channel
@@ -174,8 +174,8 @@ TurnLaid-late t u e kind own channel from ahead taken laid h s all =
 pub TurnEndsIn-part : (t : Turn) (xs ys : List Entry) → TurnEndsIn t (xs ++ ys) → TurnEndsIn t ys
 TurnEndsIn-part t xs ys ends = (ends.0, (ends.1.0, (ends.1.1.0 ++ xs, ends.1.1.1 ∙ sym (append_assoc ends.1.1.0 xs ys))))
 
--- what a turn laid moves the marks, and no word that it shows falls
-pub TurnLaid-shown : (t u : Turn) (es : List Entry) (f c word : ℕ) → TurnLaid t u es → word_of_turn t f c ≡ Some word → ShowsFrom word_of_turn u f c word
+-- what a turn placed moves the marks, and no word that it shows falls
+pub TurnLaid-shown : (t u : Turn) (es : List Entry) (f c word : ℕ) → TurnLaid t u es → shown t f c ≡ Some word → ShowsFrom shown u f c word
 TurnLaid-shown t u es f c word laid is = record {
   now = word_at (core_of u) f c;
   shown = refl;

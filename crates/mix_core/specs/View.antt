@@ -34,7 +34,7 @@ pub record IsLateWord (v : View) (f c word : ℕ) : Type 0 where
   pub past : lap v.geometry f < lap_of word
   pub taken : f < first_free v.next c
 
--- a frame and channel that are not taken: they are at the next word or behind it, and not before the position
+-- a frame and channel that are not taken: they are at the next word or after it, and not before the position
 pub record IsUntaken (v : View) (f c : ℕ) : Type 0 where
   pub untaken : first_free v.next c ≤ f
   pub published : v.position ≤ f

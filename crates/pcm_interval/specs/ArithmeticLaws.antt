@@ -150,7 +150,7 @@ max-positive a filled min = omega (arith, IsNonEmpty-le a filled, min)
 
 -- ---- smaller intervals give a smaller one, where its lower end was not cut
 
--- a times b divided by k, integer as told
+-- a times b divided by k, integer as given
 abbrev product_by : Interval → Interval → ℕ → Bool → Interval
 product_by a b k integer = interval_between (a.min * b.min) k (a.openmin || b.openmin) (a.max * b.max) k (a.openmax || b.openmax) integer
 
@@ -253,7 +253,7 @@ lower_end-IsMember n d m e is_open d_pos e_pos low opens =
           ],
     )
 
--- what is rounded up is not above what it comes to
+-- what is rounded up is not above the result
 rounded_up-le : (n d : ℕ) → 0 < d → (n ≤ rounded_up n d * d) × (IsTrue (is_broken n d) → n < rounded_up n d * d)
 rounded_up-le n d d_pos =
     let parts : n / d * d + n % d ≡ n = div-add-mod' n d in

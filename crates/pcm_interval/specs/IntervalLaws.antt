@@ -38,7 +38,7 @@ IsWithin-trans a b c h g = IsWithin-from_places a c
     (omega (arith, IsWithin-upper_place a b h, IsWithin-upper_place b c g))
     (λ e. h.integer (g.integer e))
 
--- an end's place tells its number and whether it is open
+-- an end's place gives its number and whether it is open
 same_lower : (m n : ℕ) (o p : Bool) → 2 * m + bit_of o ≡ 2 * n + bit_of p → (m ≡ n) × (o ≡ p)
 same_lower m n true true h = (omega arith, refl)
 same_lower m n true false h = absurd (omega arith)
@@ -65,7 +65,7 @@ same_fields a b p q r s t =
     ∙ ap (λ (v : Bool). record a { min = b.min; max = b.max; openmin = b.openmin; openmax = v }) s
     ∙ ap (λ (v : Bool). record b { integer = v }) t
 
--- its places and whether it is integer tell an interval
+-- its places and whether it is integer determine an interval
 same_from_places : (a b : Interval) → lower_place a ≡ lower_place b → upper_place a ≡ upper_place b → a.integer ≡ b.integer → a ≡ b
 same_from_places a b lower upper integer =
     let low = same_lower a.min b.min a.openmin b.openmin lower in

@@ -103,7 +103,7 @@ abbrev pub still_draining : Call → Outcome
 still_draining Drain = refused_in Draining Again
 still_draining _ = done_in Draining
 
--- what a cell says, in the state that it stands under and for the call of its row
+-- what a cell says, in the state that it is under and for the call of its row
 abbrev pub outcome_of : Cell → State → Call → Facts → Outcome
 outcome_of (to s) _ _ _ = done_in s
 outcome_of ebadfd s _ _ = refused_in s BadState

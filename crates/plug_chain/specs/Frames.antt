@@ -39,6 +39,6 @@ frame_count c bytes = length bytes / frame_bytes c
 unfoldable pub frames_of : Conversion → List ℕ → List (List ℤ)
 frames_of c bytes = frames_in c (frame_count c bytes) bytes
 
--- the bytes behind the last whole frame
+-- the bytes after the last whole frame
 unfoldable pub rest_of : Conversion → List ℕ → List ℕ
 rest_of c bytes = drop (frame_count c bytes * frame_bytes c) bytes

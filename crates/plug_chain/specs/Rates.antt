@@ -29,7 +29,7 @@ frame_between part parts [] to = []
 frame_between part parts (x ∷ from) [] = on_line part parts x (pos 0) ∷ frame_between part parts from []
 frame_between part parts (x ∷ from) (y ∷ to) = on_line part parts x y ∷ frame_between part parts from to
 
--- the frame at a place; the last one stays behind the end
+-- the frame at a place; the last one stays past the end
 abbrev pub frame_at : List (List ℤ) → ℕ → List ℤ
 frame_at frames i = slice_index_or frames (min i (length frames - 1)) []
 

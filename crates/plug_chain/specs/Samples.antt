@@ -15,16 +15,16 @@ bytes_of S16Be = 2
 bytes_of S24Packed = 3
 bytes_of S32Le = 4
 
--- the number that bytes stand for, the low byte first
+-- the number that bytes represent, the low byte first
 abbrev pub low_first : List ℕ → ℕ
 low_first [] = 0
 low_first (b ∷ bytes) = b + 256 * low_first bytes
 
--- the signed number of so many bits that a number below 2 ^ bits stands for
-abbrev pub signed_number : ℕ → ℕ → ℤ
-signed_number bits n = if nat_lt n (2 ^ (bits - 1)) then pos n else pos n -ℤ pos (2 ^ bits)
+-- the signed number of so many bits that a number below 2 ^ bits represents
+abbrev pub signed : ℕ → ℕ → ℤ
+signed bits n = if nat_lt n (2 ^ (bits - 1)) then pos n else pos n -ℤ pos (2 ^ bits)
 
--- the sample of 16 bits that bytes stand for: a number of more bits is divided and rounded down
+-- the sample of 16 bits that bytes represent: a number of more bits is divided and rounded down
 abbrev pub wide_sample : Wide → List ℕ → ℤ
 wide_sample S8 bytes = sample_of formats.S8 bytes
 wide_sample U8 bytes = sample_of formats.U8 bytes

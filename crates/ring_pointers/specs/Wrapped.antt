@@ -1,4 +1,4 @@
--- The two pointers of a ring buffer, and the counts of frames that they stand for.
+-- The two pointers of a ring buffer, and the counts of frames that they represent.
 use Rattle.std.specs.Prelude.{◌≡◌, ℕ, ◌+◌, ◌-◌, ◌%◌, ◌^◌, ◌<◌, ◌≤◌}
 
 -- the pointers as a caller sees them, all in frames
@@ -28,6 +28,6 @@ pub record AreNear (m n : ℕ) : Type 0 where
   pub above : m < n + 2 ^ 48
   pub below : n < m + 2 ^ 48
 
--- how many frames lie between two pointers, going on at 0 behind the boundary
+-- how many frames lie between two pointers, going on at 0 past the boundary
 abbrev pub distance : ℕ → ℕ → ℕ → ℕ
 distance boundary from to = (to + (boundary - from)) % boundary

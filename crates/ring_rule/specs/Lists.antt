@@ -1,4 +1,4 @@
--- Where an item of a longer list stands.
+-- Where an item of a longer list is.
 use Rattle.std.specs.Prelude.{◌≡◌, ◌⊎◌, ℕ, zero, suc, List, [], ◌∷◌, ◌++◌, length}
 use Rattle.std.proofs.Common.{inl, inr, arith, sym, refl}
 use mathlib.Core.Option.{some, some-injective, some-ne-none}
@@ -20,7 +20,7 @@ at_append [] ys b j is = inr (j, is)
 at_append (x ∷ xs) ys b zero is = inl is
 at_append (x ∷ xs) ys b (suc j) is = elim (at_append xs ys b j is) [ inl here ↦ inl here | inr there ↦ inr there ]
 
--- an item of the second of joined lists stands behind the first
+-- an item of the second of joined lists is after the first
 pub at_second : {A : Type 0} (xs ys : List A) (i : ℕ) (b : A) → get_elem? ys i ≡ some b → (j : ℕ) × (get_elem? (xs ++ ys) j ≡ some b)
 at_second [] ys i b is = (i, is)
 at_second (x ∷ xs) ys i b is =

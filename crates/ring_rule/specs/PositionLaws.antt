@@ -77,7 +77,7 @@ has_all-published ns ms m is =
     list_any-append (λ n. n == m) ns (m ∷ []) ∙ or_right (list_any (λ n. n == m) ns) (list_any (λ n. n == m) (m ∷ [])) (rw own refl) in
     has_last (ns ++ m ∷ []) ms m (has_all-more ns (m ∷ []) ms is) here
 
--- what is among the positions stands at some place
+-- what is among the positions is at some place
 found_there : (ns : List ℕ) (m : ℕ) → list_any (λ n. n == m) ns ≡ true → (j : ℕ) × (get_elem? ns j ≡ some m)
 found_there [] m is = absurd (false≢true is)
 found_there (n ∷ ns) m is = elim (cases_eq n m) [

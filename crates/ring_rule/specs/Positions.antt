@@ -24,7 +24,7 @@ last_position g ps = last_of (first_frame g) ps
 abbrev pub IsPosition : Geometry → List ℕ → ℕ → Type 0
 IsPosition g ps p = (p ≡ first_frame g) ⊎ ((i : ℕ) × (get_elem? ps i ≡ some p))
 
--- whether each number of a list stands in another
+-- whether each number of a list is in another
 abbrev pub has_all : List ℕ → List ℕ → Bool
 has_all ns [] = true
 has_all ns (m ∷ ms) = list_any (λ n. n == m) ns && has_all ns ms

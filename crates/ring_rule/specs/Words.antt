@@ -1,5 +1,5 @@
--- The words of a ring: word 0 is the position's, and behind it stands one for each slot and channel. The upper half of such a
--- word tells its lap.
+-- The words of a ring: word 0 is the position's, and after it is one for each slot and channel. The upper half of such a
+-- word says its lap.
 use Rattle.std.specs.Prelude.{◌≡◌, ℕ, ◌+◌, ◌*◌, ◌/◌, ◌<◌, ◌⊎◌}
 use Rattle.snd_base.specs.declared.geometry.Geometry.{Geometry}
 use Rattle.snd_base.specs.Places.{word_index}
@@ -8,7 +8,7 @@ use Rattle.snd_base.specs.Places.{word_index}
 abbrev pub words_of : Geometry → ℕ
 words_of g = g.frames * g.channels + 1
 
--- where the word of a frame and channel stands
+-- where the word of a frame and channel is
 abbrev pub index_of : Geometry → ℕ → ℕ → ℕ
 index_of g f c = word_index g f c + 1
 

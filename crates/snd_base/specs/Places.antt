@@ -27,17 +27,17 @@ word_index g f c = slot g f * g.channels + c
 abbrev pub next_word : Geometry → ℕ → Cursor
 next_word g n = record { frame = first_frame g + n / g.channels; channel = n % g.channels }
 
--- the first frame whose channel c is at a cursor or behind it
+-- the first frame whose channel c is at a cursor or after it
 abbrev pub first_free : Cursor → ℕ → ℕ
 first_free at c = if nat_lt c at.channel then at.frame + 1 else at.frame
 
--- a frame and channel are at a cursor or behind it, by frame and then by channel
+-- a frame and channel are at a cursor or after it, by frame and then by channel
 abbrev pub IsFrom : Cursor → ℕ → ℕ → Type 0
 IsFrom at f c = first_free at c ≤ f
 
--- the cursor right behind a frame and channel
-abbrev pub cursor_after : Geometry → ℕ → ℕ → Cursor
-cursor_after g f c =
+-- the cursor right after a frame and channel
+abbrev pub behind : Geometry → ℕ → ℕ → Cursor
+behind g f c =
     if nat_lt (c + 1) g.channels then record { frame = f; channel = c + 1 } else record { frame = f + 1; channel = 0 }
 
 -- a frame number from the first frame to one past the last

@@ -1,4 +1,4 @@
--- Relations between two states of a value that tell by a list what happened from the one to the other.
+-- Relations between two states of a value that say by a list what happened from the one to the other.
 use Rattle.std.specs.Prelude.{List, [], ◌++◌}
 use Rattle.std.proofs.Common.{subst}
 use Rattle.std.proofs.lemmas.List.{append-nil}

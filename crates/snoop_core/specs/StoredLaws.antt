@@ -1,4 +1,4 @@
--- One more sample is stored, and what a word of a frame and channel tells.
+-- One more sample is stored, and what a word of a frame and channel says.
 use Rattle.std.specs.Prelude.{◌≡◌, ◌≢◌, ℕ, ◌+◌, ◌-◌, ◌*◌, ◌/◌, ◌%◌, ◌<◌, ◌≤◌, List, [], ◌∷◌, ◌++◌, length, ℤ, pos, ◌⊎◌}
 use Rattle.std.proofs.Common.{inl, inr, arith, subst, sym, ap, ◌∙◌}
 use Rattle.std.proofs.lemmas.Bool.{cases_eq, cases_lt}
@@ -50,7 +50,7 @@ last_of_slot g next f c in_range least stored =
       ]),
     )
 
--- what the laps of the word of a stored frame and channel tell
+-- what the laps of the word of a stored frame and channel say
 pub record IsByLaps (g : Geometry) (next : Cursor) (word f c : ℕ) : Type 0 where
   pub not_before : lap g f + 1 ≤ laps_of word
   pub past : f + g.frames < first_free next c → lap g f + 1 < laps_of word
@@ -168,7 +168,7 @@ HaveLaps-written g next new x before after in_range written holds laps =
     last-written (λ w f c. laps_of w ≡ lap g f + 1) (λ w f c. laps_of w ≡ lap g f + 1) g next new before after in_range written
     (HoldsSample-fields new _ x holds).0 (λ w f c d l s is. is) laps
 
--- the next place is behind all that was stored
+-- the next place is after all that was stored
 pub next_at-channel : (g : Geometry) (xs : List ℤ) → (next_at g xs).channel < g.channels
 next_at-channel g xs = mod-lt (length xs) (omega (arith, g.channels_least))
 
@@ -259,7 +259,7 @@ first_free-next g n m c up =
 pub first_free-more : (g : Geometry) (xs ys : List ℤ) (c : ℕ) → first_free (next_at g xs) c ≤ first_free (next_at g (xs ++ ys)) c
 first_free-more g xs ys c = first_free-next g (length xs) (length (xs ++ ys)) c (omega (arith, Rattle.std.proofs.lemmas.List.length-append xs ys))
 
--- what the words hold tells their laps
+-- what the words hold gives their laps
 pub HaveLaps-holding : (g : Geometry) (word : ℕ → ℕ → ℕ) (xs : List ℤ) → HoldLast g word xs → HaveLaps g (next_at g xs) word
 HaveLaps-holding g word xs holds f c is = (HoldsSample-fields _ _ _ (holds.last f c is)).0
 

@@ -9,11 +9,11 @@ use Rattle.snoop_core.specs.Port.{OnGot, OnOvertaken, SnoopView}
 use Rattle.snoop_core.specs.Stored.{IsCaptured}
 use Rattle.snoop_core.specs.View.{Represents, View, geometry_of, next_frame, word_at}
 
--- the core behind a turn, as it is now
+-- the core of a turn, as it is now
 abbrev pub core_of : SnoopTurn → View
 core_of t = t.core.now
 
--- the turn holds the core that a reference lends
+-- the turn holds the core that a reference borrows
 abbrev pub HoldsCore : SnoopTurn → MutBor View → Type 0
 HoldsCore t core = t.core.ghost_name ≡ core.ghost_name
 

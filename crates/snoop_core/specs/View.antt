@@ -59,7 +59,7 @@ IsPublished v w = w ≡ record v { position = next_frame v }
 abbrev pub IsUnplugged : View → View → Type 0
 IsUnplugged v w = w ≡ record v { gone = true }
 
--- the word of a published frame's slot and a channel, and what it tells: by its laps whether the frame was stored over, and else
+-- the word of a published frame's slot and a channel, and what it says: by its laps whether the frame was stored over, and else
 -- the frame's sample
 pub record IsFoundWord (v : View) (f c word : ℕ) : Type 0 where
   pub published : v.position ≤ next_frame v

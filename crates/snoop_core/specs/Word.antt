@@ -3,7 +3,7 @@ use Rattle.std.specs.Prelude.{◌≡◌, ℕ, ◌*◌, ◌/◌, ◌%◌, ◌<◌
 use Rattle.std.proofs.Common.{arith}
 use Rattle.std.proofs.lemmas.Int.{ints}
 
--- the laps that a word tells of: one more than the lap of the frame that it holds
+-- the laps that a word says: one more than the lap of the frame that it holds
 abbrev pub laps_of : ℕ → ℕ
 laps_of w = w / 4294967296
 

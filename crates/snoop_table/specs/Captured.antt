@@ -52,7 +52,7 @@ abbrev pub IsPart : Geometry → List ℤ → Frame → Type 0
 IsPart g xs frame = (c : ℕ) → c < length frame.samples → IsSample g xs frame.number c (slice_index_or frame.samples c (pos 0))
 
 -- what a seat knows is so: it saw positions that were published, and the card gone only where it is; each word that it noted is
--- not past the word that stands there now; each frame that it got, and each sample of the one that it is loading, is the stored
+-- not past the word that is there now; each frame that it got, and each sample of the one that it is loading, is the stored
 -- one of that number
 pub record IsView (g : Geometry) (words : List ℕ) (t : Track) (v : View) : Type 0 where
   pub seen_high : v.seen ≤ position_of g t

@@ -22,7 +22,7 @@ use Rattle.snoop_table.specs.Cuts.{both_of, part_of}
 use Rattle.snoop_table.specs.Readers.{ring_of, view_of}
 use Rattle.snoop_table.specs.Writers.{desk_of, desk_ring, desk_track, desk_view, writer_geometry, writer_track}
 
--- two seats are of one ring. That one ring has one geometry is not told by its identity, so both are asked
+-- two seats are of one ring. That one ring has one geometry is not given by its identity, so both are asked
 abbrev pub OneRing : TableId → Geometry → TableId → Geometry → Type 0
 OneRing a g b h = (a ≡ b) × (g ≡ h)
 

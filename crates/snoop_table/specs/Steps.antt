@@ -1,4 +1,4 @@
--- What each kind of step does to the view of the seat that makes it, and what it tells.
+-- What each kind of step does to the view of the seat that makes it, and what it says.
 use Rattle.std.specs.Prelude.{◌≡◌, ◌≢◌, ℕ, zero, suc, ◌+◌, ◌<◌, ◌≤◌, ◌==◌, Bool, true, None, Some, List, [], ◌∷◌, ◌++◌, length, slice_set, if◌then◌else◌, ℤ}
 use Rattle.std.specs.List.{slice_index_or}
 use mathlib.Core.Option.{some}
@@ -65,7 +65,7 @@ pub record IsNext (v : View) (f c : ℕ) : Type 0 where
   pub of_frame : 0 < c → v.loading.number ≡ f
   pub after : 0 < c → length v.loading.samples ≡ c
 
--- what a word of a frame and channel that were stored, as far as the seat has seen, tells it
+-- what a word of a frame and channel that were stored, as far as the seat has seen, shows it
 pub record Finds (v : View) (f c n : ℕ) : Type 0 where
   pub noted : (o : ℕ) → slice_index_or v.noted (index_of v.geometry f c) None ≡ Some o → NotPast o n
   pub not_before : lap v.geometry f + 1 ≤ laps_of n
@@ -100,7 +100,7 @@ position_store s m n r =
 abbrev pub unplug_store : Step (Unit {0}) → Me (Unit {0}) View → ℕ → Me (Unit {0}) View → Type 0
 unplug_store s m n r = (t : Track) × (m.0.track ≡ Some t) × (r ≡ (with_gone m.0 t, m.1))
 
--- what the rule tells of a view that has the writer's part: the positions that it saw were published, the card was seen gone
+-- what the rule says of a view that has the writer's part: the positions that it saw were published, the card was seen gone
 -- only where it is, each noted word's lap is at most that of the last frame stored there, or of a new ring's word where none was, and
 -- each frame that it got is the stored one of its number
 pub record Knows (v : View) (t : Track) : Type 0 where

@@ -51,7 +51,7 @@ pub record HasStoredPart (d e : Desk) (xs : List ℤ) : Type 0 where
   pub position : e.position ≡ d.position
   pub gone : e.gone ≡ d.gone
 
--- the next frame was stored: its samples stand at the end of the stored list
+-- the next frame was stored: its samples are at the end of the stored list
 pub record HasStored (d e : Desk) (xs : List ℤ) : Type 0 where
   pub ring : desk_ring e ≡ desk_ring d
   pub geometry : e.geometry ≡ d.geometry

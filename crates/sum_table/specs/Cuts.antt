@@ -17,7 +17,7 @@ with_places v n = record v { places = n }
 abbrev pub without_places : View → ℕ → View
 without_places v n = with_places v (v.places - n)
 
--- the view of a new seat that gets some places of a view: it has seen as much, and laid nothing
+-- the view of a new seat that gets some places of a view: it has seen as much, and placed nothing
 abbrev pub part_of : View → ℕ → View
 part_of v n = record {
   key = v.key;
@@ -37,8 +37,8 @@ part_of v n = record {
   ended = false;
 }
 
--- the marks of two views that are joined: all stand at the later high. Where the view that is joined away has no places, it
--- laid nothing, and the marks stay
+-- the marks of two views that are joined: all are at the later high. Where the view that is joined away has no places, it
+-- placed nothing, and the marks stay
 abbrev pub joined_marks : Marks → Marks → ℕ → Marks
 joined_marks a b zero = a
 joined_marks a b (suc n) = record { cursor = later_of a.high b.high; floor = later_of a.high b.high; high = later_of a.high b.high }
@@ -108,7 +108,7 @@ no_ring = record {
   most = no_ring-places;
 }
 
--- the view of a seat that has ended: no places, nothing laid, seen or noted
+-- the view of a seat that has ended: no places, nothing placed, seen or noted
 abbrev pub spent_view : View
 spent_view = record {
   key = no_ring;

@@ -66,8 +66,8 @@ pub record IsLaid (g : Geometry) (seen : ℕ) (e : Entry) : Type 0 where
   pub ahead : e.frame < seen + g.frames
   pub fits : lap g e.frame < 4294967295
 
--- the marks behind a seat's own entries and its marks: the same but for the floor, or, after a join, all of the seat's marks
--- stand at its high, and no own mark is past them
+-- the marks after a seat's own entries and its marks: the same but for the floor, or, after a join, all of the seat's marks
+-- are at its high, and no own mark is past them
 pub record SameTops (a b : Marks) : Type 0 where
   pub cursor : a.cursor ≡ b.cursor
   pub high : a.high ≡ b.high
@@ -87,8 +87,8 @@ pub record IsOwn (g : Geometry) (mine free : List Entry) (marks : Marks) : Type 
   pub ends : EndsIn (standing mine) free
   pub within : AreWithinMarks (marks_by g mine) marks
 
--- what a seat laid: its entries are in the ring; at each frame and channel there are at most three for each place, and where
--- its marks say so fewer; of these at most one for each place stands; none stands from its cursor on; and those from its floor
+-- what a seat placed: its entries are in the ring; at each frame and channel there are at most three for each place, and where
+-- its marks say so fewer; of these at most one for each place is standing; no standing one is from its cursor on; and those from its floor
 -- on rise and end the standing ones
 pub record IsKept (g : Geometry) (places : ℕ) (es mine free : List Entry) (marks : Marks) (seen : ℕ) (ended : Bool) : Type 0 where
   pub laid : (i : ℕ) (e : Entry) → get_elem? es i ≡ some e → IsLaid g seen e
@@ -119,7 +119,7 @@ pub record AreViews (k : Key) (words : List ℕ) (views : List View) (at : ℕ) 
   pub player : (i : ℕ) (v : View) (u : Track) → get_elem? views i ≡ some v → v.track ≡ Some u → (i ≡ at) × (u ≡ t)
 
 -- a history is that of the ring: it is legal for every number of members from the number of seats on, it took and published
--- what the player did, and laid as many samples, of the same sum, as the views; the adds of a member are those that the
+-- what the player did, and placed as many samples, of the same sum, as the views; the adds of a member are those that the
 -- seat of this number made itself, and its cursor is not past the seat's
 pub record IsHistory (g : Geometry) (views : List View) (t : Track) (h : List Row) : Type 0 where
   pub legal : (members : ℕ) → length views ≤ members → IsLegal g members h

@@ -49,7 +49,7 @@ pub record Stays (s t : MixSeat) : Type 0 where
   pub seen : t.seen ≡ s.seen
   pub last : t.reach.last ≡ s.reach.last
 
--- some places moved to a new seat, which has seen as much and laid nothing
+-- some places moved to a new seat, which has seen as much and placed nothing
 pub record HasSplit (s t new : MixSeat) (n m : ℕ) : Type 0 where
   pub stays : Stays s t
   pub view : view_of t ≡ without_places (view_of s) n
@@ -63,7 +63,7 @@ pub record HasSplit (s t new : MixSeat) (n m : ℕ) : Type 0 where
   pub new_seen : new.seen ≡ s.seen
   pub new_last : new.reach.last ≡ None
 
--- a seat took over what another one is and has: places and laid lists add up, the later cursor and notes stay, and what
+-- a seat took over what another one is and has: places and lists of placed entries add up, the later cursor and notes stay, and what
 -- either has seen both have seen
 pub record HasJoined (s t other : MixSeat) : Type 0 where
   pub ring : ring_of t ≡ ring_of s
@@ -89,7 +89,7 @@ pub record HasNote (s t : MixSeat) (n : SeatNote) : Type 0 where
   pub seen : note_seen n ≡ s.seen
   pub gone : (note_view n).seen_gone ≡ (view_of s).seen_gone
 
--- a mix seat met a note: it has seen what the note has seen, and has the same places, laid list and cursor as before
+-- a mix seat met a note: it has seen what the note has seen, and has the same places, list of placed entries and cursor as before
 pub record HasMet (s t : MixSeat) (n : SeatNote) : Type 0 where
   pub ring : ring_of t ≡ ring_of s
   pub key : t.key ≡ s.key
@@ -142,7 +142,7 @@ pub record HasHeard (p q : PlayerSeat) (n : SeatNote) : Type 0 where
 
 -- the ring was closed: everything that the player took is in order, and each value is the sum of exactly the samples
 -- that the mix seat placed there, saturated once. The ring's whole history is legal, took what the player took, and placed as many
--- samples, of the same sum, as the seat's laid list
+-- samples, of the same sum, as the seat's list of placed entries
 pub record HasClosed (s : MixSeat) (p : PlayerSeat) (c : Closed) : Type 0 where
   pub position : c.position ≡ position_at (key_of s).geometry (track_of p)
   pub next : c.next ≡ next_at (key_of s).geometry (track_of p)

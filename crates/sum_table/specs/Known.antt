@@ -37,13 +37,13 @@ pub record IsNoted (v : View) (k : Key) : Type 0 where
   pub room : length v.noted ≡ words_of k.geometry
   pub words : (i n : ℕ) → slice_index_or v.noted i None ≡ Some n → IsWord n k.places
 
--- the frame after the greatest one that was laid in, and the first frame where nothing was laid
+-- the frame after the greatest one that was placed in, and the first frame where nothing was placed
 abbrev pub free_from : Geometry → Option ℕ → ℕ
 free_from g None = first_frame g
 free_from g (Some frame) = frame + 1
 
--- the greatest frame that a seat laid in is the last one before its high; its cursor and its floor aren't past the frame after it; and a
--- seat without a place laid nothing
+-- the greatest frame that a seat placed in is the last one before its high; its cursor and its floor aren't past the frame after it; and a
+-- seat without a place placed nothing
 pub record IsReach (g : Geometry) (marks : Marks) (places : ℕ) (last : Option ℕ) : Type 0 where
   pub high : high_frame g marks ≡ last
   pub cursor : IsFrom marks.cursor (free_from g last) 0

@@ -1,4 +1,4 @@
--- What all seats laid, what one member laid, and which places the seats have.
+-- What all seats placed, what one member placed, and which places the seats have.
 use Rattle.std.specs.Prelude.{◌≡◌, ℕ, ◌+◌, List, [], ◌∷◌, ◌++◌}
 use Rattle.mix_core.specs.declared.port.Entry.{Entry}
 pub use Rattle.mix_core.specs.Laid.{count, own_entries, total}
@@ -9,7 +9,7 @@ pub record SameSums (xs ys : List Entry) : Type 0 where
   pub counts : (f c : ℕ) → count xs f c ≡ count ys f c
   pub totals : (f c : ℕ) → total xs f c ≡ total ys f c
 
--- everything that was laid: the lists of all views together
+-- everything that was placed: the lists of all views together
 abbrev pub all_laid : List View → List Entry
 all_laid [] = []
 all_laid (v ∷ vs) = v.laid ++ all_laid vs

@@ -59,7 +59,7 @@ geometry_of s = s.key.geometry
 abbrev pub member_of : MixSeat → ℕ
 member_of s = s.member
 
--- how many places the seat has, how far it has laid, the greatest position that it saw, and the greatest frame that it laid in
+-- how many places the seat has, how far it has placed samples, the greatest position that it saw, and the greatest frame that it placed in
 abbrev pub places_of_seat : MixSeat → ℕ
 places_of_seat s = s.places
 
@@ -108,7 +108,7 @@ seat_view s = record { geometry = s.key.geometry; member = s.member; can_add = n
 abbrev pub history_of : MixSeat → List Row
 history_of s = (view_of s).history
 
--- the entry that a seat lays: it adds a sample, or withdraws it
+-- the entry that a seat places: it adds a sample, or withdraws it
 abbrev pub entry_by : MixSeat → Kind → ℕ → ℕ → ℤ → Entry
 entry_by s k f c x = record { member = s.member; frame = f; channel = c; sample = x; kind = k }
 
@@ -148,7 +148,7 @@ Adds g h mine (e ∷ es) later =
     × (own_entries by (laid_of j) ≡ map (by_member by) (mine ++ e ∷ []))
     × Adds g j (mine ++ e ∷ []) es later
 
--- a seat laid some entries: its laid list, and the list of what it laid itself, have them at their end, and so has the
+-- a seat placed some entries: its list of placed entries, and the list of what it placed itself, have them at their end, and so has the
 -- ring's history as far as the seat has seen it; and its marks went on by them
 pub record SeatLaid (s t : MixSeat) (es : List Entry) : Type 0 where
   pub goes : IsLaterSeat s t
@@ -217,7 +217,7 @@ MakesLate s t e =
     × IsStep (view_of s) (view_of t) by members between []
     × IsReply (geometry_of s) members (view_of t).history (late_row (by_member by e))
 
--- what an attempt to lay an entry found: exactly these words more, in order, at the entry's frame and channel. One that was in
+-- what an attempt to place an entry found: exactly these words more, in order, at the entry's frame and channel. One that was in
 -- time is an event with the reply `In`, and one that was late an event with the reply `Late`, as the history determines
 pub record SeatFinds (s t : MixSeat) (e : Entry) (ended : Ended) (words : List ℕ) : Type 0 where
   pub sightings : (view_of t).sightings ≡ (view_of s).sightings ++ map (sighting (index_of s.key.geometry e.frame e.channel)) words

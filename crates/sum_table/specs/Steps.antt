@@ -1,4 +1,4 @@
--- What each kind of step does to the view of the seat that makes it, and what it tells.
+-- What each kind of step does to the view of the seat that makes it, and what it says.
 use Rattle.std.specs.Prelude.{◌≡◌, ◌≢◌, ◌⊎◌, ℕ, ◌+◌, ◌*◌, ◌<◌, ◌≤◌, Bool, true, None, Some, List, [], ◌∷◌, ◌++◌, map, slice_set, ℤ, pos, ◌+ℤ◌, ◌≤ℤ◌, ◌^◌}
 use Rattle.std.specs.List.{slice_index_or}
 use mathlib.Core.Option.{some}
@@ -45,7 +45,7 @@ abbrev pub withdrawable_after : Kind → Marks → List Entry → Entry → List
 withdrawable_after Added m free e = free_after (is_before m.cursor m.high) free e
 withdrawable_after Withdrawn m free e = without_last free
 
--- it laid an entry: it added a sample, or withdrew it
+-- it placed an entry: it added a sample, or withdrew it
 abbrev pub with_entry : View → List Row → Entry → View
 with_entry v h e = record v {
   history = h;
@@ -84,7 +84,7 @@ track_gone t = record t { gone = true }
 abbrev pub with_gone : View → List Row → Track → View
 with_gone v h t = record v { history = h; seen_gone = true; track = Some (track_gone t) }
 
--- the row of an entry that a member laid: an add that was in time
+-- the row of an entry that a member placed: an add that was in time
 abbrev pub in_row : ℕ → Entry → Row
 in_row m e = row_of (by_member m e)
 
@@ -145,7 +145,7 @@ pub record IsWord (w most : ℕ) : Type 0 where
   pub low : pos 0 ≤ℤ (sum_of w +ℤ pos (32768 * count_of w))
   pub high : sum_of w ≤ℤ pos (32768 * count_of w)
 
--- what a word that was found tells of a frame and channel: the lap isn't behind the frame's, below the position seen it is
+-- what a word that was found says of a frame and channel: the lap isn't before the frame's, below the position seen it is
 -- past it, and at the frame's own lap there is room for all places of a seat that hasn't added there
 pub record Tells (v : View) (n f c : ℕ) : Type 0 where
   pub not_before : lap v.key.geometry f ≤ lap_of n
@@ -185,7 +185,7 @@ Notes v c i n r =
 abbrev pub word_load : Step Entry → Me Entry View → ℕ → Me Entry View → Type 0
 word_load s m n r = Finds m.0 s.word n × Notes m.0 m.1 s.word n r
 
--- an entry was laid
+-- an entry was placed
 abbrev pub Lays : View → List (ℕ × Entry) → Entry → Me Entry View → Type 0
 Lays v c e r =
     (h : List Row)
@@ -221,10 +221,10 @@ unplug_store s m n r =
     × (r ≡ (with_gone m.0 h t, m.1))
     × Makes m.0 (with_gone m.0 h t) (λ _. [])
 
--- what the rule tells of a view that has the player's part: the positions that it saw were published, the card was seen gone
+-- what the rule says of a view that has the player's part: the positions that it saw were published, the card was seen gone
 -- only where it is, each noted word's lap is at most that of the first frame there that is not taken, the history took what
--- the player took; and where the view has all places, each taken value is the sum of the samples that it laid there, and the
--- history laid these
+-- the player took; and where the view has all places, each taken value is the sum of the samples that it placed there, and the
+-- history placed these
 pub record Knows (v : View) (t : Track) : Type 0 where
   pub seen : v.seen ≤ position_at v.key.geometry t
   pub positions : (i p : ℕ) → get_elem? v.positions i ≡ some p → IsPublished v.key.geometry t p

@@ -12,7 +12,7 @@ pub record Holds (files : Files) (name : List ℕ) (sound : Sound) : Type 0 wher
   pub fetched : piece files name 0 67108865 ≡ Some bytes
   pub read : wav_file bytes ≡ Ok sound
 
--- the sound that a file holds stands under another name in its canonical form, and no other file changed
+-- the sound that a file holds is under another name in its canonical form, and no other file changed
 pub record IsCopied (before after : Option Files) (from to : List ℕ) : Type 0 where
   pub sound : Sound
   pub held : ForSome before (λ files. Holds files from sound)

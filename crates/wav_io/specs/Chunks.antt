@@ -17,7 +17,7 @@ size_at bytes = number_at w32 4 bytes
 abbrev pub first_chunk : List ℕ → Chunk
 first_chunk bytes = record { name = take 4 bytes; size = size_at bytes; body = take (size_at bytes) (drop 8 bytes) }
 
--- the bytes behind the first chunk, and behind a pad byte after an odd size
+-- the bytes after the first chunk, and after a pad byte after an odd size
 abbrev pub after_chunk : List ℕ → List ℕ
 after_chunk bytes = drop (size_at bytes + size_at bytes % 2) (drop 8 bytes)
 

@@ -19,9 +19,9 @@ found_from depths (FormatBody missing pad) kept bytes =
 found_from depths (DataBody format missing) kept bytes = body_found format (take missing bytes)
 found_from depths (Refused e) kept bytes = refused e
 
--- a chunk of which the head is known, and the bytes behind it
-abbrev pub chunk_of_size : List ℕ → ℕ → List ℕ → Chunk
-chunk_of_size name size bytes = record { name = name; size = size; body = take size bytes }
+-- a chunk of which the head is known, and the bytes after it
+abbrev pub sized : List ℕ → ℕ → List ℕ → Chunk
+sized name size bytes = record { name = name; size = size; body = take size bytes }
 
 abbrev pub bytes_after : ℕ → List ℕ → List ℕ
 bytes_after size bytes = drop (size + size % 2) bytes
@@ -48,8 +48,8 @@ pub record LeadsTo (depths : Depths) (new : Place) (find : List ℕ → Finding)
   pub place : IsPlace new []
   pub opened : (kept : List ℕ) (n : ℕ) → HasSeen new kept n
 
--- from one place to a later one, with bytes before and the rest of them after: whatever comes behind them, the file comes
--- to the same
+-- from one place to a later one, with bytes before and the rest of them after: whatever comes after them, the file gives
+-- the same
 pub record GoesOn (depths : Depths) (old : Place) (before bytes : List ℕ) (new : Place) (after rest : List ℕ) : Type 0 where
   pub same : (more : List ℕ) → found_from depths new after (rest ++ more) ≡ found_from depths old before (bytes ++ more)
   pub place : IsPlace new after

@@ -43,7 +43,7 @@ pub record IsReader (size : Format → ℕ) (r : Reader) : Type 0 where
 abbrev pub error_of : Reader → Option WavError
 error_of r = if r.starved then Some Memory else refusal_of r.scan.place
 
--- a place in the first data chunk's body, or behind it
+-- a place in the first data chunk's body, or after it
 abbrev pub is_in_data : Place → Bool
 is_in_data Opening = false
 is_in_data (Head format skip) = false

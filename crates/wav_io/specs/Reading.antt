@@ -74,7 +74,7 @@ abbrev pub scan_of : Depths → Option Format → List Chunk → Finding
 scan_of depths format [] = ended format
 scan_of depths format (chunk ∷ behind) = finding_after (verdict_of depths format chunk) (λ kept. scan_of depths kept behind)
 
--- the chunks behind `RIFF`, the RIFF size, which isn't looked at, and `WAVE`
+-- the chunks after `RIFF`, the RIFF size, which isn't looked at, and `WAVE`
 unfoldable pub found_in : Depths → List ℕ → Finding
 found_in depths bytes =
     if bytes_eq (take 4 bytes) (codes "RIFF") then

@@ -31,7 +31,7 @@ with_body front (body_found f body) = body_found f (front ++ body)
 with_body front format_cut = format_cut
 with_body front (ended format) = ended format
 
--- the place behind a part of the data, or one that isn't in the data
+-- the place after a part of the data, or one that isn't in the data
 abbrev pub IsBehind : Option Part → Place → Type 0
 IsBehind (Some p) place = (n : ℕ) × (place ≡ DataBody p.format n)
 IsBehind None Opening = Unit {0}
