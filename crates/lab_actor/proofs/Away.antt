@@ -1,4 +1,4 @@
--- How the segments of a client grow and end by what its port laid.
+-- How the segments of a client grow and end by what its port placed.
 use Rattle.std.proofs.Common.{◌≡◌, ℕ, List, [], ◌∷◌, ◌++◌, refl, sym, ◌∙◌, ap, subst, arith, append_assoc, length}
 use Rattle.std.proofs.lemmas.Bool.Decides.{nat_tests}
 use Rattle.std.proofs.lemmas.Int.{ints}
@@ -22,7 +22,7 @@ use Rattle.lab_run.specs.Client.{stretch_of}
 use Rattle.lab_actor.specs.ClientLines.{Extends, entries_by, stretches_entries}
 use Rattle.lab_actor.proofs.Adds.{AreAdds-suffix, segment-adds}
 
--- a stretch in which nothing was laid has no entries
+-- a stretch in which nothing was placed has no entries
 none-laid : (c : PlaybackStream) (samples : List ℤ) → c.stretch.committed ≡ 0 → c.stretch.part ≡ 0 → segment_entries c samples ≡ []
 none-laid c samples no_frame no_part =
     ap (λ (k : ℕ). run_entries c.identity.member c.setup.bindings (λ j. sample_at samples (length c.setup.bindings) (c.stretch.source + j)) c.stretch.card 0 k c.stretch.part) no_frame
@@ -49,7 +49,7 @@ same-entries c d samples (segment ∷ segments) member bindings =
     ap (λ (es : List Entry). es ++ flat_map (entries_by c samples) segments) one ∙ ap (λ (es : List Entry). entries_by d samples segment ++ es) rest
 
 module _ {S : Type 0} (P : mixport.Ghosts S) (composes : Composes P.laid) where
-  -- nothing was laid, and the entries are the same
+  -- nothing was placed, and the entries are the same
   pub Extends-still : (p : S) (c d : PlaybackStream) (samples : List ℤ) (ended : List Segment) → segment_entries c samples ≡ stretches_entries d samples ended
       → d.identity.member ≡ c.identity.member → d.setup.bindings ≡ c.setup.bindings → Extends P samples p p c d ended
   Extends-still p c d samples ended same member bindings = record {
@@ -64,7 +64,7 @@ module _ {S : Type 0} (P : mixport.Ghosts S) (composes : Composes P.laid) where
     same_bindings = bindings;
   }
 
-  -- a segment grew by what was laid
+  -- a segment grew by what was placed
   pub Extends-grows : (p q : S) (c d : PlaybackStream) (samples : List ℤ)
       → ((p q : S) (xs es : List Entry) → AreAdds es → P.laid p q es → P.ends_in p xs → P.ends_in q (xs ++ es))
       → Grows P.laid p q c d samples → Extends P samples p q c d []

@@ -45,7 +45,7 @@ module _ {S T : Type 0} (P : mixport.Ghosts S) (G : gates.Ghosts T) (composes : 
   answer-taken answer s t m d result is takes same =
       Takes-map (LoadsAt P G) (LaysAt P G) NoGet s t m (λ (done : Answered _). (done.0, answer done.1)) (d, result) (d, is) takes (ap (λ (a : Answer). (d, a)) (sym same))
 
-  -- a call that lays entries, or none, and ends no stretch
+  -- a call that places entries, or none, and ends no stretch
   pub called-keeps : {X : Type 0} (s t : S × T) (wav : Sound) (c d : ClientView) (asked : Op) (answer : Answer) (result : Result X PcmError) (For : List ℤ → Type 0) (samples : List ℤ)
       → IsReady P wav s.0 c → IsOffered wav c.stream samples asked → TakesAt P G s (made_call c.ring samples (P.view s.0).marks c.stream asked) t (d.stream, answer)
       → Keeps P G s t c d result For → For wav.samples → ended_by asked answer c.stream d.stream ≡ [] → d.stream.fed ≤ frames_of wav → HasClientCalled P G s t wav c d asked answer

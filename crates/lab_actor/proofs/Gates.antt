@@ -1,4 +1,4 @@
--- A course behind a gate that counts down leaves the own gate behind the same reference.
+-- A course with a gate that counts down leaves the own gate behind the same reference.
 use Rattle.mix_core.specs.declared.gate.Gate as gates
 use Rattle.mix_core.specs.declared.gate.Pass.{Pass}
 use Rattle.mix_core.specs.declared.gate.StepKind.{StepKind}

@@ -86,7 +86,7 @@ can-read r room n some few size = λ configured. record {
   few = subst (λ (k : ℕ). k ≤ 4194304) (sym (frames_in-whole r room n some size)) few;
 }
 
--- the room for so many samples that were put behind others
+-- the room for so many samples that were put after others
 pub length-room : (old xs : List ℤ) (before count : ℕ) → xs ≡ old ++ replicate count (pos 0) → length old ≡ before → length (take (length xs - before) (drop before xs)) ≡ count
 length-room old xs before count is size =
     let whole = ap length is ∙ length-append old (replicate count (pos 0)) in
@@ -95,7 +95,7 @@ length-room old xs before count is size =
     let taken = length-take (length xs - before) (drop before xs) in
     omega (arith, whole, zeros, size, dropped, taken)
 
--- samples that were put into room behind others, of which the first are kept
+-- samples that were put into room after others, of which the first are kept
 placed_behind : {X : Type 0} (n b : ℕ) (xs d p r : List X) → b ≤ length xs → b + length d ≡ n → take n ((take b xs ++ (d ++ p)) ++ r) ≡ take b xs ++ d
 placed_behind n b xs d p r inside count =
     ap (take n) (append_assoc (take b xs) (d ++ p) r ∙ ap (λ (zs : List _). take b xs ++ zs) (append_assoc d p r) ∙ sym (append_assoc (take b xs) d (p ++ r)))

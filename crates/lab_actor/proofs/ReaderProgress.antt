@@ -175,7 +175,7 @@ module _ {S T : Type 0} (P : snoopport.Ghosts S) (G : gates.Ghosts T) where
   gets-frames (suc count) first s t done ended (Stopped, m, step, rest) =
       gets-none s t (suc count) first done (ap (λ (u : S × T). P.view u.0) rest.there ∙ step.1.view_is) (ap (λ (end : ℕ × Got). end.0) rest.result)
 
-  -- the frames of a read, behind its load
+  -- the frames of a read, after its load
   record Transfers (s t : S × T) (c d : CaptureStream) (n got : ℕ) : Type 0 where
     view_is : P.view t.0 ≡ P.view s.0
     few : got ≤ taken_of c n

@@ -20,7 +20,7 @@ AreChanged-one R xs gs y h one some is = record {
   beyond = λ i e from. get_or-set_other gs 0 i h e (λ is. omega (arith, from, one, is));
 }
 
--- an item behind the seam
+-- an item after the seam
 get_or-behind : {X : Type 0} (us vs : List X) (n i : ℕ) (d : X) → length us ≡ n → n ≤ i → slice_index_or (us ++ vs) i d ≡ slice_index_or vs (i - n) d
 get_or-behind us vs n i d is from = ap (λ k. slice_index_or (us ++ vs) k d) (omega (arith, is, from)) ∙ get_or-append-add us vs (i - n) d
 

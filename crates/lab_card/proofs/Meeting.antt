@@ -10,7 +10,7 @@ use Rattle.snoop_table.specs.Joins.{DeskHeard, HasSplit, IsBorneOut}
 use Rattle.snoop_table.specs.Readers.{view_of}
 use Rattle.snoop_table.specs.Writers.{desk_track}
 
--- a note tells as much as its seat
+-- a note says as much as its seat
 borne-part : (g : Geometry) (t : Track) (v : View) → IsBorneOut g t (part_of v) → IsBorneOut g t v
 borne-part g t v is = record { positions = is.positions; noted = is.noted; unused = is.unused; gone = is.gone; got = is.got }
 

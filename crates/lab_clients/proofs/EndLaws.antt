@@ -90,7 +90,7 @@ module _ (session : Session) (ring : TableId) (key : Key) (ring_is : key.geometr
   AreEach-new number (d ∷ ds) [] len are = absurd (omega (arith, len))
   AreEach-new number (d ∷ ds) (setup ∷ setups) len are = (IsClientAt-new number d are.0, AreEach-new (number + 1) ds setups (omega (arith, len)) are.1)
 
--- nothing was laid for clients that were never open, and they have no segments
+-- nothing was placed for clients that were never open, and they have no segments
 laid_open-new : (number : ℕ) (ds : List LabClient) (f k : ℕ) → AreNewClients number ds → laid_open ds f k ≡ pos 0
 laid_open-new number [] f k are = refl
 laid_open-new number (d ∷ ds) f k are =
@@ -103,7 +103,7 @@ numbered-none : (ring : Geometry) (number : ℕ) (setups : List (Option Setup))
 numbered-none ring number [] = refl
 numbered-none ring number (setup ∷ setups) = numbered-none ring (number + 1) setups
 
--- a seat without a last frame laid nothing, so the seats of a new card's places laid nothing
+-- a seat without a last frame placed nothing, so the seats of a new card's places placed nothing
 laid-none : (es : List Entry) → last_frame es ≡ None → es ≡ []
 laid-none [] is = refl
 laid-none (e ∷ es) is = by_last (last_frame es) is
@@ -283,7 +283,7 @@ AreFree-closed session held xs cs are closed =
     All-from_recursion (λ seat. is_some seat ≡ true) (free_seats (lobby_of (places_of cs)))
     (are-free (free_seats (lobby_of (places_of cs))) held.lobby.places are.held_by.lobby.places (λ n. are.are_held.none n (none-held session held xs cs are closed n)))
 
--- what was laid by all places, as one list
+-- what was placed through all places, as one list
 total-laid_by_all : (seats : List (Option MixSeat)) (f k : ℕ) → total (laid_by_all seats) f k ≡ laid_free seats f k
 total-laid_by_all [] f k = refl
 total-laid_by_all (None ∷ seats) f k = let more = total-laid_by_all seats f k in omega (arith, ints, more)

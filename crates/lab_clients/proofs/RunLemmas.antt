@@ -1,4 +1,4 @@
--- Clients behind their gates, one after the other: a client that did its lines asked its own gate alone.
+-- Clients with their gates, one after the other: a client that did its lines asked its own gate alone.
 use Rattle.std.specs.Prelude.{◌≡◌, ◌≢◌, ℕ, ◌+◌, ◌<◌, ◌≤◌, List, length, slice_index_or, slice_set}
 use Rattle.std.specs.Borrow.{MutBor}
 use denote.Param.Members.{Shared}
@@ -20,7 +20,7 @@ pub record HaveRun {G : Type 0} (stops : G → ℕ) (before after : List G) (sou
   pub gates : length after ≡ length before
   pub others : AreSameFrom to before after
 
--- the next client does its lines behind the gate of its number
+-- the next client does its lines with the gate of its number
 pub HaveRun-next : {G : Type 0} (stops : G → ℕ) (before after : List G) (sounds : List Sound) (phase : ℕ) (lines : List Line) (old new : List LabClient) (to : ℕ) (g h : G) (d e : LabClient)
     (s : Sound) → HaveRun stops before after sounds phase lines old new to → to < length old → to < length before → to < length sounds → s ≡ slice_index_or sounds to s
     → RunsLines (stops (slice_index_or after to g)) (stops h) phase s lines (slice_index_or new to d) e

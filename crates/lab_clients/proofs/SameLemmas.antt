@@ -1,4 +1,4 @@
--- A step that ended early: the clients that it didn't come to are as they were.
+-- A step that ended early: the clients that it didn't reach are as they were.
 use Rattle.std.specs.Prelude.{ℕ, List, Option, None, Some, Result, Ok, Err, OnErr, slice_index_or, ⊤}
 use Rattle.std.proofs.Common.{refl, sym, subst, arith, inl, inr}
 use Rattle.std.proofs.lemmas.Bool.{cases_lt}

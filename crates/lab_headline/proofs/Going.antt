@@ -22,7 +22,7 @@ use Rattle.lab_headline.proofs.Onward.{Lies, Onward, begun, end_of, free_frame, 
 use Rattle.lab_headline.proofs.OnwardLines.{After, InOpen, line-after, waits-none}
 use Rattle.lab_run.proofs.Results.{All, Takes-all}
 
--- the frame of the card behind a segment
+-- the frame of the card after a segment
 abbrev pub seg_end : Segment → ℕ
 seg_end s = s.card + s.whole + begun s.part
 

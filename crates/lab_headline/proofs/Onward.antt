@@ -237,7 +237,7 @@ module _ (p : ℕ) (g : Geometry) (x y card z : ℕ) (past : x ≤ card) where
 
 -- ---- a client
 
--- the frame of the card behind what a client has placed in its stretch
+-- the frame of the card after what a client has placed in its stretch
 abbrev pub end_of : PlaybackStream → ℕ
 end_of c = c.stretch.card + c.stretch.committed + begun c.stretch.part
 
@@ -273,7 +273,7 @@ Begun p x y m c = BegunAt p x y m c.setup.bindings c.status.state c.stretch.star
 abbrev pub Waits : ℕ → ℕ → ℕ → Marks → PlaybackStream → Type 0
 Waits p x y m c = WaitsAt p x y m c.setup.bindings c.status.state c.stretch.committed c.stretch.part
 
--- a client's stretch goes on past x: what it places from now on is at x or behind it; and y is before the end of what its port placed
+-- a client's stretch goes on past x: what it places from now on is at x or after it; and y is before the end of what its port placed
 abbrev pub Onward : ℕ → ℕ → ℕ → Marks → PlaybackStream → Type 0
 Onward p x y m c = Begun p x y m c ⊎ Waits p x y m c
 

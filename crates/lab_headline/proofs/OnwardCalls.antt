@@ -1,4 +1,4 @@
--- Each call of a client goes on behind what was placed before.
+-- Each call of a client goes on after what was placed before.
 use Rattle.std.proofs.Common.{◌≡◌, ℕ, ◌+◌, ◌-◌, ◌≤◌, inl, inr, refl, sym, ◌∙◌, ap, subst, arith, Option, Some, None}
 use Rattle.std.proofs.lemmas.Bool.{false≢true}
 use Rattle.std.specs.Prelude.{Bool, true, false, not, ◌&&◌, nat_eq, nat_lt, if◌then◌else◌, [], Result, Ok, Err, min, max, is_some}

@@ -270,7 +270,7 @@ own-heard channels frame claims channel e has most = by_test (has_channel channe
     by_test true is position all = omega (arith, most, all.0)
     by_test false is position all = absurd (false≢true is)
 
--- the last frame that was laid in is the one before the high
+-- the last frame in which a sample was placed is the one before the high
 high-heard : (g : Geometry) (m : Marks) (channels : List ℕ) (claims : List Claim) (channel e : ℕ) → has_channel channels channel ≡ true → first_frame g < e → e ≤ high_end m
     → Heard (released channels (high_frame g m) ∷ claims) channel e
 high-heard g m channels claims channel e has after most = by_test (is_before (start_of g) m.high) refl
@@ -329,7 +329,7 @@ module _ (session : Session) (clients : List (AtPort × Client)) (claims : List 
   old-past : (e : ℕ) → Old session clients n e → e ≤ c.stretch.card
   old-past e there = placed-past position e 0 a.marks c placed (own-fact (λ d. Onward position e 0 a.marks d) (going.old e there))
 
-  -- the segment of the present stretch is new, and begins behind those that ended
+  -- the segment of the present stretch is new, and begins after those that ended
   pub last-new : New session clients n (segment_of c)
   last-new = (
     old-past (first_frame session.ring) (inl refl),

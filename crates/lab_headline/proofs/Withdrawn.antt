@@ -31,7 +31,7 @@ unfolding rising
 rising-first bindings n later within = rising_from-rises bindings 0 256 0 n later within
 
 module _ (p : ℕ) (g : Geometry) (x y card : ℕ) (past : x ≤ card) where
-  -- after the sample of the channel behind n others of a frame was withdrawn
+  -- after the sample of the channel after n others of a frame was withdrawn
   pub withdrawn-lies : (frame channel n : ℕ) (m : Marks) → card ≤ frame → frame + 1 ≤ high_end m → y ≤ high_end m → (0 < n → 0 < channel)
       → Lies p x y card 0 (frame + begun n) (withdrawn_at m frame channel)
   withdrawn-lies frame channel n m after most high rises = by_channel (nat_lt 0 channel) refl (nat_eq n 0) refl

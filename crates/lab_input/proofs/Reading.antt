@@ -141,7 +141,7 @@ reading-refused files now shape name seen piece fed from last why stop so_far un
     IsCauseOf-refusal why name stop (sound_file shape content) (wav_in m shape name)
     (λ e err. wav_in-of m shape name content rest.1 ∙ ap (with_weight name shape (length content)) err) (refusal rest.0) is
 
--- ---- behind the loop
+-- ---- after the loop
 
 ended_at : (files : Files) (shape : Option Shape) (name seen : List ℕ) (last : Bool) (bytes : ℕ) → IsBegun files name seen last
     → (last ≡ true) ⊎ (most_bytes < bytes) → bytes ≡ length seen → wav_in files shape name ≡ with_weight name shape bytes (sound_file shape seen)

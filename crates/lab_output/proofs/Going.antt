@@ -23,7 +23,7 @@ opened_files-begun (output ∷ outputs) m =
     opened_files-begun outputs (with_file m output.name (open_head_of output))
     ∙ ap (λ (bytes : List ℕ). unfinished_files outputs (nothing outputs) (with_file m output.name bytes)) (sym (open_file-nothing output))
 
--- the same of files that may not be told
+-- the same of files that may not be known
 pub opened_where-begun : (outputs : List OutputFile) (before after : Option Files) → after ≡ option_map (opened_files outputs) before
     → after ≡ option_map (unfinished_files outputs (nothing outputs)) before
 opened_where-begun outputs None after is = is
@@ -61,7 +61,7 @@ closed_files-stored (output ∷ outputs) (samples ∷ sounds) m apart =
     ∙ ap (λ (bytes : List ℕ). unfinished_files outputs sounds (with_file m output.name bytes)) (finished_file-made output samples))
     ∙ closed_files-stored outputs sounds (with_file m output.name (finished_file output samples)) apart.1
 
--- the same of files that may not be told
+-- the same of files that may not be known
 closed_where-stored : (outputs : List OutputFile) (sounds : List (List ℤ)) (before : Option Files) → AreApart outputs
     → option_map (closed_files outputs (map length sounds)) (option_map (unfinished_files outputs sounds) before) ≡ option_map (finished_files outputs sounds) before
 closed_where-stored outputs sounds None apart = refl
@@ -111,7 +111,7 @@ closed_files-Changes may_hold (output ∷ outputs) (samples ∷ sounds) m after 
     (closed_files-Changes may_hold outputs sounds (with_file m output.name bytes) after apart.1 (λ name b may. into name b (inr may))
     (subst (λ (f : Files). ClosedInPart outputs (map length sounds) (Some f) after) is rest))
 
--- no file is told
+-- no file is known
 closed_files-untold : (may_hold : List ℕ → List ℕ → Type 0) (after : Option Files) → Changes may_hold None after
 closed_files-untold may_hold after m is = cc
 
@@ -263,12 +263,12 @@ rooms (output ∷ outputs) (samples ∷ sounds) m apart even = (
     room : (o : OutputFile) (s : List ℤ) → 44 ≤ length (open_file o s)
     room o s = omega (arith, length-append (open_head_of o) (flat_map sample_bytes s), length-open_head o)
 
--- no room is asked of files that aren't told
+-- no room is asked of files that aren't known
 untold-rooms : (outputs : List OutputFile) → HaveHeadRoom None outputs
 untold-rooms [] = tt
 untold-rooms (output ∷ outputs) = (tt, untold-rooms outputs)
 
--- the same of files that may not be told
+-- the same of files that may not be known
 pub IsGoingOn-rooms : (outputs : List OutputFile) (counts : List ℕ) (sounds : List (List ℤ)) (before now : Option Files)
     → AreApart outputs → IsGoingOn outputs counts sounds before now → HaveHeadRoom now outputs
 IsGoingOn-rooms outputs counts sounds None now apart going =

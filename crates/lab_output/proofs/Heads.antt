@@ -1,4 +1,4 @@
--- The channels and rates of a run's files are such as a head can tell.
+-- The channels and rates of a run's files are such as a head can hold.
 use Rattle.std.proofs.Common.{◌≡◌, ℕ, ◌≤◌, Bool, true, false, List, [], ◌∷◌, length, map, arith, refl, sym, subst, Some, None}
 use Rattle.std.specs.Prelude.{◌==◌, All, Option, Result, Ok, Err, nat_lt, if◌then◌else◌}
 use Rattle.std.specs.List.{AllByRecursion}
@@ -29,7 +29,7 @@ few_channels card None is bound = (is.channels.low, is.channels.high)
 few_channels card (Some list) is bound =
     few_bound list (length list == 0) (nat_lt 8 (length list)) (or_first list (entry_defects list card.channels)) refl refl bound
 
--- a head can tell the card's channels and rate
+-- a head can hold the card's channels and rate
 played-head : (card : CardLine) (out : List ℕ) → IsCardLine card → IsOutputFile (played_file card out)
 played-head card out is = record {
   some_channel = is.channels.low;
@@ -38,7 +38,7 @@ played-head card out is = record {
   low_rate = omega (arith, is.rate.high);
 }
 
--- a head can tell a reader's channels and the card's rate
+-- a head can hold a reader's channels and the card's rate
 recorded-head : (card : CardLine) (out : List ℕ) (reader : ReaderLine) → IsCardLine card → IsReaderLine card reader
     → IsOutputFile (recorded_file card out reader)
 recorded-head card out reader is line =
@@ -57,7 +57,7 @@ recorded-heads card out [] is lines = tt
 recorded-heads card out (reader ∷ readers) is lines =
     (recorded-head card out reader is lines.0, recorded-heads card out readers is lines.1)
 
--- a head can tell each file of a run
+-- a head can hold each file of a run
 pub output_files-heads : (script : Script) (out : List ℕ) → IsScript script → All IsOutputFile (output_files script out)
 output_files-heads script out is =
     All-from_recursion IsOutputFile (output_files script out) (

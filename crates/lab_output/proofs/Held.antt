@@ -28,7 +28,7 @@ changed-there make m name q there = of (bytes_under m name)
     of None = there
     of (Some c) = written-there m name (make c) q there
 
--- the same of files that may not be told
+-- the same of files that may not be known
 changed-file : (make : List ℕ → List ℕ) (now : Option Files) (name q : List ℕ) → HasFile now q
     → HasFile (option_map (λ files. with_change make files name) now) q
 changed-file make None name q there = there
@@ -59,7 +59,7 @@ begun-there (output ∷ outputs) (samples ∷ sounds) m apart even = (
   begun-there outputs sounds (with_file m output.name (open_file output samples)) apart.1 (omega (arith, even)),
 )
 
--- while a run goes on whose files are told, each output is there
+-- while a run goes on whose files are known, each output is there
 pub IsGoingOn-there : (outputs : List OutputFile) (counts : List ℕ) (sounds : List (List ℤ)) (before now : Option Files)
     → AreApart outputs → IsGoingOn outputs counts sounds before now → IsSome before → HaveFiles now outputs
 IsGoingOn-there outputs counts sounds None now apart going told = absurd cc

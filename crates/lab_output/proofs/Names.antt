@@ -24,7 +24,7 @@ recorded-apart out a b apart same =
     let e : out ++ 46 ∷ a ≡ out ++ 46 ∷ b = append_cancel_right (out ++ 46 ∷ a) (out ++ 46 ∷ b) (codes ".wav") same in
     apart (append_cancel_left (46 ∷ []) a b (append_cancel_left out (46 ∷ a) (46 ∷ b) e))
 
--- the first reader's file has another name than those of the readers behind it
+-- the first reader's file has another name than those of the readers after it
 first-apart : (card : CardLine) (out name : List ℕ) (readers : List ReaderLine)
     → ((k : ℕ) (d : ReaderLine) → k < length readers → name ≢ (get_or readers k d).name)
     → AllByRecursion (λ (other : OutputFile). recorded_name out name ≢ other.name) (map (recorded_file card out) readers)

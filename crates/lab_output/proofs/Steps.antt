@@ -30,7 +30,7 @@ left outputs n output within is =
     ∙ ap (λ (o : OutputFile). o ∷ drop (suc n) outputs) (sym is)
     ∙ ap (λ (k : ℕ). output ∷ drop k outputs) (sym (add-one n))
 
--- a file is begun, and then those behind it
+-- a file is begun, and then those after it
 opened_files-joined : (output : OutputFile) (outputs : List OutputFile) (now : Option Files)
     → option_map (opened_files outputs) (option_map (λ files. with_file files output.name (open_head_of output)) now)
     ≡ option_map (opened_files (output ∷ outputs)) now
@@ -102,7 +102,7 @@ left_counts counts n count within is =
     ∙ ap (λ (c : ℕ). c ∷ drop (suc n) counts) (sym is)
     ∙ ap (λ (k : ℕ). count ∷ drop k counts) (sym (add-one n))
 
--- a file gets its true head, and then those behind it
+-- a file gets its true head, and then those after it
 closed_files-joined : (output : OutputFile) (outputs : List OutputFile) (count : ℕ) (counts : List ℕ) (now : Option Files)
     → option_map (closed_files outputs counts) (option_map (λ files. with_change (with_first_bytes (head_of output count)) files output.name) now)
     ≡ option_map (closed_files (output ∷ outputs) (count ∷ counts)) now
@@ -148,7 +148,7 @@ changed-rooms [] m name head named rooms = tt
 changed-rooms (output ∷ outputs) m name head named rooms =
     (changed-room m name head output.name named rooms.0, changed-rooms outputs m name head named rooms.1)
 
--- the same of files that may not be told
+-- the same of files that may not be known
 kept-rooms : (outputs : List OutputFile) (now : Option Files) (name head : List ℕ) → HasHeadRoom now name → HaveHeadRoom now outputs
     → HaveHeadRoom (option_map (λ files. with_change (with_first_bytes head) files name) now) outputs
 kept-rooms outputs None name head named rooms = rooms

@@ -113,7 +113,7 @@ AreOf-lines stops gates after asked a b d between heard rs ss ts same card hears
     λ k r inside. IsOf-moved b.card d.card (slice_index_or (readers_of ts) k r) _ _ _ _ _ card.did.moves (ran k r inside) in
     AreOf-same d.card heard (readers_of ts) hears moved
 
--- ---- the gates of clients, and those of readers behind them
+-- ---- the gates of clients, and those of readers after them
 
 take-front : {X : Type 0} (n : ℕ) (front back : List X) → length front ≡ n → take n (front ++ back) ≡ front
 take-front n front back len = take-append-le n front back (omega (arith, len)) ∙ take_all n front (omega (arith, len))
@@ -121,7 +121,7 @@ take-front n front back len = take-append-le n front back (omega (arith, len)) �
 drop-front : {X : Type 0} (n : ℕ) (front back : List X) → length front ≡ n → drop n (front ++ back) ≡ back
 drop-front n front back len = drop-append-le n front back (omega (arith, len)) ∙ ap (λ xs. xs ++ back) (drop_all n front (omega (arith, len)))
 
--- all did their lines behind the gates of a list, of which the first are the clients'
+-- all did their lines with the gates of a list, of which the first are the clients'
 pub HaveRun-halves : {G : Type 0} (stops : G → ℕ) (count : ℕ) (gates near near_after far far_after : List G) (asked : Asks) (a b : CardActor) (cs ds : LabClients) (rs ss : LabReaders)
     → gates ≡ near ++ far → length near ≡ count → length near_after ≡ length near → HaveRun stops near near_after far far_after asked a b cs ds rs ss
     → HaveRun stops (take count gates) (take count (near_after ++ far_after)) (drop count gates) (drop count (near_after ++ far_after)) asked a b cs ds rs ss

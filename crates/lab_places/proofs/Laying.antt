@@ -1,4 +1,4 @@
--- A seat that is handed out, or comes back, takes with it what was laid by it, and nothing else is laid.
+-- A seat that is handed out, or comes back, takes with it what was placed by it, and nothing else is placed.
 use Rattle.std.proofs.Common.{◌≡◌, ℕ, zero, suc, ◌<◌, List, [], ◌∷◌, Option, None, Some, Result, Ok, Err, length, set, arith, refl, sym, ap, subst, ◌∙◌}
 use Rattle.std.specs.Prelude.{◌+ℤ◌, ℤ, pos}
 use Rattle.std.proofs.lemmas.Int.{ints}
@@ -23,7 +23,7 @@ found-within [] place s found = absurd (none-some s found)
 found-within (seat ∷ seats) zero s found = omega arith
 found-within (seat ∷ seats) (suc place) s found = let more = found-within seats place s found in omega (arith, more)
 
--- a seat that loads a position lays nothing
+-- a seat that loads a position places nothing
 laid-loaded : (load : MixSeat → MixSeat → Type 0) (before between : List (Option MixSeat)) (place : ℕ) → LoadsAt load before place between → IsLaidAlike before between
 laid-loaded load before between place loads f k =
     let exchanged = laid_free-set before place (Some loads.loaded) f k (found-within before place loads.seat loads.found) in
@@ -32,7 +32,7 @@ laid-loaded load before between place loads f k =
     let is : laid_free between f k ≡ laid_free (set before place (Some loads.loaded)) f k = ap (λ (seats : List (Option MixSeat)). laid_free seats f k) loads.after_is in
     omega (arith, ints, exchanged, was, same, is)
 
--- one that is handed out takes what was laid by it
+-- one that is handed out takes what was placed by it
 laid-handed : (p : ℕ) (before between after : List (Option MixSeat)) (s : MixSeat) → HandsOut p before between s after → IsLaidWith after s between
 laid-handed p before between after s hands f k =
     let exchanged = laid_free-set between (member_of s) None f k (found-within between (member_of s) s hands.found) in
@@ -66,7 +66,7 @@ pub laid-met : (p q : PlayerSeat) (before after : List (Option MixSeat)) (s t : 
 laid-met p q before after s t met keeps f k =
     keeps f k ∙ ap (λ (es : List Entry). total es f k +ℤ laid_free after f k) (sym met.laid)
 
--- one that comes back brings what was laid by it
+-- one that comes back brings what was placed by it
 pub laid-back : (k m : Free) (l : Free) (s : MixSeat) → k ≡ l → CanTakeBack l s → TakesBack k m s → IsLaidWith (free_seats l) s (free_seats m)
 laid-back k m l s same can back f n =
     let exchanged = laid_free-set (free_seats l) (member_of s) (Some s) f n can.out.number in

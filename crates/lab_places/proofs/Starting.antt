@@ -13,7 +13,7 @@ use Rattle.lab_places.specs.Held.{AreAtPlaces, IsAtPlace}
 abbrev free_place : Place
 free_place = record { holder = None; last = None }
 
--- a seat by which nothing was laid
+-- a seat by which nothing was placed
 abbrev IsUnused : Option MixSeat → Type 0
 IsUnused o = (s : MixSeat) × (o ≡ Some s) × ((view_of s).laid ≡ [])
 

@@ -57,7 +57,7 @@ left-stays : (r : Result (Unit {0}) Empty) (old new : ParamBox) → OnErr r (new
 left-stays (Ok x) old new same = refl
 left-stays (Err e) old new same = same
 
--- a narrowing tells what it leaves
+-- a narrowing says what it leaves
 pub IsNarrowing-is_line : (leaves : Option ParamBox → Type 0) (param : Param) (old new : ParamBox) (r : Result (Unit {0}) Empty)
     → leaves (left_of r new) → OnErr r (new ≡ old) → IsNarrowing leaves param old (left_line param (left_of r new)) new
 IsNarrowing-is_line leaves param old new r left same = record {

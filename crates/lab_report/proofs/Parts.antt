@@ -87,7 +87,7 @@ lines_of-none text e some =
 pub not_empty : (xs : List ℕ) → (length xs == 0) ≡ false → 0 < length xs
 not_empty xs e = grind (arith, nat_tests)
 
--- what a number up to a limit tells
+-- what a number up to a limit says
 none_by : (most a b : ℕ) (t u : Bool) → nat_le a most ≡ t → nat_le b most ≡ u → None ≡ cond t (Some a) None → a ≤ b → None ≡ cond u (Some b) None
 none_by most a b true u e f g h = absurd (cc)
 none_by most a b false true e f g h = absurd (passes a b most e f h)

@@ -32,7 +32,7 @@ use Rattle.lab_report.specs.Text.{request_of_row, HasText, HasXrunText, HasState
 use Rattle.lab_report.specs.Words.{lines_of, is_space, word_of, space_of, feed_of, next_number, most_frames, number_or_dash_at, decimal_of, expect_word, expect_words}
 use Rattle.lab_report.proofs.Actors.{IsAsked, requests_of-asked}
 
--- what a value after a step tells
+-- what a value after a step says
 pub bind_ok : {A B : Type 0} (r : Result A ReportWhy) (f : A → Result B ReportWhy) (y : B) → (r >>= f) ≡ Ok y → (x : A) × (r ≡ Ok x) × (f x ≡ Ok y)
 bind_ok (Ok x) f y e = (x, refl, e)
 bind_ok (Err w) f y e = absurd (cc)
@@ -41,7 +41,7 @@ pub some_is : {A : Type 0} (w : ReportWhy) (o : Option A) (x : A) → some_or w 
 some_is w None x e = absurd (cc)
 some_is w (Some y) x e = cc
 
--- what a choice of two results tells
+-- what a choice of two results says
 pub either : {A : Type 0} (b : Bool) (r s : Result A ReportWhy) (x : A) (P : Type 0) → (r ≡ Ok x → P) → (s ≡ Ok x → P) → cond b r s ≡ Ok x → P
 either true r s x P f g e = f e
 either false r s x P f g e = g e
@@ -99,7 +99,7 @@ state_at-has rest y e =
     let s = bind_ok (some_or why.Word (row_of states w.0.0)) _ y w.2 in
     same_ok HasStateText s.0 w.0.1 y s.2 (row_of-has HasStateText states w.0.0 s.0 states-have (some_is why.Word _ s.0 s.1))
 
--- a row that is read tells of its request, and has a text
+-- a row that is read is about its request, and has a text
 pub record IsRead (request : Request) (row : Row) : Type 0 where
   pub tells : request_of_row row ≡ request
   pub answer : HasText row.answer

@@ -151,7 +151,7 @@ pub expect_words-is : (front xs r : List ℕ) → expect_words (slice_split is_s
 expect_words-is front xs r e =
     front_by (slice_split is_space front) front xs r (omega (arith, length-slice_split is_space front)) (join_with_byte-slice_split 32 front) e
 
--- what a test of a word tells
+-- what a test of a word says
 pub word_choice : {A : Type 0} (w v : List ℕ) (r s : Result A ReportWhy) (x : A) (P : Type 0) → (w ≡ v → r ≡ Ok x → P) → (s ≡ Ok x → P) → cond (bytes_eq w v) r s ≡ Ok x → P
 word_choice w v r s x P f g e = by (bytes_eq w v) refl e
   where

@@ -1,4 +1,4 @@
--- A reader's frames are at most as many as the card has captured: each that it gets is behind the others, and below the position known.
+-- A reader's frames are at most as many as the card has captured: each that it gets is after the others, and below the position known.
 use Rattle.std.proofs.Common.{◌≡◌, ℕ, ◌+◌, ◌-◌, ◌≤◌, add-zero, refl, sym, ◌∙◌, ap, subst, arith, length, List, [], Option, Some, None, zero, suc}
 use Rattle.std.proofs.lemmas.List.{length-append}
 use Rattle.std.proofs.lemmas.List.FromFn.{length-range_with_len}
@@ -183,12 +183,12 @@ avail_course-stays base known r low next = by_running (is_running r.status.state
 
 -- ---- the lines
 
--- an open reader with so many frames behind a first one
+-- an open reader with so many frames after a first one
 abbrev pub IsOwnPast : ℕ → Option CaptureStream → Type 0
 IsOwnPast base None = ⊤
 IsOwnPast base (Some r) = IsPast base r
 
--- a reader whose frames are behind a first one and below the position known
+-- a reader whose frames are after a first one and below the position known
 abbrev pub HasFrames : ℕ → ℕ → Reader → Type 0
 HasFrames first known reader = (first + length reader.frames ≤ known) × IsOwnPast (first + length reader.frames) reader.own
 

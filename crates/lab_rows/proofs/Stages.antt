@@ -89,7 +89,7 @@ reaped_reader-reportable ring (a, reader) is = by_stop (is_reader_stopped reader
     by_stop true = tt
     by_stop false = is
 
--- the requests of rows, behind others, by those of three parts
+-- the requests of rows, after others, by those of three parts
 four-parts : (phase : ℕ) (before cards clients readers : List Row) (x y z : List Line)
     → map request_of_row cards ≡ map (request_of phase) x → map request_of_row clients ≡ map (request_of phase) y → map request_of_row readers ≡ map (request_of phase) z
     → map request_of_row (before ++ cards ++ clients ++ readers) ≡ map request_of_row before ++ map (request_of phase) ((x ++ y) ++ z)
@@ -154,7 +154,7 @@ phase-adds script session stage after lines few few_readers is may reportable = 
 
 -- ---- a body
 
--- what items leave, behind so many phases
+-- what items leave, after so many phases
 record Leaves (script : Script) (stage : Stage) (phases : ℕ) (items : List Item) (after : Stage) : Type 0 where
   pub reportable : CanBeReported script after
   pub asked : map request_of_row after.rows ≡ map request_of_row stage.rows ++ requests_from phases items

@@ -1,4 +1,4 @@
--- Clients and readers are kinds of actors whose lines load a position before they lay or get anything, and begin where they were.
+-- Clients and readers are kinds of actors whose lines load a position before they place or get anything, and begin where they were.
 use Rattle.std.proofs.Common.{◌≡◌, ℕ, refl, Option, Some, None}
 use Rattle.std.specs.Prelude.{Bool, true, false, ◌-◌, min, [], Result}
 use Rattle.snd_base.specs.declared.errors.PcmError.{PcmError}

@@ -30,14 +30,14 @@ use Rattle.lab_run.specs.Members.{with_member}
 use Rattle.lab_run.proofs.AlikeLaws.{Alike-if, Alike-then, without_word}
 use Rattle.lab_run.proofs.ReportedWords.{accepted_if-alike, commit_without_word, resumed-word, rewound-word, after_start-word, after_sync-word, with_number-alike, written_after-word}
 
--- how far the samples of a frame were laid, and how far a commit got, but for the word
+-- how far the samples of a frame were placed, and how far a commit got, but for the word
 abbrev SameEnd : ℕ × Ended → ℕ × Ended → Type 0
 SameEnd x y = y ≡ (x.0, without_word x.1)
 
 abbrev SameCommit : Commit → Commit → Type 0
 SameCommit x y = y ≡ commit_without_word x
 
--- a load from a frame on, and the commit behind it
+-- a load from a frame on, and the commit after it
 record SameFound (from : ℕ) (x y : Option Position × Commit) : Type 0 where
   pub after : IsFromOn from x.0
   pub same : y ≡ (x.0, commit_without_word x.1)

@@ -1,4 +1,4 @@
--- Each call of a client loads a position before it lays anything.
+-- Each call of a client loads a position before it places anything.
 use Rattle.std.proofs.Common.{◌≡◌, ℕ, ◌+◌, refl, Option, Some, None}
 use Rattle.std.specs.Prelude.{Bool, true, false, nat_eq, List, [], ◌∷◌, zero, suc, ℤ, Ok, Err, ⊤}
 use Rattle.snd_base.specs.declared.errors.PcmError.{PcmError}
@@ -51,7 +51,7 @@ lay_frames-led member card bindings samples (suc count) first =
 commits-led : (c : PlaybackStream) (ring : List ℤ) (count : ℕ) → Led IsLed true (commits c ring count)
 commits-led c ring count = lay_frames-led c.identity.member c.stretch.card c.setup.bindings (ring_sample c ring) count c.stretch.committed
 
--- a load and the commit behind it
+-- a load and the commit after it
 abbrev FoundLed : Bool → Option Position × Commit → Type 0
 FoundLed l (None, commit) = ⊤
 FoundLed l (Some position, commit) = l ≡ true

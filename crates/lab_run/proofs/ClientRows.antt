@@ -91,7 +91,7 @@ runs_dry_report : (lab_text one None runs_dry).report ≡ record {
 unfolding runs_dry one course_text ◌>>=◌ Bound.rising client_calls.lay_each client_calls.lay_frames client_calls.looks client_calls.syncs client_calls.starts client_calls.drains client_calls.course_with_number client_calls.takes_more client_calls.writes_on client_calls.starts_taking client_calls.resumes reader_calls.gets_frames reader_calls.starts reader_calls.syncs reader_calls.transfers reader_calls.reads_on reader_calls.reads_first reader_calls.counts rewinding.take_each rewinding.take_frames rewinding.checks rewinding.takes_back rewinding.rewinds a b c r card mono stereo row setup silence some the_card line
 runs_dry_report = refl
 
--- a client starts again behind what it laid
+-- a client starts again after what it placed
 restarts : List Item
 restarts =
     item.Opens 0 a

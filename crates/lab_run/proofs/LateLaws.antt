@@ -1,4 +1,4 @@
--- A row that is answered late names the first sample that its client hasn't laid.
+-- A row that is answered late names the first sample that its client hasn't placed.
 use Rattle.std.proofs.Common.{◌≡◌, ℕ, ◌+◌, refl, sym, subst, Option, Some, None}
 use Rattle.std.specs.Prelude.{Bool, true, false, not, ◌&&◌, nat_eq, nat_lt, if◌then◌else◌, List, [], ◌∷◌, ℤ, Result, Ok, Err, IfSome, ⊤}
 use Rattle.std.specs.Option.{option_map}
@@ -138,7 +138,7 @@ module _ (Q : ℕ → ℕ → Type 0) where
 abbrev Missed : {T : Type 0} → Answered T → Type 0
 Missed (d, r) = LateIn (IsNext d) r
 
--- a commit's late sample is the first that isn't laid
+-- a commit's late sample is the first that isn't placed
 commit-missed : (c : PlaybackStream) (x : Commit) → IfSome (late_of c x) (LateWhy (IsNext (committed_by c x)))
 commit-missed c x = by_end x.ended
   where

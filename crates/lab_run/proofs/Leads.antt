@@ -1,4 +1,4 @@
--- Courses that load a position before they lay or get anything.
+-- Courses that load a position before they place or get anything.
 use Rattle.std.proofs.Common.{◌≡◌, Option, Some, None}
 use Rattle.std.specs.Prelude.{Bool, true, false, if◌then◌else◌, Result, Ok, Err, ⊤, OnOk}
 use Rattle.snd_base.specs.declared.errors.PcmError.{PcmError}
@@ -11,7 +11,7 @@ abbrev pub is_loaded : Bool → Option Position → Bool
 is_loaded loaded None = loaded
 is_loaded loaded (Some position) = true
 
--- a course lays and gets nothing before it loads a position; where it ends, a fact holds of whether it loaded one, and of its result
+-- a course places and gets nothing before it loads a position; where it ends, a fact holds of whether it loaded one, and of its result
 abbrev pub Led : {X : Type 0} → (Bool → X → Type 0) → Bool → Course X → Type 0
 Led P loaded (ends x) = P loaded x
 Led P loaded (loads next) = (position : Option Position) → Led P (is_loaded loaded position) (next position)

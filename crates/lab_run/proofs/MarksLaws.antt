@@ -39,8 +39,8 @@ floor-same ring from before own port (moved none same) = low-same from own.floor
 floor-same ring from before own port (laid same high past (inl floor)) = equal-same from own.floor port.floor floor
 floor-same ring from before own port (laid same high past (inr floor)) = low-same from own.floor port.floor floor.0 floor.1
 
--- a cursor that isn't past a frame is before the one behind a sample at that frame or past it
-before-behind : (ring : Geometry) (from frame channel : ℕ) (at : Cursor) → IsLow from at → from ≤ frame → is_before at (cursor_after ring frame channel) ≡ true
+-- a cursor that isn't past a frame is before the one after a sample at that frame or past it
+before-behind : (ring : Geometry) (from frame channel : ℕ) (at : Cursor) → IsLow from at → from ≤ frame → is_before at (behind ring frame channel) ≡ true
 before-behind ring from frame channel at low after = by_end (nat_lt (channel + 1) ring.channels) refl (nat_lt 0 at.channel) refl low
   where
     by_end : (more : Bool) → nat_lt (channel + 1) ring.channels ≡ more → (part : Bool) → nat_lt 0 at.channel ≡ part
@@ -89,7 +89,7 @@ later-past ring from frame channel high past after = by_test (is_before high (cu
     }
     by_test false is = past
 
--- an add by an actor that laid nothing before
+-- an add by an actor that placed nothing before
 first-laid : (ring : Geometry) (from frame channel : ℕ) (before : Cursor) (own port : Marks) → from ≤ frame → HasLaidNone ring from before own port
     → MarksAlike ring from before (marks_with Added ring own frame channel) (marks_with Added ring port frame channel)
 first-laid ring from frame channel before own port after none =

@@ -1,4 +1,4 @@
--- A client's member is in no report, and changes no frame, channel or sample that is laid.
+-- A client's member is in no report, and changes no frame, channel or sample that is placed.
 use Rattle.std.proofs.Common.{◌≡◌, ℕ, ◌+◌, List, [], ◌∷◌, refl, sym, ◌∙◌, ap}
 use Rattle.std.proofs.lemmas.List.{map-append}
 use Rattle.std.specs.Prelude.{Bool, true, false, ℤ, ◌++◌, length, map, filter, take}

@@ -282,7 +282,7 @@ data IsOnTheWay (period from : ℕ) (lines : List Line) (q : ℕ) : Type 0 where
   multiple : (k : ℕ) → q ≡ k * period → from ≤ q → q < from + played_in lines → IsOnTheWay period from lines q
   behind : (n : ℕ) → n ≤ length lines → q ≡ from + played_in (take n lines) → IsOnTheWay period from lines q
 
--- behind one line more
+-- after one line more
 on-the_way-more : (period from : ℕ) (line : Line) (lines : List Line) (q : ℕ) → IsOnTheWay period (from + played_at line) lines q → IsOnTheWay period from (line ∷ lines) q
 on-the_way-more period from line lines q (multiple k is low high) =
     multiple k is (omega (arith, low)) (omega (arith, high, sum_by-cons played_at line lines))

@@ -422,7 +422,7 @@ lines-get rules phase number x y (asked ∷ ops) rows at goes (between, answer, 
     by_row None first begins got next are = (first, got, begins, refl, are)
     by_row (Some r) first begins got next are = (first, got, begins, refl, are)
 
--- rows behind rows
+-- rows after rows
 pub AreSlices-append : (a b c : Option ℕ) (xs ys : List Row) (f g : List ℕ) → AreSlices a xs f b → AreSlices b ys g c → AreSlices a (xs ++ ys) (f ++ g) c
 AreSlices-append a b c [] ys f g (none, same) more = rw (none, sym same) more
 AreSlices-append a b c (x ∷ xs) ys f g (first, others, begins, frames, rest) more =

@@ -16,7 +16,7 @@ use Rattle.lab_script.specs.Keys.{row_of, keys_of, key_of, keys_from, value_of, 
 use Rattle.lab_script.specs.Limits.{IsIn, IsInWhere, IsStopWhere, IsFileWhere, IsBoundWhere}
 use Rattle.lab_script.specs.Word.{number_of, is_name, is_file}
 
--- what a value after a step tells
+-- what a value after a step says
 pub bind_ok : {A B : Type 0} (r : Result A ScriptWhy) (f : A → Result B ScriptWhy) (y : B) → (r >>= f) ≡ Ok y → (x : A) × (r ≡ Ok x) × (f x ≡ Ok y)
 bind_ok (Ok x) f y e = (x, refl, e)
 bind_ok (Err w) f y e = absurd (cc)

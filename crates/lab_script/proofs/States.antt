@@ -510,7 +510,7 @@ pub with_words-kept : (s : State) (number : ℕ) (ws : List (List ℕ)) (t : Sta
 with_words-kept s number [] t e st = ok_state s t e st
 with_words-kept s number (word ∷ ws) t e st = line_at-kept s.phase s number word ws t refl e st
 
--- what a value of a line tells
+-- what a value of a line says
 pub on_line-ok : {X Y : Type 0} (line : ℕ) (r : Result X ScriptWhy) (f : X → Result Y ScriptError) (y : Y) → on_line line r f ≡ Ok y → (x : X) × (r ≡ Ok x) × (f x ≡ Ok y)
 on_line-ok line (Ok x) f y e = (x, refl, e)
 on_line-ok line (Err cause) f y e = absurd (cc)

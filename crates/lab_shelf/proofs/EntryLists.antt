@@ -74,7 +74,7 @@ pub held_nowhere : {E : Type 0} (key content : E → List ℕ) (q : List ℕ) (e
 held_nowhere key content q es is =
     bytes_under-pairs_by key content q es ∙ ap (option_map content) (find_nowhere (λ e. bytes_eq q (key e)) es is)
 
--- two names that the test tells apart
+-- two names that the test finds different
 other_name : (q name : List ℕ) → bytes_eq q name ≡ false → q ≢ name
 other_name q name is same = let e : bytes_eq q name ≡ true = (bytes_eq-Decides q name).1 same in cc
 
