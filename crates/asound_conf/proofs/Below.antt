@@ -132,7 +132,7 @@ node_at-below (first ∷ path) parts g list is some =
     ∙ ap (λ m. node_at (path ++ parts) (group_in m)) u.meets_it
     ∙ node_at-below path parts u.inner list u.leads some
 
--- nothing is met behind the last part
+-- nothing is met after the last part
 meets_text-last : (parts : List Part) (g : Entries) → (not (is_last parts) && meets_text parts g) ≡ meets_text parts g
 unfolding meets_text
 meets_text-last [] g = refl

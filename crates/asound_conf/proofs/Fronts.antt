@@ -7,7 +7,7 @@ take-least zero xs is = omega arith
 take-least (suc n) [] is = absurd (omega (arith, is))
 take-least (suc n) (x ∷ xs) is = let less = take-least n xs (omega (arith, is)) in omega (arith, less)
 
--- nothing is behind them
+-- nothing is after them
 pub drop-front : {X : Type 0} (n : ℕ) (xs : List X) → drop n (take n xs) ≡ []
 drop-front zero xs = refl
 drop-front (suc n) [] = refl

@@ -6,7 +6,7 @@ use Rattle.asound_conf.specs.Tree.{Tree, group, text, Entries, empty, entry, has
 use Rattle.asound_conf.specs.Tree as tree
 
 -- the place where a name is found from the end
--- a name that is somewhere behind an item
+-- a name that is somewhere after an item
 -- what is left of a group without the last of a name
 -- a group without a name that it hasn't
 pub without-none : (name : List ℕ) (g : Entries) → has name g ≡ false → without_name name g ≡ g

@@ -190,7 +190,7 @@ led first cleared mid q part n is puts step = by_test (clashes None (get part.na
           there = there;
         }
 
--- what the parts of a key behind the first put into the group at the end of a way
+-- what the parts of a key after the first put into the group at the end of a way
 pub put-down : (r : Result ℕ ConfWhy) (first mid new : List Row) (q n : ℕ) (part : Part) (parts : List Part) (value : Option (List ℕ)) (path : List Part) → IsWay first 0 path q → Alters q first mid → is_last parts ≡ false → IsLed first mid q part n
     → Leads r (group_of 0 new) (put_or_clash value ((path ++ part_named part.name ∷ []) ++ parts) (group_of 0 mid)) → Leads r (group_of 0 new) (put_or_clash value (path ++ part ∷ parts) (group_of 0 first))
 put-down r first mid new q n part parts value path way alters some l leads =

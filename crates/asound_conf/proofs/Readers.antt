@@ -73,7 +73,7 @@ length-take zero xs low = refl
 length-take (suc n) [] low = absurd (omega arith)
 length-take (suc n) (x ∷ xs) low = ap suc (length-take n xs (omega arith))
 
--- behind a text that was put
+-- after a text that was put
 after_item-state : (c d : Contents) (path key : List part.Part) (here : code.Bracket) (outer : List code.Bracket) (awaits : Awaits) → here.names ≡ length path → d.text ≡ c.text
     → after_item (state_in c path key here outer awaits) (group_of 0 d.rows) ≡ state_in d path [] here outer (Item true)
 unfolding path_in
@@ -178,7 +178,7 @@ open_group-deep c path key here outer awaits line array deep =
     too-deep : (n : ℕ) → 16 ≤ n → nat_le 16 n ≡ true
     too-deep n deep = grind (arith, nat_tests)
 
--- behind a bracket that was closed
+-- after a bracket that was closed
 pub close_to-state : (c : Contents) (path : List part.Part) (here around : code.Bracket) (outer : List code.Bracket) (awaits : Awaits) → around.names ≤ length path
     → close_to (state_in c path [] here (around ∷ outer) awaits) (map bracket_of (around ∷ outer)) ≡ Ok (state_in c (take around.names path) [] around outer (Item true))
 unfolding path_in
@@ -272,7 +272,7 @@ number-open c path key here outer awaits next none is =
       around = AreAround-values c path here new outer refl refl is.around;
     })
 
--- a reader behind an item that was put
+-- a reader after an item that was put
 pub text-open : (c d : Contents) (path key : List part.Part) (here : code.Bracket) (outer : List code.Bracket) (awaits : Awaits) (separator : Bool) → IsOpen c path key here outer awaits → d.text ≡ c.text → length c.rows ≤ length d.rows
     → ((way : List Part) (last : ℕ) → last ≤ here.group → IsWay c.rows 0 way last → IsWay d.rows 0 way last) → IsOpen d path [] here outer (Item separator)
 text-open c d path key here outer awaits separator is same longer kept =
@@ -319,7 +319,7 @@ group-open c d path key here outer awaits line group array is same longer kept l
       around = AreAround-open d path key here new outer before.innermost (omega arith) (omega arith) before.around;
     }
 
--- a reader behind a bracket that was closed
+-- a reader after a bracket that was closed
 pub close-open : (c : Contents) (path key : List part.Part) (here around : code.Bracket) (outer : List code.Bracket) (awaits : Awaits) → IsOpen c path key here (around ∷ outer) awaits → length key ≡ 0 → IsOpen c (take around.names path) key around outer (Item true)
 close-open c path key here around outer awaits is none = record {
   keyed = none;
@@ -359,14 +359,14 @@ pub key-clear : (c : Contents) (path key : List part.Part) (here : code.Bracket)
 key-clear c path key here outer (Item separator) is some = let none : length key ≡ 0 = is.keyed in absurd (omega (arith, none, some))
 key-clear c path key here outer (Value equals) is some = is.keyed.1
 
--- the first parts and those behind them, once one part was added
+-- the first parts and those after them, once one part was added
 pub take-push : (n : ℕ) (parts new : List part.Part) (p : part.Part) → n ≤ length parts → new ≡ parts ++ p ∷ [] → take n parts ≡ take n new
 take-push n parts new p low is = sym (ap (take n) is ∙ take-append-le n parts (p ∷ []) low)
 
 pub drop-push : (n : ℕ) (parts new : List part.Part) (p : part.Part) → n ≤ length parts → new ≡ parts ++ p ∷ [] → drop n parts ++ p ∷ [] ≡ drop n new
 drop-push n parts new p low is = sym (ap (drop n) is ∙ drop-append-le n parts (p ∷ []) low)
 
--- the first parts and those behind them, where only the first are left
+-- the first parts and those after them, where only the first are left
 pub take-truncate : (n m : ℕ) (parts new : List part.Part) → n ≤ m → new ≡ take n parts → take n (take m parts) ≡ take n new
 take-truncate n m parts new low is = take-take n m parts low ∙ sym (ap (take n) is ∙ take-take n n parts (omega arith))
 
@@ -376,7 +376,7 @@ take-cleared n parts new is = sym (ap (take n) is ∙ take-take n n parts (omega
 pub drop-truncate : (n : ℕ) (parts new : List part.Part) → new ≡ take n parts → [] ≡ drop n new
 drop-truncate n parts new is = sym (ap (drop n) is ∙ drop-front n parts)
 
--- the first parts, once others were added behind all
+-- the first parts, once others were added after all
 pub take-kept : (n : ℕ) (parts new : List part.Part) → n ≤ length parts → take (length parts) new ≡ parts → take n new ≡ take n parts
 take-kept n parts new low kept = sym (take-take n (length parts) new low) ∙ ap (take n) kept
 

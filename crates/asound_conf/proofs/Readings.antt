@@ -9,7 +9,7 @@ use Rattle.asound_conf.specs.Reading.{Reads, RefusesText}
 use Rattle.asound_conf.specs.Token.{LineToken}
 use Rattle.asound_conf.specs.Tree.{Entries}
 
--- behind a token that leads on
+-- after a token that leads on
 pub meaning-next : (s next : State) (last : ℕ) (t : LineToken) (ts : List LineToken) → step s t.line t.token ≡ Ok next → meaning s last (t ∷ ts) ≡ meaning next last ts
 unfolding meaning
 meaning-next s next last t ts leads = ap (λ r. after_token t.line r (λ n. meaning n last ts)) leads

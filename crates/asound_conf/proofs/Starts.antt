@@ -74,7 +74,7 @@ quoted-no_word false true c w q e = cc
 quoted-no_word false false true w q e = cc
 quoted-no_word false false false w q e = cc
 
--- a word is the first of a text, and the text goes on behind it
+-- a word is the first of a text, and the text goes on after it
 pub record IsWordFirst (text w : List ℕ) : Type 0 where
   pub end : token_end text ≡ end_at ends_word text
   pub is : w ≡ take (end_at ends_word text) text
@@ -100,7 +100,7 @@ word-first text w e = marked (mark_of (slice_index text 0)) e
     marked (Some m) e = cc
     marked None e = quote (is_quote (slice_index text 0)) refl e
 
--- a quoted text is behind the first byte of a text, and the text goes on behind the quote that follows it
+-- a quoted text is after the first byte of a text, and the text goes on after the quote that follows it
 pub record IsQuotedFirst (text q : List ℕ) : Type 0 where
   pub end : token_end text ≡ quoted_end (slice_index text 0) (drop 1 text) + 2
   pub is : q ≡ take (quoted_end (slice_index text 0) (drop 1 text)) (drop 1 text)

@@ -134,7 +134,7 @@ pub earlier-less : (text : List ℕ) (cells : List Cell) (heads : List ℕ) (p :
     → IsSought text cells (length heads) p name at → 0 < at → (cell_at cells at).earlier < at
 earlier-less text cells heads p name at is sought some = (is.link at some sought.inside).order
 
--- rows of a group behind a place have other names
+-- rows of a group after a place have other names
 behind-row : (text : List ℕ) (cells : List Cell) (p : ℕ) (name : List ℕ) (at j : ℕ) → ((k : ℕ) → at < k → fits p name (row_of text (cell_at cells k)) ≡ false) → at < j
     → (row_at (map (row_of text) cells) j).parent ≡ Some p → bytes_eq (row_at (map (row_of text) cells) j).name name ≡ false
 behind-row text cells p name at j behind after e = elim (cases_lt j (length cells)) [

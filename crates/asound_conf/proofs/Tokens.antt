@@ -4,7 +4,7 @@ use Rattle.std.specs.Prelude.{slice_index}
 use Rattle.std.proofs.lemmas.Bool.Decides.{nat_tests}
 use Rattle.asound_conf.specs.Token.{LineToken, is_skipped, line_after, token_at, token_end, tokens}
 
--- the tokens of a text behind what was taken
+-- the tokens of a text after what was taken
 pub tokens-taken : (taken line : ℕ) (text : List ℕ) → tokens taken line text ≡ tokens 0 line (drop taken text)
 unfolding tokens
 tokens-taken zero line text = refl

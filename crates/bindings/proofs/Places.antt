@@ -46,12 +46,12 @@ take-all list places n all is =
 pub length-padded : (list : List ℕ) → length list ≤ 8 → length (in_eight_places list) ≡ 8
 length-padded list few = omega (arith, length-append list (zeros (8 - length list)), length-replicate {A = ℕ} (8 - length list) 0)
 
--- behind the list
-pub slice_index-zeros : (list : List ℕ) (n : ℕ) → length list ≤ n → n < 8 → get_or (in_eight_places list) n 0 ≡ 0
+-- after the list
+pub slice_index-zeros : (list : List ℕ) (n : ℕ) → length list ≤ n → n < 8 → get_or (padded list) n 0 ≡ 0
 slice_index-zeros list n past within =
     get_or-append_right list (zeros (8 - length list)) (length list) n 0 refl past ∙ get_or-replicate (8 - length list) (n - length list) 0 0 (omega arith)
 
--- 8 places that hold each client channel at its place by card channel, and zeros behind
+-- 8 places that hold each client channel at its place by card channel, and zeros after the list
 pub record IsPlaced (list places : List ℕ) (n : ℕ) : Type 0 where
   pub length_is : length places ≡ 8
   pub placed : (client : ℕ) → client < n → get_or places (count_below list (get_or list client 0)) 0 ≡ client

@@ -34,7 +34,7 @@ same-error {X = X} {Y = Y} e f h = let is : e ≡ f = error-of X e f h in ap (λ
     error-of : (T : Type 0) (e f : PcmError) → (let r : Result T PcmError = Err e in r) ≡ Err f → e ≡ f
     error-of T e f h = cc
 
--- what is told where nothing was loaded
+-- what is said where nothing was loaded
 pub if-none : {X : Type 0} (o : Option X) {P Q : Type 0} → (P → Q) → IfNone o P → IfNone o Q
 if-none None follows told = follows told
 if-none (Some x) follows told = tt
@@ -139,7 +139,7 @@ module _ {S : Type 0} (view : S → PortView) (shows : S → ℕ → ℕ → Opt
         never_lap_end = λ h. cc;
       })
 
-  -- behind a load that went well
+  -- after a load that went well
   pub free-by : (c u : PlaybackStream) (load : Option Position) → IsCaused {X = Unit {0}} view shows q c u load (Ok tt) → IsFree c load
   free-by c u load why = record {
     loaded = if-none load (λ h. cc) why.unless_stopped;
@@ -171,7 +171,7 @@ module _ {S : Type 0} (view : S → PortView) (shows : S → ℕ → ℕ → Opt
 
 -- ---- a sync
 
--- nothing was to be laid where the card is gone or the threshold reached
+-- nothing was to be placed where the card is gone or the threshold reached
 pub record IsPlain (gone : Bool) (over : Option (ℕ × ℕ)) (e : Ended) : Type 0 where
   pub here : gone ≡ true → e ≡ ended.Whole
   pub below : (a f : ℕ) → over ≡ Some (a, f) → e ≡ ended.Whole
@@ -279,7 +279,7 @@ module _ {S : Type 0} (view : S → PortView) (shows : S → ℕ → ℕ → Opt
       (λ w here going is. caused-late view shows q c (started_in c Running position cursor) _ (Some position) x w (free-at c position here (λ runs. absurd (cc))) refl refl is shown)
       (λ here going in_time. caused-other view shows q c _ (Some position) _ (free-at c position here (λ runs. absurd (cc))) (other-ok tt))
 
-  -- ---- a write behind its sync
+  -- ---- a write after its sync
 
   pub caused-on : (load : Option Position) (c : PlaybackStream) (a : Answered (Unit {0})) (n : ℕ) (last : Commit) → IsCaused {X = Unit {0}} view shows q c a.0 load a.1
       → OnLate last.ended (λ word. IsPast view shows q (end_of_commit a.0 last) (end_channel a.0 last) word)

@@ -108,7 +108,7 @@ full-of n a is = (grind (arith, nat_tests), grind (arith, nat_tests))
 not_full : (n a : ℕ) → (nat_lt 0 n && nat_eq a 0) ≡ false → 0 < n → a ≡ 0 → ⊥
 not_full n a is some none = grind (arith, nat_tests)
 
--- a write behind its sync: nothing can be taken, the gate stopped the commit, it was late, or frames are taken
+-- a write after its sync: nothing can be taken, the gate stopped the commit, it was late, or frames are taken
 pub written-ends : (X : Answered ℕ → Type 0) (c : PlaybackStream) (n : ℕ) (x : Commit)
     → (0 < n → avail_of c ≡ 0 → X (c, Err error.Again))
     → ((0 < n → avail_of c ≡ 0 → ⊥) → is_stop x.ended ≡ true → X (stopped_in (committed_by c x)))
@@ -122,7 +122,7 @@ written-ends X c n x again at_stop at_late goes =
 
 -- ---- what is left of a client, in some status
 
--- a sync that loaded a position leaves the client behind its commit
+-- a sync that loaded a position leaves the client after its commit
 pub after_sync-leaves : (X : PlaybackStream → Type 0) (c : PlaybackStream) (call : Call) (position : Position) (x : Commit) → ((s : Status) → X (record (committed_by (seen_at c position) x) { status = s }))
     → X (after_sync c call (Some position) x).0
 after_sync-leaves X c call position x all = by-test (λ (a : Answered (Unit {0})). X a.0) (is_stop x.ended) _ _ (λ stop. all _) (λ going. all _)

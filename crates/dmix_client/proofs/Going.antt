@@ -41,7 +41,7 @@ pub ok-of : (r : Result (Unit {0}) PcmError) → ((e : PcmError) → r ≡ Err e
 ok-of (Ok done) never = refl
 ok-of (Err e) never = absurd (never e refl)
 
--- frames that are taken besides, or a number, tell the same
+-- frames that are taken besides, or a number, say the same
 pub accepted_if-told : (n : ℕ) (a : Answered (Unit {0})) (before after : ℕ) → CountsStop (accepted_if n a).1 before after → CountsStop a.1 before after
 accepted_if-told n (c, Ok done) before after told = told
 accepted_if-told n (c, Err e) before after told = told

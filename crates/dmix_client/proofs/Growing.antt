@@ -1,4 +1,4 @@
--- How a client's segment grows by what a commit lays, and which samples the client represents then.
+-- How a client's segment grows by what a commit places, and which samples the client represents then.
 use Rattle.std.proofs.Common.{add-zero, ap, arith, inl, inr, length, refl, sym, zero-add, ℕ, ◌*◌, ◌++◌, ◌+◌, ◌<◌, ◌∙◌, ◌≡◌, ◌≤◌}
 use Rattle.std.proofs.lemmas.Bool.Decides.{nat_tests}
 use Rattle.std.proofs.lemmas.Bool.{cases_eq}
@@ -18,13 +18,13 @@ use Rattle.dmix_client.specs.Writes.{ring_with}
 use Rattle.dmix_client.specs.declared.commit.Commit.{Commit}
 use Rattle.dmix_client.specs.declared.stream.PlaybackStream.{PlaybackStream}
 
--- the client after a commit stands for the same samples
+-- the client after a commit represents the same samples
 pub StandsFor-after : (c b : PlaybackStream) (ring samples : List ℤ) (x : Commit) (count upto : ℕ) (s : Status) (written fed : ℕ) → CommitsAs c b ring x count upto → written ≤ upto → StandsUpTo c ring samples upto
     → StandsFor (after c b x s written fed) ring samples
 StandsFor-after c b ring samples x count upto s written fed y few stands j q low high in_range =
     stands j q (omega (arith, low, min-later c.stretch.committed (hw_of c) x.frames (hw_of b) y.later)) (omega (arith, high, few)) in_range
 
--- whole frames that stand elsewhere are the same where there are none
+-- whole frames that are elsewhere are the same where there are none
 whole-at : (member : ℕ) (bindings : List ℕ) (s : ℕ → ℕ → ℤ) (card at n part : ℕ) → part ≡ 0 → (0 < n → at ≡ card)
     → run_entries member bindings s at 0 n 0 ≡ run_entries member bindings s card 0 n part
 whole-at member bindings s card at n part none same = elim (cases_eq n 0) [
@@ -37,7 +37,7 @@ whole-at member bindings s card at n part none same = elim (cases_eq n 0) [
       ∙ ap (run_entries member bindings s card 0 n) (sym none)
 ]
 
--- what a commit laid of a local ring
+-- what a commit placed of a local ring
 abbrev pub laid_at : PlaybackStream → PlaybackStream → List ℤ → Commit → List Entry
 laid_at c b ring x = run_entries c.identity.member c.setup.bindings (ring_sample c ring) b.stretch.card c.stretch.committed x.frames x.part
 
@@ -69,7 +69,7 @@ pub accepted-none : (a : Answered (Unit {0})) → (accepted_if 0 a).0 ≡ a.0
 accepted-none (d, Ok done) = ap (λ (w : ℕ). record d { stretch = record d.stretch { written = w }; fed = d.fed + 0 }) (add-zero d.stretch.written) ∙ ap (λ (f : ℕ). record d { fed = f }) (add-zero d.fed)
 accepted-none (d, Err e) = refl
 
--- ---- a client that stored the frames of a write stands for its samples up to these
+-- ---- a client that stored the frames of a write represents its samples up to these
 
 prepared_fits : (w b h k : ℕ) → w ≤ b → h ≡ 0 → (w ≤ h + b) × (min w h ≤ k)
 prepared_fits w b h k fits none = (omega (arith, fits, none), grind (arith, nat_tests))

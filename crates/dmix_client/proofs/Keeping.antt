@@ -136,7 +136,7 @@ module _ {S T : Type 0} (P : mixport.Ghosts S) (G : gates.Ghosts T) (laid_compos
   starts-step s t c ring state cursor upto a bound takes =
       TakesAt-step P G laid_composes loaded_composes (λ position. started_in c Running position cursor) (λ position. start_count c cursor position upto) ring c.setup.bindings (after_start c state cursor) s t a bound (λ position. refl) takes
 
-  -- what a call keeps that laid nothing and left the segment as it was
+  -- what a call keeps that placed nothing and left the segment as it was
   pub Keeps-still : {X : Type 0} (s t : S × T) (c d : PlaybackStream) (ring new : List ℤ) (answer : Result X PcmError) (For : List ℤ → Type 0) → IsSound d new → CanUse d (P.view t.0) → P.laid s.0 t.0 []
       → (c.status.stopped ≡ false → CountsStop answer (G.stops s.1) (G.stops t.1)) → ((samples : List ℤ) → StandsFor c ring samples → segment_entries d samples ≡ segment_entries c samples) → d.identity.member ≡ c.identity.member → d.setup.bindings ≡ c.setup.bindings
       → ((samples : List ℤ) → StandsFor c ring samples → For samples → StandsFor d new samples) → Keeps P G s t (client c ring) (client d new) answer For
@@ -148,7 +148,7 @@ module _ {S T : Type 0} (P : mixport.Ghosts S) (G : gates.Ghosts T) (laid_compos
     stands = stands;
   }
 
-  -- what a call keeps that laid a commit
+  -- what a call keeps that placed a commit
   pub Keeps-after : {X : Type 0} (s t : S × T) (c b : PlaybackStream) (ring new : List ℤ) (x : Commit) (count upto : ℕ) (For : List ℤ → Type 0) → CommitsAs c b new x count upto → CanUse c (P.view s.0) → IsSamePort (P.view s.0) (P.view t.0) → unwrap_or b.seen 0 ≤ (P.view t.0).seen
       → P.laid s.0 t.0 (laid_at c b new x) → ((samples : List ℤ) → StandsFor c ring samples → For samples → StandsUpTo c new samples upto) → (st : Status) (written fed : ℕ) (answer : Result X PcmError) → written ≤ upto → written + c.stretch.source ≡ fed → (st.state ≡ Prepared → ⊥)
       → (st.state ≡ Paused → ⊥) → CountsStop answer (G.stops s.1) (G.stops t.1) → (is_moving st.state ≡ true → st.stopped ≡ false → IsMoving (after c b x st written fed) × IsFrom (P.view t.0).marks.cursor (b.stretch.card + (c.stretch.committed + x.frames)) (least_channel c.setup.bindings))
@@ -338,7 +338,7 @@ module _ {S T : Type 0} (P : mixport.Ghosts S) (G : gates.Ghosts T) (laid_compos
     stands = λ samples stands for. two.stands samples (one.stands samples stands for) (more samples for);
   }
 
-  -- a write behind its sync
+  -- a write after its sync
   pub record Written (s t : S × T) (c : PlaybackStream) (ring offered : List ℤ) (n : ℕ) (a : Answered ℕ) : Type 0 where
     pub keeps : Keeps P G s t (client c ring) (client a.0 (ring_with c ring offered (taken_of c n))) a.1 (λ all. Follows c all offered n)
     pub count : IfOk a.1 (λ taken. taken ≤ 16384)

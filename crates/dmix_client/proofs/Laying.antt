@@ -1,4 +1,4 @@
--- The loops that lay a frame, and frames, take their courses.
+-- The loops that place a frame, and frames, take their courses.
 use Rattle.std.proofs.Common.{◌≡◌, ℕ, ◌+◌, ◌-◌, ◌*◌, ◌%◌, ◌<◌, ◌≤◌, zero, suc, refl, sym, ap, ◌∙◌, subst, arith, List, length, drop}
 use Rattle.std.proofs.lemmas.List.{drop_all, drop_more}
 use Rattle.std.specs.Prelude.{ℤ, slice_index}
@@ -17,13 +17,13 @@ use Rattle.dmix_client.specs.CourseLaws.{entry_of}
 use Rattle.dmix_client.specs.View.{ring_sample, slot_sample}
 use Rattle.dmix_client.proofs.Frames.{not-whole}
 
--- what the channels from here on come to is what all come to
+-- what the channels from here on end in is what all end in
 abbrev pub Rest : {S T : Type 0} → mixport.Ghosts S → gates.Ghosts T → ℕ → ℕ → List ℕ → (ℕ → ℤ) → List ℕ → S × T → S × T → ℕ → Type 0
 Rest {S = S} {T = T} P G member frame bindings sample_of qs start now i = (t : S × T) (done : ℕ) (ended : Ended)
     → TakesAt P G now (lay_each member frame bindings sample_of (drop i qs)) t (done, ended)
     → TakesAt P G start (lay_each member frame bindings sample_of qs) t (i + done, ended)
 
--- what the frames from here on come to is what all come to
+-- what the frames from here on end in is what all end in
 abbrev pub more_frames : ℕ → Commit → Commit
 more_frames n x = record { frames = n + x.frames; part = x.part; ended = x.ended }
 
@@ -114,7 +114,7 @@ module _ {S T : Type 0} (P : mixport.Ghosts S) (G : gates.Ghosts T) where
       subst (λ n. TakesAt P G start (lay_frames member card bindings samples count first) now (record { frames = n; part = 0; ended = Whole })) (let counted : i + 0 ≡ count = omega (arith, is) in counted)
       (so_far now nothing (subst (λ n. TakesAt P G now (lay_frames member card bindings samples n (first + i)) now nothing) (sym (let none : count - i ≡ 0 = omega (arith, is) in none)) (record { there = refl; result = refl })))
 
-  -- a run of frames, and those behind it, by the first frame of the run
+  -- a run of frames, and those after it, by the first frame of the run
   frames-joined-by : (member card : ℕ) (bindings : List ℕ) (samples : ℕ → ℕ → ℤ) (all first : ℕ) (s m n t : S × T) (k done : ℕ) (end : Ended) (x y : Commit) → x.ended ≡ Whole
       → TakesAt P G s (lay_frame member (card + first) bindings (samples first)) m (done, end)
       → TakesAt P G m (go_on (done, end) (lay_frames member card bindings samples k (first + 1))) n x

@@ -40,7 +40,7 @@ module _ {S T : Type 0} (P : mixport.Ghosts S) (G : gates.Ghosts T) where
         (subst (λ k. TakesAt P G m (commits (at position) ring k) t x) is_count (subst (λ d. TakesAt P G m (commits d ring n) t x) is_client then)) refl,
   )
 
-  -- the sync of a client, and its start, by a load and the commit behind it
+  -- the sync of a client, and its start, by a load and the commit after it
   pub syncs-by : (s t : S × T) (c : PlaybackStream) (call : Call) (ring : List ℤ) (load : Option Position) (commit : Commit) (done : Answered (Unit {0}))
       → TakesAt P G s (looks (λ position. c) (sync_count c) ring) t (load, commit) → after_sync c call load commit ≡ done → TakesAt P G s (syncs c call ring) t done
   unfolding syncs

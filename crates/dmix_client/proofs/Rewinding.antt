@@ -141,7 +141,7 @@ IsBack-of d floor n m few =
     let is = back-is n d.stretch.written d.stretch.committed (max (unwrap_or d.seen 0) (first_free floor 0)) d.stretch.card few m.laid_most in
     record { few = is.0; back = is.1; from = is.2; whole = is.3 }
 
--- what isn't played is at or behind the first of them
+-- what isn't played is at or after the first of them
 unplayed : (k b seen top card h : ℕ) → h ≡ seen - card → b ≤ k → (0 < b → max seen top ≤ card + (k - b)) → min k h ≤ k - b
 unplayed k b seen top card h is most from = grind (arith, nat_tests, from)
 
@@ -201,7 +201,7 @@ module _ {S : Type 0} (view : S → PortView) (shows : S → ℕ → ℕ → Opt
     never_lap_end = why.never_lap_end;
   }
 
-  -- behind a load that went well
+  -- after a load that went well
   kept-other : (load : Option Position) (c u d : PlaybackStream) (answer : Result ℕ PcmError) → IsCaused {X = Unit {0}} view shows q c u load (Ok tt) → IsOther answer → IsKeptCause view shows q c d load answer
   kept-other load c u d answer first other = kept-of load c d answer (caused-other view shows q c d load answer (free-by view shows q c u load first) other) other.in_time
 
@@ -378,7 +378,7 @@ module _ (d : PlaybackStream) (ring : List ℤ) (floor : Cursor) (n : ℕ) (soun
         subst (λ (u : S × T). TakenBack s u a) (sym parts.3.there) (subst (λ (b : Answered ℕ). TakenBack s parts.0 b) (sym parts.3.result)
         (by_end s parts.0 x.frames x.part x.ended port (took-of s parts.0 x is_floor port parts.2)))
 
-    -- why it answered so, behind a load that went well
+    -- why it answered so, after a load that went well
     why_end : (t : S × T) (c u : PlaybackStream) (load : Option Position) (frames part : ℕ) (e : Ended) → AreLeft e frames part (back_of d n) (length d.setup.bindings)
         → OnLate e (λ word. IsPast P.view P.shows t.0 (d.stretch.card + (d.stretch.committed - back_of d n + last_frame frames part)) (slice_index d.setup.bindings (slice_index (rising d.setup.bindings) (last_place part (length d.setup.bindings)))) word)
         → IsCaused {X = Unit {0}} P.view P.shows t.0 c u load (Ok tt)
@@ -422,7 +422,7 @@ min-both k h g low = (grind (arith, nat_tests), grind (arith, nat_tests))
 pub few-of : (n r : ℕ) → min n r ≤ r
 few-of n r = grind (arith, nat_tests)
 
--- why a call went well is told alike later
+-- why a call went well is the same later
 caused-later : {S : Type 0} (view : S → PortView) (shows : S → ℕ → ℕ → Option ℕ) (q r : S) (load : Option Position) (c d : PlaybackStream) → IsCaused {X = Unit {0}} view shows q c d load (Ok tt) → IsCaused {X = Unit {0}} view shows r c d load (Ok tt)
 caused-later view shows q r load c d first = record {
   unless_stopped = first.unless_stopped;
@@ -512,7 +512,7 @@ module _ {S T : Type 0} (P : mixport.Ghosts S) (G : gates.Ghosts T) (holds : Hol
       let parts = Takes-parts (LoadsAt P G) (LaysAt P G) NoGet s t (checks c) (rewind_on (P.view s.0).marks.floor ring n) a takes in
       rewound-by s parts.0 t c ring n parts.1 a (checks-kept P G holds.laid_composes holds.loaded_composes s parts.0 c ring parts.1 sound runs going port parts.2) parts.3
 
-  -- a port whose standing adds ended in the frames that the client's ring has still ends in those that it has behind the load
+  -- a port whose standing adds ended in the frames that the client's ring has still ends in those that it has after the load
   pub standing-checked : (s t : S × T) (c : PlaybackStream) (ring : List ℤ) (a : Answered (Unit {0})) → Checked P G s t c ring a → P.ends_in s.0 (held_entries c ring) → P.ends_in t.0 (held_entries a.0 ring)
   standing-checked s t c ring a checked stand =
       let d : PlaybackStream = record c { status = a.0.status; seen = a.0.seen } in

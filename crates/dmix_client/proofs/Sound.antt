@@ -100,7 +100,7 @@ CanUse-still c d v w port same is still = record {
   newer = λ moves going. absurd (still moves going);
 }
 
--- ---- behind a commit
+-- ---- after a commit
 
 whole_most : (w k card n stop : ℕ) → k ≤ w → n ≡ min w (stop - card) - k → k + n ≤ w
 whole_most w k card n stop most is = grind (arith, nat_tests)
@@ -135,13 +135,13 @@ frames-le ended.Whole frames part count channels is = omega (arith, is.0)
 frames-le (ended.Late word) frames part count channels is = omega (arith, is.0)
 frames-le ended.Stopped frames part count channels is = omega (arith, is.0)
 
--- the frames of a commit are below the frame that it was to lay up to
+-- the frames of a commit are below the frame that it was to place up to
 pub used-below : (e : Ended) (k frames part count channels upto : ℕ) → IsCommit e frames part count channels → count ≤ upto - k → k ≤ upto → k + frames_used frames part ≤ upto
 used-below ended.Whole k frames part count channels upto is few low = let all = is.0 in let none = is.1 in grind (arith, nat_tests)
 used-below (ended.Late word) k frames part count channels upto is few low = let less = is.0 in grind (arith, nat_tests)
 used-below ended.Stopped k frames part count channels upto is few low = let less = is.0 in grind (arith, nat_tests)
 
--- a commit that had nothing to lay laid nothing, and one that is not late and not stopped laid all
+-- a commit that had nothing to place placed nothing, and one that is not late and not stopped placed all
 pub none-of : (e : Ended) (frames part channels : ℕ) → IsCommit e frames part 0 channels → (frames ≡ 0) × (part ≡ 0) × (e ≡ ended.Whole)
 none-of ended.Whole frames part channels is = (is.0, is.1, refl)
 none-of (ended.Late word) frames part channels is = absurd (omega (arith, is.0))
@@ -152,7 +152,7 @@ whole-of ended.Whole frames part count channels frame channel X is going in_time
 whole-of (ended.Late word) frames part count channels frame channel X is going in_time at = absurd (cc)
 whole-of ended.Stopped frames part count channels frame channel X is going in_time at = absurd (cc)
 
--- a client behind a commit which it made as `b`, in any status, with other counts of what was accepted
+-- a client after a commit which it made as `b`, in any status, with other counts of what was accepted
 abbrev pub after : PlaybackStream → PlaybackStream → Commit → Status → ℕ → ℕ → PlaybackStream
 after c b x s written fed =
     record c {
@@ -162,7 +162,7 @@ after c b x s written fed =
       fed = fed;
     }
 
--- how many frames before one are to be laid, at the position that `b` saw
+-- how many frames before one are to be placed, at the position that `b` saw
 abbrev pub count_at : PlaybackStream → PlaybackStream → ℕ → ℕ
 count_at c b upto = min upto (window_end c.identity.geometry (unwrap_or b.seen 0) - b.stretch.card) - c.stretch.committed
 
@@ -181,7 +181,7 @@ pub record CommitsAs (c b : PlaybackStream) (ring : List ℤ) (x : Commit) (coun
   pub few : count ≤ count_at c b upto
   pub commit_is : IsCommit x.ended x.frames x.part count (length c.setup.bindings)
 
--- it moves on, where all was laid
+-- it moves on, where all was placed
 pub IsMoving-after : (c b : PlaybackStream) (ring : List ℤ) (x : Commit) (count upto : ℕ) (s : Status) (fed : ℕ) → CommitsAs c b ring x count upto → upto ≤ hw_of b + c.setup.config.buffer_size → x.frames ≡ count_at c b upto → x.part ≡ 0
     → IsMoving (after c b x s upto fed)
 IsMoving-after c b ring x count upto s fed y fits all none =
@@ -214,7 +214,7 @@ IsSound-after c b ring x count upto s written fed y sums not_prepared not_paused
   paused = λ is. absurd (not_paused is);
 }
 
--- ---- what stands about a load
+-- ---- what holds about a load
 
 pub record IsLoaded (c : PlaybackStream) (position : Position) : Type 0 where
   pub newer : unwrap_or c.seen 0 ≤ position.frame
@@ -322,7 +322,7 @@ taken_fits w hw b n m fits is = (grind (arith, nat_tests), grind (arith, nat_tes
 count-some : (m n k : ℕ) → 0 < m → n ≡ (if nat_eq m 0 then 0 else k) → n ≡ k
 count-some m n k some is = grind (arith, nat_tests)
 
--- it moves on, where all was laid
+-- it moves on, where all was placed
 pub IsMoving-written : (c : PlaybackStream) (ring : List ℤ) (x : Commit) (n m : ℕ) (s : Status) (fed : ℕ) → m ≡ taken_of c n → IsMoving c → CommitsAs c c ring x (count_with c m) (c.stretch.written + m) → x.frames ≡ count_with c m → x.part ≡ 0
     → IsMoving (after c c x s (c.stretch.written + m) fed)
 IsMoving-written c ring x n zero s fed is was y all none =

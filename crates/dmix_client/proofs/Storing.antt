@@ -1,4 +1,4 @@
--- For which samples a client stands after frames were stored in its local ring.
+-- Which samples a client represents after frames were stored in its local ring.
 use Rattle.std.proofs.Common.{◌++◌, take, drop, ◌≡◌, ℕ, ◌<◌, ◌≤◌, ◌+◌, ◌*◌, ◌%◌, List, refl, sym, ◌∙◌, ap, arith, inl, inr, length, get_or}
 use Rattle.std.proofs.Math.Nat.{mul-le-mul_right}
 use Rattle.std.proofs.Math.Seq.{take-append_seam}
@@ -14,7 +14,7 @@ use Rattle.dmix_client.specs.View.{IsConfigured, hw_of}
 use Rattle.dmix_client.specs.Writes.{ring_with}
 use Rattle.dmix_client.proofs.Sound.{taken_fits}
 
--- a client stands for its samples up to the frames that were stored behind those it has, where these are samples too
+-- a client represents its samples up to the frames that were stored after those it has, where these are samples too
 pub StandsUpTo-stored : (c : PlaybackStream) (ring samples offered : List ℤ) (n m : ℕ) → IsConfigured c ring → m * length c.setup.bindings ≤ length offered → m ≤ n → m ≤ c.setup.config.buffer_size
     → c.stretch.written + m ≤ min c.stretch.committed (hw_of c) + c.setup.config.buffer_size → StandsFor c ring samples → Follows c samples offered n
     → StandsUpTo c (ring_with c ring offered m) samples (c.stretch.written + m)

@@ -1,4 +1,4 @@
--- The withdrawals of a rewind take their courses, and which adds a port lost by them at the end of those that stand.
+-- The withdrawals of a rewind take their courses, and which adds a port lost by them at the end of the standing ones.
 use Rattle.std.proofs.Common.{◌≡◌, ℕ, ◌+◌, ◌<◌, ◌≤◌, suc, zero, refl, sym, ◌∙◌, ap, subst, arith, inl, inr, List, length, ◌-◌, [], ◌∷◌, ◌++◌, take, map, get_or, append_assoc}
 use Rattle.std.specs.Prelude.{ℤ, pos, ◌+ℤ◌, ◌-ℤ◌, ◌==◌, ◌&&◌, slice_index, Bool, true, false, nat_eq, if◌then◌else◌, fold}
 use Rattle.std.proofs.Math.Seq.{take-suc}
@@ -33,12 +33,12 @@ use Rattle.mix_core.specs.declared.gate.Gate as gates
 use Rattle.mix_core.specs.declared.port.MixPort as mixport
 use Rattle.dmix_client.proofs.Frames.{IsFrom-later, marks-joined, not-whole, rising-least}
 
--- what the first n channels come to is what all come to
+-- what the first n channels end in is what all end in
 abbrev pub Back : {S T : Type 0} → mixport.Ghosts S → gates.Ghosts T → ℕ → ℕ → List ℕ → (ℕ → ℤ) → ℕ → S × T → S × T → ℕ → Type 0
 Back {S = S} {T = T} P G member frame bindings sample_of all start now n = (t : S × T) (left : ℕ) (ended : Ended)
     → TakesAt P G now (take_each member frame bindings sample_of n) t (left, ended) → TakesAt P G start (take_each member frame bindings sample_of all) t (left, ended)
 
--- what the first n frames come to is what all come to
+-- what the first n frames end in is what all end in
 abbrev pub BackFrames : {S T : Type 0} → mixport.Ghosts S → gates.Ghosts T → ℕ → ℕ → List ℕ → (ℕ → ℕ → ℤ) → ℕ → ℕ → S × T → S × T → ℕ → Type 0
 BackFrames {S = S} {T = T} P G member card bindings samples first all start now n = (t : S × T) (x : Commit)
     → TakesAt P G now (take_frames member card bindings samples first n) t x → TakesAt P G start (take_frames member card bindings samples first all) t x
@@ -48,7 +48,7 @@ abbrev pub withdrawal_of : ℕ → ℕ → List ℕ → (ℕ → ℤ) → ℕ �
 withdrawal_of member frame bindings sample_of n = a_withdrawal member frame (slice_index bindings (slice_index (rising bindings) n)) (sample_of (slice_index (rising bindings) n))
 
 module _ {S T : Type 0} (P : mixport.Ghosts S) (G : gates.Ghosts T) where
-  -- the channel behind n was withdrawn, or it wasn't
+  -- the channel after n was withdrawn, or it wasn't
   pub Back-next : (member frame : ℕ) (bindings : List ℕ) (sample_of : ℕ → ℤ) (all : ℕ) (start now next : S × T) (n m : ℕ) (e : Entry) → m ≡ n + 1 → e ≡ withdrawal_of member frame bindings sample_of n
       → Back P G member frame bindings sample_of all start now m → LaysAt P G now e Whole next → Back P G member frame bindings sample_of all start next n
   unfolding take_each
@@ -93,9 +93,9 @@ module _ {S T : Type 0} (P : mixport.Ghosts S) (G : gates.Ghosts T) where
   unfolding take_frames
   BackFrames-all member card bindings samples first all start now n none so_far = so_far now nothing (rw none (record { there = refl; result = refl }))
 
--- ---- what the withdrawals of a rewind did at a port: which adds it lost at the end of those that stand, and where its cursor is
+-- ---- what the withdrawals of a rewind did at a port: which adds it lost at the end of the standing ones, and where its cursor is
 
--- the laws by which a port's standing adds follow from what it laid
+-- the laws by which a port's standing adds follow from what it placed
 pub record HoldsBy {S : Type 0} (P : mixport.Ghosts S) : Type 0 where
   pub laid_composes : Composes P.laid
   pub loaded_composes : Composes P.loaded
@@ -217,7 +217,7 @@ module _ {S T : Type 0} (P : mixport.Ghosts S) (G : gates.Ghosts T) (holds : Hol
     totals = λ g k. omega (arith, ints, total-append es (an_add member f c s ∷ []) g k, total-back member f c s g k);
   }
 
-  -- what the withdrawals of some channels of a frame came to
+  -- what the withdrawals of some channels of a frame ended in
   pub record TookFrame (s t : S × T) (member frame : ℕ) (bindings : List ℕ) (sample_of : ℕ → ℤ) (n left : ℕ) (ended : Ended) : Type 0 where
     pub view_is : P.view t.0 ≡ record (P.view s.0) { marks = (P.view t.0).marks }
     pub same_floor : (P.view t.0).marks.floor ≡ (P.view s.0).marks.floor
@@ -306,7 +306,7 @@ module _ {S T : Type 0} (P : mixport.Ghosts S) (G : gates.Ghosts T) (holds : Hol
       OnWhole-all x.ended _ (λ some. ap (λ (u : S × T). (P.view u.0).marks.cursor) takes.there ∙ here ∙ ap (λ (k : ℕ). let c : Cursor = record { frame = card + k; channel = least_channel bindings } in c) (let e : first + 0 ≡ first = omega arith in e))
   cursor-back member card bindings samples first (suc n) m t x here takes later = OnWhole-map x.ended _ _ (λ is some. is (omega arith)) later
 
-  -- what the withdrawals of some frames came to
+  -- what the withdrawals of some frames ended in
   pub record TookFrames (s t : S × T) (member card : ℕ) (bindings : List ℕ) (samples : ℕ → ℕ → ℤ) (first count : ℕ) (x : Commit) : Type 0 where
     pub view_is : P.view t.0 ≡ record (P.view s.0) { marks = (P.view t.0).marks }
     pub same_floor : (P.view t.0).marks.floor ≡ (P.view s.0).marks.floor
@@ -361,7 +361,7 @@ module _ {S T : Type 0} (P : mixport.Ghosts S) (G : gates.Ghosts T) (holds : Hol
         stopped = one.stopped;
       }
 
-  -- the last frame, and what those before it came to
+  -- the last frame, and what those before it ended in
   back-by : (member card : ℕ) (bindings : List ℕ) (samples : ℕ → ℕ → ℤ) (first n left : ℕ) (ended : Ended) (s m t : S × T) (x : Commit) → AreBindings bindings
       → TookFrame s m member (card + (first + n)) bindings (samples (first + n)) (length bindings) left ended
       → ((u : S × T) (y : Commit) → TakesAt P G m (take_frames member card bindings samples first n) u y → TookFrames m u member card bindings samples first n y)

@@ -1,4 +1,4 @@
--- What frames that a port was to get came to: how many were got, what was asked and counted, and that an overtaken one is shown.
+-- What frames that a port was to get ended in: how many were got, what was asked and counted, and that an overtaken one is shown.
 use Rattle.std.proofs.Common.{◌≡◌, ℕ, ◌+◌, ◌*◌, ◌<◌, ◌≤◌, ◌∙◌, suc, zero, refl, sym, ap, subst, arith, []}
 use Rattle.std.proofs.lemmas.List.{replicate-append-replicate}
 use Rattle.std.specs.Prelude.{replicate, Option}

@@ -299,7 +299,7 @@ module _ {S T : Type 0} (P : snoopport.Ghosts S) (G : gates.Ghosts T) where
             begins = λ stands. absurd (stands runs);
           }) step.asked_it)
 
--- an error is told alike whatever the call would have answered
+-- an error is reported alike whatever the call would have answered
 pub same_error : {T : Type 0} (e f : PcmError) → (let r : Result T PcmError = Err e in r) ≡ Err f → e ≡ f
 same_error e f h = cc
 

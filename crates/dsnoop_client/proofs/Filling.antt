@@ -43,7 +43,7 @@ all_one : (frame : Frame) (channels : ℕ) → length frame.samples ≡ channels
 all_one frame channels size zero d within = size
 all_one frame channels size (suc k) d within = absurd (omega (arith, within))
 
--- one frame more behind others
+-- one frame more after others
 AreFrames-more : (frames : List Frame) (frame : Frame) (first channels : ℕ) → AreFrames frames first channels → frame.number ≡ first + length frames
     → length frame.samples ≡ channels → AreFrames (frames ++ frame ∷ []) first channels
 AreFrames-more frames frame first channels are is size = record {
@@ -56,7 +56,7 @@ AreFrames-more frames frame first channels are is size = record {
   whole = All-append (λ (f : Frame). length f.samples ≡ channels) frames (frame ∷ []) are.whole (all_one frame channels size);
 }
 
--- a part of a room written over, behind what was written before
+-- a part of a room written over, after what was written before
 put_mid-next : (head before part : List ℤ) (at k n : ℕ) → at ≡ length head → length part ≡ k → at + k ≤ length before → n ≡ at + k
     → put_mid at k (head ++ drop at before) part ≡ (head ++ part) ++ drop n before
 put_mid-next head before part at k n at_end size room is =

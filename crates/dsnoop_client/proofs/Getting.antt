@@ -9,7 +9,7 @@ use Rattle.course.specs.Course.{ends}
 use Rattle.course.specs.CourseLaws.{Takes-then}
 use Rattle.dsnoop_client.specs.Course.{get_on, gets_frames, one_more}
 
--- what the frames from here on come to is what all come to
+-- what the frames from here on end in is what all end in
 abbrev pub Rest : {S T : Type 0} → snoopport.Ghosts S → gates.Ghosts T → ℕ → ℕ → S × T → S × T → ℕ → Type 0
 Rest {S = S} {T = T} P G count first start now i = (t : S × T) (done : ℕ) (ended : Got)
     → TakesAtSnoop P G now (gets_frames (count - i) (first + i)) t (done, ended)

@@ -1,4 +1,4 @@
--- What a read makes of a reader, by its load and by what its frames came to.
+-- What a read makes of a reader, by its load and by what its frames ended in.
 use Rattle.std.proofs.Common.{◌≡◌, ℕ, ◌+◌, ◌-◌, ◌*◌, ◌<◌, ◌≤◌, ◌⊎◌, ◌∙◌, inl, inr, refl, sym, ap, subst, arith, [], ◌∷◌, List}
 use Rattle.std.proofs.lemmas.Bool.Decides.{nat_tests}
 use Rattle.std.proofs.Math.Nat.{mul-le-mul_right}
@@ -71,9 +71,9 @@ module _ {S : Type 0} (P : snoopport.Ghosts S) (p q : S) (c : CaptureStream) (be
 
 -- ---- why it answers so
 
--- what a read came to that loaded the position
-pub record IsReadExplained {S T : Type 0} (P : snoopport.Ghosts S) (G : gates.Ghosts T) (s t : S × T) (c d : CaptureStream) (n : ℕ) (answer : Result ℕ PcmError) : Type 0 where
-  pub told : IsExplained P G s t c d answer
+-- what a read ended in that loaded the position
+pub record ReadTold {S T : Type 0} (P : snoopport.Ghosts S) (G : gates.Ghosts T) (s t : S × T) (c d : CaptureStream) (n : ℕ) (answer : Result ℕ PcmError) : Type 0 where
+  pub told : Told P G s t c d answer
   pub again : (answer ≡ Err Again) ↔ ((0 < n) × FindsNone c told.why.load)
   pub asks : Asks G s.1 t.1 d n answer
 

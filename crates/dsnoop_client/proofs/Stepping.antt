@@ -1,4 +1,4 @@
--- What the calls that load the position, and a read, came to, by the courses that they took.
+-- What the calls that load the position, and a read, did, by the courses that they took.
 use Rattle.std.proofs.Common.{◌≡◌, ℕ, ◌*◌, ◌∙◌, refl, sym, ap, subst, arith, [], ◌++◌, List, drop, length}
 use Rattle.std.specs.Prelude.{ℤ, Bool, true, false, nat_eq, if◌then◌else◌, OnOk, IfOk, IsErrAnd, Option, Result, Ok, Err, unwrap_or}
 use Rattle.snd_base.specs.declared.errors.PcmError.{PcmError}
@@ -112,7 +112,7 @@ reads-none P p q c d out after e nothing stays = record {
   samples = tt;
 }
 
--- frames that were got behind a load of the position
+-- frames that were got after a load of the position
 pub reads-behind : {S : Type 0} (P : snoopport.Ghosts S) → Composes P.got → (p m q : S) (c u d : CaptureStream) (before after : List ℤ) (answer : Result ℕ PcmError) → P.got p m [] → u.geometry ≡ c.geometry → u.setup ≡ c.setup
     → u.status.state ≡ state.Running → (c.status.state ≡ state.Running → u.next ≡ c.next) → Reads P m q u d before after answer → Reads P p q c d before after answer
 reads-behind P composes p m q c u d before after answer nothing same_ring same_setup runs stays reads = record {

@@ -4,7 +4,7 @@ use Rattle.std.proofs.lemmas.List.{ext_get_or, get_or-map, length-map}
 use Rattle.std.specs.Prelude.{ℤ, slice_index, slice_index_or}
 use Rattle.dsnoop_client.specs.Reads.{bound_samples}
 
--- samples that stand channel by channel as a frame through bindings are that
+-- samples that are channel by channel those of a frame through bindings are that frame
 pub through-is : (bindings : List ℕ) (frame part : List ℤ) → length part ≡ length bindings
     → ((k : ℕ) → k < length bindings → slice_index_or part k (pos 0) ≡ slice_index_or frame (slice_index bindings k) (pos 0)) → part ≡ bound_samples bindings frame
 through-is bindings frame part size same =

@@ -65,7 +65,7 @@ IsRun-sum k p q s left right left' right' whole x closed a b first run =
     ∙ ap (λ (c : ℕ). clamp_of (total (an_add (member_of left) 0 0 a ∷ an_add (member_of right) 0 0 b ∷ []) 0 c)) channel
     ∙ ap clamp_of (total-two (member_of left) (member_of right) a b)
 
--- a placement that was in time laid its entry
+-- a placement that was in time placed its entry
 pub SeatLaid-in_time : (s t : MixSeat) (e : Entry) (r : Result Placed PcmError) → r ≡ Ok In → SeatLaid s t (entry_if (ended_of r) e) → SeatLaid s t (e ∷ [])
 SeatLaid-in_time s t e r is laid = subst (λ (x : Result Placed PcmError). SeatLaid s t (entry_if (ended_of x) e)) is laid
 

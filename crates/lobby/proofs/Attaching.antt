@@ -33,7 +33,7 @@ KeepsLasts-set seats place s t at laid = let same : last_of t ≡ last_of s = ap
   lasts = filter_map-set (option_and_then last_of) seats place (Some t) None (same ∙ ap (option_and_then last_of) (sym at));
 }
 
--- a load lays nothing
+-- a load places nothing
 pub laid-loaded : (s t : MixSeat) (p : Position) → HasLoaded s t p → (view_of t).laid ≡ (view_of s).laid
 laid-loaded s t p load = load.laid_nothing.laid ∙ append-nil (view_of s).laid
 

@@ -30,7 +30,7 @@ seats_out l m p xs ys s b goes were silent is = subst (All (IsOfLobby m)) (sym i
   by_room true = All-push (IsOfLobby m) xs s before (goes_on l m s goes (silent.0.of_ring, silent.0.of_key))
   by_room false = before
 
--- a seat that is out was used, and put back behind the others, whether or not there was room
+-- a seat that is out was used, and put back after the others, whether or not there was room
 pub seat_put_back : (l : Lobby) (xs ys zs : List MixSeat) (s t : MixSeat) (b : Bool) → All (IsOfLobby l) xs → xs ≡ ys ++ s ∷ [] → IsLaterSeat s t
     → zs ≡ cond b (ys ++ t ∷ []) ys → All (IsOfLobby l) zs
 seat_put_back l xs ys zs s t b were parts goes is = subst (All (IsOfLobby l)) (sym is) (by_room b) where

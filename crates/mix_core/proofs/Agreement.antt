@@ -1,4 +1,4 @@
--- What each event does to the agreement of a core with what was laid and what was taken.
+-- What each event does to the agreement of a core with what was placed and what was taken.
 use Rattle.std.proofs.Common.{◌≡◌, ℕ, ◌+◌, ◌<◌, ◌≤◌, Bool, true, false, ◌==◌, ◌&&◌, ◌||◌, List, [], ◌∷◌, ◌++◌, length, get_or, set, pos, ◌+ℤ◌, inl, inr, arith, subst, sym, refl, ap, ◌∙◌, nat_lt}
 use Rattle.std.proofs.Math.Bool.{or_comm}
 use Rattle.std.proofs.Math.Nat.{add-div_right}
@@ -25,7 +25,7 @@ use Rattle.mix_core.proofs.Lists.{at-more_elsewhere, at-more_here, is_taken-more
 use Rattle.mix_core.proofs.Words.{words-taken, words-written}
 use Rattle.std.proofs.lemmas.Bool.{cases_eq}
 
--- a core after the next word was taken, and after an entry was laid, with a new word there
+-- a core after the next word was taken, and after an entry was placed, with a new word there
 abbrev pub taken_view : View → ℕ → View
 taken_view v word = record v { words = set v.words (word_index v.geometry v.next.frame v.next.channel) word; next = cursor_after v.geometry v.next.frame v.next.channel }
 
@@ -114,7 +114,7 @@ is_taken-none ts f c k d none within same =
     let found : is_taken ts f c ≡ true = list_any_at (λ (x : Taken). (x.frame == f) && (x.channel == c)) ts k d within here in
     cc
 
--- an entry was laid where nothing was taken
+-- an entry was placed where nothing was taken
 pub Agrees-laid : (v : View) (e : Entry) (es : List Entry) (ts : List Taken) (word : ℕ)
     → IsSound v → e.member < length v.marks → IsNow v.geometry v.next e.frame e.channel → e.frame < v.position + v.geometry.frames
     → StandsFor word (lap_of (word_at v e.frame e.channel)) (count_of (word_at v e.frame e.channel) + 1) (sum_of (word_at v e.frame e.channel) +ℤ value_of e)

@@ -1,4 +1,4 @@
--- Each event of a core appends its row to every history that the core stands for.
+-- Each event of a core appends its row to every history that the core represents.
 use Rattle.std.proofs.Common.{◌≡◌, ◌≢◌, ℕ, ◌+◌, ◌<◌, ◌≤◌, Bool, false, List, [], ◌∷◌, ◌++◌, length, ℤ, pos, ◌+ℤ◌, arith, subst, sym, refl, ap, ◌∙◌, nat_lt}
 use Rattle.std.proofs.lemmas.Bool.Decides.{nat_tests}
 use Rattle.std.proofs.lemmas.List.{length-set}
@@ -58,7 +58,7 @@ Stands-refused v h last s =
       agrees = subst (λ ts. Agrees v (laid_of (h ++ r ∷ [])) ts) (sym taken) (subst (λ es. Agrees v es (taken_of h)) (sym laid) s.agrees);
     }
 
--- a take, of the value that the samples laid there have in total
+-- a take, of the value that the samples placed there have in total
 pub Stands-taken : (v : View) (h : List Row) (word : ℕ) (value : ℤ) → IsSound v → lap v.geometry v.next.frame ≢ 4294967295
     → StandsFor word (lap_of (word_at v v.next.frame v.next.channel) + 1) 0 (pos 0)
     → value ≡ clamp_of (total (laid_of h) v.next.frame v.next.channel)

@@ -1,4 +1,4 @@
--- Laws of the lists of entries, takes and rows, when one more stands at the end.
+-- Laws of the lists of entries, takes and rows, when one more is at the end.
 use Rattle.std.proofs.Common.{map, ◌≡◌, ◌≢◌, ℕ, true, false, ◌==◌, ◌&&◌, ◌||◌, List, [], ◌∷◌, ◌++◌, ◌+ℤ◌, refl, ap, ◌⊎◌, inl, inr, arith, Option, None, Some}
 use Rattle.std.specs.List.{filter, filter_map}
 use Rattle.std.proofs.lemmas.List.{append-nil, map-append}

@@ -1,4 +1,4 @@
--- What a core does at an event is a reply to it after every history that the core stands for.
+-- What a core does at an event is a reply to it after every history that the core represents.
 use Rattle.std.proofs.Common.{◌≡◌, ℕ, ◌+◌, ◌<◌, true, List, [], ◌∷◌, ◌++◌, length, subst, sym, refl, ap, ◌∙◌, append_assoc, arith}
 use Rattle.std.specs.List.{zip}
 use Rattle.std.proofs.lemmas.List.{append-nil, length-append}
@@ -22,7 +22,7 @@ use Rattle.mix_core.specs.Stands.{Stands}
 use Rattle.mix_core.specs.TurnLaws.{CanMiss, Stands-missed}
 use Rattle.mix_core.specs.View.{MayAdd, View}
 
--- a row that stands at the end of a core's history is a reply after what stands before it
+-- a row that is at the end of a core's history is a reply after what is before it
 pub IsReply-last : (v w : View) (h : List Row) (r : Row) → w.geometry ≡ v.geometry → length w.marks ≡ length v.marks
     → Stands w (h ++ r ∷ []) → IsReply v.geometry (length v.marks) h r
 IsReply-last v w h r geometry members s =

@@ -185,7 +185,7 @@ IsSound-taken v word s fits stands =
       words_now = words-taken P g v.next v.words word s.room s.next_channel here s.words_now;
     }
 
--- an entry was laid
+-- an entry was placed
 pub IsSound-laid : (v : View) (e : Entry) (word : ℕ)
     → IsSound v → e.member < length v.marks → IsNow v.geometry v.next e.frame e.channel
     → HoldsMoreAt v.geometry (marks_at v e.member) (marks_after v.geometry (marks_at v e.member) e) e.frame e.channel

@@ -27,7 +27,7 @@ use Rattle.mix_core.specs.Run.{IsAnswered, IsHeldSince, IsLastOf, IsReplied, IsR
 use Rattle.mix_core.specs.Stands.{Stands}
 use Rattle.mix_core.specs.View.{View}
 
--- a row that lays nothing
+-- a row that places nothing
 pub keeps-nothing : (st : List Entry) (rows : List Row) (r : Row) → entry_of r ≡ None → Keeps st rows → Keeps st (rows ++ r ∷ [])
 keeps-nothing st rows r none k =
     let same : laid_of (rows ++ r ∷ []) ≡ laid_of rows = filter_map-append entry_of rows (r ∷ []) ∙ rw none (append-nil (laid_of rows)) in
@@ -36,7 +36,7 @@ keeps-nothing st rows r none k =
       backed = λ m before. subst (λ es. fold stand_after before (own_entries m es) ≡ before ++ standing_of m es) (sym same) (k.backed m before);
     }
 
--- a take lays nothing, whatever its reply
+-- a take places nothing, whatever its reply
 pub keeps-replied : (st : List Entry) (r : Reply) (rows : List Row) → Keeps st rows → Keeps st (rows ++ (Take, r) ∷ [])
 keeps-replied st r rows k = keeps-nothing st rows (Take, r) (none r) k where
   none : (r : Reply) → entry_of (Take, r) ≡ None
@@ -146,7 +146,7 @@ keeps-withdrawal st rows r e x i some kind last k =
       ]);
     }
 
--- what stands last among the rows of a run stands last in the whole history
+-- the last standing add among the rows of a run is the last in the whole history
 pub last-since : (h rows : List Row) (st : List Entry) (m f c : ℕ) (s : ℤ) → Keeps st rows → IsSample (last_entry (standing_of m (laid_of rows))) f c s
     → IsSample (last_entry (standing_of m (laid_of (h ++ kept_rows rows)))) f c s
 last-since h rows st m f c s k is =

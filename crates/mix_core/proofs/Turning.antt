@@ -1,4 +1,4 @@
--- What a turn's placements and withdrawals come to, by their asks.
+-- What a turn's placements and withdrawals end in, by their asks.
 use Rattle.std.proofs.Common.{◌≡◌, ℕ, ◌+◌, ◌<◌, Some, List, [], ◌∷◌, refl, sym, subst, ap, arith}
 use Rattle.mix_core.specs.declared.gate.Pass.{Pass}
 use Rattle.mix_core.specs.declared.gate.Pass.TheVariants.{Go, Stop}

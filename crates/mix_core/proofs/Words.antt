@@ -43,7 +43,7 @@ words-written P Q g at words f c word room now here others old k d asked =
           subst (λ w. Q w k d) (sym kept) (others _ k d elsewhere (old k d asked))
     ]
 
--- a ring's length later stands the same word
+-- a ring's length later the word is the same
 pub word_index-wrapped : (g : Geometry) (f c k d : ℕ) → d ≡ c → k ≡ f + g.frames → word_index g k d ≡ word_index g f c
 word_index-wrapped g f c k d same later =
     let wrapped : (f + g.frames) % g.frames ≡ f % g.frames = add-mod_right f g.frames in

@@ -102,7 +102,7 @@ IsAdvance-one r channels frames x course place old new rates underway past near 
       };
     }
 
--- all that lies behind the last frame is appended
+-- all that lies after the last frame is appended
 pub Appends-end : (r : RatePair) (frames : List (List ℤ)) (place : ℕ) (old new : List ℤ) → AreRates r → IsUnderway r frames (length frames) place old new
     → r.output ≤ place → place < r.input + r.output → Appends (known_samples r frames) (resampled_samples r frames) old new
 Appends-end r frames place old new rates underway past near =

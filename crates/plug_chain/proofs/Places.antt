@@ -29,7 +29,7 @@ output_count-is r n j some past near =
 pub frame_at-within : (frames : List (List ℤ)) (i : ℕ) → i < length frames → frame_at frames i ≡ get_or frames i []
 frame_at-within frames i within = ap (λ (k : ℕ). get_or frames k []) (let e : min i (length frames - 1) ≡ i = omega arith in e)
 
--- the last one behind the end
+-- the last one past the end
 pub frame_at-past : (frames : List (List ℤ)) (i m : ℕ) → length frames ≡ suc m → m ≤ i → frame_at frames i ≡ get_or frames m []
 frame_at-past frames i m many past = ap (λ (k : ℕ). get_or frames k []) (let e : min i (length frames - 1) ≡ m = omega arith in e)
 
@@ -43,7 +43,7 @@ frame_at-seam frames x i past =
     let many : length (frames ++ x ∷ []) ≡ suc (length frames) = omega (arith, length-append frames (x ∷ [])) in
     frame_at-past (frames ++ x ∷ []) i (length frames) many past ∙ get_or-append_seam frames x [] []
 
--- an output frame that lies `part` parts behind frame i
+-- an output frame that lies `part` parts after frame i
 pub output_frame-at : (r : RatePair) (frames : List (List ℤ)) (j i part : ℕ) → part < r.output → j * r.input ≡ i * r.output + part
     → output_frame r frames j ≡ frame_between part r.output (frame_at frames i) (frame_at frames (i + 1))
 unfolding output_frame
@@ -142,7 +142,7 @@ last_by (suc m) r channels frames last start place j rates at many low is =
     ∙ (ap (λ f. frame_between place r.output last f) (frame_at-past frames (m + 1) m many (omega arith) ∙ last_is r channels frames last start m at many)
     ∙ between-same place r.output last rates.some_output))
 
--- the next output frame, behind the last frame
+-- the next output frame, after the last frame
 pub output_frame-last : (r : RatePair) (channels : ℕ) (frames : List (List ℤ)) (last : List ℤ) (start place j : ℕ) → AreRates r → IsAt r channels frames last start
     → place < r.output → j * r.input + r.output ≡ length frames * r.output + place
     → output_frame r frames j ≡ last

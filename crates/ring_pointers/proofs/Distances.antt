@@ -18,7 +18,7 @@ distance-mod-add b m n k d positive difference below =
     let group : n + (k + (b - m % b)) ≡ n + k + (b - m % b) = omega arith in
     ap (λ x. x % b) assoc ∙ mod-add-mod n b (k + (b - m % b)) ∙ ap (λ x. x % b) group ∙ distance-mod b m (n + k) d positive difference below
 
--- where two counts are near and the first, with a number of frames up to a buffer's size, is not behind the second,
+-- where two counts are near and the first, with a number of frames up to a buffer's size, is not before the second,
 -- the pointers lie as far apart as the counts
 pub distance-counts : (b h w k hw appl r : ℕ) → 2 ^ 61 ≤ b → k ≤ 65536 → AreNear h w → w ≤ h + k
     → hw ≡ h % b → appl ≡ w % b → r ≡ distance b appl (hw + k) → r ≡ h + k - w
@@ -28,7 +28,7 @@ distance-counts b h w k hw appl r least few near ahead hw_is appl_is r_is =
     let below : h + k - w < b = omega (arith, near.above) in
     r_is ∙ ap (λ x. distance b x (hw + k)) appl_is ∙ ap (λ x. distance b (w % b) (x + k)) hw_is ∙ distance-mod-add b w h k (h + k - w) positive difference below
 
--- the same where the first count itself is not behind the second
+-- the same where the first count itself is not before the second
 pub distance-counts_alone : (b h w hw appl r : ℕ) → 2 ^ 61 ≤ b → AreNear h w → w ≤ h
     → hw ≡ h % b → appl ≡ w % b → r ≡ distance b appl hw → r ≡ h - w
 distance-counts_alone b h w hw appl r least near ahead hw_is appl_is r_is =

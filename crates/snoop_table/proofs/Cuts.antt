@@ -1,4 +1,4 @@
--- Splits and joins keep the rule, and what the rule tells a seat of its view.
+-- Splits and joins keep the rule, and what the rule says of a seat's view.
 use Rattle.std.proofs.Common.{◌≡◌, ◌≢◌, ◌⊎◌, ℕ, ◌+◌, ◌||◌, Bool, true, false, Option, None, Some, List, [], ◌∷◌, ◌++◌, get_or, set, inl, inr, arith, subst, sym, refl, ap, ◌∙◌}
 use mathlib.Core.Option.{none, some, some-ne-none}
 use lib.ListN.{get_elem?}

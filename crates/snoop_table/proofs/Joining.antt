@@ -1,4 +1,4 @@
--- What seats know after splits, joins and notes, and what these tell.
+-- What seats know after splits, joins and notes, and what these say.
 use Rattle.std.proofs.Common.{◌≡◌, ℕ, ◌≤◌, ◌||◌, Bool, true, false, Option, None, Some, ◌++◌, max, inl, inr, arith, subst, sym, refl, ap, ◌∙◌}
 use mathlib.Core.Option.{none, some}
 use lib.ListN.{get_elem?}
@@ -59,7 +59,7 @@ or_right : (a b : Bool) → b ≡ true → (a || b) ≡ true
 or_right true b is = refl
 or_right false b is = is
 
--- what the rule tells of two views together holds of each
+-- what the rule says of two views together holds of each
 pub borne_out_first : (g : Geometry) (t : Track) (v w : View) → v.geometry ≡ g → Knows (both_of v w) t → IsBorneOut g t v
 borne_out_first g t v w own knows = subst (λ k. IsBorneOut k t v) own (record {
   positions = λ i x there. knows.positions i x (at_longer v.positions w.positions i x there);
@@ -90,8 +90,8 @@ borne_out_second g t v w own knows = subst (λ k. IsBorneOut k t w) own (record 
       knows.got j.0 f j.1;
 })
 
--- what the load after a join tells the writer
-heard_knows : (v w : View) (slots found : ℕ) (x r : Me (Unit {0}) View) → is_tracked v.track ≡ true → x.0 ≡ both_of v w → quiet_load (step slots 0 0 0 none) x found r
+-- what the load after a join shows the writer
+heard_knows : (v w : View) (slots found : ℕ) (x r : Me (Unit {0}) View) → is_tracked v.track ≡ true → x.0 ≡ both_of v w → learned (step slots 0 0 0 none) x found r
     → Knows (both_of v w) (the_track v.track)
 heard_knows v w slots found x r tracked both told =
     let t : Track = the_track v.track in
@@ -149,7 +149,7 @@ has_heard d e o slots found x ring geometry next position gone both told =
       borne_out = borne_out_second d.geometry t v w d.known.same_geometry knows;
     }
 
--- what the close of a ring tells of the reader's seat
+-- what the close of a ring says of the reader's seat
 pub closed_borne_out : (s : ReaderSeat) (d : Desk) (slots found : ℕ) (x r : Me (Unit {0}) View) → x.0 ≡ both_of (view_of s) (desk_view d)
     → quiet_load (step slots 0 0 0 none) x found r → IsBorneOut s.geometry (desk_track d) (view_of s)
 closed_borne_out s d slots found x r both told =

@@ -1,4 +1,4 @@
--- Loads keep the rule, and tell what they tell.
+-- Loads keep the rule, and show what is so.
 use Rattle.std.proofs.Common.{◌≡◌, ◌⊎◌, ℕ, zero, suc, ◌+◌, ◌*◌, ◌<◌, ◌≤◌, ◌==◌, Bool, true, false, Some, List, [], ◌∷◌, ◌++◌, length, get_or, set, cond, ℤ, pos, inl, inr, arith, subst, sym, refl, ap, ◌∙◌}
 use mathlib.Core.Option.{Option, none, some}
 use lib.ListN.{get_elem?}
@@ -146,7 +146,7 @@ stored-before g words t f c r before =
     let earlier : f < (next_of g t).frame = omega (arith, before, r.not_ahead) in
     grind (arith, nat_tests, earlier)
 
--- what a seat is told by a word
+-- what a seat is shown by a word
 finds : (words : List ℕ) (t : Track) (v : View) (f c : ℕ) → IsRing v.geometry words t → IsView v.geometry words t v
     → c < v.geometry.channels → first_frame v.geometry ≤ f → f < v.seen → Finds v f c (word_in words v.geometry f c)
 finds words t v f c r own in_range least seen =

@@ -27,7 +27,7 @@ use Rattle.snoop_table.specs.Steps.{position_store, sample_store, unplug_store, 
 use Rattle.snoop_table.specs.Writers.{HasPublished, HasStored, HasStoredPart, HasStoredSample, HasUnplugged, desk_track, desk_view, track_more}
 use Rattle.snoop_table.proofs.Stores.{publishes, stores, unplugs}
 
--- the place behind the last channel of a frame: in the next slot, or in the first one of the next lap
+-- the place after the last channel of a frame: in the next slot, or in the first one of the next lap
 pub place_in_lap : (g : Geometry) (p : WritePlace) → IsPlace g p → p.next.channel + 1 ≡ g.channels → p.index < g.frames * g.channels
     → IsPlace g (record { next = record { frame = p.next.frame + 1; channel = 0 }; index = p.index + 1; laps = p.laps })
 place_in_lap g p is last inside =

@@ -21,7 +21,7 @@ player_goes_on p q r first then = record {
 pub player_same : (p q r : PlayerSeat) → PlayerGoes p q → r ≡ q → PlayerGoes p r
 player_same p q r first same = subst (λ s. PlayerGoes p s) (sym same) first
 
--- a seat that tried to lay, whether or not the lap of the frame fits a word
+-- a seat that tried to place a sample, whether or not the lap of the frame fits a word
 pub seat_goes : (s t : MixSeat) (lap : ℕ) → (lap < 4294967295 → IsLaterSeat s t) → (4294967295 ≤ lap → IsLaterSeat s t) → IsLaterSeat s t
 seat_goes s t lap fits ends = elim (cases_lt lap 4294967295) [
   | inl below ↦ fits below

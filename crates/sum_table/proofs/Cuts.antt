@@ -1,4 +1,4 @@
--- Splits and joins keep the rule, and what the rule tells a seat of its view.
+-- Splits and joins keep the rule, and what the rule says of a seat's view.
 use Rattle.std.proofs.Common.{◌≡◌, ◌≢◌, ◌⊎◌, ℕ, zero, suc, ◌+◌, ◌*◌, ◌≤◌, ◌||◌, Bool, true, false, Option, None, Some, List, [], ◌∷◌, ◌++◌, map, length, get_or, set, ℤ, pos, inl, inr, arith, subst, sym, refl, ap, ◌∙◌}
 use mathlib.Core.Option.{some, none, some-ne-none}
 use lib.ListN.{get_elem?}
@@ -270,7 +270,7 @@ all_none views f c few no_places =
     let count_is : count (all_laid views) f c ≡ 0 = omega (arith, count_few views f c few) in
     (count_is, total_none (all_laid views) f c count_is)
 
--- a view with all places laid everything
+-- a view with all places placed everything
 alone : (views : List View) (id : ℕ) (v : View) (f c : ℕ) → get_elem? views id ≡ some v
     → ((i : ℕ) (u : View) → get_elem? views i ≡ some u → count u.laid f c ≤ 3 * u.places) → places_of views ≡ v.places
     → (count (all_laid views) f c ≡ count v.laid f c) × (total (all_laid views) f c ≡ total v.laid f c)

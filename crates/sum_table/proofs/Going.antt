@@ -1,4 +1,4 @@
--- What the tests conclude of a seat: it goes on, and its last standing add is the one that it laid.
+-- What the tests conclude of a seat: it goes on, and its last standing add is the one that it placed.
 use Rattle.std.proofs.Common.{◌≡◌, ℕ, ℤ, Bool, true, false, Ok, [], ◌∷◌, refl, sym, ap, subst}
 use Rattle.std.proofs.lemmas.Bool.{false≢true}
 use Rattle.std.proofs.lemmas.List.{append-nil}

@@ -1,4 +1,4 @@
--- The greatest frame that a seat laid in is the last one before its high.
+-- The greatest frame that a seat placed in is the last one before its high.
 use Rattle.std.proofs.Common.{◌≡◌, ℕ, zero, suc, ◌+◌, ◌<◌, ◌≤◌, Bool, true, false, Option, None, Some, is_some, List, [], ◌∷◌, max, if◌then◌else◌, arith, subst, sym, refl, ap, ◌∙◌}
 use mathlib.Core.Option.{some, some-injective, some-ne-none}
 use lib.ListN.{get_elem?}
@@ -60,7 +60,7 @@ start-frame at = ap (λ past. frame_if past at) is where
 high_frame-start : (g : Geometry) → high_frame g (start_marks g) ≡ None
 high_frame-start g = start-frame (start_of g)
 
--- an add raises the high to right behind it, where it isn't past that
+-- an add raises the high to right after it, where it isn't past that
 high_frame-added : (g : Geometry) (m : Marks) (f c : ℕ) → c < g.channels → first_frame g ≤ f
     → high_frame g (added_at g m f c) ≡ greater (high_frame g m) (Some f)
 high_frame-added g m f c channel low =
@@ -71,7 +71,7 @@ pub greater_none : (o : Option ℕ) → greater o None ≡ o
 greater_none None = refl
 greater_none (Some n) = refl
 
--- the high of two seats is the later one; a second seat without a place laid nothing
+-- the high of two seats is the later one; a second seat without a place placed nothing
 high_frame-joined : (g : Geometry) (a b : Marks) (n : ℕ) (l m : Option ℕ) → high_frame g a ≡ l → high_frame g b ≡ m → (n ≡ 0 → m ≡ None)
     → high_frame g (joined_marks a b n) ≡ greater l m
 high_frame-joined g a b zero l m first second none = first ∙ (sym (greater_none l) ∙ ap (greater l) (sym (none refl)))
@@ -114,7 +114,7 @@ high-free g at = by_test (is_before (start_of g) at) refl
 high_free : (g : Geometry) (m : Marks) (last : Option ℕ) → high_frame g m ≡ last → IsFrom m.high (free_from g last) 0
 high_free g m last is = subst (λ o. IsFrom m.high (free_from g o) 0) is (high-free g m.high)
 
--- the greatest frame before anything was laid
+-- the greatest frame before anything was placed
 pub IsReach-start : (g : Geometry) (places : ℕ) → IsReach g (start_marks g) places None
 IsReach-start g places = record { high = high_frame-start g; cursor = grind (arith, nat_tests); floor = grind (arith, nat_tests); none = λ none_left. refl }
 
@@ -145,7 +145,7 @@ IsReach-added g m places last f c is placed channel low =
     floor_by true = omega (arith, high_free g m last is.high, grows last)
     floor_by false = omega (arith, is.floor, grows last)
 
--- and after a withdrawal in a frame that was laid in before
+-- and after a withdrawal in a frame that was placed in before
 pub IsReach-withdrawn : (g : Geometry) (m : Marks) (places : ℕ) (last : Option ℕ) (f c : ℕ) → IsReach g m places last → greater last (Some f) ≡ last
     → IsReach g (withdrawn_at m f c) places (greater last (Some f))
 IsReach-withdrawn g m places last f c is had = record {

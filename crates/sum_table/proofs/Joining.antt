@@ -44,7 +44,7 @@ pub learns_at : (k : Key) (slots id : ℕ) (m : Me Entry View) → m.0.key ≡ k
     → Allows (Exact k) slots id m 0 (λ n. n) (quiet_load (step slots 0 0 0 none) m)
 learns_at k slots id m same lasts = subst (λ x. Allows (Exact x) slots id m 0 (λ n. n) (quiet_load (step slots 0 0 0 none) m)) same (learns slots id m lasts)
 
--- places that a seat has, and that laid nothing, can move
+-- places that a seat has, and that placed nothing, can move
 pub may_cut : (s : MixSeat) (amount n : ℕ) → amount ≡ n → n ≤ s.places → (view_of s).laid ≡ []
     → Splits (Exact s.ring.now.key) s.seat.id (view_of s) (without_places (view_of s) amount) (part_of (view_of s) amount)
 may_cut s amount n is has nothing =
@@ -255,7 +255,7 @@ has_heard p q n slots found x ring key next position gone both told =
       event = made;
     }
 
--- what the close of a ring tells
+-- what the close of a ring says
 pub has_closed : (s : MixSeat) (p : PlayerSeat) (slots found : ℕ) (x r : Me Entry View) → s.places ≡ s.key.places → p.key ≡ s.key
     → x.0 ≡ both_of (view_of s) (player_view p) → quiet_load (step slots 0 0 0 none) x found r → HasClosed s p (record { position = p.position; next = p.next })
 has_closed s p slots found x r all one both told =

@@ -1,4 +1,4 @@
--- Loads and the exchange keep the rule, and tell what they tell.
+-- Loads and the exchange keep the rule, and show what is so.
 use Rattle.std.proofs.Common.{◌≡◌, ℕ, ◌+◌, ◌<◌, ◌≤◌, true, false, List, [], ◌∷◌, ◌++◌, length, get_or, set, ℤ, pos, negsuc, ◌+ℤ◌, ◌≤ℤ◌, inl, inr, arith, subst, sym, refl, ap, ◌∙◌, nat_lt, ◌==◌, ◌%◌}
 use mathlib.Core.Option.{some, none}
 use lib.ListN.{get_elem?}
@@ -165,7 +165,7 @@ late_held words views at t h id v i f c sample x here lasts late =
       ap (λ ts. is_taken ts f c) x.history.taken ∙ (x.ring.took f c facts.channel facts.low ∙ test),
     )
 
--- a word of a frame's own lap is the sum of what the history laid there
+-- a word of a frame's own lap is the sum of what the history placed there
 sum_there : (words : List ℕ) (views : List View) (at : ℕ) (t : Track) (h : List Row) (k : Key) (f c : ℕ) → Holds k words views at t h → c < k.geometry.channels
     → IsSumOf k.geometry h f c (get_or words (index_of k.geometry f c) 0)
 sum_there words views at t h k f c x in_range of_lap =
@@ -245,7 +245,7 @@ may_put Added v f c s =
     (c < v.key.geometry.channels) × IsFrom v.marks.cursor f c × (f < v.seen + v.key.geometry.frames) × (0 < v.places) × (lap v.key.geometry f < 4294967295)
 may_put Withdrawn v f c s = HoldsLast v f c s
 
--- what a seat knows before an exchange that lays an entry
+-- what a seat knows before an exchange that places an entry
 pub record MayPut (v : View) (e : Entry) (old new : ℕ) : Type 0 where
   pub lasts : v.ended ≡ false
   pub may : may_put e.kind v e.frame e.channel e.sample
@@ -300,7 +300,7 @@ put_cases words views at t h id v e x here lasts may = by_kind e.kind refl (subs
             );
       }
 
--- the entry is laid where the word is still the old one
+-- the entry is placed where the word is still the old one
 pub puts : (words : List ℕ) (views : List View) (at : ℕ) (t : Track) (h : List Row) (id : ℕ) (v : View) (e : Entry) (old new : ℕ)
     → Holds v.key words views at t h → get_elem? views id ≡ some v → MayPut v e old new
     → get_or words (index_of v.key.geometry e.frame e.channel) 0 ≡ old
@@ -350,7 +350,7 @@ puts words views at t h id v e old new x here may is =
       history = history_put g views t h id v w e x.history here may.lasts refl refl (one.reply (not_taken g words (all_laid views) t f c x.ring now));
     }
 
--- a compare-exchange that lays an entry where the word is the expected one, and else notes the word found
+-- a compare-exchange that places an entry where the word is the expected one, and else notes the word found
 pub exchanges : (slots id : ℕ) (m : Me Entry View) (e : Entry) (old new : ℕ) → MayPut m.0 e old new
     → Allows (Exact m.0.key) slots id m (index_of m.0.key.geometry e.frame e.channel) (λ n. either (n == old) new n)
     (word_exchange (step slots (index_of m.0.key.geometry e.frame e.channel) old new (some e)) m)

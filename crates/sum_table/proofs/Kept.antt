@@ -1,4 +1,4 @@
--- What a seat laid stays in order when it lays one more entry, when it sees a later position, and when it is joined.
+-- What a seat placed stays in order when it places one more entry, when it sees a later position, and when it is joined.
 use Rattle.std.proofs.Common.{◌≡◌, ◌⊎◌, ℕ, zero, suc, ◌+◌, ◌*◌, ◌<◌, ◌≤◌, Bool, true, false, List, [], ◌∷◌, ◌++◌, fold, map, max, ℤ, inl, inr, arith, subst, sym, refl, ap, ◌∙◌, append_assoc}
 use mathlib.Core.Option.{some, some-ne-none}
 use lib.ListN.{get_elem?}
@@ -41,7 +41,7 @@ kept_later g places es mine free marks seen later ended up x = record {
   own = x.own;
 }
 
--- nothing was laid
+-- nothing was placed
 pub kept_none : (g : Geometry) (places : ℕ) (marks : Marks) (seen : ℕ) (ended : Bool)
     → ((c : ℕ) → first_free marks.floor c ≤ first_free marks.high c) → ((c : ℕ) → first_free marks.cursor c ≤ first_free marks.high c)
     → (ended ≡ false → marks ≡ start_marks g) → IsKept g places [] [] [] marks seen ended
@@ -64,7 +64,7 @@ kept_none g places marks seen ended floor cursor start = record {
   };
 }
 
--- nothing was laid, and there are other places
+-- nothing was placed, and there are other places
 pub kept_places : (g : Geometry) (p n : ℕ) (es mine free : List Entry) (marks : Marks) (seen : ℕ) (ended : Bool) → (es ≡ []) ⊎ (n ≡ p)
     → IsKept g p es mine free marks seen ended → IsKept g n es mine free marks seen ended
 kept_places g p n es mine free marks seen ended (inr same) x = subst (λ m. IsKept g m es mine free marks seen ended) (sym same) x
@@ -91,7 +91,7 @@ pub record IsHeldAt (g : Geometry) (es : List Entry) (marks : Marks) (f c : ℕ)
 pub held_of : (v : View) (f c : ℕ) (s : ℤ) → HoldsLast v f c s → IsHeldAt v.key.geometry v.laid v.marks f c s
 held_of v f c s x = record { early = x.early; last = x.last; ends = x.ends; frame = x.frame; channel = x.channel; sample = x.sample; from_floor = x.from_floor }
 
--- what holds of each entry holds of those that stand
+-- what holds of each entry holds of the standing ones
 each_of : {X : Type 0} (P : X → Type 0) (xs : List X) → ((i : ℕ) (x : X) → get_elem? xs i ≡ some x → P x) → Each P xs
 each_of P [] all = tt
 each_of P (x ∷ xs) all = (all 0 x refl, each_of P xs (λ i y there. all (suc i) y there))
@@ -111,17 +111,17 @@ standing-each P es all = from [] es tt all where
   from held [] first then = first
   from held (x ∷ xs) first then = from (stand_after held x) xs (stood_each x.kind held x first then.0) then.1
 
--- what holds of each laid entry holds of the last standing add
+-- what holds of each placed entry holds of the last standing add
 pub held_each : (P : Entry → Type 0) (g : Geometry) (es : List Entry) (marks : Marks) (f c : ℕ) (s : ℤ) → ((i : ℕ) (e : Entry) → get_elem? es i ≡ some e → P e)
     → (y : IsHeldAt g es marks f c s) → P y.last
 held_each P g es marks f c s all y = (Each-right P y.early (y.last ∷ []) (subst (Each P) y.ends (standing-each P es (each_of P es all)))).0
 
--- the last standing add was laid
+-- the last standing add was placed
 pub held_laid : (g : Geometry) (es : List Entry) (marks : Marks) (seen f c : ℕ) (s : ℤ) → ((i : ℕ) (e : Entry) → get_elem? es i ≡ some e → IsLaid g seen e)
     → (y : IsHeldAt g es marks f c s) → IsLaid g seen y.last
 held_laid g es marks seen f c s laid y = held_each (IsLaid g seen) g es marks f c s laid y
 
--- it stands in the ring, before the cursor
+-- it is in the ring, before the cursor
 pub record HeldFacts (g : Geometry) (marks : Marks) (seen f c : ℕ) : Type 0 where
   pub channel : c < g.channels
   pub low : first_frame g ≤ f
@@ -157,8 +157,8 @@ held_place g places es mine free marks seen ended f c s x y =
     ap (λ zs. count zs y.last.frame y.last.channel) y.ends ∙ count-here y.early y.last in
     omega (arith, one, x.few_held y.last.frame y.last.channel)
 
--- a cursor from which on a place stands is before what is behind the place
-later_of-behind : (g : Geometry) (at : Cursor) (f c : ℕ) → c < g.channels → IsFrom at f c → later_of at (cursor_after g f c) ≡ cursor_after g f c
+-- where a place is from a cursor on, the cursor is before what is after the place
+later_of-behind : (g : Geometry) (at : Cursor) (f c : ℕ) → c < g.channels → IsFrom at f c → later_of at (behind g f c) ≡ behind g f c
 later_of-behind g at f c c_in from =
     let test : is_before at (cursor_after g f c) ≡ true = grind (arith, nat_tests) in
     rw test refl
@@ -228,7 +228,7 @@ count_more_most es e f c = elim (place_cases e.frame e.channel f c) [
   | inr elsewhere ↦ omega (arith, count-elsewhere es e f c elsewhere)
 ]
 
--- what stands before a cursor does not stand at a place from it on
+-- what is before a cursor is not at a place from it on
 count_before : (g : Geometry) (at : Cursor) (es : List Entry) (f c : ℕ) → Each (IsBehind g at) es → IsFrom at f c → count es f c ≡ 0
 count_before g at [] f c all from = refl
 count_before g at (x ∷ xs) f c all from =
@@ -333,7 +333,7 @@ kept_withdraw g places es mine free marks seen ended e x kind y =
           };
     }
 
--- where nothing stands anywhere, nothing was laid
+-- where no entry is anywhere, nothing was placed
 none_laid : (es : List Entry) → ((f c : ℕ) → count es f c ≤ 0) → es ≡ []
 none_laid [] none = refl
 none_laid (e ∷ es) none =

@@ -13,7 +13,7 @@ use Rattle.mix_core.specs.History.{AreReplies, IsHeld, IsInside, IsSample, IsLeg
 use Rattle.mix_core.specs.HistoryLaws.{entry_of-late, position_after-row, taking_of-row}
 use Rattle.mix_core.specs.Laid.{cursor_of, last_entry, marks_of, standing_of, total}
 
--- two histories that laid, took and published the same
+-- two histories that placed, took and published the same
 record SameSoFar (g : Geometry) (h j : List Row) : Type 0 where
   laid : laid_of h ≡ laid_of j
   taken : taken_of h ≡ taken_of j
@@ -100,7 +100,7 @@ replies_put g members k [] ys first then = subst (λ x. AreReplies g members x y
 replies_put g members k (x ∷ xs) ys first then =
     (first.0, replies_put g members (k ++ x ∷ []) xs ys first.1 (subst (λ z. AreReplies g members z ys) (sym (append_assoc k (x ∷ []) xs)) then))
 
--- an add that is late where it stands can stand there: the history is legal with it as well as without it
+-- an add that is late where it is can be there: the history is legal with it as well as without it
 pub with_late : (g : Geometry) (members : ℕ) (h rs : List Row) (e : Entry) → IsLegal g members (h ++ rs) → IsReply g members h (late_row e) → IsLegal g members (h ++ late_row e ∷ rs)
 with_late g members h rs e legal late =
     let parts = replies_cut g members [] h rs legal in

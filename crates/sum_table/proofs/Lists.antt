@@ -1,4 +1,4 @@
--- Laws of the lists of entries, takes, rows and positions, when one more stands at the end.
+-- Laws of the lists of entries, takes, rows and positions, when one more is at the end.
 use Rattle.std.proofs.Common.{map, ◌≡◌, ℕ, true, false, ◌==◌, ◌&&◌, ◌||◌, List, [], ◌∷◌, ◌++◌, ◌+ℤ◌, refl, subst, ap, ◌⊎◌, inl, inr, arith}
 use Rattle.std.specs.List.{filter}
 use Rattle.std.proofs.lemmas.List.{append-nil, map-append}

@@ -1,4 +1,4 @@
--- Where the words stand, and which of them change when one is written.
+-- Where the words are, and which of them change when one is written.
 use Rattle.std.proofs.Common.{◌≡◌, ◌≢◌, ℕ, ◌+◌, ◌*◌, ◌%◌, ◌<◌, ◌≤◌, List, length, get_or, set, inl, inr, arith, subst, sym, refl, ap, ◌∙◌}
 use Rattle.std.proofs.lemmas.List.{get_or-set_same, get_or-set_other}
 use Rattle.std.proofs.Math.Nat.{add-mod_right, mod-lt}
@@ -53,7 +53,7 @@ words-written P Q g next words f c word room now here others old k d asked =
           subst (λ w. Q w k d) (sym kept) (others _ k d elsewhere (old k d asked))
     ]
 
--- a ring's length later stands the same word
+-- a ring's length later the word is the same
 index_of-wrapped : (g : Geometry) (f c k d : ℕ) → d ≡ c → k ≡ f + g.frames → index_of g k d ≡ index_of g f c
 index_of-wrapped g f c k d same later =
     let wrapped : (f + g.frames) % g.frames ≡ f % g.frames = add-mod_right f g.frames in

@@ -45,7 +45,7 @@ step_since u v w by members between rows same begins is = record {
 same_view_key : (s t : MixSeat) → IsLaterSeat s t → (view_of t).key ≡ (view_of s).key
 same_view_key s t goes = t.known.same_key ∙ (goes.key ∙ sym s.known.same_key)
 
--- an entry was laid at last
+-- an entry was placed at last
 pub in_made : (s t u : MixSeat) (e : Entry) → IsLaterSeat s t → HasLaid t u e → MakesIn s u e
 in_made s t u e goes laid =
     let made : Makes (view_of t) (view_of u) (λ by. in_row by e ∷ []) = laid.event in
@@ -117,7 +117,7 @@ at_lay s Withdrawn f c x lay =
     let facts = holds_facts s f c x holds in
     record { channel = facts.channel; least = facts.low; ahead = omega (arith, facts.ahead, s.known.same_seen); may = inr (x, holds) }
 
--- what a word that was found tells, at the seat's fields
+-- what a word that was found says, at the seat's fields
 pub record TellsSeat (s : MixSeat) (n f c : ℕ) : Type 0 where
   pub not_before : lap s.key.geometry f ≤ lap_of n
   pub late : f < s.seen → lap s.key.geometry f < lap_of n
@@ -144,7 +144,7 @@ tells_seat s u f c n noted at_it =
 pub is_past : (s u : MixSeat) (f c n : ℕ) → HasNoted s u f c n → IsAt s f c → lap_of n ≢ lap s.key.geometry f → lap s.key.geometry f < lap_of n
 is_past s u f c n noted at_it other = omega (arith, (tells_seat s u f c n noted at_it).not_before, other)
 
--- a seat's last standing add, after steps that laid nothing
+-- a seat's last standing add, after steps that placed nothing
 pub holds_on : (s t : MixSeat) (f c : ℕ) (sample : ℤ) → (view_of t).laid ≡ (view_of s).laid → t.reach.marks ≡ s.reach.marks → HoldsLast (view_of s) f c sample → HoldsLast (view_of t) f c sample
 holds_on s t f c sample laid marks holds = record {
   early = holds.early;
@@ -173,7 +173,7 @@ at_on s t f c goes laid marks seen at_it =
 rank-fields : (w : ℕ) → w < 2 ^ 64 → rank w ≡ lap_of w * 256 + count_of w
 rank-fields w fits = rank-of w (lap_of w) (count_of w) (sum_of w) (StandsFor-of w fits)
 
--- a seat only found some words at a frame and channel: it laid nothing, and loaded no position
+-- a seat only found some words at a frame and channel: it placed nothing, and loaded no position
 pub record HasFound (s t : MixSeat) (f c : ℕ) (words : List ℕ) : Type 0 where
   pub goes : IsLaterSeat s t
   pub laid : (view_of t).laid ≡ (view_of s).laid
@@ -215,7 +215,7 @@ found_more s t u f c n words is noted =
       seen = noted.seen ∙ is.seen;
     }
 
--- a seat that may lay still may after it found some words
+-- a seat that may place still may after it found some words
 pub may_on : (s t : MixSeat) (k : Kind) (f c : ℕ) (x : ℤ) (words : List ℕ) → HasFound s t f c words → MayLay k s f c x → MayLay k t f c x
 may_on s t Added f c x words is lay =
     let key : s.key ≡ t.key = sym is.goes.key in (
@@ -303,7 +303,7 @@ past_on s t u f c n words is noted at_it other =
     (λ same. other (same ∙ ap (λ (k : Key). lap k.geometry f) is.goes.key)) in
     subst (λ (k : Key). lap k.geometry f < lap_of n) is.goes.key past
 
--- a seat that only found words laid nothing, and loaded nothing
+-- a seat that only found words placed nothing, and loaded nothing
 nothing_laid : (s t : MixSeat) (f c : ℕ) (words : List ℕ) → HasFound s t f c words → SeatLaid s t []
 nothing_laid s t f c words is = record {
   goes = is.goes;
@@ -328,7 +328,7 @@ loads_nothing s t positions gone seen =
       after_gone = none.after_gone;
     }
 
--- or it laid one entry
+-- or it placed one entry
 one_laid : (s t u : MixSeat) (f c : ℕ) (words : List ℕ) (e : Entry) → HasFound s t f c words → HasLaid t u e → SeatLaid s u (e ∷ [])
 one_laid s t u f c words e is laid =
     let mine : (view_of u).mine ≡ (view_of s).mine ++ e ∷ [] = ap (λ (x : View). x.mine) laid.view ∙ ap (λ es. es ++ e ∷ []) is.mine in

@@ -68,7 +68,7 @@ not_taken g words es t f c r now =
     let before : nat_lt f (first_free (next_at g t) c) ≡ false = grind (arith, nat_tests, now.low) in
     r.took f c now.channel least ∙ before
 
--- an entry was laid
+-- an entry was placed
 pub IsRing-put : (g : Geometry) (words : List ℕ) (es : List Entry) (t : Track) (e : Entry) (word : ℕ)
     → IsRing g words es t → IsNow g (next_at g t) e.frame e.channel
     → negsuc 32767 ≤ℤ value_of e → value_of e ≤ℤ pos 32768
@@ -117,8 +117,8 @@ AreInOrder-more g ts x in_order here i d inside =
           ap place_of (get_or_append_left ts (x ∷ []) d i below) ∙ in_order i d below
     ]
 
--- the next word stands behind the one that is taken
-pub next_at-taken : (g : Geometry) (t : Track) (x : Taken) → next_at g (track_taken t x) ≡ cursor_after g (next_at g t).frame (next_at g t).channel
+-- the next word is after the one that is taken
+pub next_at-taken : (g : Geometry) (t : Track) (x : Taken) → next_at g (track_taken t x) ≡ behind g (next_at g t).frame (next_at g t).channel
 next_at-taken g t x = ap (next_word g) (length-append t.taken (x ∷ [])) ∙ next_word-suc g (length t.taken)
 
 -- the next word was taken

@@ -127,7 +127,7 @@ history_publish g views t h y =
       no_more = λ i up. ap (own_entries i) laid ∙ y.no_more i up;
     }
 
--- a member's marks in the history are those behind the entries that its seat laid itself
+-- a member's marks in the history are those after the entries that its seat placed itself
 pub own_marks : (g : Geometry) (views : List View) (t : Track) (h : List Row) (id : ℕ) (v : View)
     → IsHistory g views t h → get_elem? views id ≡ some v → v.ended ≡ false → marks_of g id (laid_of h) ≡ marks_by g v.mine
 own_marks g views t h id v y here lasts = ap (marks_by g) (y.owns id v here lasts) ∙ marks_by-member g id v.mine
@@ -174,7 +174,7 @@ is_held g views t h id members v seen f c s y here lasts x up held =
       from_floor = subst (λ (m : Marks). IsFrom m.floor f c) (sym (own_marks g views t h id v y here lasts)) (omega (arith, o.within.floor c, held.from_floor));
     }
 
--- an entry was laid
+-- an entry was placed
 pub history_put : (g : Geometry) (views : List View) (t : Track) (h : List Row) (id : ℕ) (v w : View) (e : Entry)
     → IsHistory g views t h → get_elem? views id ≡ some v → v.ended ≡ false
     → w.laid ≡ v.laid ++ e ∷ [] → w.mine ≡ v.mine ++ e ∷ []
@@ -210,7 +210,7 @@ history_put g views t h id v w e y here lasts laid mine reply =
           ap (own_entries i) more ∙ (own-more_other id i (laid_of h) e apart ∙ y.no_more i (omega (arith, same_count)));
     }
 
--- what a seat is told of its step
+-- what a seat is shown by its step
 pub step_of : (g : Geometry) (views : List View) (t : Track) (early : List Row) (id : ℕ) (v w : View) (rows : List Row)
     → IsHistory g (set views id w) t (early ++ rows) → get_elem? views id ≡ some v → w.ended ≡ false → w.history ≡ early ++ rows → v.key.geometry ≡ g
     → (begins : BeginsWith early v.history) → IsStep v w id (length views) begins.0 rows

@@ -285,7 +285,7 @@ may_lay s Withdrawn f c old sample in_range lay noted of_lap =
     } in
     subst (MayExchange s Withdrawn f c old) (sym same) may
 
--- where a seat may lay
+-- where a seat may place
 pub lay_facts : (s : MixSeat) (k : Kind) (f c : ℕ) (sample : ℤ) → MayLay k s f c sample → HoldsFacts s f c
 lay_facts s Added f c sample lay =
     let start : s.reach.marks.cursor.frame ≤ first_free s.reach.marks.cursor c = grind (arith, nat_tests) in
@@ -398,7 +398,7 @@ leaves k v e key within laid may = by_kind e.kind refl may where
         laid = record { channel = subst (λ d. d < k.geometry.channels) may.channel l.channel; low = low; ahead = subst (λ f. f < v.seen + k.geometry.frames) may.frame l.ahead; fits = fits };
       }
 
--- the greatest frame after an entry was laid: a withdrawal is in a frame that was laid in before
+-- the greatest frame after an entry was placed: a withdrawal is in a frame that was placed in before
 last_laid : (k : Key) (places : ℕ) (marks : Marks) (seen : ℕ) (last : Option ℕ) (v : View) (e : Entry)
     → IsKnown v k places marks seen last → may_put e.kind v e.frame e.channel e.sample → IsLaid k.geometry v.seen e
     → IsReach k.geometry (marks_after k.geometry marks e) places (greater last (Some e.frame))
@@ -416,7 +416,7 @@ last_laid k places marks seen last v e is may in_ring = by_kind e.kind may where
       ap (λ o. greater o (Some e.frame)) (sym is.same_last) ∙ (ap (λ f. greater (last_frame v.laid) (Some f)) (sym may.frame) ∙ (had ∙ is.same_last)) in
       IsReach-withdrawn k.geometry marks places last e.frame e.channel is.reach_is kept
 
--- the fields after an entry was laid
+-- the fields after an entry was placed
 pub known_laid : (k : Key) (places : ℕ) (marks : Marks) (seen : ℕ) (last : Option ℕ) (v : View) (h : List Row) (e : Entry)
     → IsKnown v k places marks seen last → may_put e.kind v e.frame e.channel e.sample
     → IsKnown (with_entry v h e) k places (marks_after k.geometry marks e) seen (greater last (Some e.frame))
@@ -444,7 +444,7 @@ known_laid k places marks seen last v h e is may =
       laid = laid_more k.geometry v.laid v.seen e is.laid left.laid;
     }
 
--- a seat that laid an entry
+-- a seat that placed an entry
 pub has_laid : (s t : MixSeat) (e : Entry) → SameFields s t → t.reach.marks ≡ marks_after s.key.geometry s.reach.marks e → t.reach.last ≡ greater s.reach.last (Some e.frame)
     → Lays s.seat.me.0 s.seat.me.1 e t.seat.me → HasLaid s t e
 has_laid s t e same marks last told =

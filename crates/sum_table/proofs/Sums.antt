@@ -76,7 +76,7 @@ count_room (x ∷ xs) zero v f c here few =
 count_room (x ∷ xs) (suc id) v f c here few =
     omega (arith, few 0 x refl, count_room xs id v f c here (λ i u there. few (suc i) u there), count-append x.laid (all_laid xs) f c)
 
--- views of equal laid lists and places
+-- views of equal lists of placed entries, and of equal places
 pub SameSums-set : (views : List View) (id : ℕ) (v w : View) → get_elem? views id ≡ some v → w.laid ≡ v.laid → SameSums (all_laid views) (all_laid (set views id w))
 SameSums-set views id v w here same = record {
   counts = λ f c. let own : count w.laid f c ≡ count v.laid f c = ap (λ es. count es f c) same in omega (arith, own, count_set views id v w f c here);
@@ -95,7 +95,7 @@ SameSums-append xs ys zs same = record {
   totals = λ f c. omega (arith, ints, same.totals f c, total-append xs zs f c, total-append ys zs f c);
 }
 
--- one view lays one more entry
+-- one view places one more entry
 pub SameSums-put : (views : List View) (id : ℕ) (v w : View) (e : Entry) → get_elem? views id ≡ some v → w.laid ≡ v.laid ++ e ∷ [] → SameSums (all_laid views ++ e ∷ []) (all_laid (set views id w))
 SameSums-put views id v w e here more = record {
   counts = λ f c.
@@ -106,7 +106,7 @@ SameSums-put views id v w e here more = record {
       omega (arith, ints, one, total_set views id v w f c here, total-append (all_laid views) (e ∷ []) f c);
 }
 
--- one more view, that laid nothing
+-- one more view, that placed nothing
 pub SameSums-more : (views : List View) (w : View) → w.laid ≡ [] → SameSums (all_laid views) (all_laid (views ++ w ∷ []))
 SameSums-more views w none =
     let same : all_laid (views ++ w ∷ []) ≡ all_laid views = all_laid-more views w ∙ (ap (λ es. all_laid views ++ es) none ∙ append-nil (all_laid views)) in
@@ -122,7 +122,7 @@ cases_bool : (b : Bool) → (b ≡ true) ⊎ (b ≡ false)
 cases_bool true = inl refl
 cases_bool false = inr refl
 
--- sums don't tell who laid an entry
+-- sums don't show who placed an entry
 pub SameSums-by_member : (m : ℕ) (e : Entry) → SameSums (by_member m e ∷ []) (e ∷ [])
 SameSums-by_member m e = record {
   counts = λ f c. elim (cases_bool (is_at f c e)) [ inl here ↦ rw here refl | inr elsewhere ↦ rw elsewhere refl ];

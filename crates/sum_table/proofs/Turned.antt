@@ -1,4 +1,4 @@
--- A seat that went to the lap of a frame, and then laid an entry there: this is what it laid from the first.
+-- A seat that went to the lap of a frame, and then placed an entry there: this is what it placed from the first.
 use Rattle.std.proofs.Common.{◌≡◌, ℕ, ◌+◌, ◌*◌, ◌≤◌, List, [], ◌∷◌, ◌++◌, map, ℤ, arith, refl, sym, ap, subst, ◌∙◌}
 use Rattle.std.proofs.lemmas.List.{append-nil}
 use Rattle.mix_core.specs.declared.gate.Pass.{Pass}

@@ -1,4 +1,4 @@
--- What the seats know stays so at each kind of step, and what a word that is found tells a seat.
+-- What the seats know stays so at each kind of step, and what a word that is found shows a seat.
 use Rattle.std.proofs.Common.{◌≡◌, ◌⊎◌, ℕ, suc, ◌+◌, ◌*◌, ◌%◌, ◌<◌, ◌≤◌, true, false, Some, List, [], ◌∷◌, get_or, set, ℤ, inl, inr, arith, subst, sym, refl, ap, ◌∙◌}
 use mathlib.Core.Option.{some}
 use lib.ListN.{get_elem?}
@@ -99,7 +99,7 @@ pub count_all_none : (views : List View) (f c : ℕ) → ((i : ℕ) (v : View) �
 count_all_none [] f c none = refl
 count_all_none (x ∷ xs) f c none = omega (arith, count-append x.laid (all_laid xs) f c, none 0 x refl, count_all_none xs f c (λ i v there. none (suc i) v there))
 
--- nothing is laid past the ring's window
+-- nothing is placed past the ring's window
 pub none_far : (k : Key) (words : List ℕ) (views : List View) (at : ℕ) (t : Track) (h : List Row) → AreViews k words views at t h
     → position_at k.geometry t ≤ (next_at k.geometry t).frame
     → (f c : ℕ) → first_free (next_at k.geometry t) c + k.geometry.frames ≤ f → count (all_laid views) f c ≡ 0
@@ -146,7 +146,7 @@ by_lap g words es t f c r in_range ahead =
           }
     ]
 
--- a word that is found stands for no more than all places lay
+-- a word that is found represents no more than is placed through all places
 pub word_ok : (k : Key) (words : List ℕ) (views : List View) (at : ℕ) (t : Track) (h : List Row) (f c : ℕ)
     → IsRing k.geometry words (all_laid views) t → AreViews k words views at t h → c < k.geometry.channels
     → get_or words (index_of k.geometry f c) 0 < 18446744073709551616
@@ -167,7 +167,7 @@ word_ok k words views at t h f c r a in_range fits =
       high = rw (fields.1, fields.2) (r.high j c);
     }
 
--- what a seat is told by the word of a frame and channel
+-- what a seat is shown by the word of a frame and channel
 pub finds : (words : List ℕ) (views : List View) (at : ℕ) (t : Track) (h : List Row) (id : ℕ) (v : View) (f c : ℕ)
     → IsRing v.key.geometry words (all_laid views) t → AreViews v.key words views at t h → get_elem? views id ≡ some v
     → c < v.key.geometry.channels

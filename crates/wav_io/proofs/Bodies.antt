@@ -109,12 +109,12 @@ is_sound f body zs in_order e = record {
   whole = ap (λ (xs : List ℤ). length xs % f.channels) e ∙ whole_frames-whole f.channels body;
 }
 
--- four bytes don't stand where fewer are left
+-- four bytes aren't there where fewer are left
 pub no_room : (place : ℕ) (bytes name : List ℕ) → length name ≡ 4 → length bytes < place + 4 → bytes_eq (take 4 (drop place bytes)) name ≡ false
 no_room place bytes name four short =
     false_from_ne_true _ (λ same. omega (arith, four, ap length ((bytes_eq-Decides (take 4 (drop place bytes)) name).0 same), length-take 4 (drop place bytes), length-drop place bytes))
 
--- two bytes behind those that were put
+-- two bytes after those that were put
 pub pair_put : (i : ℕ) (out : List ℕ) (low high : ℕ) → 2 * i + 1 < length out → take (2 * (i + 1)) (set (set out (2 * i) low) (2 * i + 1) high) ≡ take (2 * i) out ++ (low ∷ high ∷ [])
 pair_put i out low high inside =
     ap (λ (n : ℕ). take n (set (set out (2 * i) low) (2 * i + 1) high)) (omega arith)

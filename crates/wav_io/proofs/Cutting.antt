@@ -63,7 +63,7 @@ scan_of-ended depths format bytes short = ap (scan_of depths format) (chunks-non
 
 -- ---- a head of eight bytes, and what follows it
 
--- the chunk of a head, and the bytes behind it
+-- the chunk of a head, and the bytes after it
 abbrev pub headed : List ℕ → List ℕ → Chunk
 headed head bytes = chunk_of_size (take 4 head) (number_at w32 4 head) bytes
 

@@ -6,7 +6,7 @@ use Rattle.std.proofs.lemmas.Nat.{div-add-mod'}
 use Rattle.std.proofs.Math.Nat.{div-mul-le_self}
 use Rattle.wav_io.specs.Frames.{IsCut}
 
--- nothing is behind a part that isn't filled
+-- nothing is after a part that isn't filled
 pub nothing_behind : (size : ℕ) (part rest before body : List ℕ) → part ++ rest ≡ before ++ body → length part ≡ min size (length before + length body) → length part < size → rest ≡ []
 nothing_behind size part rest before body same len less =
     let all : length part + length rest ≡ length before + length body = omega (arith, ap length same, length-append part rest, length-append before body) in

@@ -250,13 +250,13 @@ gap-stays depths format skip gone kept bytes few inside place = record {
   seen = λ n was. tt;
 }
 
--- fewer bytes are behind
+-- fewer bytes are left
 pub fewer : (want : ℕ) (kept rest before bytes : List ℕ) → kept ++ rest ≡ before ++ bytes → length kept ≡ min want (length before + length bytes) → length before < want → 0 < length bytes → length rest < length bytes
 fewer want kept rest before bytes same len room some =
     let all : length kept + length rest ≡ length before + length bytes = omega (arith, ap length same, length-append kept rest, length-append before bytes) in
     omega (arith, all, len)
 
--- bytes that were kept, and those that are kept behind them
+-- bytes that were kept, and those that are kept after them
 pub filled : (len count k : ℕ) (held front behind bytes now : List ℕ) → take len held ≡ now → len ≤ length held → length front ≡ count → front ++ behind ≡ bytes
     → take (len + count) (put_mid len k held front) ++ behind ≡ now ++ bytes
 filled len count k held front behind bytes now view inside some all =

@@ -74,7 +74,7 @@ ends_raw r f n fed is part come =
     ap raws (fed_comes UpTo32 r [] fed ∙ ap (with_front r.part) come)
     ∙ ap (λ (b : List ℕ). Ok (record { channels = f.channels; rate = f.rate; bits = f.bits; body = b })) (whole-less (raw_frame f) (r.part ++ []) less)
 
--- behind a format, an answer has that format, or the file is too long
+-- after a format, an answer has that format, or the file is too long
 of_data : (r : Reader) (f : Format) (n : ℕ) → r.scan.place ≡ DataBody f n → r.starved ≡ false → (more : List ℕ) → IsOfHead f.channels f.rate f.bits (raw_to_come r more)
 unfolding found_from
 of_data r f n is fed more =
@@ -96,7 +96,7 @@ raw_to_come-head r f n is none =
       | inr fed ↦ of_data r f n is fed
     ]
 
--- where the file ends behind its format, it is read
+-- where the file ends after its format, it is read
 pub raw_to_come-ends : (r : Reader) (f : Format) (n : ℕ) → IsScan r.scan → r.scan.place ≡ DataBody f n → error_of r ≡ None → IsOk (raw_to_come r [])
 raw_to_come-ends r f n scan is none =
     elim (cases_Bool r.starved) [

@@ -1,4 +1,4 @@
--- Values that are put into room behind others.
+-- Values that are put into room after others.
 use Rattle.std.proofs.Common.{◌≡◌, ℕ, ◌+◌, ◌≤◌, List, ◌++◌, length, take, sym, ap, ◌∙◌, append_assoc, length-append, arith}
 use Rattle.std.proofs.lemmas.List.{take_at, take_all, length-take}
 

@@ -1,4 +1,4 @@
--- The pointers lie as far apart as the counts that they stand for.
+-- The pointers lie as far apart as the counts that they represent.
 use Rattle.ring_pointers.proofs.Distances.{distance-counts}
 use Rattle.ring_pointers.proofs.pointers.Pointers.avail_playback.Goals as goal
 

@@ -1,4 +1,4 @@
--- Adding to a count after it is taken modulo the boundary comes to the same as before.
+-- Adding to a count after it is taken modulo the boundary gives the same as before.
 use Rattle.std.proofs.Common.{◌+◌, ◌%◌, ◌∙◌, ap}
 use Rattle.std.proofs.Math.Nat.{mod-add-mod}
 use Rattle.ring_pointers.proofs.pointers.Pointers.forward_appl.Goals as goal
