@@ -6,7 +6,7 @@ usage: bench/refine_probe.py [TEXTS [SEED]]     from the top of the repository; 
 
 Each text has a slave and up to twelve lines `set`, `min`, `max`, `integer` and `show` on interval parameters; the numbers
 are mostly within or near what is left. `near` and `choose` are left out, since their order of steps is this project's own.
-A text whose answers differ is printed with both answers; the last line tells how many lines were compared.
+A text whose answers differ is printed with both answers; the last line says how many lines were compared.
 """
 import random
 import subprocess
@@ -44,7 +44,7 @@ def ends(answer):
 
 
 def line(draw, command, lines, folder):
-    """A random line, its number drawn near what the lines so far leave, as a command tells."""
+    """A random line, its number drawn near what the lines so far leave, as a command says."""
     name = draw.choice(PARAMETERS)
     word = draw.choice(["set", "set", "min", "max", "min", "max", "integer", "show"])
     if word in ("integer", "show"):

@@ -1,5 +1,5 @@
 /* The loops of crates/sum_bench by hand: a ring of 64-bit words, each with the lap of the ring in its upper half, below it
- * the number of samples that were laid there, and in its lowest 24 bits their sum plus 2^23. The ring's length is a constant, so
+ * the number of samples that were placed there, and in its lowest 24 bits their sum plus 2^23. The ring's length is a constant, so
  * nothing is divided. It prints the same lines. */
 #include <pthread.h>
 #include <stdint.h>
@@ -20,7 +20,7 @@ struct ring {
     uint64_t next;
 };
 
-/* A stretch of frames that one thread lays, and how many samples it laid. */
+/* A stretch of frames in which one thread places samples, and how many it placed. */
 struct stretch {
     struct ring *ring;
     uint64_t first;
@@ -109,7 +109,7 @@ static struct ring new_ring(uint32_t channels)
     return ring;
 }
 
-/* Lays the stretches, each in a thread, the first one in this thread. Answers how many samples were laid. */
+/* Fills the stretches, each in a thread, the first one in this thread. Answers how many samples were placed. */
 static uint64_t lay_all(struct stretch *stretches, uint32_t threads)
 {
     pthread_t others[MOST_THREADS];

@@ -3,7 +3,7 @@
 
 usage: bench/sum_ring.py        from the top of the repository; wants cc, and proves and builds crates/sum_bench if needed
 
-The C program has the ring's length as a constant. Both programs lay and take a ring of 16,384 frames lap by lap, and give for
+The C program has the ring's length as a constant. Both programs fill and take a ring of 16,384 frames lap by lap, and give for
 each measurement the time on the clock of the fastest of 400 laps. They are run in turn, ROUNDS times each, and the least time
 counts.
 """

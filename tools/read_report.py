@@ -37,7 +37,7 @@ KEYWORDS = ("card", "client", "reader", "open", "close", "phase", "end")
 MOST_FRAMES = 2**64 - 1
 MOST_PHASES = 2**32 - 1
 
-# what a line asks for, with the greatest number behind it, or None where none follows
+# what a line asks for, with the greatest number after it, or None where none follows
 CARD_OPS = {"play": 4194304, "unplug": None}
 ACTOR_OPS = {
     **dict.fromkeys(("write", "read", "rewind"), 4194304),
@@ -80,7 +80,7 @@ class Row:
     phase: int  # from 1 on; of an opening or closing, the number of phases before it
     actor: str  # `card`, or the name of a client or reader
     op: str
-    count: int | None  # the number behind the op, where it has one
+    count: int | None  # the number after the op, where it has one
     answer: Answer
     state: str  # the actor's state afterwards
     seen: int | None  # the card's position, in frames, that the actor saw last
@@ -105,7 +105,7 @@ class Segment:
 
 @dataclass(frozen=True)
 class Run:
-    """`count` captured frames, from the card's frame `first` on, that a reader took one behind the other."""
+    """`count` captured frames, from the card's frame `first` on, that a reader took one after the other."""
 
     reader: str
     first: int
@@ -245,7 +245,7 @@ class Reading:
         self.segments.append(segment_of(words))
 
     def add(self, words):
-        """A line behind the first."""
+        """A line after the first."""
         if self.has_ended:
             words.refuse("a line follows the end")
         if self.played is not None:

@@ -165,7 +165,7 @@ def opens_of(placed, end):
 
 
 def end_of(report, events):
-    """The frame behind the last one that is drawn."""
+    """The frame after the last one that is drawn."""
     ends = [report.first + report.frames, report.first + 1]
     ends += [s.card + s.whole + (1 if s.part else 0) for s in report.segments]
     ends += [run.first + run.count for run in report.runs]
