@@ -111,7 +111,7 @@ pub record TakesBack (l m : Lobby) (s : MixSeat) : Type 0 where
   pub seats : free_seats m ≡ slice_set (free_seats l) (member_of s) (Some s)
   pub seen : seen_of_lobby m ≡ seen_of_lobby l
 
--- what the seats of all places placed, in the order of the places
+-- the entries of the seats of all places, in the order of the places
 abbrev pub laid_by : Option MixSeat → List Entry
 laid_by None = []
 laid_by (Some s) = (view_of s).laid
