@@ -14,7 +14,7 @@ pub enum ReportWhy {
     /// The text ends before a word, a line or a line feed that must follow.
     #[error("Ended")]
     Ended,
-    /// A word is after a line that is whole, or a line after `end`.
+    /// A word follows a line that is whole, or a line follows `end`.
     #[error("Extra")]
     Extra,
     /// Memory ran out.

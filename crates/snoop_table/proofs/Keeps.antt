@@ -1,4 +1,4 @@
--- Loads keep the rule, and show what is so.
+-- Loads keep the rule, and what they show holds.
 use Rattle.std.proofs.Common.{◌≡◌, ◌⊎◌, ℕ, zero, suc, ◌+◌, ◌*◌, ◌<◌, ◌≤◌, ◌==◌, Bool, true, false, Some, List, [], ◌∷◌, ◌++◌, length, get_or, set, cond, ℤ, pos, inl, inr, arith, subst, sym, refl, ap, ◌∙◌}
 use mathlib.Core.Option.{Option, none, some}
 use lib.ListN.{get_elem?}

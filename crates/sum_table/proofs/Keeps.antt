@@ -1,4 +1,4 @@
--- Loads and the exchange keep the rule, and show what is so.
+-- Loads and the exchange keep the rule, and what they show holds.
 use Rattle.std.proofs.Common.{◌≡◌, ℕ, ◌+◌, ◌<◌, ◌≤◌, true, false, List, [], ◌∷◌, ◌++◌, length, get_or, set, ℤ, pos, negsuc, ◌+ℤ◌, ◌≤ℤ◌, inl, inr, arith, subst, sym, refl, ap, ◌∙◌, nat_lt, ◌==◌, ◌%◌}
 use mathlib.Core.Option.{some, none}
 use lib.ListN.{get_elem?}
