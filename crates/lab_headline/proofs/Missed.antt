@@ -15,11 +15,11 @@ use Rattle.lab_report.specs.declared.row.Answer.{Answer}
 use Rattle.lab_run.specs.Client.{Client, begins, client_kind, line_by, stretch_of}
 use Rattle.lab_run.specs.Items.{no_sound, rules_of}
 use Rattle.lab_run.specs.LabRun.{entries_by}
-use Rattle.lab_run.specs.LateRows.{IsLast, IsNext, LateRewindsNameLast, LateRowsNameNext, NamesLast, NamesNext, is_rewind}
+use Rattle.lab_run.specs.LateRows.{IsNext, LateRewindsNameLast, LateRowsNameNext, NamesLast, NamesNext, is_rewind}
 use Rattle.lab_run.specs.Lines.{LineMay}
 use Rattle.lab_run.specs.Rules.{AtPort, MayGet, MayLay, MayLoad, Rules}
 use Rattle.lab_run.specs.Stage.{Session, Setup, client_at}
-use Rattle.lab_headline.specs.Late.{IsLate, LateLinesMiss, placed_now}
+use Rattle.lab_headline.specs.Late.{HasLast, IsLate, LateLinesMiss, placed_now}
 use Rattle.lab_headline.proofs.Bound.{IsBound, IsClientBound, clients-bound, line-named}
 use Rattle.lab_headline.proofs.Expanded.{next-free}
 use Rattle.lab_run.proofs.LateLaws.{LateAnswer}
@@ -76,6 +76,14 @@ still-closed rules phase wav number a b client after asked answer closed may =
     (line_by wav (begins client.own asked a).marks client client.own asked) (after, answer)
     (subst (λ own. All (λ (x : Client × Answer). x.0.own ≡ None) (line_by wav (begins client.own asked a).marks client own asked)) (sym closed) closed) may
 
+-- its answer isn't late
+closed-early : (rules : Rules) (phase : ℕ) (wav : Sound) (number : ℕ) (a b : AtPort) (client after : Client) (asked : Op) (answer : Answer) (frame channel : ℕ) → client.own ≡ None
+    → IsLate answer frame channel → LineMay (client_kind phase wav number) rules (a, client) asked (b, after) answer → ⊥
+closed-early rules phase wav number a b client after asked answer frame channel closed late may =
+    Takes-all (MayLoad rules) (MayLay rules) (MayGet rules) (λ (x : Client × Answer). IsLate x.1 frame channel → ⊥) (begins client.own asked a) b
+    (line_by wav (begins client.own asked a).marks client client.own asked) (after, answer)
+    (subst (λ own. All (λ (x : Client × Answer). IsLate x.1 frame channel → ⊥) (line_by wav (begins client.own asked a).marks client own asked)) (sym closed) (λ is. absurd (cc))) may late
+
 -- a line of an open client
 pub late-missed : (session : Session) (body : List Item) → ((rules : Rules) (phase : ℕ) (wav : Sound) (number : ℕ) → LateRowsNameNext rules phase wav number)
     → ((rules : Rules) (phase : ℕ) (wav : Sound) (number : ℕ) → LateRewindsNameLast rules phase wav number)
@@ -98,12 +106,12 @@ late-missed session body names names_last = record {
     by_rewind : (rules : Rules) (phase : ℕ) (wav : Sound) (number : ℕ) (a b : AtPort) (client after : Client) (n : ℕ) (answer : Answer) (frame channel : ℕ)
         → LateRewindsNameLast rules phase wav number → IsLate answer frame channel
         → LineMay (client_kind phase wav number) rules (a, client) (op.Rewind n) (b, after) answer → (own : Option PlaybackStream) → client.own ≡ own
-        → IfSome after.own (λ c. IsLast c frame channel)
+        → HasLast after frame channel
     by_rewind rules phase wav number a b client after n answer frame channel name late may None was =
-        rw (still-closed rules phase wav number a b client after (op.Rewind n) answer was may) tt
+        absurd (closed-early rules phase wav number a b client after (op.Rewind n) answer frame channel was late may)
     by_rewind rules phase wav number a b client after n answer frame channel name late may (Some c) was =
         let named : NamesLast after answer = name a b client after c n answer was may in
-        rw named.is_own (named.late frame channel late)
+        record { own = named.own; is_own = named.is_own; last = named.late frame channel late }
 
     by_next : (session : Session) (number : ℕ) (after : Client) (answer : Answer) (frame channel : ℕ) (c : PlaybackStream) → after.own ≡ Some c → IsLate answer frame channel
         → NamesNext after answer → IsNext c frame channel

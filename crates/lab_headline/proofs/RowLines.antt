@@ -36,7 +36,7 @@ use Rattle.lab_run.specs.Reader.{Reader, reader_kind}
 use Rattle.lab_run.specs.Reader as readers
 use Rattle.lab_run.specs.Rules.{AtPort, Rules}
 use Rattle.lab_run.specs.Stage.{Session, Setup, Stage, attached_client, claimed_client, client_at, close_client, close_reader, first_stage, no_client, open_client, open_client_with, open_reader, open_reader_with, reader_at}
-use Rattle.lab_headline.specs.Late.{IsLate, IsLineOf, LateLinesMiss, LateRowsMiss, MissesWhereLate, RowMisses}
+use Rattle.lab_headline.specs.Late.{IsLate, IsLineOf, IsRowOfLine, LateLinesMiss, LateRowsMiss, RowMisses, RowNamesLast, SaysWhereLate}
 
 -- ---- lists
 
@@ -157,14 +157,20 @@ items-first session stage after (one ∷ items) all (between, may, rest) = λ fi
 
 module _ (session : Session) (body : List Item) (all : List Row) (late : LateLinesMiss session body) where
   abbrev P : Row → Type 0
-  P = MissesWhereLate session body all
+  P = SaysWhereLate session body all
 
   -- a row with another answer, and a row of another actor
   answered-other : (row : Row) → ((frame channel : ℕ) → IsLate row.answer frame channel → ⊥) → P row
-  answered-other row other number frame channel who not is = absurd (other frame channel is)
+  answered-other row other = record {
+    missed = λ number frame channel who not is. absurd (other frame channel is);
+    rewinds = λ number frame channel who rewind is. absurd (other frame channel is);
+  }
 
   of-other : (row : Row) → ((number : ℕ) → row.actor ≡ actor.Client number → ⊥) → P row
-  of-other row other number frame channel who not is = absurd (other number who)
+  of-other row other = record {
+    missed = λ number frame channel who not is. absurd (other number who);
+    rewinds = λ number frame channel who rewind is. absurd (other number who);
+  }
 
   failed-early : (e : PcmError) → IsEarly e → (frame channel : ℕ) → IsLate (Failed e) frame channel → ⊥
   failed-early e early frame channel is = let same : e ≡ error.Xrun (why.Late frame channel 0) = cc in early frame channel same
@@ -209,24 +215,54 @@ module _ (session : Session) (body : List Item) (all : List Row) (late : LateLin
   row-answer phase n asked None answer = refl
   row-answer phase n asked (Some c) answer = refl
 
+  -- it is that of the line
+  of-line : (n : ℕ) (before after : AtPort × Client) (asked : Op) (answer : Answer) (line : IsLineOf session body n before asked after answer) → IsFirst line.stage.rows all
+      → IsRowOfLine session body all (row_by (line.stage.phases + 1) n asked after.1.own answer) n
+  of-line n before after asked answer line first = record {
+    before = before;
+    after = after;
+    asked = asked;
+    answer = answer;
+    line = line;
+    later_rows = first.0;
+    rows_are = first.1;
+    row_is = refl;
+  }
+
+  -- of a rewind
+  line-last : (n : ℕ) (before after : AtPort × Client) (asked : Op) (answer : Answer) (frame channel : ℕ) (line : IsLineOf session body n before asked after answer)
+      → IsFirst line.stage.rows all → is_rewind asked ≡ true → IsLate answer frame channel
+      → RowNamesLast session body all (row_by (line.stage.phases + 1) n asked after.1.own answer) n frame channel
+  unfolding of-line
+  line-last n before after (op.Rewind m) answer frame channel line first rewind is = record {
+    of = of-line n before after (op.Rewind m) answer line first;
+    last = late.rewinds n before after m answer frame channel line is;
+  }
+  line-last n before after other answer frame channel line first rewind is = absurd (cc)
+
   client-P : (n : ℕ) (before after : AtPort × Client) (asked : Op) (answer : Answer) (line : IsLineOf session body n before asked after answer) → IsFirst line.stage.rows all
       → P (row_by (line.stage.phases + 1) n asked after.1.own answer)
-  client-P n before after asked answer line first number frame channel who not is =
-      let own = row-actor (line.stage.phases + 1) n asked after.1.own answer in
-      let same : n ≡ number = cc in
-      let not_rewind : is_rewind asked ≡ false = ap is_rewind (sym (row-op (line.stage.phases + 1) n asked after.1.own answer)) ∙ not in
-      let is_late : IsLate answer frame channel = sym (row-answer (line.stage.phases + 1) n asked after.1.own answer) ∙ is in
-      subst (λ m. RowMisses session body all (row_by (line.stage.phases + 1) n asked after.1.own answer) m frame channel) same (record {
-        before = before;
-        after = after;
-        asked = asked;
-        answer = answer;
-        line = line;
-        later_rows = first.0;
-        rows_are = first.1;
-        row_is = refl;
-        none = late.missed n before after asked answer frame channel line not_rewind is_late;
-      })
+  unfolding of-line
+  client-P n before after asked answer line first = record {
+    missed = λ number frame channel who not is.
+        subst (λ m. RowMisses session body all row m frame channel) (same number who)
+        (record { of = of-line n before after asked answer line first; none = late.missed n before after asked answer frame channel line (sym op_is ∙ not) (late_is frame channel is) });
+    rewinds = λ number frame channel who rewind is.
+        subst (λ m. RowNamesLast session body all row m frame channel) (same number who)
+        (line-last n before after asked answer frame channel line first (sym op_is ∙ rewind) (late_is frame channel is));
+  }
+    where
+      row : Row
+      row = row_by (line.stage.phases + 1) n asked after.1.own answer
+
+      op_is : is_rewind row.op ≡ is_rewind asked
+      op_is = ap is_rewind (row-op (line.stage.phases + 1) n asked after.1.own answer)
+
+      same : (number : ℕ) → row.actor ≡ actor.Client number → n ≡ number
+      same number who = let own = row-actor (line.stage.phases + 1) n asked after.1.own answer in cc
+
+      late_is : (frame channel : ℕ) → IsLate row.answer frame channel → IsLate answer frame channel
+      late_is frame channel is = sym (row-answer (line.stage.phases + 1) n asked after.1.own answer) ∙ is
 
   -- where a phase is in the body
   record IsPhaseOf (lines : List Line) (stage : Stage) : Type 0 where
@@ -348,5 +384,5 @@ pub LabRun-late : (session : Session) (capture : Option Sound) (body : List Item
     → LabRun session capture body client_stops reader_stops outcome → LateRowsMiss session body outcome.report
 LabRun-late session capture body client_stops reader_stops outcome late run =
     subst (λ (o : Outcome). LateRowsMiss session body o.report) (sym run.is)
-    (All-from_recursion (MissesWhereLate session body run.end.rows) run.end.rows
+    (All-from_recursion (SaysWhereLate session body run.end.rows) run.end.rows
     (items-rows session body run.end.rows late (first_stage session) run.end [] body refl refl ([], sym (append-nil run.end.rows)) tt run.may))

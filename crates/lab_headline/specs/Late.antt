@@ -1,10 +1,11 @@
 -- A row that is answered late: it names a frame and channel at which the client's stretch has no sample.
-use Rattle.std.specs.Prelude.{◌≡◌, ℕ, ◌+◌, false, List, [], ◌∷◌, ◌++◌, All, IfSome}
+use Rattle.std.specs.Prelude.{◌≡◌, ℕ, ◌+◌, false, List, [], ◌∷◌, ◌++◌, true, All, Some}
 use Rattle.std.specs.List.{flat_map}
 use Rattle.snd_base.specs.declared.errors.PcmError.TheVariants.{Xrun}
 use Rattle.snd_base.specs.declared.errors.XrunWhy.TheVariants as why
 use Rattle.mix_core.specs.declared.port.Entry.{Entry}
 use Rattle.mix_core.specs.Laid.{at}
+use Rattle.dmix_client.specs.declared.stream.PlaybackStream.{PlaybackStream}
 use Rattle.lab_script.specs.declared.line.Actor.TheVariants as actor
 use Rattle.lab_script.specs.declared.line.Item.{Item}
 use Rattle.lab_script.specs.declared.line.Item.TheVariants as item
@@ -52,6 +53,12 @@ placed_now session number client =
 abbrev pub IsLate : Answer → ℕ → ℕ → Type 0
 IsLate answer frame channel = answer ≡ Failed (Xrun (why.Late frame channel 0))
 
+-- a client is open, and the last sample of its stretch that is in the card's ring is at this frame and channel
+pub record HasLast (client : Client) (frame channel : ℕ) : Type 0 where
+  pub own : PlaybackStream
+  pub is_own : client.own ≡ Some own
+  pub last : IsLast own frame channel
+
 -- Then none of the samples that the client's stretch has placed by then is at this frame and channel. A rewind that was late names the last sample
 -- of the stretch that is in the card's ring instead: the one that it couldn't take back.
 pub record LateLinesMiss (session : Session) (body : List Item) : Type 0 where
@@ -63,12 +70,11 @@ pub record LateLinesMiss (session : Session) (body : List Item) : Type 0 where
   pub rewinds : (number : ℕ) (before after : AtPort × Client) (n : ℕ) (answer : Answer)
       (frame channel : ℕ)
       → IsLineOf session body number before (op.Rewind n) after answer → IsLate answer frame channel
-      → IfSome after.1.own (λ c. IsLast c frame channel)
+      → HasLast after.1 frame channel
 
--- A row of a client that is answered late is that of a line of the run, after which the client's stretch has no sample at the frame and channel. It
--- is this run's line: the rows of the report up to its phase are the first ones of all rows.
-pub record RowMisses (session : Session) (body : List Item) (all : List Row)
-    (row : Row) (number frame channel : ℕ) : Type 0 where
+-- A row of a client is that of a line of the run. It is this run's line: the rows of the report up to its phase are the first ones of all rows.
+pub record IsRowOfLine (session : Session) (body : List Item) (all : List Row)
+    (row : Row) (number : ℕ) : Type 0 where
   pub before : AtPort × Client
   pub after : AtPort × Client
   pub asked : Op
@@ -77,14 +83,31 @@ pub record RowMisses (session : Session) (body : List Item) (all : List Row)
   pub later_rows : List Row
   pub rows_are : all ≡ line.stage.rows ++ later_rows
   pub row_is : row ≡ row_by (line.stage.phases + 1) number asked after.1.own answer
-  pub none : at (placed_now session number after.1) frame channel ≡ []
 
-abbrev pub MissesWhereLate : Session → List Item → List Row → Row → Type 0
-MissesWhereLate session body all row =
-    (number frame channel : ℕ) → row.actor ≡ actor.Client number → is_rewind row.op ≡ false
-    → IsLate row.answer frame channel
-    → RowMisses session body all row number frame channel
+-- after the line the client's stretch has no sample at a frame and channel
+pub record RowMisses (session : Session) (body : List Item) (all : List Row)
+    (row : Row) (number frame channel : ℕ) : Type 0 where
+  pub of : IsRowOfLine session body all row number
+  pub none : at (placed_now session number of.after.1) frame channel ≡ []
 
--- each row of a report, but those of rewinds
+-- after the line the last sample of the client's stretch that is in the card's ring is that of a frame and channel
+pub record RowNamesLast (session : Session) (body : List Item) (all : List Row)
+    (row : Row) (number frame channel : ℕ) : Type 0 where
+  pub of : IsRowOfLine session body all row number
+  pub last : HasLast of.after.1 frame channel
+
+-- what a row says that is answered late: of a rewind the other thing
+pub record SaysWhereLate (session : Session) (body : List Item) (all : List Row)
+    (row : Row) : Type 0 where
+  -- it names a frame and channel at which its client's stretch has no sample
+  pub missed : (number frame channel : ℕ) → row.actor ≡ actor.Client number
+      → is_rewind row.op ≡ false → IsLate row.answer frame channel
+      → RowMisses session body all row number frame channel
+  -- a rewind names the sample that it couldn't take back
+  pub rewinds : (number frame channel : ℕ) → row.actor ≡ actor.Client number
+      → is_rewind row.op ≡ true → IsLate row.answer frame channel
+      → RowNamesLast session body all row number frame channel
+
+-- each row of a report
 abbrev pub LateRowsMiss : Session → List Item → Report → Type 0
-LateRowsMiss session body report = All (MissesWhereLate session body report.rows) report.rows
+LateRowsMiss session body report = All (SaysWhereLate session body report.rows) report.rows
