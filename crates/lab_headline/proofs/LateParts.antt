@@ -255,7 +255,7 @@ rewindable-kept b c floor is = All-if (Kept b) (is_running c.status.state) (cour
     (numbered-kept b (rewindable_of floor) (checks c) (checks-kept b c is)) (is, tt)
 
 -- a call's refusal isn't late
-refusal-early : (c : PlaybackStream) (asked : Call) (P : Type 0) → IfSome (refusal_of Playback c.status asked) (LateErr (λ frame channel. P))
+pub refusal-early : (c : PlaybackStream) (asked : Call) (P : Type 0) → IfSome (refusal_of Playback c.status asked) (LateErr (λ frame channel. P))
 refusal-early c asked P = by_stop c.status.stopped
   where
     Q : ℕ → ℕ → Type 0

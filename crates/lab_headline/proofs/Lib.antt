@@ -8,6 +8,8 @@ mod Expanded
 mod FromFiles
 mod Going
 mod LateParts
+mod LateStates
+mod Listed
 mod Missed
 mod Mixes
 mod Numbered
@@ -18,6 +20,7 @@ mod OnwardLines
 mod Openings
 mod Recorded
 mod RowLines
+mod Sealed
 mod Sizes
 mod Sole
 mod Stages

@@ -1,13 +1,13 @@
 -- Lists of what each of several members has, with the members' numbers.
-use Rattle.std.proofs.Common.{◌≡◌, ℕ, ◌<◌, ◌≤◌, ◌+◌, refl, sym, ◌∙◌, ap, arith, List, [], ◌∷◌, ◌++◌, length}
+use Rattle.std.proofs.Common.{◌≡◌, ℕ, ◌<◌, ◌≤◌, ◌+◌, refl, sym, ◌∙◌, ap, arith, subst, List, [], ◌∷◌, ◌++◌, length}
 use Rattle.std.proofs.lemmas.Bool.{eq-eqb}
 use Rattle.std.proofs.lemmas.Bool.Decides.{nat_tests}
 use Rattle.std.proofs.lemmas.List.{append-nil, map-append}
 use Rattle.std.proofs.lemmas.List.Concat.{flat_map-append}
 use Rattle.std.proofs.lemmas.List.Elements.{filter-append}
 use Rattle.std.specs.List.{flat_map, range_with_len}
-use Rattle.std.specs.Prelude.{false, zero, suc, nat_eq, filter, map}
-use Rattle.lab_run.specs.LabRun.{with_numbers}
+use Rattle.std.specs.Prelude.{false, zero, suc, nat_eq, filter, map, slice_index_or}
+use Rattle.lab_run.specs.LabRun.{numbered}
 
 -- what the member of a number has
 abbrev pub members_of : {Y : Type 0} → ℕ → List (ℕ × Y) → List Y
@@ -72,3 +72,27 @@ numbered-parts {X = X} {Y = Y} {A = A} has of number (x ∷ xs) =
     after : (m : ℕ) → number + 1 ≤ m → part others m ≡ part (own ++ others) m
     after m low = ap (flat_map (λ y. of (m, y)))
         (sym (members-append m own others ∙ ap (λ r. r ++ members_of m others) (members-other m number (has x) (grind (arith, nat_tests)))))
+
+-- what is numbered for a member is what that one has
+pub numbered-at : {X Y : Type 0} (of : X → List Y) (none : X) (n number i : ℕ) (xs : List X) → number + i ≡ n → of none ≡ []
+    → members_of n (numbered of number xs) ≡ of (slice_index_or xs i none)
+numbered-at of none n number i [] at is = sym is
+numbered-at {Y = Y} of none n number zero (x ∷ xs) at is =
+    let here : number ≡ n = omega (arith, at) in subst (λ m. members_of m (own ++ others) ≡ of x) here first
+  where
+    own : List (ℕ × Y)
+    own = map (λ y. (number, y)) (of x)
+
+    others : List (ℕ × Y)
+    others = numbered of (number + 1) xs
+
+    first : members_of number (own ++ others) ≡ of x
+    first = members-append number own others
+        ∙ ap (λ r. members_of number own ++ r) (numbered-past of number (number + 1) xs (omega arith))
+        ∙ append-nil (members_of number own)
+        ∙ members-own number (of x)
+numbered-at of none n number (suc i) (x ∷ xs) at is =
+    let other : nat_eq number n ≡ false = grind (arith, nat_tests, at) in
+    members-append n (map (λ y. (number, y)) (of x)) (numbered of (number + 1) xs)
+    ∙ ap (λ r. r ++ members_of n (numbered of (number + 1) xs)) (members-other n number (of x) other)
+    ∙ numbered-at of none n (number + 1) i xs (omega (arith, at)) is

@@ -25,9 +25,9 @@ use Rattle.lab_report.specs.declared.row.Answer.{Answer}
 use Rattle.lab_report.specs.declared.row.Answer.TheVariants.{Failed}
 use Rattle.lab_report.specs.declared.row.Row.{Row}
 use Rattle.lab_run.specs.Claims.{claim_refusal, is_free_channel}
-use Rattle.lab_run.specs.Client.{Client, row_by}
-use Rattle.lab_run.specs.Items.{ItemMay, ItemsMay, client_kinds, reader_kinds, rules_of}
-use Rattle.lab_run.specs.LabRun.{LabRun, Outcome}
+use Rattle.lab_run.specs.Client.{Client, row_by, segments_of}
+use Rattle.lab_run.specs.Items.{ItemMay, ItemsMay, client_kinds, no_sound, phase_end, reader_kinds, rules_of}
+use Rattle.lab_run.specs.LabRun.{LabRun, Outcome, report_of}
 use Rattle.lab_run.specs.LateRows.{is_rewind}
 use Rattle.lab_run.specs.Lines.{EachMay, Kind, LineMay, LinesMay}
 use Rattle.lab_run.specs.Phases.{card_row, card_rows, is_client, is_reader, ops_by}
@@ -36,7 +36,13 @@ use Rattle.lab_run.specs.Reader.{Reader, reader_kind}
 use Rattle.lab_run.specs.Reader as readers
 use Rattle.lab_run.specs.Rules.{AtPort, Rules}
 use Rattle.lab_run.specs.Stage.{Session, Setup, Stage, attached_client, claimed_client, client_at, close_client, close_reader, first_stage, no_client, open_client, open_client_with, open_reader, open_reader_with, reader_at}
-use Rattle.lab_headline.specs.Late.{IsLate, IsLineOf, IsRowOfLine, LateLinesMiss, LateRowsMiss, RowMisses, RowNamesLast, SaysWhereLate}
+use Rattle.lab_headline.specs.Late.{IsLate, IsLineOf, IsListed, IsRowOfLine, LateLinesMiss, LateRowsMiss, RowMisses, RowNamesLast, SaysWhereLate}
+
+use Rattle.lab_headline.proofs.Listed.{items-over, late-over, listed-at, reaped-over}
+use Rattle.lab_headline.proofs.Sealed.{IsStart, Over, over-lines}
+use Rattle.snd_base.specs.declared.places.Segment.{Segment}
+use Rattle.lab_report.specs.declared.report.Report.{Report}
+use Rattle.lab_run.specs.OwnRows.{segments_by}
 
 -- ---- lists
 
@@ -155,9 +161,27 @@ items-first : (session : Session) (stage after : Stage) (items : List Item) (all
 items-first session stage after [] all is = rw is (λ first. first)
 items-first session stage after (one ∷ items) all (between, may, rest) = λ first. item-first session stage between one all may (items-first session between after items all rest first)
 
-module _ (session : Session) (body : List Item) (all : List Row) (late : LateLinesMiss session body) where
+module _ (session : Session) (body : List Item) (report : Report) (late : LateLinesMiss session body) where
+  abbrev all : List Row
+  all = report.rows
+
   abbrev P : Row → Type 0
-  P = SaysWhereLate session body all
+  P = SaysWhereLate session body report
+
+  -- the report lists these segments of a client, and others only behind them
+  abbrev Lists : ℕ → List Segment → Type 0
+  Lists number list = IsStart list (segments_by number report.segments)
+
+  -- it lists those of each client that are settled at a stage
+  abbrev ListsAt : Stage → Type 0
+  ListsAt stage = (number : ℕ) (list : List Segment) → Over list (client_at session stage number).1 → Lists number list
+
+  -- it lists those that are settled at a line
+  abbrev ListsOf : ℕ → AtPort × Client → Type 0
+  ListsOf number x = (list : List Segment) → Over list x.1 → Lists number list
+
+  is-listed : (number : ℕ) (client : Client) → Lists number (segments_of client) → IsListed report number client
+  is-listed number client (others, are) = record { others = others; segments_are = are }
 
   -- a row with another answer, and a row of another actor
   answered-other : (row : Row) → ((frame channel : ℕ) → IsLate row.answer frame channel → ⊥) → P row
@@ -229,27 +253,34 @@ module _ (session : Session) (body : List Item) (all : List Row) (late : LateLin
     row_is = refl;
   }
 
+  line-listed : (n : ℕ) (before after : AtPort × Client) (asked : Op) (answer : Answer) (frame channel : ℕ) → IsLineOf session body n before asked after answer → ListsOf n after
+      → IsLate answer frame channel → IsListed report n after.1
+  line-listed n before after asked answer frame channel line lists is = is-listed n after.1 (lists (segments_of after.1)
+      (late-over (rules_of session line.stage line.lines) (line.stage.phases + 1) (slice_index_or session.sounds n no_sound) n before.0 after.0 before.1 after.1 asked answer frame channel is line.line))
+
   -- of a rewind
   line-last : (n : ℕ) (before after : AtPort × Client) (asked : Op) (answer : Answer) (frame channel : ℕ) (line : IsLineOf session body n before asked after answer)
-      → IsFirst line.stage.rows all → is_rewind asked ≡ true → IsLate answer frame channel
-      → RowNamesLast session body all (row_by (line.stage.phases + 1) n asked after.1.own answer) n frame channel
+      → IsFirst line.stage.rows all → ListsOf n after → is_rewind asked ≡ true → IsLate answer frame channel
+      → RowNamesLast session body report (row_by (line.stage.phases + 1) n asked after.1.own answer) n frame channel
   unfolding of-line
-  line-last n before after (op.Rewind m) answer frame channel line first rewind is = record {
+  line-last n before after (op.Rewind m) answer frame channel line first lists rewind is = record {
     of = of-line n before after (op.Rewind m) answer line first;
     last = late.rewinds n before after m answer frame channel line is;
+    listed = line-listed n before after (op.Rewind m) answer frame channel line lists is;
   }
-  line-last n before after other answer frame channel line first rewind is = absurd (cc)
+  line-last n before after other answer frame channel line first lists rewind is = absurd (cc)
 
   client-P : (n : ℕ) (before after : AtPort × Client) (asked : Op) (answer : Answer) (line : IsLineOf session body n before asked after answer) → IsFirst line.stage.rows all
-      → P (row_by (line.stage.phases + 1) n asked after.1.own answer)
+      → ListsOf n after → P (row_by (line.stage.phases + 1) n asked after.1.own answer)
   unfolding of-line
-  client-P n before after asked answer line first = record {
+  client-P n before after asked answer line first lists = record {
     missed = λ number frame channel who not is.
-        subst (λ m. RowMisses session body all row m frame channel) (same number who)
-        (record { of = of-line n before after asked answer line first; none = late.missed n before after asked answer frame channel line (sym op_is ∙ not) (late_is frame channel is) });
+        subst (λ m. RowMisses session body report row m frame channel) (same number who)
+        (record { of = of-line n before after asked answer line first; none = late.missed n before after asked answer frame channel line (sym op_is ∙ not) (late_is frame channel is);
+          listed = line-listed n before after asked answer frame channel line lists (late_is frame channel is) });
     rewinds = λ number frame channel who rewind is.
-        subst (λ m. RowNamesLast session body all row m frame channel) (same number who)
-        (line-last n before after asked answer frame channel line first (sym op_is ∙ rewind) (late_is frame channel is));
+        subst (λ m. RowNamesLast session body report row m frame channel) (same number who)
+        (line-last n before after asked answer frame channel line first lists (sym op_is ∙ rewind) (late_is frame channel is));
   }
     where
       row : Row
@@ -272,11 +303,11 @@ module _ (session : Session) (body : List Item) (all : List Row) (late : LateLin
     reached : ItemsMay session (first_stage session) done stage
     first : IsFirst stage.rows all
 
-  client-lines : (lines : List Line) (stage : Stage) (phase : IsPhaseOf lines stage) (n : ℕ) (x y : AtPort × Client) (early ops : List Op) (so_far rows : List Row)
+  client-lines : (lines : List Line) (stage : Stage) (phase : IsPhaseOf lines stage) (n : ℕ) (x y : AtPort × Client) (early ops : List Op) (so_far rows : List Row) → ListsOf n y
       → ops_by (is_client n) lines ≡ early ++ ops → LinesMay (client_kinds session stage n) (rules_of session stage lines) (client_at session stage n) early x so_far
       → LinesMay (client_kinds session stage n) (rules_of session stage lines) x ops y rows → AllByRecursion P rows
-  client-lines lines stage phase n x y early [] so_far rows ops_are before (same, none) = rw none tt
-  client-lines lines stage phase n x y early (asked ∷ ops) so_far rows ops_are before (between, answer, others, may, rest, are) =
+  client-lines lines stage phase n x y early [] so_far rows lists ops_are before (same, none) = rw none tt
+  client-lines lines stage phase n x y early (asked ∷ ops) so_far rows lists ops_are before (between, answer, others, may, rest, are) =
       rw are (
         client-P n x between asked answer (record {
           done = phase.done;
@@ -291,23 +322,28 @@ module _ (session : Session) (body : List Item) (all : List Row) (late : LateLin
           lines_are = ops_are;
           lines_so_far = before;
           line = may;
-        }) phase.first,
-        client-lines lines stage phase n between y (early ++ asked ∷ []) ops (so_far ++ (client_kinds session stage n).row asked between.1 answer ∷ []) others
+        }) phase.first (λ list over. lists list (over-lines list (rules_of session stage lines) (stage.phases + 1) (slice_index_or session.sounds n no_sound) n between y ops others over rest)),
+        client-lines lines stage phase n between y (early ++ asked ∷ []) ops (so_far ++ (client_kinds session stage n).row asked between.1 answer ∷ []) others lists
             (ops_are ∙ sym (append_assoc early (asked ∷ []) ops))
             (LinesMay-more (client_kinds session stage n) (rules_of session stage lines) (client_at session stage n) x between early asked answer so_far before may) rest,
       )
 
   client-rows : (lines : List Line) (stage : Stage) (phase : IsPhaseOf lines stage) (number : ℕ) (actors after : List (AtPort × Client)) (rows : List Row)
       → ((i : ℕ) → slice_index_or actors i (no_client session.ring) ≡ client_at session stage (number + i))
+      → ((i : ℕ) → ListsOf (number + i) (slice_index_or after i (no_client session.ring)))
       → EachMay (client_kinds session stage) (rules_of session stage lines) (λ n. ops_by (is_client n) lines) number actors after rows → AllByRecursion P rows
-  client-rows lines stage phase number [] after rows at (same, none) = rw none tt
-  client-rows lines stage phase number (x ∷ actors) after rows at (own, others, own_rows, other_rows, may, rest, same, are) =
+  client-rows lines stage phase number [] after rows at lists (same, none) = rw none tt
+  client-rows lines stage phase number (x ∷ actors) after rows at lists (own, others, own_rows, other_rows, may, rest, same, are) =
       let here : number + 0 ≡ number = omega arith in
       let is : client_at session stage number ≡ x = ap (client_at session stage) (sym here) ∙ sym (at 0) in
       rw are (rows-append P own_rows other_rows
-      (client-lines lines stage phase number x own [] (ops_by (is_client number) lines) [] own_rows refl (sym is, refl) may)
+      (client-lines lines stage phase number x own [] (ops_by (is_client number) lines) [] own_rows
+      (subst (λ k. ListsOf k own) here (subst (λ (xs : List (AtPort × Client)). ListsOf (number + 0) (slice_index_or xs 0 (no_client session.ring))) same (lists 0))) refl (sym is, refl) may)
       (client-rows lines stage phase (number + 1) actors others other_rows
-      (λ i. let next : number + suc i ≡ (number + 1) + i = omega arith in at (suc i) ∙ ap (client_at session stage) next) rest))
+      (λ i. let next : number + suc i ≡ (number + 1) + i = omega arith in at (suc i) ∙ ap (client_at session stage) next)
+      (λ i. let next : number + suc i ≡ (number + 1) + i = omega arith in
+      subst (λ k. ListsOf k (slice_index_or others i (no_client session.ring))) next
+      (subst (λ (xs : List (AtPort × Client)). ListsOf (number + suc i) (slice_index_or xs (suc i) (no_client session.ring))) same (lists (suc i)))) rest))
 
   -- ---- rows of openings and closings
 
@@ -350,39 +386,43 @@ module _ (session : Session) (body : List Item) (all : List Row) (late : LateLin
   -- ---- the body
 
   item-rows : (stage after : Stage) (done others : List Item) (one : Item) → body ≡ done ++ one ∷ others → ItemsMay session (first_stage session) done stage → IsFirst stage.rows all
-      → AllByRecursion P stage.rows → ItemMay session stage one after → AllByRecursion P after.rows
-  item-rows stage after done others (item.Opens number actor.Card) body_is reached first are is = rw is are
-  item-rows stage after done others (item.Opens number (actor.Client n)) body_is reached first are is =
+      → ListsAt after → AllByRecursion P stage.rows → ItemMay session stage one after → AllByRecursion P after.rows
+  item-rows stage after done others (item.Opens number actor.Card) body_is reached first lists are is = rw is are
+  item-rows stage after done others (item.Opens number (actor.Client n)) body_is reached first lists are is =
       rw is (open-rows stage n (client_at session stage n) (client_at session stage n).1.own are)
-  item-rows stage after done others (item.Opens number (actor.Reader n)) body_is reached first are is =
+  item-rows stage after done others (item.Opens number (actor.Reader n)) body_is reached first lists are is =
       rw is (open_reader-rows stage n (reader_at session stage n) (reader_at session stage n).1.own are)
-  item-rows stage after done others (item.Closes number actor.Card) body_is reached first are is = rw is are
-  item-rows stage after done others (item.Closes number (actor.Client n)) body_is reached first are is =
+  item-rows stage after done others (item.Closes number actor.Card) body_is reached first lists are is = rw is are
+  item-rows stage after done others (item.Closes number (actor.Client n)) body_is reached first lists are is =
       rw is (close-rows stage n (client_at session stage n) (client_at session stage n).1.own are)
-  item-rows stage after done others (item.Closes number (actor.Reader n)) body_is reached first are is =
+  item-rows stage after done others (item.Closes number (actor.Reader n)) body_is reached first lists are is =
       rw is (close_reader-rows stage n (reader_at session stage n) (reader_at session stage n).1.own are)
-  item-rows stage after done others (item.Phase lines) body_is reached first are may =
+  item-rows stage after done others (item.Phase lines) body_is reached first lists are may =
       let phase : IsPhaseOf lines stage = record { done = done; others = others; body_is = body_is; reached = reached; first = first } in
       let cards = card_rows (stage.phases + 1) stage.position (ops_by is_of_card lines) in
       let zero_more : (i : ℕ) → slice_index_or stage.clients i (no_client session.ring) ≡ client_at session stage (0 + i) =
       λ i. let same : i ≡ 0 + i = omega arith in ap (client_at session stage) same in
+      let at_end : ListsAt (phase_end session stage lines (may.clients, may.client_rows) (may.readers, may.reader_rows)) = subst ListsAt may.is lists in
       rw may.is (rows-append P (stage.rows ++ cards ++ may.client_rows) may.reader_rows
       (rows-append P (stage.rows ++ cards) may.client_rows
       (rows-append P stage.rows cards are (cards-P (stage.phases + 1) stage.position (ops_by is_of_card lines)))
-      (client-rows lines stage phase 0 stage.clients may.clients may.client_rows zero_more may.clients_may))
+      (client-rows lines stage phase 0 stage.clients may.clients may.client_rows zero_more
+      (λ i list over. let same : i ≡ 0 + i = omega arith in subst (λ k. Lists k list) same (at_end i list (reaped-over session list i i may.clients over))) may.clients_may))
       (reader-rows stage (rules_of session stage lines) (λ n. ops_by (is_reader n) lines) 0 stage.readers may.readers may.reader_rows may.readers_may))
 
   items-rows : (stage after : Stage) (done items : List Item) → body ≡ done ++ items → ItemsMay session (first_stage session) done stage → IsFirst after.rows all
-      → AllByRecursion P stage.rows → ItemsMay session stage items after → AllByRecursion P after.rows
-  items-rows stage after done [] body_is reached first are is = rw is are
-  items-rows stage after done (one ∷ items) body_is reached first are (between, may, rest) =
+      → ListsAt after → AllByRecursion P stage.rows → ItemsMay session stage items after → AllByRecursion P after.rows
+  items-rows stage after done [] body_is reached first lists are is = rw is are
+  items-rows stage after done (one ∷ items) body_is reached first lists are (between, may, rest) =
       items-rows between after (done ++ one ∷ []) items (body_is ∙ sym (append_assoc done (one ∷ []) items))
-      (ItemsMay-more session (first_stage session) stage between done one reached may) first
-      (item-rows stage between done items one body_is reached (items-first session stage after (one ∷ items) all (between, may, rest) first) are may) rest
+      (ItemsMay-more session (first_stage session) stage between done one reached may) first lists
+      (item-rows stage between done items one body_is reached (items-first session stage after (one ∷ items) all (between, may, rest) first)
+      (λ number list over. lists number list (items-over session list number between after items rest over)) are may) rest
 
 pub LabRun-late : (session : Session) (capture : Option Sound) (body : List Item) (client_stops reader_stops : ℕ → ℕ) (outcome : Outcome) → LateLinesMiss session body
     → LabRun session capture body client_stops reader_stops outcome → LateRowsMiss session body outcome.report
 LabRun-late session capture body client_stops reader_stops outcome late run =
     subst (λ (o : Outcome). LateRowsMiss session body o.report) (sym run.is)
-    (All-from_recursion (SaysWhereLate session body run.end.rows) run.end.rows
-    (items-rows session body run.end.rows late (first_stage session) run.end [] body refl refl ([], sym (append-nil run.end.rows)) tt run.may))
+    (All-from_recursion (SaysWhereLate session body (report_of session run.end)) run.end.rows
+    (items-rows session body (report_of session run.end) late (first_stage session) run.end [] body refl refl ([], sym (append-nil run.end.rows))
+    (λ number list over. listed-at session run.end list number over) tt run.may))

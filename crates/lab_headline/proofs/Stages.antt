@@ -30,6 +30,21 @@ pub record IsKept (P : Option Setup → Client → Type 0) : Type 0 where
       → P (Some setup) (record client { own = Some (opened_client ring number setup) })
   pub ends : (setup : Option Setup) (client : Client) → P setup client → P setup (record { own = None; ended = segments_of client })
 
+-- a reader is opened and closed without a change of the clients
+pub reader-opens : (session : Session) (stage : Stage) (n : ℕ) (own : Option reading.CaptureStream)
+    → (open_reader session stage n (reader_at session stage n) own).clients ≡ stage.clients
+reader-opens session stage n (Some r) = refl
+reader-opens session stage n None = by_setup (slice_index_or session.readers n None)
+  where
+    by_setup : (setup : Option Setup) → (open_reader_with session stage n setup (reader_at session stage n)).clients ≡ stage.clients
+    by_setup None = refl
+    by_setup (Some setup) = refl
+
+pub reader-closes : (session : Session) (stage : Stage) (n : ℕ) (own : Option reading.CaptureStream)
+    → (close_reader session stage n (reader_at session stage n) own).clients ≡ stage.clients
+reader-closes session stage n None = refl
+reader-closes session stage n (Some r) = refl
+
 module _ (P : Option Setup → Client → Type 0) (kept : IsKept P) where
   pub lines-kept : (rules : Rules) (phase : ℕ) (wav : Sound) (number : ℕ) (setup : Option Setup) (x y : AtPort × Client) (ops : List Op) (rows : List Row)
       → P setup x.1 → LinesMay (client_kind phase wav number) rules x ops y rows → P setup y.1
@@ -113,20 +128,6 @@ module _ (P : Option Setup → Client → Type 0) (kept : IsKept P) where
   close-kept session stage n None are = are
   close-kept session stage n (Some c) are = AreSo-set session 0 n n stage.clients _ (omega arith)
       (kept.ends (slice_index_or session.clients n None) (client_at session stage n).1 (client-so session stage n are)) are
-
-  reader-opens : (session : Session) (stage : Stage) (n : ℕ) (own : Option reading.CaptureStream)
-      → (open_reader session stage n (reader_at session stage n) own).clients ≡ stage.clients
-  reader-opens session stage n (Some r) = refl
-  reader-opens session stage n None = by_setup (slice_index_or session.readers n None)
-    where
-      by_setup : (setup : Option Setup) → (open_reader_with session stage n setup (reader_at session stage n)).clients ≡ stage.clients
-      by_setup None = refl
-      by_setup (Some setup) = refl
-
-  reader-closes : (session : Session) (stage : Stage) (n : ℕ) (own : Option reading.CaptureStream)
-      → (close_reader session stage n (reader_at session stage n) own).clients ≡ stage.clients
-  reader-closes session stage n None = refl
-  reader-closes session stage n (Some r) = refl
 
   item-kept : (session : Session) (stage after : Stage) (one : Item) → AreSo session 0 stage.clients → ItemMay session stage one after → AreSo session 0 after.clients
   item-kept session stage after (item.Opens number actor.Card) are is = rw is are

@@ -11,8 +11,9 @@ use Rattle.lab_headline.specs.OneSample.{HasOneSample}
 use Rattle.lab_headline.specs.Recordings.{AreRecordingsOf, ReadersAreBound}
 
 -- The played samples are the saturated sums of exactly the samples that the report's segments placed, which are those of the script and the files; each
--- client's are there beside those of the others; a late row names a place without a sample of its stretch; and each reader recorded the captured frames
--- of its runs, one slice in a stretch; and where clients share the card by channels, at most one sample is placed at each frame and channel.
+-- client's are there beside those of the others; a late row names a place without a sample of its stretch, or, of a rewind, the last sample of this, and
+-- the report lists the segment of the stretch as it is then; and each reader recorded the captured frames of its runs, one slice in a stretch; and where
+-- clients share the card by channels, at most one sample is placed at each frame and channel.
 pub record Headline (script : Script) (wavs : List Sound) (session : Session)
     (capture : Option Sound) (outcome : Outcome) : Type 0 where
   pub mix : IsMixOfFiles script wavs outcome.report outcome.played

@@ -3,6 +3,7 @@ use Rattle.std.specs.Prelude.{◌≡◌, ℕ, ◌+◌, false, List, [], ◌∷�
 use Rattle.std.specs.List.{flat_map}
 use Rattle.snd_base.specs.declared.errors.PcmError.TheVariants.{Xrun}
 use Rattle.snd_base.specs.declared.errors.XrunWhy.TheVariants as why
+use Rattle.snd_base.specs.declared.places.Segment.{Segment}
 use Rattle.mix_core.specs.declared.port.Entry.{Entry}
 use Rattle.mix_core.specs.Laid.{at}
 use Rattle.dmix_client.specs.declared.stream.PlaybackStream.{PlaybackStream}
@@ -16,11 +17,12 @@ use Rattle.lab_report.specs.declared.report.Report.{Report}
 use Rattle.lab_report.specs.declared.row.Answer.{Answer}
 use Rattle.lab_report.specs.declared.row.Answer.TheVariants.{Failed}
 use Rattle.lab_report.specs.declared.row.Row.{Row}
-use Rattle.lab_run.specs.Client.{Client, present_of, row_by}
+use Rattle.lab_run.specs.Client.{Client, present_of, row_by, segments_of}
 use Rattle.lab_run.specs.Items.{ItemsMay, client_kinds, rules_of}
 use Rattle.lab_run.specs.LabRun.{entries_by}
 use Rattle.lab_run.specs.LateRows.{IsLast, is_rewind}
 use Rattle.lab_run.specs.Lines.{LineMay, LinesMay}
+use Rattle.lab_run.specs.OwnRows.{segments_by}
 use Rattle.lab_run.specs.Phases.{is_client, ops_by}
 use Rattle.lab_run.specs.Rules.{AtPort}
 use Rattle.lab_run.specs.Stage.{Session, Stage, client_at, first_stage}
@@ -84,30 +86,38 @@ pub record IsRowOfLine (session : Session) (body : List Item) (all : List Row)
   pub rows_are : all ≡ line.stage.rows ++ later_rows
   pub row_is : row ≡ row_by (line.stage.phases + 1) number asked after.1.own answer
 
--- after the line the client's stretch has no sample at a frame and channel
-pub record RowMisses (session : Session) (body : List Item) (all : List Row)
-    (row : Row) (number frame channel : ℕ) : Type 0 where
-  pub of : IsRowOfLine session body all row number
-  pub none : at (placed_now session number of.after.1) frame channel ≡ []
+-- A report lists the segments that a client has after a line, that of its present stretch as the last one, and others only behind them.
+pub record IsListed (report : Report) (number : ℕ) (client : Client) : Type 0 where
+  pub others : List Segment
+  pub segments_are : segments_by number report.segments ≡ segments_of client ++ others
 
--- after the line the last sample of the client's stretch that is in the card's ring is that of a frame and channel
-pub record RowNamesLast (session : Session) (body : List Item) (all : List Row)
+-- After the line the client's stretch has no sample at a frame and channel, and the report lists the segment of this stretch as it is then.
+pub record RowMisses (session : Session) (body : List Item) (report : Report)
     (row : Row) (number frame channel : ℕ) : Type 0 where
-  pub of : IsRowOfLine session body all row number
+  pub of : IsRowOfLine session body report.rows row number
+  pub none : at (placed_now session number of.after.1) frame channel ≡ []
+  pub listed : IsListed report number of.after.1
+
+-- After the line the last sample of the client's stretch that is in the card's ring is that of a frame and channel, and it stays: the report lists the
+-- segment of this stretch as it is then.
+pub record RowNamesLast (session : Session) (body : List Item) (report : Report)
+    (row : Row) (number frame channel : ℕ) : Type 0 where
+  pub of : IsRowOfLine session body report.rows row number
   pub last : HasLast of.after.1 frame channel
+  pub listed : IsListed report number of.after.1
 
 -- what a row says that is answered late: of a rewind the other thing
-pub record SaysWhereLate (session : Session) (body : List Item) (all : List Row)
+pub record SaysWhereLate (session : Session) (body : List Item) (report : Report)
     (row : Row) : Type 0 where
   -- it names a frame and channel at which its client's stretch has no sample
   pub missed : (number frame channel : ℕ) → row.actor ≡ actor.Client number
       → is_rewind row.op ≡ false → IsLate row.answer frame channel
-      → RowMisses session body all row number frame channel
+      → RowMisses session body report row number frame channel
   -- a rewind names the sample that it couldn't take back
   pub rewinds : (number frame channel : ℕ) → row.actor ≡ actor.Client number
       → is_rewind row.op ≡ true → IsLate row.answer frame channel
-      → RowNamesLast session body all row number frame channel
+      → RowNamesLast session body report row number frame channel
 
 -- each row of a report
 abbrev pub LateRowsMiss : Session → List Item → Report → Type 0
-LateRowsMiss session body report = All (SaysWhereLate session body report.rows) report.rows
+LateRowsMiss session body report = All (SaysWhereLate session body report) report.rows

@@ -128,7 +128,7 @@ pub fn mixes_are_of_clients()
 
 /// Each line of a client that is answered late names a frame and channel at which its stretch has
 /// placed no sample; a rewind names the last one that it couldn't take back. So does each row of a
-/// report.
+/// report, which lists the segment of this stretch as it is after the line.
 ///
 /// It does nothing.
 pub fn late_rows_miss()
