@@ -8,8 +8,6 @@ use Rattle.snd_base.specs.declared.errors.XrunWhy.{XrunWhy}
 use Rattle.snd_base.specs.declared.errors.XrunWhy.TheVariants as why
 use Rattle.snd_base.specs.declared.places.Cursor.{Cursor}
 use Rattle.mix_core.specs.declared.marks.Marks.{Marks}
-use Rattle.mix_core.specs.declared.port.Ended.{Ended}
-use Rattle.mix_core.specs.declared.port.Ended.TheVariants as ended
 use Rattle.mix_core.specs.declared.port.Position.{Position}
 use Rattle.pcm_states.specs.declared.calls.Call.{Call}
 use Rattle.pcm_states.specs.declared.calls.Call.TheVariants as call
@@ -23,7 +21,7 @@ use Rattle.wav_io.specs.Sound.{Sound}
 use Rattle.dmix_client.specs.declared.commit.Commit.{Commit}
 use Rattle.dmix_client.specs.declared.stream.PlaybackStream.{PlaybackStream}
 use Rattle.pcm_stream.specs.declared.direction.Direction.TheVariants.{Playback}
-use Rattle.pcm_stream.specs.Status.{is_moving, is_refusal, nothing_found, refusal_in, refusal_of}
+use Rattle.pcm_stream.specs.Status.{is_moving, nothing_found, refusal_of}
 use Rattle.dmix_client.specs.Calls.{Answered, accepted, accepted_if, avail_answer, committed_by, delay_answer, dropped, end_channel, end_of_commit, facts_of, found_at, going_on, going_on_by, is_running, is_stop, late_at, late_of, over_of, paused, pending_of, prepared, rebased, resumed, seen_at, with_outcome, after_start, started_in, start_count, stopped_in, sync_count, after_sync, taken_of, with_number, written_after}
 use Rattle.dmix_client.specs.Calls as calls
 use Rattle.dmix_client.specs.Course.{admitted, admitted_by, commits, drain_course, drain_on, drains, fills, looks, nothing, number_course, numbered, pause_course, resumes, start_course, starts, starts_taking, syncs, takes_more, write_on, writes_on}
@@ -33,12 +31,12 @@ use Rattle.lab_script.specs.declared.line.Op.{Op}
 use Rattle.lab_script.specs.declared.line.Op.TheVariants as op
 use Rattle.lab_report.specs.declared.row.Answer.{Answer}
 use Rattle.lab_report.specs.declared.row.Answer.TheVariants.{Done, Failed}
-use Rattle.lab_run.specs.Client.{Client, after_call, answered, begins, call_of, client_kind, count_answer, done_answer, line_by, line_if, reported, write_course}
+use Rattle.lab_run.specs.Client.{Client, after_call, answered, begins, call_of, client_kind, count_answer, done_answer, line_by, line_if, write_course}
 use Rattle.lab_run.specs.Rules.{AtPort, MayGet, MayLay, MayLoad, Rules}
 use Rattle.lab_run.proofs.Results.{All, All-any, All-then, Takes-all}
 use Rattle.dmix_client.specs.Rewind.{checks, rewindable_course, rewindable_of, rewind_course, rewind_on, rewinds, rewound, take_frames, taken_back, takes_back, without, back_of, last_channel, last_laid}
 use Rattle.dmix_client.specs.View.{ring_sample}
-use Rattle.lab_run.proofs.LateLaws.{All-if, LateAnswer, LateErr, LateIn, LateWhy, reported-late}
+use Rattle.lab_run.proofs.LateLaws.{All-if, LateAnswer, LateErr, LateIn, reported-late}
 use Rattle.lab_headline.proofs.LateParts.{refusal-early}
 use Rattle.pcm_states.specs.declared.states.State.TheVariants.{Xrun}
 use Rattle.lab_run.specs.Lines.{LineMay}

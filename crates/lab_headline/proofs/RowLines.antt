@@ -37,7 +37,6 @@ use Rattle.lab_run.specs.Reader as readers
 use Rattle.lab_run.specs.Rules.{AtPort, Rules}
 use Rattle.lab_run.specs.Stage.{Session, Setup, Stage, attached_client, claimed_client, client_at, close_client, close_reader, first_stage, no_client, open_client, open_client_with, open_reader, open_reader_with, reader_at}
 use Rattle.lab_headline.specs.Late.{IsLate, IsLineOf, IsListed, IsRowOfLine, LateLinesMiss, LateRowsMiss, RowMisses, RowNamesLast, SaysWhereLate}
-
 use Rattle.lab_headline.proofs.Listed.{items-over, late-over, listed-at, reaped-over}
 use Rattle.lab_headline.proofs.Sealed.{IsStart, Over, over-lines}
 use Rattle.snd_base.specs.declared.places.Segment.{Segment}
@@ -276,8 +275,11 @@ module _ (session : Session) (body : List Item) (report : Report) (late : LateLi
   client-P n before after asked answer line first lists = record {
     missed = λ number frame channel who not is.
         subst (λ m. RowMisses session body report row m frame channel) (same number who)
-        (record { of = of-line n before after asked answer line first; none = late.missed n before after asked answer frame channel line (sym op_is ∙ not) (late_is frame channel is);
-          listed = line-listed n before after asked answer frame channel line lists (late_is frame channel is) });
+        (record {
+          of = of-line n before after asked answer line first;
+          none = late.missed n before after asked answer frame channel line (sym op_is ∙ not) (late_is frame channel is);
+          listed = line-listed n before after asked answer frame channel line lists (late_is frame channel is);
+        });
     rewinds = λ number frame channel who rewind is.
         subst (λ m. RowNamesLast session body report row m frame channel) (same number who)
         (line-last n before after asked answer frame channel line first lists (sym op_is ∙ rewind) (late_is frame channel is));

@@ -1,11 +1,10 @@
 -- A stretch that ended by an xrun stays as it is until the client is prepared or closed: the report lists its segment.
-use Rattle.std.proofs.Common.{◌≡◌, ℕ, ◌+◌, ◌⊎◌, inl, inr, refl, sym, ◌∙◌, ap, subst, arith, List, [], ◌∷◌, ◌++◌, Option, Some, None}
+use Rattle.std.proofs.Common.{◌≡◌, ℕ, ◌⊎◌, inl, inr, refl, sym, ◌∙◌, ap, subst, List, [], ◌∷◌, ◌++◌, Option, Some, None}
 use Rattle.std.proofs.lemmas.Bool.{false≢true}
 use Rattle.std.proofs.lemmas.List.{append-nil, append_assoc}
-use Rattle.std.specs.Prelude.{Bool, true, false, ◌&&◌, zero, suc, nat_eq, if◌then◌else◌, map, slice_index_or, slice_set, IfSome, Result, Ok, Err, ⊤}
+use Rattle.std.specs.Prelude.{Bool, true, false, ◌&&◌, nat_eq, if◌then◌else◌, Ok, Err, ⊤}
 use Rattle.snd_base.specs.declared.errors.PcmError.{PcmError}
 use Rattle.snd_base.specs.declared.errors.PcmError.TheVariants as error
-use Rattle.snd_base.specs.declared.geometry.Geometry.{Geometry}
 use Rattle.snd_base.specs.declared.places.Segment.{Segment}
 use Rattle.mix_core.specs.declared.marks.Marks.{Marks}
 use Rattle.pcm_states.specs.declared.calls.Call.{Call}
@@ -19,20 +18,18 @@ use Rattle.course.specs.Course.{◌>>=◌, Course, ends}
 use Rattle.wav_io.specs.Sound.{Sound}
 use Rattle.dmix_client.specs.declared.stream.PlaybackStream.{PlaybackStream}
 use Rattle.dmix_client.specs.declared.stream.Stretch.{Stretch}
-use Rattle.dmix_client.specs.Calls.{Answered, dropped, has_frames, is_paused, is_prepared, prepared, segment_of}
-use Rattle.dmix_client.specs.Course.{admitted, admitted_by, drain_course, drains, syncs}
-use Rattle.dmix_client.specs.Calls as calls
+use Rattle.dmix_client.specs.Calls.{Answered, dropped, is_paused, is_prepared, prepared}
+use Rattle.dmix_client.specs.Course.{admitted, admitted_by, drain_course}
 use Rattle.lab_script.specs.declared.line.Op.{Op}
 use Rattle.lab_script.specs.declared.line.Op.TheVariants as op
 use Rattle.lab_report.specs.declared.row.Answer.{Answer}
-use Rattle.lab_report.specs.declared.row.Answer.TheVariants.{Done, Failed}
 use Rattle.lab_report.specs.declared.row.Row.{Row}
 use Rattle.lab_run.specs.Client.{Client, after_call, answered, begins, call_of, client_kind, count_answer, done_answer, ended_by, line_by, line_if, present_of, segments_of, stretch_of}
 use Rattle.lab_run.specs.Lines.{LineMay, LinesMay}
 use Rattle.lab_run.specs.Rules.{AtPort, MayGet, MayLay, MayLoad, Rules}
 use Rattle.lab_run.proofs.Results.{All, All-any, All-then, Takes-all}
 use Rattle.lab_headline.proofs.OnwardCalls.{some-none}
-use Rattle.lab_headline.proofs.OnwardLines.{InOpen, append-none, unpaused-ends}
+use Rattle.lab_headline.proofs.OnwardLines.{InOpen, unpaused-ends}
 
 -- a stream in these states places nothing and takes nothing back until it is prepared
 abbrev pub is_sealed : State → Bool
