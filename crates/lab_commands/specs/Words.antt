@@ -128,7 +128,7 @@ help_text = lines_of (codes "usage: dmixlab run SCRIPT OUT"
     ∷ codes "report (made.report), and prints a summary. SEED is below 2^64, CLIENTS 1 to 64,"
     ∷ codes "PHASES 1 to 1000."
     ∷ []
-    ∷ codes "Files are named from the folder in which the program runs. Pipes can't be read."
+    ∷ codes "Files are named from the folder in which the program runs. A pipe has at most 65,535 bytes."
     ∷ []
     ∷ codes "A script, in which # begins a comment and keys may be left out:"
     ∷ []

@@ -173,7 +173,7 @@ which they write in PHASES turns, what the card plays of it (made.wav) and its
 report (made.report), and prints a summary. SEED is below 2^64, CLIENTS 1 to 64,
 PHASES 1 to 1000.
 
-Files are named from the folder in which the program runs. Pipes can't be read.
+Files are named from the folder in which the program runs. A pipe has at most 65,535 bytes.
 
 A script, in which # begins a comment and keys may be left out:
 

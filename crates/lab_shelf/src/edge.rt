@@ -216,7 +216,10 @@ fn read_bytes<R: Files>(
     most: u64,
 ) -> io::Result<Vec<u8>> {
     let mut file = fs::open(rt, path)?;
-    file.seek(SeekFrom::Start(from))?;
+    // a pipe has no place to go to, but its beginning can be read
+    if from > 0 {
+        file.seek(SeekFrom::Start(from))?;
+    }
     let mut bytes = Vec::new(alloc);
     file.take(most).read_to_end(&mut bytes)?;
     Ok(bytes)
