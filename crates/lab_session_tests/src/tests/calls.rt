@@ -1,6 +1,8 @@
-//! The calls that a run makes: the shelf's and the output's, counted by letting one of them fail.
-use lab_calls::{Left, MONO, call, files_of, wav_of};
+// The calls that a run makes: the shelf's and the output's, counted by letting one of them fail.
+use lab_calls::{Left, MONO, call, files_of, text_in, wav_of};
 use std::alloc::{AllocError, Global};
+use std::marker::Sync;
+use std::process::Abort;
 use std::test::Fail;
 use std::thread::Threads;
 
@@ -163,5 +165,176 @@ fn the_files_of_readers_follow_the_cards(rt: HostRuntime) -> Result<(), Fail> {
             "{failing}"
         );
     }
+    Ok(())
+}
+
+// A session of one client and one reader. Its first phase is mixed, and has the same rows in every order: in PREPARED an `avail` reads
+// nothing of the card.
+const SESSION: &str =
+    "card channels 1 rate 48000 period 64 ring 256 capture c.wav\nclient a a.wav\nreader r\nopen a\nopen r\nphase\ncard play 64\na avail\nr avail\nend\nphase\na write 64\nr start\nend\nphase\ncard play 192\nend\nphase\nr read 64\nend\n";
+
+// A file of the session: the card's or the reader's.
+enum Output {
+    Card,
+    Reader,
+}
+
+// A step of the session, each a call of the shelf but for `Put`. Samples are runs of equal ones, and `Finish` has all of its file's.
+enum Step<'a> {
+    Fetch(&'a str),
+    Begin(Output),
+    Append(Output, &'a [(u16, i16)]),
+    Finish(Output, &'a [(u16, i16)]),
+    Put(&'a str),
+}
+
+// The session's steps in their order, worked out by hand. The frames of a phase are appended before its rows are put, and the true heads
+// are there before the end of the report is put.
+const STEPS: [Step<'static>; 16] = [
+    Step::Fetch("s"),
+    Step::Fetch("c.wav"),
+    Step::Fetch("a.wav"),
+    Step::Begin(Output::Card),
+    Step::Begin(Output::Reader),
+    Step::Put("dmixlab 1\n"),
+    Step::Append(Output::Card, &[(64, 0)]),
+    Step::Put(
+        "0 a open = ok PREPARED -\n0 r open = ok PREPARED -\n1 card play 64 = 64 RUNNING 64\n1 a avail = 256 PREPARED -\n1 r avail = 0 PREPARED -\n",
+    ),
+    Step::Put("2 a write 64 = 64 RUNNING 64\n2 r start = ok RUNNING 64\n"),
+    Step::Append(Output::Card, &[(64, 0), (64, 1000), (64, 0)]),
+    Step::Put("3 card play 192 = 192 RUNNING 256\n"),
+    Step::Append(Output::Reader, &[(64, 7)]),
+    Step::Put("4 r read 64 = 64 RUNNING 256\n"),
+    Step::Finish(Output::Card, &[(128, 0), (64, 1000), (64, 0)]),
+    Step::Finish(Output::Reader, &[(64, 7)]),
+    Step::Put("segment a 0 128 64 0\nrun r 64 64\nplayed 0 256\nend\n"),
+];
+
+// What the steps so far leave: the bytes of `o.wav` and of `o.r.wav`, and the text that was put. No bytes of `o.r.wav`: it isn't there.
+#[derive(Drop)]
+struct Expected {
+    card: Vec<u8>,
+    reader: Vec<u8>,
+    text: Vec<u8>,
+}
+
+impl Expected {
+    fn file(&mut self, output: &Output) -> &mut Vec<u8> {
+        match output {
+            Output::Card => &mut self.card,
+            Output::Reader => &mut self.reader,
+        }
+    }
+
+    // Does a step that doesn't fail.
+    fn advance(&mut self, alloc: Global, step: &Step<'_>) -> Result<(), AllocError> {
+        match step {
+            Step::Fetch(_) => Ok(()),
+            Step::Begin(output) => {
+                let file = self.file(output);
+                file.clear();
+                file.extend_from_slice(OPEN_HEAD)
+            }
+            Step::Append(output, runs) => {
+                let whole = wav_of(alloc, MONO, runs)?;
+                let file = self.file(output);
+                file.extend_from_slice(whole.get(44..).unwrap_or(&[]))
+            }
+            Step::Finish(output, runs) => {
+                let whole = wav_of(alloc, MONO, runs)?;
+                let file = self.file(output);
+                file.clear();
+                file.extend_from_slice(&whole)
+            }
+            Step::Put(text) => self.text.extend_from_slice(text.as_bytes()),
+        }
+    }
+}
+
+// Runs the session over `o.wav` as it has been before. The shelf's and the sink's calls of these numbers fail.
+fn run_session<R: Threads + Sync>(
+    rt: &R,
+    alloc: Global,
+    failing: (&[u64], &[u64]),
+) -> Result<Left, AllocError> {
+    let script = Vec::from_slice(alloc, SESSION.as_bytes())?;
+    let wavs: [(&str, &[u8], &[(u16, i16)]); 2] = [
+        ("a.wav", MONO, &[(64, 1000)]),
+        ("c.wav", MONO, &[(300, 7)]),
+    ];
+    let mut files = files_of(alloc, script, &wavs)?;
+    files.push((
+        Vec::from_slice(alloc, b"o.wav")?,
+        Vec::from_slice(alloc, b"old")?,
+    ))?;
+    call(rt, alloc, &["run", "s", "o"], files, failing)
+}
+
+// The files and the texts are as expected, and no file that is read has changed.
+fn expect_left<R: Abort>(
+    rt: &R,
+    alloc: Global,
+    left: &Left,
+    expected: &Expected,
+    message: &str,
+) -> Result<(), AllocError> {
+    let card = left.shelf.file(b"o.wav").unwrap_or(&[]);
+    let reader = left.shelf.file(b"o.r.wav");
+    assert_eq!(rt; text_in(left.errors.bytes()), message);
+    assert_eq!(rt; text_in(left.out.bytes()), text_in(&expected.text));
+    assert_eq!(rt; card, expected.card.as_slice(), "o.wav");
+    assert_eq!(rt; reader.is_some(), !expected.reader.is_empty());
+    assert_eq!(rt;
+        reader.unwrap_or(&[]),
+        expected.reader.as_slice(),
+        "o.r.wav"
+    );
+    let client = wav_of(alloc, MONO, &[(64, 1000)])?;
+    let captured = wav_of(alloc, MONO, &[(300, 7)])?;
+    assert_eq!(rt; left.shelf.file(b"s").unwrap_or(&[]), SESSION.as_bytes());
+    assert_eq!(rt; left.shelf.file(b"a.wav").unwrap_or(&[]), client.as_slice());
+    assert_eq!(rt;
+        left.shelf.file(b"c.wav").unwrap_or(&[]),
+        captured.as_slice()
+    );
+    Ok(())
+}
+
+// The status and the message where a step fails.
+fn refusal_of(alloc: Global, step: &Step<'_>) -> Result<(u8, String), AllocError> {
+    match step {
+        Step::Fetch(name) => Ok((4, format!(in alloc; "dmixlab: read {name}\n")?)),
+        _ => Ok((5, format!(in alloc; "dmixlab: write\n")?)),
+    }
+}
+
+#[test]
+fn a_call_that_fails_leaves_what_the_calls_before_it_left(rt: HostRuntime) -> Result<(), Fail> {
+    let alloc = rt.alloc();
+    let mut expected = Expected {
+        card: Vec::from_slice(alloc, b"old")?,
+        reader: Vec::new(alloc),
+        text: Vec::new(alloc),
+    };
+    let (mut calls, mut puts) = (1u64, 1u64);
+    for step in &STEPS {
+        let left = match step {
+            Step::Put(_) => run_session(&rt, alloc, (&[], &[puts]))?,
+            _ => run_session(&rt, alloc, (&[calls], &[]))?,
+        };
+        let (status, message) = refusal_of(alloc, step)?;
+        assert_eq!(rt; left.status, status, "{message}");
+        expect_left(&rt, alloc, &left, &expected, &message)?;
+        expected.advance(alloc, step)?;
+        match step {
+            Step::Put(_) => puts = puts.wrapping_add(1),
+            _ => calls = calls.wrapping_add(1),
+        }
+    }
+    // A call behind the last one isn't made.
+    let left = run_session(&rt, alloc, (&[calls], &[puts]))?;
+    assert_eq!(rt; left.status, 0);
+    expect_left(&rt, alloc, &left, &expected, "")?;
     Ok(())
 }
