@@ -706,11 +706,11 @@ pub(super) const SESSIONS: [Session<'static>; 22] = [
         head: MONO,
         played: &[(64, 0), (5, 10), (11, 11), (1, 1), (4, 0)],
     },
-    // An ordinary player: it fills the buffer, waits for the card, writes the rest and drains. Its ring of 8192
-    // frames holds 7168 of the first write, from 1024 on.
+    // An ordinary player: it fills the buffer, waits for the card, writes the rest and drains. The card's line gives no key, so there are
+    // two channels at 48,000 Hz and periods of 1024 frames, and the ring of 8192 holds 7168 of the first write, from 1024 on.
     Session {
         name: "an ordinary player",
-        card: "card channels 2 rate 48000 period 1024 ring 8192",
+        card: "card",
         clients: &[("music", "music.wav", OPENED)],
         phases: &[
             &[("music write 8192", "8192 RUNNING 0")],
