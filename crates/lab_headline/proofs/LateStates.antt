@@ -22,19 +22,19 @@ use Rattle.dmix_client.specs.declared.commit.Commit.{Commit}
 use Rattle.dmix_client.specs.declared.stream.PlaybackStream.{PlaybackStream}
 use Rattle.pcm_stream.specs.declared.direction.Direction.TheVariants.{Playback}
 use Rattle.pcm_stream.specs.Status.{is_moving, nothing_found, refusal_of}
-use Rattle.dmix_client.specs.Calls.{Answered, accepted, accepted_if, avail_answer, committed_by, delay_answer, dropped, end_channel, end_of_commit, facts_of, found_at, going_on, going_on_by, is_running, is_stop, late_at, late_of, over_of, paused, pending_of, prepared, rebased, resumed, seen_at, with_outcome, after_start, started_in, start_count, stopped_in, sync_count, after_sync, taken_of, with_number, written_after}
+use Rattle.dmix_client.specs.Calls.{Answered, with_accepted, accepted_if, avail_answer, committed_by, delay_answer, after_drop, end_channel, end_of_commit, facts_of, found_at, going_on, going_on_by, is_running, is_stop, late_at, late_of, over_of, after_pause, pending_of, after_prepare, with_new_base, after_resume, seen_at, with_outcome, after_start, started_in, start_count, stopped_in, sync_count, after_sync, taken_of, with_number, written_after}
 use Rattle.dmix_client.specs.Calls as calls
-use Rattle.dmix_client.specs.Course.{admitted, admitted_by, commits, drain_course, drain_on, drains, fills, looks, nothing, number_course, numbered, pause_course, resumes, start_course, starts, starts_taking, syncs, takes_more, write_on, writes_on}
+use Rattle.dmix_client.specs.Course.{if_admitted, admitted_by, commits, drain_course, drain_on, drains, fills, looks, nothing, number_course, course_with_number, pause_course, resumes, start_course, starts, starts_taking, syncs, takes_more, write_on, writes_on}
 use Rattle.dmix_client.specs.View.{avail_of}
 use Rattle.dmix_client.specs.Writes.{count_with, ring_with, starts_with}
 use Rattle.lab_script.specs.declared.line.Op.{Op}
 use Rattle.lab_script.specs.declared.line.Op.TheVariants as op
 use Rattle.lab_report.specs.declared.row.Answer.{Answer}
 use Rattle.lab_report.specs.declared.row.Answer.TheVariants.{Done, Failed}
-use Rattle.lab_run.specs.Client.{Client, after_call, answered, begins, call_of, client_kind, count_answer, done_answer, line_by, line_if, write_course}
+use Rattle.lab_run.specs.Client.{Client, after_call, call_answer, begins, call_of, client_kind, count_answer, done_answer, line_by, line_if, write_course}
 use Rattle.lab_run.specs.Rules.{AtPort, MayGet, MayLay, MayLoad, Rules}
 use Rattle.lab_run.proofs.Results.{All, All-any, All-then, Takes-all}
-use Rattle.dmix_client.specs.Rewind.{checks, rewindable_course, rewindable_of, rewind_course, rewind_on, rewinds, rewound, take_frames, taken_back, takes_back, without, back_of, last_channel, last_laid}
+use Rattle.dmix_client.specs.Rewind.{checks, rewindable_course, rewindable_of, rewind_course, rewind_on, rewinds, after_rewind, take_frames, taken_back, takes_back, without_frames, back_of, last_channel, last_laid}
 use Rattle.dmix_client.specs.View.{ring_sample}
 use Rattle.lab_run.proofs.LateLaws.{All-if, LateAnswer, LateErr, LateIn, reported-late}
 use Rattle.lab_headline.proofs.LateParts.{refusal-early}
@@ -149,9 +149,9 @@ after_start-ends c state cursor (Some p) x = by_gone p.gone
     by_gone true = going_on-ends (seen_at c p) state _ (next_of Prepared call.Start (found_at p None)).answer (next-says Prepared call.Start (found_at p None))
     by_gone false = by_stop (is_stop x.ended)
 
-resumed-ends : (c : PlaybackStream) (cursor : Cursor) (load : Option Position) (x : Commit) → EndsLate (resumed c cursor load x)
+resumed-ends : (c : PlaybackStream) (cursor : Cursor) (load : Option Position) (x : Commit) → EndsLate (after_resume c cursor load x)
 resumed-ends c cursor None x = tt
-resumed-ends c cursor (Some p) x = after_start-ends (rebased c) Running cursor (Some p) x
+resumed-ends c cursor (Some p) x = after_start-ends (with_new_base c) Running cursor (Some p) x
 
 accepted-ends : (n : ℕ) (done : Answered (Unit {0})) → EndsLate done → EndsLate (accepted_if n done)
 accepted-ends n (c, Ok done) late = tt
@@ -173,7 +173,7 @@ written-ends c n x = by_test (nat_lt 0 n && nat_eq (avail_of c) 0) (is_stop x.en
     by_test false true = tt
     by_test false false = accepted-ends (taken_of c n) (with_outcome (committed_by c x) (next_of Running call.Transfer f)) (next-says Running call.Transfer f)
 
-rewound-ends : (c : PlaybackStream) (n : ℕ) (left : Commit) → EndsLate (rewound c n left)
+rewound-ends : (c : PlaybackStream) (n : ℕ) (left : Commit) → EndsLate (after_rewind c n left)
 rewound-ends c n left = by_stop (is_stop left.ended)
   where
     done : PlaybackStream
@@ -206,11 +206,11 @@ starts-ends c state cursor upto ring =
 resumes-ends : (c : PlaybackStream) (cursor : Cursor) (ring : List ℤ) → All EndsLate (resumes c cursor ring)
 unfolding resumes
 resumes-ends c cursor ring =
-    All-after EndsLate (looks (λ position. started_in (rebased c) Running position cursor) (λ position. start_count (rebased c) cursor position (pending_of c)) ring)
-    (λ found. ends (resumed c cursor found.0 found.1)) (λ found. resumed-ends c cursor found.0 found.1)
+    All-after EndsLate (looks (λ position. started_in (with_new_base c) Running position cursor) (λ position. start_count (with_new_base c) cursor position (pending_of c)) ring)
+    (λ found. ends (after_resume c cursor found.0 found.1)) (λ found. resumed-ends c cursor found.0 found.1)
 
-numbered-ends : (number : PlaybackStream → ℕ) (m : Course (Answered (Unit {0}))) → All EndsLate m → All EndsLate (numbered number m)
-unfolding numbered
+numbered-ends : (number : PlaybackStream → ℕ) (m : Course (Answered (Unit {0}))) → All EndsLate m → All EndsLate (course_with_number number m)
+unfolding course_with_number
 numbered-ends number m all = All-then EndsLate EndsLate m (λ done. ends (with_number number done)) all (number-ends number)
 
 write_on-ends : (ring samples : List ℤ) (n : ℕ) (done : Answered (Unit {0})) → EndsLate done → All EndsLate (write_on ring samples n done)
@@ -223,7 +223,7 @@ write-ends : (c : PlaybackStream) (cursor : Cursor) (n : ℕ) → All EndsLate (
 unfolding writes_on starts_taking
 write-ends c cursor n = All-if EndsLate (is_running c.status.state) (writes_on c [] [] n) (fills c [] [] cursor n)
     (All-then EndsLate EndsLate (syncs c call.Transfer []) (write_on [] [] n) (syncs-ends c call.Transfer []) (write_on-ends [] [] n))
-    (All-if EndsLate (starts_with c n) (starts_taking c (ring_with c [] [] (taken_of c n)) cursor (taken_of c n)) (ends (accepted c (taken_of c n), Ok (taken_of c n)))
+    (All-if EndsLate (starts_with c n) (starts_taking c (ring_with c [] [] (taken_of c n)) cursor (taken_of c n)) (ends (with_accepted c (taken_of c n), Ok (taken_of c n)))
     (All-then EndsLate EndsLate (starts c Running cursor (c.stretch.written + taken_of c n) (ring_with c [] [] (taken_of c n))) (λ done. ends (accepted_if (taken_of c n) done))
     (starts-ends c Running cursor (c.stretch.written + taken_of c n) (ring_with c [] [] (taken_of c n))) (accepted-ends (taken_of c n)))
     tt)
@@ -242,15 +242,15 @@ drain_on-ends (c, Err e) late = late
 drain-ends : (c : PlaybackStream) (cursor : Cursor) → All EndsLate (drain_course c [] cursor)
 unfolding drains
 drain-ends c cursor = All-if EndsLate (is_moving c.status.state) (syncs (calls.draining c) call.Drain []) _ (syncs-ends (calls.draining c) call.Drain [])
-    (All-if EndsLate (calls.has_frames c) (drains c [] cursor) (ends (dropped c, Ok tt))
+    (All-if EndsLate (calls.has_frames c) (drains c [] cursor) (ends (after_drop c, Ok tt))
     (All-then EndsLate EndsLate (starts c Draining cursor c.stretch.written []) (drain_on []) (starts-ends c Draining cursor c.stretch.written []) drain_on-ends) tt)
 
 pause-ends : (on : Bool) (c : PlaybackStream) (cursor : Cursor) → All EndsLate (pause_course on c [] cursor)
-pause-ends on c cursor = All-if EndsLate on (ends (paused c, Ok tt)) _ tt
-    (All-if EndsLate (nat_eq (pending_of c) 0) (ends (rebased c, Ok tt)) (resumes c cursor []) tt (resumes-ends c cursor []))
+pause-ends on c cursor = All-if EndsLate on (ends (after_pause c, Ok tt)) _ tt
+    (All-if EndsLate (nat_eq (pending_of c) 0) (ends (with_new_base c, Ok tt)) (resumes c cursor []) tt (resumes-ends c cursor []))
 
 number_course-ends : (number : PlaybackStream → ℕ) (c : PlaybackStream) → All EndsLate (number_course number c [])
-number_course-ends number c = All-if EndsLate (is_moving c.status.state) (numbered number (syncs c call.Sync [])) (ends (c, Ok (number c)))
+number_course-ends number c = All-if EndsLate (is_moving c.status.state) (course_with_number number (syncs c call.Sync [])) (ends (c, Ok (number c)))
     (numbered-ends number (syncs c call.Sync []) (syncs-ends c call.Sync [])) tt
 
 checks-ends : (c : PlaybackStream) → All EndsLate (checks c)
@@ -258,7 +258,7 @@ unfolding checks
 checks-ends c = λ load. after_sync-ends c call.Transfer load nothing
 
 rewindable-ends : (c : PlaybackStream) (floor : Cursor) → All EndsLate (rewindable_course c floor)
-rewindable-ends c floor = All-if EndsLate (is_running c.status.state) (numbered (rewindable_of floor) (checks c)) _
+rewindable-ends c floor = All-if EndsLate (is_running c.status.state) (course_with_number (rewindable_of floor) (checks c)) _
     (numbered-ends (rewindable_of floor) (checks c) (checks-ends c)) tt
 
 rewind_on-ends : (floor : Cursor) (n : ℕ) (done : Answered (Unit {0})) → EndsLate done → All EndsLate (rewind_on floor [] n done)
@@ -267,14 +267,14 @@ rewind_on-ends floor n (c, Err e) late = late
 rewind_on-ends floor n (c, Ok done) late =
     let m = min n (rewindable_of floor c) in
     All-after EndsLate (take_frames c.identity.member c.stretch.card c.setup.bindings (ring_sample c []) (c.stretch.committed - back_of c m) (back_of c m))
-    (λ left. ends (rewound c m left)) (rewound-ends c m)
+    (λ left. ends (after_rewind c m left)) (rewound-ends c m)
 
 rewind-ends : (c : PlaybackStream) (floor : Cursor) (n : ℕ) → All EndsLate (rewind_course c [] floor n)
 unfolding rewinds
-rewind-ends c floor n = All-if EndsLate (is_running c.status.state) (rewinds c [] floor n) (ends (without c (min n c.stretch.written), Ok (min n c.stretch.written)))
+rewind-ends c floor n = All-if EndsLate (is_running c.status.state) (rewinds c [] floor n) (ends (without_frames c (min n c.stretch.written), Ok (min n c.stretch.written)))
     (All-then EndsLate EndsLate (checks c) (rewind_on floor [] n) (checks-ends c) (rewind_on-ends floor n)) tt
 
-admitted-ends : {T : Type 0} (c : PlaybackStream) (asked : Call) (m : Course (Answered T)) → All EndsLate m → All EndsLate (admitted c asked m)
+admitted-ends : {T : Type 0} (c : PlaybackStream) (asked : Call) (m : Course (Answered T)) → All EndsLate m → All EndsLate (if_admitted c asked m)
 admitted-ends {T = T} c asked m all = by_refusal (refusal_of Playback c.status asked) (refusal-early c asked (c.status.state ≡ Xrun))
   where
     by_refusal : (refusal : Option PcmError) → IfSome refusal (LateErr (λ frame channel. c.status.state ≡ Xrun)) → All EndsLate (admitted_by refusal c m)
@@ -287,14 +287,14 @@ admitted-ends {T = T} c asked m all = by_refusal (refusal_of Playback c.status a
 abbrev Named : PlaybackStream × Answer → Type 0
 Named (d, answer) = LateAnswer (λ frame channel. d.status.state ≡ Xrun) answer
 
-done-named : (m : Course (Answered (Unit {0}))) → All EndsLate m → All Named (answered done_answer m)
+done-named : (m : Course (Answered (Unit {0}))) → All EndsLate m → All Named (call_answer done_answer m)
 done-named m all = All-then EndsLate Named m (λ done. ends (done.0, done_answer done.1)) all named
   where
     named : (x : Answered (Unit {0})) → EndsLate x → Named (x.0, done_answer x.1)
     named (d, Ok done) late = tt
     named (d, Err e) late = reported-late (λ frame channel. d.status.state ≡ Xrun) e late
 
-count-named : (m : Course (Answered ℕ)) → All EndsLate m → All Named (answered count_answer m)
+count-named : (m : Course (Answered ℕ)) → All EndsLate m → All Named (call_answer count_answer m)
 count-named m all = All-then EndsLate Named m (λ done. ends (done.0, count_answer done.1)) all named
   where
     named : (x : Answered ℕ) → EndsLate x → Named (x.0, count_answer x.1)
@@ -308,8 +308,8 @@ call-named wav marks c op.Sync = done-named _ (admitted-ends c call.Sync _ (All-
 call-named wav marks c op.Avail = count-named _ (admitted-ends c call.Sync _ (number_course-ends avail_answer c))
 call-named wav marks c op.Delay = count-named _ (admitted-ends c call.Sync _ (number_course-ends delay_answer c))
 call-named wav marks c op.Drain = done-named _ (admitted-ends c call.Drain _ (drain-ends c marks.cursor))
-call-named wav marks c op.Drop = done-named _ (admitted-ends c call.Drop (ends (dropped c, Ok tt)) tt)
-call-named wav marks c op.Prepare = done-named _ (admitted-ends c call.Prepare (ends (prepared c, Ok tt)) tt)
+call-named wav marks c op.Drop = done-named _ (admitted-ends c call.Drop (ends (after_drop c, Ok tt)) tt)
+call-named wav marks c op.Prepare = done-named _ (admitted-ends c call.Prepare (ends (after_prepare c, Ok tt)) tt)
 call-named wav marks c op.Pause = done-named _ (admitted-ends c call.Pause _ (pause-ends true c marks.cursor))
 call-named wav marks c op.Resume = done-named _ (admitted-ends c call.Resume _ (pause-ends false c marks.cursor))
 call-named wav marks c op.Rewindable = count-named _ (admitted-ends c call.Transfer _ (rewindable-ends c marks.floor))

@@ -20,7 +20,7 @@ use Rattle.lab_run.specs.LabRun.{report_of}
 use Rattle.lab_run.specs.Lines.{EachMay, LineMay}
 use Rattle.lab_run.specs.OwnRows.{segments_by}
 use Rattle.lab_run.specs.Phases.{is_client, ops_by}
-use Rattle.lab_run.specs.Places.{Lobby, attached}
+use Rattle.lab_run.specs.Places.{Lobby, after_attach}
 use Rattle.lab_run.specs.Rules.{AtPort, Rules}
 use Rattle.lab_run.specs.Stage.{Session, Setup, Stage, attached_client, claimed_client, client_at, close_client, no_client, open_client, open_client_with, opened_client, reader_at}
 use Rattle.lab_headline.specs.Late.{IsLate}
@@ -66,7 +66,7 @@ module _ (session : Session) (list : List Segment) (n : ℕ) where
 
       by_claim : (setup : Setup) (refusal : Option PcmError) → At (claimed_client session stage m setup (client_at session stage m) refusal)
       by_claim setup (Some e) = over
-      by_claim setup None = by_answer setup (attached m stage.position stage.lobby)
+      by_claim setup None = by_answer setup (after_attach m stage.position stage.lobby)
 
       by_setup : (setup : Option Setup) → At (open_client_with session stage m setup (client_at session stage m))
       by_setup None = over

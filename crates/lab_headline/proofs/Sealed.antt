@@ -18,13 +18,13 @@ use Rattle.course.specs.Course.{◌>>=◌, Course, ends}
 use Rattle.wav_io.specs.Sound.{Sound}
 use Rattle.dmix_client.specs.declared.stream.PlaybackStream.{PlaybackStream}
 use Rattle.dmix_client.specs.declared.stream.Stretch.{Stretch}
-use Rattle.dmix_client.specs.Calls.{Answered, dropped, is_paused, is_prepared, prepared}
-use Rattle.dmix_client.specs.Course.{admitted, admitted_by, drain_course}
+use Rattle.dmix_client.specs.Calls.{Answered, after_drop, is_paused, is_prepared, after_prepare}
+use Rattle.dmix_client.specs.Course.{if_admitted, admitted_by, drain_course}
 use Rattle.lab_script.specs.declared.line.Op.{Op}
 use Rattle.lab_script.specs.declared.line.Op.TheVariants as op
 use Rattle.lab_report.specs.declared.row.Answer.{Answer}
 use Rattle.lab_report.specs.declared.row.Row.{Row}
-use Rattle.lab_run.specs.Client.{Client, after_call, answered, begins, call_of, client_kind, count_answer, done_answer, ended_by, line_by, line_if, present_of, segments_of, stretch_of}
+use Rattle.lab_run.specs.Client.{Client, after_call, call_answer, begins, call_of, client_kind, count_answer, done_answer, ended_by, line_by, line_if, present_of, segments_of, stretch_of}
 use Rattle.lab_run.specs.Lines.{LineMay, LinesMay}
 use Rattle.lab_run.specs.Rules.{AtPort, MayGet, MayLay, MayLoad, Rules}
 use Rattle.lab_run.proofs.Results.{All, All-any, All-then, Takes-all}
@@ -85,34 +85,34 @@ module _ (c : PlaybackStream) (sealed : is_sealed c.status.state ≡ true) where
 
   -- a refused call
   refused-done : (asked : Op) (called : Call) (m : Course (Answered (Unit {0}))) → IsRefused called ≡ true → ((d : PlaybackStream) (given : Answer) → ended_by asked given c d ≡ [])
-      → All (Leaves c asked) (answered done_answer (admitted c called m))
+      → All (Leaves c asked) (call_answer done_answer (if_admitted c called m))
   unfolding ◌>>=◌
   refused-done asked called m refused none = by_refusal (refusal_of Playback c.status called) refl
     where
-      by_refusal : (refusal : Option PcmError) → refusal_of Playback c.status called ≡ refusal → All (Leaves c asked) (answered done_answer (admitted_by refusal c m))
+      by_refusal : (refusal : Option PcmError) → refusal_of Playback c.status called ≡ refusal → All (Leaves c asked) (call_answer done_answer (admitted_by refusal c m))
       by_refusal None is = absurd (refused-by c.status.stopped c.status.state called sealed refused is)
       by_refusal (Some e) is = still-resume asked (done_answer (Err e)) none
 
   refused-count : (asked : Op) (called : Call) (m : Course (Answered ℕ)) → IsRefused called ≡ true → ((d : PlaybackStream) (given : Answer) → ended_by asked given c d ≡ [])
-      → All (Leaves c asked) (answered count_answer (admitted c called m))
+      → All (Leaves c asked) (call_answer count_answer (if_admitted c called m))
   unfolding ◌>>=◌
   refused-count asked called m refused none = by_refusal (refusal_of Playback c.status called) refl
     where
-      by_refusal : (refusal : Option PcmError) → refusal_of Playback c.status called ≡ refusal → All (Leaves c asked) (answered count_answer (admitted_by refusal c m))
+      by_refusal : (refusal : Option PcmError) → refusal_of Playback c.status called ≡ refusal → All (Leaves c asked) (call_answer count_answer (admitted_by refusal c m))
       by_refusal None is = absurd (refused-by c.status.stopped c.status.state called sealed refused is)
       by_refusal (Some e) is = still-resume asked (count_answer (Err e)) none
 
-  drop-leaves : (refusal : Option PcmError) → All (Leaves c op.Drop) (answered done_answer (admitted_by refusal c (ends (dropped c, Ok tt))))
+  drop-leaves : (refusal : Option PcmError) → All (Leaves c op.Drop) (call_answer done_answer (admitted_by refusal c (ends (after_drop c, Ok tt))))
   unfolding ◌>>=◌
   drop-leaves None = inl (refl, refl, refl)
   drop-leaves (Some e) = inl (refl, refl, sealed)
 
-  prepare-leaves : (refusal : Option PcmError) → All (Leaves c op.Prepare) (answered done_answer (admitted_by refusal c (ends (prepared c, Ok tt))))
+  prepare-leaves : (refusal : Option PcmError) → All (Leaves c op.Prepare) (call_answer done_answer (admitted_by refusal c (ends (after_prepare c, Ok tt))))
   unfolding ◌>>=◌
   prepare-leaves None = inr refl
   prepare-leaves (Some e) = inl (refl, refl, sealed)
 
-  drain-leaves : (marks : Marks) (refusal : Option PcmError) → All (Leaves c op.Drain) (answered done_answer (admitted_by refusal c (drain_course c [] marks.cursor)))
+  drain-leaves : (marks : Marks) (refusal : Option PcmError) → All (Leaves c op.Drain) (call_answer done_answer (admitted_by refusal c (drain_course c [] marks.cursor)))
   unfolding ◌>>=◌
   drain-leaves marks None =
       let still = sealed-still c.status.state sealed in rw still.0 (rw still.1 (inl (refl, refl, refl)))
