@@ -1,7 +1,7 @@
 -- The beginning of a run: nothing is played, recorded or answered, and so much is written.
 use Rattle.std.specs.Prelude.{◌≡◌, ℕ, suc, ◌+◌, ℤ, List, [], ◌∷◌, ◌++◌, length, map, take, Option}
 use Rattle.std.specs.Option.{option_map}
-use Rattle.std.proofs.Common.{refl, sym, ap, subst, ◌∙◌, arith}
+use Rattle.std.proofs.Common.{refl, inl, sym, ap, subst, ◌∙◌, arith}
 use Rattle.std.proofs.lemmas.List.{append-nil, length-map}
 use Rattle.wav_io.specs.Sound.{Sound}
 use Rattle.lab_input.specs.Input.{RunInput}
@@ -86,4 +86,4 @@ module _ (input : RunInput) (name : List ℕ) (stops : Stops) (lab : Lab) (outpu
       HasStopped-at start-of stops lab first files taken_after lab-first
       (subst (λ (outs : List OutputFile). Changes (MayHold outs (sounds_at lab first)) before files) is.new.files
       (subst (λ (sounds : List (List ℤ)). Changes (MayHold outputs.files.items sounds) before files) sounds-first changes))
-      (subst (λ (text : List ℕ). TookPart taken taken_after text) (sym (append-nil head_text)) part)
+      (subst (λ (text : List ℕ). TookPart taken taken_after text) (sym (append-nil head_text)) part) (inl part)

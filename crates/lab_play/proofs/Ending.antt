@@ -3,7 +3,7 @@ use Rattle.std.specs.Prelude.{◌≡◌, ℕ, ◌≤◌, ℤ, List, [], ◌∷�
 use Rattle.std.specs.List.{flat_map}
 use Rattle.std.specs.Option.{option_map}
 use Rattle.std.specs.Result.{IsErrAnd}
-use Rattle.std.proofs.Common.{refl, sym, ap, subst, ◌∙◌, arith, append_assoc}
+use Rattle.std.proofs.Common.{refl, inl, inr, sym, ap, subst, ◌∙◌, arith, append_assoc}
 use Rattle.std.proofs.lemmas.List.{length-append, take-append-drop}
 use Rattle.std.proofs.lemmas.List.Concat.{flat_map-append}
 use Rattle.wav_io.specs.Sound.{Sound}
@@ -32,6 +32,7 @@ use Rattle.lab_shelf.specs.Changes.{Changes, TookPart-all, TookPart-then}
 use Rattle.lab_shelf.specs.Files.{Files, TookPart}
 use Rattle.lab_stop.specs.declared.stop.Stop.{Stop}
 use Rattle.lab_play.specs.Played.{HasPlayed, rises, sounds_of}
+use Rattle.lab_play.specs.Order.{StopsInHeads, StopsInTail}
 use Rattle.lab_play.specs.Playing.{IsPlaying, IsStopped, Scene, Start, scene, sounds_at, text_at}
 use Rattle.lab_play.proofs.ItemsStopped.{HasStopped-at, HasStopped-with, TookPart-rows}
 
@@ -136,26 +137,39 @@ module _ (start : Start) (stops : Stops) (lab : Lab) (outputs : Outputs) (files 
       → Changes (MayHold (output_files start.input.script start.out) (sounds_at lab is.stage)) start.files files_after
   changes-end files_after changes = subst (λ (outs : List OutputFile). Changes (MayHold outs (sounds_at lab is.stage)) start.files files_after) is.written.files_are changes
 
+  -- no item is left
+  last-end : is.lab_is.stage_is.has_done.others ≡ []
+  last-end =
+      let has = is.lab_is.stage_is.has_done in
+      let own = is.lab_is.script_is in
+      none-left has.done has.others
+      (sym has.next ∙ (all ∙ (ap (λ (s : Script). length s.body) (sym own.script_is) ∙ ap length has.reached.body)))
+
   -- the files aren't all finished
   pub IsStopped-finish : (files_after : Option Files) → Changes (MayHold outputs.files.items (sounds_at lab is.stage)) start.files files_after → IsStopped start files_after taken
   IsStopped-finish files_after changes =
-      HasStopped-at start stops lab is.stage files_after taken is.lab_is (changes-end files_after changes)
-      (TookPart-rows start.input.script is.stage.rows outputs.rows start.taken taken (TookPart-all start.taken taken _ is.written.text))
+      let part : TookPart start.taken taken (text_so_far start.input.script is.stage.rows) =
+      TookPart-rows start.input.script is.stage.rows outputs.rows start.taken taken (TookPart-all start.taken taken _ is.written.text) in
+      let heads : StopsInHeads start.input.script is.lab_is.stage_is.has_done.others is.stage start.taken taken = record { last = last-end; text = part } in
+      HasStopped-at start stops lab is.stage files_after taken is.lab_is (changes-end files_after changes) part (inr (inr (inr (inl heads))))
 
   -- the rest of the text isn't all put
   pub IsStopped-tail : (files_after : Option Files) (taken_after : Option (List ℕ)) → Changes (MayHold outputs.files.items (sounds_at lab is.stage)) start.files files_after
+      → files_after ≡ option_map (stored outputs.files.items (sounds_at lab is.stage)) start.files
       → TookPart taken taken_after (tail_from start.input.script outputs.rows outcome.report) → IsStopped start files_after taken_after
-  IsStopped-tail files_after taken_after changes part =
+  IsStopped-tail files_after taken_after changes files_are part =
       let has = is.lab_is.stage_is.has_done in
-      let own = is.lab_is.script_is in
-      let body : length has.done ≡ length (has.done ++ has.others) =
-      sym has.next ∙ (all ∙ (ap (λ (s : Script). length s.body) (sym own.script_is) ∙ ap length has.reached.body)) in
+      let tail : StopsInTail start.input.script start.out has.others (sounds_at lab is.stage) start.files files_after =
+      record {
+        last = last-end;
+        files = files_are ∙ ap (λ (outs : List OutputFile). option_map (stored outs (sounds_at lab is.stage)) start.files) is.written.files_are;
+      } in
       HasStopped-with start stops lab is.stage files_after taken_after is.lab_is (changes-end files_after changes)
-      (subst (λ (others : List Item). TookPart start.taken taken_after (text_at start.input.script (session_of lab) others is.stage)) (sym (none-left has.done has.others body))
+      (subst (λ (others : List Item). TookPart start.taken taken_after (text_at start.input.script (session_of lab) others is.stage)) (sym last-end)
       (subst (λ (report : Report). TookPart start.taken taken_after (report_text start.input.script report)) (ap (λ (o : Outcome). o.report) at-end)
       (subst (λ (text : List ℕ). TookPart start.taken taken_after text) (text-whole start.input.script outcome.report outputs.rows)
       (TookPart-then start.taken taken taken_after (text_so_far start.input.script (take outputs.rows outcome.report.rows)) (tail_from start.input.script outputs.rows outcome.report)
-      text-written part))))
+      text-written part)))) (inr (inr (inr (inr tail))))
 
 -- ---- results
 

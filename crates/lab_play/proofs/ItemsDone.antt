@@ -1,7 +1,7 @@
 -- What an item of a script's body makes of a run that goes on.
 --     StaysWritten-border      an opening or a closing: all that the lab holds is written still
 --     IsBehind-phase      a phase: what it played, recorded and answered isn't written yet
-use Rattle.std.specs.Prelude.{◌≡◌, ℕ, ◌+◌, ℤ, List, [], ◌∷◌, ◌++◌, length, take, Option}
+use Rattle.std.specs.Prelude.{◌≡◌, ℕ, ◌+◌, ℤ, List, [], ◌∷◌, ◌++◌, length, take, slice_get, Option, Some}
 use Rattle.std.specs.Option.{option_map}
 use Rattle.std.proofs.Common.{sym, ap, subst, ◌∙◌, arith}
 use Rattle.std.proofs.lemmas.List.{length-append, take-append-le}
@@ -17,18 +17,22 @@ use Rattle.lab_run.specs.LabRun.{recorded_from}
 use Rattle.lab_run.specs.Openings.{IsSessionOf}
 use Rattle.lab_run.specs.Reader.{Reader}
 use Rattle.lab_run.specs.Rules.{AtPort}
+use Rattle.lab_run.specs.ScriptWords.{IsReached}
 use Rattle.lab_run.specs.Stage.{Session, Stage}
 use Rattle.lab_rows.specs.Growth.{AreGrown, BordersKeepFrames, StagesGrow, frames_of, recorded_from-grown, recorded_from-same}
 use Rattle.lab_phase.specs.declared.lab.Lab.{Lab}
-use Rattle.lab_phase.specs.AtStage.{DoesItem, IsBorderItem, IsOfScript, IsSameScript, capture_of, played_of, session_of}
+use Rattle.lab_phase.specs.AtStage.{DoesItem, IsBorderItem, IsNext, IsOfScript, IsSameScript, capture_of, played_of, session_of}
 use Rattle.lab_phase.specs.BorderLaws.{session_of-same}
 use Rattle.lab_phase.specs.PhaseRuns.{DoesPhase, Stops}
 use Rattle.lab_phase.specs.StopLaws.{AreStopsOf-border}
 use Rattle.lab_output.specs.declared.outputs.Outputs.{Outputs}
 use Rattle.lab_output.specs.Going.{AreLonger, IsPartOf}
 use Rattle.lab_output.specs.Text.{text_so_far}
+use Rattle.lab_shelf.specs.Changes.{TookPart-all}
 use Rattle.lab_shelf.specs.Files.{Files}
+use Rattle.lab_play.specs.Order.{StopsInFrames}
 use Rattle.lab_play.specs.Playing.{AreWritten, IsBehind, IsPlaying, Start, StaysWritten, scene, sounds_at}
+use Rattle.lab_play.proofs.ItemsStopped.{TookPart-rows}
 
 -- ---- the lab
 
@@ -119,10 +123,55 @@ StaysWritten-border grow keeps lab after one border does played stops outputs fi
 
 -- ---- a phase
 
-pub IsBehind-phase : StagesGrow → (stops stops_after : Stops) (lab after : Lab) (lines : List Line) → DoesPhase stops stops_after lab lines after
+-- the items after those that are done begin with the next one
+others-next : (done others done_after others_after : List Item) (one : Item) → done ++ others ≡ done_after ++ others_after → length done_after ≡ length done + 1
+    → slice_get (done ++ others) (length done) ≡ Some one → others ≡ one ∷ others_after
+others-next [] others [] others_after one same len is = absurd (omega (arith, len))
+others-next [] [] (first ∷ done_after) others_after one same len is = absurd cc
+others-next [] (other ∷ others) (first ∷ []) others_after one same len is =
+    let head : other ≡ one = cc in
+    let tail : others ≡ others_after = cc in
+    cc
+others-next [] (other ∷ others) (first ∷ second ∷ done_after) others_after one same len is = absurd (omega (arith, len))
+others-next (item ∷ done) others [] others_after one same len is = absurd (omega (arith, len))
+others-next (item ∷ done) others (first ∷ done_after) others_after one same len is =
+    others-next done others done_after others_after one (let rest : done ++ others ≡ done_after ++ others_after = cc in rest) (omega (arith, len)) is
+
+-- its frames aren't appended yet, and none of its rows was put
+order-phase : (stops stops_after : Stops) (lab after : Lab) (lines : List Line) (does : DoesPhase stops stops_after lab lines after) (outputs : Outputs) (files : Option Files)
+    (taken : Option (List ℕ)) (start : Start) (is : IsPlaying start stops (scene lab outputs files taken)) → IsNext lab (item.Phase lines)
+    → StopsInFrames start.input (session_of after) (does.does is.stage start.stops is.lab_is.stage_is is.lab_is.counted).is.has_done.others
+    (does.does is.stage start.stops is.lab_is.stage_is is.lab_is.counted).next start.taken taken
+order-phase stops stops_after lab after lines does outputs files taken start is next =
+    let own = is.lab_is.script_is in
+    let has = is.lab_is.stage_is.has_done in
+    let done = does.does is.stage start.stops is.lab_is.stage_is is.lab_is.counted in
+    let has_after = done.is.has_done in
+    let session : session_of lab ≡ session_of after = sym (session_of-same lab after does.same) in
+    let body : has.done ++ has.others ≡ has_after.done ++ has_after.others =
+    sym has.reached.body ∙ (ap (λ (s : Script). s.body) (sym does.same.script) ∙ has_after.reached.body) in
+    let len : length has_after.done ≡ length has.done + 1 = sym has_after.next ∙ (does.next ∙ ap (λ (n : ℕ). n + 1) has.next) in
+    let at : slice_get (has.done ++ has.others) (length has.done) ≡ Some (item.Phase lines) =
+    subst (λ (n : ℕ). slice_get (has.done ++ has.others) n ≡ Some (item.Phase lines)) has.next
+    (subst (λ (items : List Item). slice_get items lab.next ≡ Some (item.Phase lines)) has.reached.body next) in
+    let others : has.others ≡ item.Phase lines ∷ has_after.others = others-next has.done has.others has_after.done has_after.others (item.Phase lines) body len at in
+    record {
+      done = has.done;
+      lines = lines;
+      earlier = is.stage;
+      reached = subst (λ (s : Session). IsReached start.input.script start.input.sounds s has.done (item.Phase lines ∷ has_after.others) is.stage) session
+          (subst (λ (s : Script). IsReached s start.input.sounds (session_of lab) has.done (item.Phase lines ∷ has_after.others) is.stage) own.script_is
+          (subst (λ (wavs : List Sound). IsReached lab.script.now wavs (session_of lab) has.done (item.Phase lines ∷ has_after.others) is.stage) own.wavs_are
+          (subst (λ (items : List Item). IsReached lab.script.now lab.wavs.now (session_of lab) has.done items is.stage) others has.reached)));
+      may = subst (λ (s : Session). ItemMay s is.stage (item.Phase lines) done.next) session done.may;
+      text = TookPart-rows start.input.script is.stage.rows outputs.rows start.taken taken
+          (TookPart-all start.taken taken (text_so_far start.input.script (take outputs.rows is.stage.rows)) is.written.text);
+    }
+
+pub IsBehind-phase : StagesGrow → (stops stops_after : Stops) (lab after : Lab) (lines : List Line) → DoesPhase stops stops_after lab lines after → IsNext lab (item.Phase lines)
     → (outputs : Outputs) (files : Option Files) (taken : Option (List ℕ)) (start : Start) → IsPlaying start stops (scene lab outputs files taken)
     → IsBehind start stops_after (scene after outputs files taken)
-IsBehind-phase grow stops stops_after lab after lines does outputs files taken start is =
+IsBehind-phase grow stops stops_after lab after lines does first outputs files taken start is =
     let own = is.lab_is in
     let done = does.does is.stage start.stops own.stage_is own.counted in
     let grown = grow (session_of lab) is.stage done.next (item.Phase lines) done.may in
@@ -141,4 +190,5 @@ IsBehind-phase grow stops stops_after lab after lines does outputs files taken s
             (AreLonger-grown (session_of lab) (capture_of lab) 0 is.stage.readers done.next.readers grown.readers),
       );
       written = AreWritten-rows start (sounds_at lab is.stage) is.stage.rows grown.more done.next.rows outputs files taken grown.rows is.written;
+      order = order-phase stops stops_after lab after lines does outputs files taken start is first;
     }

@@ -1,9 +1,11 @@
 -- What is left of a run that stops: its lab was at a stage, of which it is known what the files and the output may hold.
 --     HasStopped-at      by what the files and the output hold
 --     HasStopped-playing      where nothing was written since all that the lab holds was written
+--     stops-in_rows      the files of a run hold all that its lab holds
 use Rattle.std.specs.Prelude.{◌≡◌, ℕ, ◌-◌, ◌*◌, ℤ, List, [], ◌∷◌, ◌++◌, drop, length, take, Option, Some, None, IsSomeAnd}
 use Rattle.std.specs.List.{flat_map}
-use Rattle.std.proofs.Common.{sym, ap, subst, ◌∙◌, append_assoc}
+use Rattle.std.specs.Option.{option_map}
+use Rattle.std.proofs.Common.{inl, inr, sym, ap, subst, ◌∙◌, append_assoc}
 use Rattle.std.proofs.lemmas.List.{take-append-drop}
 use Rattle.std.proofs.lemmas.List.Concat.{flat_map-append}
 use Rattle.snd_base.specs.Places as rings
@@ -24,11 +26,12 @@ use Rattle.lab_phase.specs.AtStage.{IsCardOf, capture_of, played_by, played_of, 
 use Rattle.lab_phase.specs.CardStage.{IsCardIn}
 use Rattle.lab_phase.specs.PhaseRuns.{Stops}
 use Rattle.lab_output.specs.declared.file.OutputFile.{OutputFile}
-use Rattle.lab_output.specs.Files.{MayHold, output_files}
+use Rattle.lab_output.specs.Files.{MayHold, begun, output_files}
 use Rattle.lab_output.specs.GoingLaws.{AreLonger-same, IsGoingOn-Changes}
 use Rattle.lab_output.specs.Text.{head_text, text_so_far}
 use Rattle.lab_shelf.specs.Changes.{Changes, TookPart-all, TookPart-first}
 use Rattle.lab_shelf.specs.Files.{Files, TookPart}
+use Rattle.lab_play.specs.Order.{RowsFollowFrames, StopsInRows}
 use Rattle.lab_play.specs.Playing.{IsLabOf, IsPlaying, IsStopped, Scene, Start, sounds_at, text_at}
 
 -- ---- what its card played
@@ -78,8 +81,9 @@ TookPart-stage script session (one ∷ others) stage taken now part = part
 -- its lab is at a stage, its files have forms of the lab's samples, and the output took the first bytes of the text of a report at that stage
 pub HasStopped-with : (start : Start) (stops : Stops) (lab : Lab) (stage : Stage) (files : Option Files) (taken : Option (List ℕ)) → (is : IsLabOf start stops lab stage)
     → Changes (MayHold (output_files start.input.script start.out) (sounds_at lab stage)) start.files files
-    → TookPart start.taken taken (text_at start.input.script (session_of lab) is.stage_is.has_done.others stage) → IsStopped start files taken
-HasStopped-with start stops lab stage files taken is changes part =
+    → TookPart start.taken taken (text_at start.input.script (session_of lab) is.stage_is.has_done.others stage)
+    → RowsFollowFrames start.input start.out (session_of lab) is.stage_is.has_done.others stage (sounds_at lab stage) start.files files start.taken taken → IsStopped start files taken
+HasStopped-with start stops lab stage files taken is changes part order =
     let own = is.script_is in
     let has = is.stage_is.has_done in
     record {
@@ -98,23 +102,44 @@ HasStopped-with start stops lab stage files taken is changes part =
           (MayHold (output_files start.input.script start.out) (played_of lab ∷ recorded_from (session_of lab) capture 0 stage.readers)) start.files files)
           own.capture_is changes;
       text = part;
+      order = subst
+          (λ (capture : Option Sound). RowsFollowFrames start.input start.out (session_of lab) has.others stage
+          (played_of lab ∷ recorded_from (session_of lab) capture 0 stage.readers) start.files files start.taken taken)
+          own.capture_is order;
     }
 
 -- the output took the first bytes of the text of the lab's rows
-pub HasStopped-at : (start : Start) (stops : Stops) (lab : Lab) (stage : Stage) (files : Option Files) (taken : Option (List ℕ)) → IsLabOf start stops lab stage
+pub HasStopped-at : (start : Start) (stops : Stops) (lab : Lab) (stage : Stage) (files : Option Files) (taken : Option (List ℕ)) → (is : IsLabOf start stops lab stage)
     → Changes (MayHold (output_files start.input.script start.out) (sounds_at lab stage)) start.files files
-    → TookPart start.taken taken (text_so_far start.input.script stage.rows) → IsStopped start files taken
-HasStopped-at start stops lab stage files taken is changes part =
+    → TookPart start.taken taken (text_so_far start.input.script stage.rows)
+    → RowsFollowFrames start.input start.out (session_of lab) is.stage_is.has_done.others stage (sounds_at lab stage) start.files files start.taken taken → IsStopped start files taken
+HasStopped-at start stops lab stage files taken is changes part order =
     HasStopped-with start stops lab stage files taken is changes
-    (TookPart-stage start.input.script (session_of lab) is.stage_is.has_done.others stage start.taken taken part)
+    (TookPart-stage start.input.script (session_of lab) is.stage_is.has_done.others stage start.taken taken part) order
+
+-- the files hold all that the lab holds, and the output took the first bytes of the text of the lab's rows
+pub stops-in_rows : (start : Start) (lab : Lab) (others : List Item) (stage : Stage) (outputs : List OutputFile) (files : Option Files) (taken : Option (List ℕ))
+    → outputs ≡ output_files start.input.script start.out → files ≡ option_map (begun outputs (sounds_at lab stage)) start.files
+    → TookPart start.taken taken (text_so_far start.input.script stage.rows)
+    → RowsFollowFrames start.input start.out (session_of lab) others stage (sounds_at lab stage) start.files files start.taken taken
+stops-in_rows start lab others stage outputs files taken own are part =
+    let rows : StopsInRows start.input.script start.out stage (sounds_at lab stage) start.files files start.taken taken =
+    record {
+      files = are ∙ ap (λ (outs : List OutputFile). option_map (begun outs (sounds_at lab stage)) start.files) own;
+      text = part;
+    } in
+    inr (inr (inl rows))
 
 -- nothing was written since all that its lab holds was written
 pub HasStopped-playing : (start : Start) (stops : Stops) (at : Scene) → IsPlaying start stops at → IsStopped start at.files at.taken
 HasStopped-playing start stops at is =
     let written = is.written in
     let sounds : List (List ℤ) = sounds_at at.lab is.stage in
+    let part : TookPart start.taken at.taken (text_so_far start.input.script is.stage.rows) =
+    TookPart-rows start.input.script is.stage.rows at.outputs.rows start.taken at.taken
+    (TookPart-all start.taken at.taken (text_so_far start.input.script (take at.outputs.rows is.stage.rows)) written.text) in
     HasStopped-at start stops at.lab is.stage at.files at.taken is.lab_is
     (subst (λ (outputs : List OutputFile). Changes (MayHold outputs sounds) start.files at.files) written.files_are
     (IsGoingOn-Changes at.outputs.files.items at.outputs.samples.items sounds sounds start.files at.files written.going_on (AreLonger-same sounds)))
-    (TookPart-rows start.input.script is.stage.rows at.outputs.rows start.taken at.taken
-    (TookPart-all start.taken at.taken (text_so_far start.input.script (take at.outputs.rows is.stage.rows)) written.text))
+    part
+    (stops-in_rows start at.lab is.lab_is.stage_is.has_done.others is.stage at.outputs.files.items at.files at.taken written.files_are written.going_on.files part)

@@ -1,5 +1,5 @@
 -- What a phase writes: that it fits into WAV files and a report, and what the run is once it is written, or where that stopped.
-use Rattle.std.proofs.Common.{◌≡◌, ℕ, ◌<◌, ◌≤◌, List, [], ◌++◌, length, take, map, get_or, arith, sym, ap, subst, ◌∙◌, suc, zero, option_map}
+use Rattle.std.proofs.Common.{◌≡◌, ℕ, ◌<◌, ◌≤◌, List, [], ◌++◌, length, take, map, get_or, arith, inl, inr, sym, ap, subst, ◌∙◌, suc, zero, option_map}
 use Rattle.std.proofs.Math.Seq.{take-length}
 use Rattle.std.proofs.lemmas.List.{get_or_default, length-map}
 use Rattle.std.specs.Prelude.{ℤ, Option, All, OnOk, OnErr, Ok, Err, Result}
@@ -23,7 +23,7 @@ use Rattle.lab_shelf.specs.Changes.{Changes, TookPart-all}
 use Rattle.lab_shelf.specs.Files.{Files, TookPart}
 use Rattle.lab_play.specs.Appending.{CanAppend}
 use Rattle.lab_play.specs.Playing.{IsBehind, IsPlaying, IsStopped, Start, scene, sounds_at}
-use Rattle.lab_play.proofs.ItemsStopped.{HasStopped-at, TookPart-rows, frames-card}
+use Rattle.lab_play.proofs.ItemsStopped.{HasStopped-at, TookPart-rows, frames-card, stops-in_rows}
 use Rattle.lab_play.proofs.Writing.{count-at, longer-length, member}
 
 -- ---- what a lab holds is few enough
@@ -109,6 +109,12 @@ AppendsChange lab outputs files files_after =
     (before : Option Files) (stage : Stage) (sounds : List (List ℤ)) → IsAtStage lab stage → AreLonger sounds (sounds_at lab stage)
     → IsGoingOn outputs.files.items outputs.samples.items sounds before files → Changes (MayHold outputs.files.items (sounds_at lab stage)) before files_after
 
+-- what the files hold once all is appended
+abbrev pub AppendsGoOn : Lab → Outputs → Outputs → Option Files → Option Files → Type 0
+AppendsGoOn lab outputs after files files_after =
+    (before : Option Files) (stage : Stage) (sounds : List (List ℤ)) → IsAtStage lab stage → AreLonger sounds (sounds_at lab stage)
+    → IsGoingOn outputs.files.items outputs.samples.items sounds before files → IsGoingOn after.files.items after.samples.items (sounds_at lab stage) before files_after
+
 module _ (start : Start) (stops : Stops) (lab : Lab) (outputs : Outputs) (files files_after : Option Files) (taken : Option (List ℕ))
     (changes : AppendsChange lab outputs files files_after) (is : IsBehind start stops (scene lab outputs files taken)) where
   -- what its files may hold
@@ -120,18 +126,23 @@ module _ (start : Start) (stops : Stops) (lab : Lab) (outputs : Outputs) (files 
   pub stops-appending : IsStopped start files_after taken
   stops-appending = HasStopped-at start stops lab is.stage files_after taken is.lab_is own-changes
       (TookPart-rows start.input.script is.stage.rows outputs.rows start.taken taken
-      (TookPart-all start.taken taken (text_so_far start.input.script (take outputs.rows is.stage.rows)) is.written.text))
+      (TookPart-all start.taken taken (text_so_far start.input.script (take outputs.rows is.stage.rows)) is.written.text)) (inr (inl is.order))
 
-  -- the put of its rows failed
-  pub stops-putting : (script : Script) (number : ℕ) (rows : List Row) (taken_after : Option (List ℕ)) → lab.script.now ≡ script → number ≡ outputs.rows → rows ≡ rows_of lab
-      → TookPart taken taken_after (rows_text script number rows) → IsStopped start files_after taken_after
-  stops-putting script number rows taken_after same number_is rows_are part =
+  -- the put of its rows failed: its frames are appended
+  pub stops-putting : (script : Script) (after : Outputs) (rows : List Row) (taken_after : Option (List ℕ)) → lab.script.now ≡ script → AppendsGoOn lab outputs after files files_after
+      → after.files ≡ outputs.files → after.rows ≡ outputs.rows → rows ≡ rows_of lab
+      → TookPart taken taken_after (rows_text script after.rows rows) → IsStopped start files_after taken_after
+  stops-putting script after rows taken_after same goes_on files_are number_is rows_are part =
+      let going = goes_on start.files is.stage is.sounds is.lab_is.stage_is is.longer is.written.going_on in
       let text : TookPart taken taken_after (rows_text start.input.script outputs.rows is.stage.rows) =
       subst (λ (s : Script). TookPart taken taken_after (rows_text s outputs.rows is.stage.rows)) (sym same ∙ is.lab_is.script_is.script_is)
       (subst (λ (rs : List Row). TookPart taken taken_after (rows_text script outputs.rows rs)) (rows_are ∙ is.lab_is.stage_is.rows)
       (subst (λ (n : ℕ). TookPart taken taken_after (rows_text script n rows)) number_is part)) in
-      HasStopped-at start stops lab is.stage files_after taken_after is.lab_is own-changes
-      (text_so_far-part start.input.script outputs.rows is.stage.rows start.taken taken taken_after is.written.text text)
+      let all : TookPart start.taken taken_after (text_so_far start.input.script is.stage.rows) =
+      text_so_far-part start.input.script outputs.rows is.stage.rows start.taken taken taken_after is.written.text text in
+      HasStopped-at start stops lab is.stage files_after taken_after is.lab_is own-changes all
+      (stops-in_rows start lab is.lab_is.stage_is.has_done.others is.stage after.files.items files_after taken_after
+      (ap (λ v. v.items) files_are ∙ is.written.files_are) going.files all)
 
 -- ---- where it is written
 
@@ -143,12 +154,6 @@ same-outputs a b files samples are = record {
   number = ap (λ v. length v.items) samples ∙ (are.number ∙ sym (ap (λ v. length v.items) files));
   few = subst (λ v. All IsFew v.items) (sym samples) are.few;
 }
-
--- what the files hold once all is appended
-abbrev pub AppendsGoOn : Lab → Outputs → Outputs → Option Files → Option Files → Type 0
-AppendsGoOn lab outputs after files files_after =
-    (before : Option Files) (stage : Stage) (sounds : List (List ℤ)) → IsAtStage lab stage → AreLonger sounds (sounds_at lab stage)
-    → IsGoingOn outputs.files.items outputs.samples.items sounds before files → IsGoingOn after.files.items after.samples.items (sounds_at lab stage) before files_after
 
 -- outputs that were appended to, and that go on as they are but for the count of rows
 pub record IsCaughtUp (lab : Lab) (outputs after last : Outputs) (shelf shelf_after : Option Files) : Type 0 where

@@ -1,5 +1,6 @@
 pub mod Appending
 pub mod Counts
 pub mod Ends
+pub mod Order
 pub mod Played
 pub mod Playing

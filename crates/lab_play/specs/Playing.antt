@@ -25,6 +25,7 @@ use Rattle.lab_output.specs.Going.{AreLonger, AreOutputs, IsGoingOn}
 use Rattle.lab_output.specs.Text.{text_so_far}
 use Rattle.lab_shelf.specs.Changes.{Changes}
 use Rattle.lab_shelf.specs.Files.{Files, TookPart}
+use Rattle.lab_play.specs.Order.{RowsFollowFrames, StopsInFrames}
 
 -- what a run began with: its input, the name of its output, how often gates had stopped, what files there were, and what the output had taken
 pub record Start : Type 0 where
@@ -68,13 +69,14 @@ pub record IsPlaying (start : Start) (stops : Stops) (at : Scene) : Type 0 where
   pub lab_is : IsLabOf start stops at.lab stage
   pub written : AreWritten start (sounds_at at.lab stage) stage.rows at.outputs at.files at.taken
 
--- less of it is written
+-- less of it is written: the frames of its last phase are still to be appended, and no row of it was put
 pub record IsBehind (start : Start) (stops : Stops) (at : Scene) : Type 0 where
   pub stage : Stage
   pub lab_is : IsLabOf start stops at.lab stage
   pub sounds : List (List ℤ)
   pub longer : AreLonger sounds (sounds_at at.lab stage)
   pub written : AreWritten start sounds stage.rows at.outputs at.files at.taken
+  pub order : StopsInFrames start.input (session_of at.lab) lab_is.stage_is.has_done.others stage start.taken at.taken
 
 -- the text of a report of a run that reached a stage: all of it where no item is left to do
 abbrev pub text_at : Script → Session → List Item → Stage → List ℕ
@@ -82,7 +84,7 @@ text_at script session [] stage = report_text script (report_of session stage)
 text_at script session (one ∷ others) stage = text_so_far script stage.rows
 
 -- A run stopped: it had reached a stage. Each of its files is as it was before the run, or has one of the forms of its samples so far, and no other file
--- changed; the first bytes of the report's text were put.
+-- changed; the first bytes of the report's text were put, and no row before the frames of its phase.
 pub record HasStopped (input : RunInput) (out : List ℕ) (before after : Option Files) (taken taken_after : Option (List ℕ)) : Type 0 where
   pub session : Session
   pub session_is : IsSessionOf input.script input.sounds session
@@ -94,6 +96,7 @@ pub record HasStopped (input : RunInput) (out : List ℕ) (before after : Option
   pub frames : length played ≡ (stage.position - first_frame input.script.card) * input.script.card.channels
   pub changes : Changes (MayHold (output_files input.script out) (played ∷ recorded_from session input.capture 0 stage.readers)) before after
   pub text : TookPart taken taken_after (text_at input.script session others stage)
+  pub order : RowsFollowFrames input out session others stage (played ∷ recorded_from session input.capture 0 stage.readers) before after taken taken_after
 
 -- a run that began so stopped, and left this
 abbrev pub IsStopped : Start → Option Files → Option (List ℕ) → Type 0

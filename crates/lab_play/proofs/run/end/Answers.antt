@@ -67,6 +67,7 @@ returns-in_err-put_tail-clause-part g c =
     IsStopped-tail start stops c.args.lab c.args.outputs.now (g.S.Shelf.files c.args.shelf.now) taken is
     (subst (λ (s : Script). items_done c.args.lab ≡ length s.body) same c.requires.all) c.in-Ok.outcome c.in-Ok.ensures.stage c.in-Ok.ensures.run c.in-Ok.ensures.played
     (g.S.Shelf.files c.finish-2.new.shelf) taken_after (c.finish-2.ensures.changes start.files (sounds_at c.args.lab is.stage) is.written.going_on)
+    (c.in_ok-finish.ensures.stored start.files (sounds_at c.args.lab is.stage) is.written.going_on)
     (subst (λ (s : Script). TookPart taken taken_after (tail_from s c.args.outputs.now.rows c.in-Ok.outcome.report)) same c.in_err-put_tail.ensures.text))
 
 pub returns-in_err-put_tail-clause-never : goal.returns-in_err-put_tail-clause-never

@@ -60,6 +60,6 @@ returns-clause-part g c =
     OnErr-more (TookPart taken taken_after (rows_text c.args.script.now c.append_all.new.outputs.rows rows))
     (StopsBehind (scene lab c.args.outputs.now files taken) files_after taken_after) c.put_rows.result
     (λ part start stops is.
-    stops-putting start stops lab c.args.outputs.now files files_after taken c.append_all.ensures.changes is c.args.script.now c.append_all.new.outputs.rows rows taken_after
-    (c.requires.is.lab_is.script_is.script_is ∙ c.requires.script_is) c.append_all.ensures.rows c.rows.ensures part)
+    stops-putting start stops lab c.args.outputs.now files files_after taken c.append_all.ensures.changes is c.args.script.now c.append_all.new.outputs rows taken_after
+    (c.requires.is.lab_is.script_is.script_is ∙ c.requires.script_is) c.in_ok-append_all.ensures.going_on c.append_all.ensures.files c.append_all.ensures.rows c.rows.ensures part)
     c.put_rows.ensures.text
