@@ -26,7 +26,7 @@ use Rattle.lab_phase.specs.AtStage.{IsCardOf, capture_of, played_by, played_of, 
 use Rattle.lab_phase.specs.CardStage.{IsCardIn}
 use Rattle.lab_phase.specs.PhaseRuns.{Stops}
 use Rattle.lab_output.specs.declared.file.OutputFile.{OutputFile}
-use Rattle.lab_output.specs.Files.{MayHold, begun, output_files}
+use Rattle.lab_output.specs.Files.{MayHold, unfinished_files, output_files}
 use Rattle.lab_output.specs.GoingLaws.{AreLonger-same, IsGoingOn-Changes}
 use Rattle.lab_output.specs.Text.{head_text, text_so_far}
 use Rattle.lab_shelf.specs.Changes.{Changes, TookPart-all, TookPart-first}
@@ -119,13 +119,13 @@ HasStopped-at start stops lab stage files taken is changes part order =
 
 -- the files hold all that the lab holds, and the output took the first bytes of the text of the lab's rows
 pub stops-in_rows : (start : Start) (lab : Lab) (others : List Item) (stage : Stage) (outputs : List OutputFile) (files : Option Files) (taken : Option (List ℕ))
-    → outputs ≡ output_files start.input.script start.out → files ≡ option_map (begun outputs (sounds_at lab stage)) start.files
+    → outputs ≡ output_files start.input.script start.out → files ≡ option_map (unfinished_files outputs (sounds_at lab stage)) start.files
     → TookPart start.taken taken (text_so_far start.input.script stage.rows)
     → RowsFollowFrames start.input start.out (session_of lab) others stage (sounds_at lab stage) start.files files start.taken taken
 stops-in_rows start lab others stage outputs files taken own are part =
     let rows : StopsInRows start.input.script start.out stage (sounds_at lab stage) start.files files start.taken taken =
     record {
-      files = are ∙ ap (λ (outs : List OutputFile). option_map (begun outs (sounds_at lab stage)) start.files) own;
+      files = are ∙ ap (λ (outs : List OutputFile). option_map (unfinished_files outs (sounds_at lab stage)) start.files) own;
       text = part;
     } in
     inr (inr (inl rows))

@@ -14,7 +14,7 @@ use Rattle.lab_run.specs.Items.{ItemMay}
 use Rattle.lab_run.specs.ScriptWords.{IsReached}
 use Rattle.lab_run.specs.Stage.{Session, Stage}
 use Rattle.lab_input.specs.Input.{RunInput}
-use Rattle.lab_output.specs.Files.{begun, output_files, stored}
+use Rattle.lab_output.specs.Files.{unfinished_files, output_files, finished_files}
 use Rattle.lab_output.specs.Text.{head_text, text_so_far}
 use Rattle.lab_shelf.specs.Files.{Files, TookPart}
 
@@ -29,7 +29,7 @@ pub record StopsInFrames (input : RunInput) (session : Session) (others : List I
 
 -- each file holds an open head and all its samples so far, and nothing was put but the first bytes of the rows of the stage
 pub record StopsInRows (script : Script) (out : List ℕ) (stage : Stage) (sounds : List (List ℤ)) (before after : Option Files) (taken taken_after : Option (List ℕ)) : Type 0 where
-  pub files : after ≡ option_map (begun (output_files script out) sounds) before
+  pub files : after ≡ option_map (unfinished_files (output_files script out) sounds) before
   pub text : TookPart taken taken_after (text_so_far script stage.rows)
 
 -- all items are done, and nothing was put but the first bytes of their rows
@@ -40,7 +40,7 @@ pub record StopsInHeads (script : Script) (others : List Item) (stage : Stage) (
 -- all items are done, and each file is the canonical WAV file of its samples
 pub record StopsInTail (script : Script) (out : List ℕ) (others : List Item) (sounds : List (List ℤ)) (before after : Option Files) : Type 0 where
   pub last : others ≡ []
-  pub files : after ≡ option_map (stored (output_files script out) sounds) before
+  pub files : after ≡ option_map (finished_files (output_files script out) sounds) before
 
 -- the output took no byte of a phase's rows before all frames of the phase were appended, and none of what is below the rows before each file was finished
 abbrev pub RowsFollowFrames : RunInput → List ℕ → Session → List Item → Stage → List (List ℤ) → Option Files → Option Files → Option (List ℕ) → Option (List ℕ) → Type 0
