@@ -47,7 +47,7 @@ pub length-padded : (list : List ℕ) → length list ≤ 8 → length (in_eight
 length-padded list few = omega (arith, length-append list (zeros (8 - length list)), length-replicate {A = ℕ} (8 - length list) 0)
 
 -- after the list
-pub slice_index-zeros : (list : List ℕ) (n : ℕ) → length list ≤ n → n < 8 → get_or (padded list) n 0 ≡ 0
+pub slice_index-zeros : (list : List ℕ) (n : ℕ) → length list ≤ n → n < 8 → get_or (in_eight_places list) n 0 ≡ 0
 slice_index-zeros list n past within =
     get_or-append_right list (zeros (8 - length list)) (length list) n 0 refl past ∙ get_or-replicate (8 - length list) (n - length list) 0 0 (omega arith)
 

@@ -35,8 +35,8 @@ abbrev pub zeros : ℕ → List ℕ
 zeros n = replicate n 0
 
 -- a list of at most 8 numbers in 8 places, with zeros after it
-abbrev pub padded : List ℕ → List ℕ
-padded list = list ++ zeros (8 - length list)
+abbrev pub in_eight_places : List ℕ → List ℕ
+in_eight_places list = list ++ zeros (8 - length list)
 
 -- the list that the fields hold
 abbrev pub list_of : Inside → List ℕ

@@ -35,7 +35,7 @@ marks-joined u v w m before later =
     later ∙ ap (λ (x : PortView). record x { marks = m }) before ∙ ap (λ (k : Marks). record u { marks = k }) (sym (ap (λ (x : PortView). x.marks) later))
 
 -- after a channel the later channels of its frame are free, and the next frame is
-pub behind-later : (g : Geometry) (f c d : ℕ) → c < d → d < g.channels → IsFrom (behind g f c) f d
+pub behind-later : (g : Geometry) (f c d : ℕ) → c < d → d < g.channels → IsFrom (cursor_after g f c) f d
 behind-later g f c d later within = grind (arith, nat_tests)
 
 -- a cursor at a frame's channel is at its later channels

@@ -73,8 +73,8 @@ new_client g member lead = record {
 }
 
 -- a new stretch, with nothing written or placed
-abbrev pub prepared : PlaybackStream → PlaybackStream
-prepared c = record (in_state c Prepared) { stretch = waiting 0 c.fed }
+abbrev pub after_prepare : PlaybackStream → PlaybackStream
+after_prepare c = record (in_state c Prepared) { stretch = waiting_stretch 0 c.fed }
 
 -- the client runs with a configuration, with the default thresholds
 abbrev pub configured_with : PlaybackStream → Config → List ℕ → PlaybackStream
@@ -267,8 +267,8 @@ abbrev pub pending_of : PlaybackStream → ℕ
 pending_of c = c.stretch.written - c.stretch.committed
 
 -- the counts based anew: a new stretch, of which what is pending is all that is written, and nothing is placed
-abbrev pub rebased : PlaybackStream → PlaybackStream
-rebased c = record (in_state c Prepared) { stretch = waiting (pending_of c) (c.fed - pending_of c) }
+abbrev pub with_new_base : PlaybackStream → PlaybackStream
+with_new_base c = record (in_state c Prepared) { stretch = waiting_stretch (pending_of c) (c.fed - pending_of c) }
 
 -- a client that a call found as the first of these and left as the second begins with its counts based anew where it is no
 -- longer paused

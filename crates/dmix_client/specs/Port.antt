@@ -93,7 +93,7 @@ pub record IsFound (load : Option Position) (commit : Commit) (at : Position →
       → position.frame ≤ (at position).stretch.card + (at position).stretch.committed)
 
 -- what one load and the commit after it did at a port and its gate
-pub record Looked {S T : Type 0} (P : mixport.Ghosts S) (G : gates.Ghosts T) (s t : S × T)
+pub record LoadsAndCommits {S T : Type 0} (P : mixport.Ghosts S) (G : gates.Ghosts T) (s t : S × T)
     (ring : List ℤ) (at : Position → PlaybackStream) (count : Position → ℕ) (channels : ℕ)
     (load : Option Position) (commit : Commit) : Type 0 where
   pub found : IsFound load commit at count channels

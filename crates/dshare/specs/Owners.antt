@@ -48,9 +48,9 @@ greatest [] = None
 greatest (x ∷ xs) = later (Some x) (greatest xs)
 
 -- the position after a frame, if a number of 64 bits is one
-abbrev pub behind : Option ℕ → Option ℕ
-behind None = None
-behind (Some frame) = if nat_lt (frame + 1) (2 ^ 64) then Some (frame + 1) else None
+abbrev pub position_past : Option ℕ → Option ℕ
+position_past None = None
+position_past (Some frame) = if nat_lt (frame + 1) (2 ^ 64) then Some (frame + 1) else None
 
 -- some of these channels has an owner
 abbrev pub any_owned : List Row → List ℕ → Bool

@@ -72,8 +72,8 @@ module _ {S : Type 0} (P : snoopport.Ghosts S) (p q : S) (c : CaptureStream) (be
 -- ---- why it answers so
 
 -- what a read ended in that loaded the position
-pub record ReadTold {S T : Type 0} (P : snoopport.Ghosts S) (G : gates.Ghosts T) (s t : S × T) (c d : CaptureStream) (n : ℕ) (answer : Result ℕ PcmError) : Type 0 where
-  pub told : Told P G s t c d answer
+pub record IsReadExplained {S T : Type 0} (P : snoopport.Ghosts S) (G : gates.Ghosts T) (s t : S × T) (c d : CaptureStream) (n : ℕ) (answer : Result ℕ PcmError) : Type 0 where
+  pub told : IsExplained P G s t c d answer
   pub again : (answer ≡ Err Again) ↔ ((0 < n) × FindsNone c told.why.load)
   pub asks : Asks G s.1 t.1 d n answer
 

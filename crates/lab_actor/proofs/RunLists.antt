@@ -15,7 +15,7 @@ IsBefore end [] = ⊤
 IsBefore end (run ∷ runs) = end ≢ run.0
 
 -- a frame before runs is a run of one, unless the first run begins after it
-joined-apart : (frame : ℕ) (runs : List (ℕ × ℕ)) → IsBefore (frame + 1) runs → joined frame runs ≡ (frame, 1) ∷ runs
+joined-apart : (frame : ℕ) (runs : List (ℕ × ℕ)) → IsBefore (frame + 1) runs → joined_runs frame runs ≡ (frame, 1) ∷ runs
 unfolding IsBefore
 joined-apart frame [] before = refl
 joined-apart frame ((first, count) ∷ runs) before =

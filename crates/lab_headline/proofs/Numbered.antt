@@ -7,7 +7,7 @@ use Rattle.std.proofs.lemmas.List.Concat.{flat_map-append}
 use Rattle.std.proofs.lemmas.List.Elements.{filter-append}
 use Rattle.std.specs.List.{flat_map, range_with_len}
 use Rattle.std.specs.Prelude.{false, zero, suc, nat_eq, filter, map, slice_index_or}
-use Rattle.lab_run.specs.LabRun.{numbered}
+use Rattle.lab_run.specs.LabRun.{with_numbers}
 
 -- what the member of a number has
 abbrev pub members_of : {Y : Type 0} → ℕ → List (ℕ × Y) → List Y

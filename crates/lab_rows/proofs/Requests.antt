@@ -145,7 +145,7 @@ nobody-there clients readers first (suc count) none lines are =
     ∙ nobody-there clients readers (suc first) count (λ who place is low high. none who place is (omega (arith, low)) (omega (arith, high))) lines are
 
 -- no client has a place after the others, and no reader
-place-client : (clients readers place : ℕ) (who : Actor) → IsActor clients readers who → 1 + clients ≤ place → place < 65 → place_of who ≢ place
+place-client : (clients readers place : ℕ) (who : Actor) → IsActor clients readers who → 1 + clients ≤ place → place < 65 → place_of_actor who ≢ place
 place-client clients readers place Card is low high = λ same. omega (arith, low, same)
 place-client clients readers place (Client n) is low high = λ same. omega (arith, is, low, same)
 place-client clients readers place (Reader n) is low high = λ same. omega (arith, high, same)

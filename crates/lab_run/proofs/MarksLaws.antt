@@ -40,7 +40,7 @@ floor-same ring from before own port (laid same high past (inl floor)) = equal-s
 floor-same ring from before own port (laid same high past (inr floor)) = low-same from own.floor port.floor floor.0 floor.1
 
 -- a cursor that isn't past a frame is before the one after a sample at that frame or past it
-before-behind : (ring : Geometry) (from frame channel : ℕ) (at : Cursor) → IsLow from at → from ≤ frame → is_before at (behind ring frame channel) ≡ true
+before-behind : (ring : Geometry) (from frame channel : ℕ) (at : Cursor) → IsLow from at → from ≤ frame → is_before at (cursor_after ring frame channel) ≡ true
 before-behind ring from frame channel at low after = by_end (nat_lt (channel + 1) ring.channels) refl (nat_lt 0 at.channel) refl low
   where
     by_end : (more : Bool) → nat_lt (channel + 1) ring.channels ≡ more → (part : Bool) → nat_lt 0 at.channel ≡ part

@@ -29,12 +29,12 @@ abbrev pub frames_of : Sound → ℕ
 frames_of wav = length wav.samples / wav.channels
 
 -- an error as a report has it: without the words and positions that its row has, or doesn't say
-abbrev pub reported : PcmError → PcmError
-reported (Xrun (why.Avail avail seen)) = Xrun (why.Avail avail 0)
-reported (Xrun (why.Late frame channel seen)) = Xrun (why.Late frame channel 0)
-reported (Xrun (why.Overtaken frame channel seen)) = Xrun (why.Overtaken frame channel 0)
-reported (Invalid why) = Invalid Config
-reported other = other
+abbrev pub reported_error : PcmError → PcmError
+reported_error (Xrun (why.Avail avail seen)) = Xrun (why.Avail avail 0)
+reported_error (Xrun (why.Late frame channel seen)) = Xrun (why.Late frame channel 0)
+reported_error (Xrun (why.Overtaken frame channel seen)) = Xrun (why.Overtaken frame channel 0)
+reported_error (Invalid why) = Invalid Config
+reported_error other = other
 
 abbrev pub done_answer : Result (Unit {0}) PcmError → Answer
 done_answer (Ok done) = Done

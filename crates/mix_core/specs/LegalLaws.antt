@@ -137,11 +137,11 @@ frame-before_end g f within other =
     (div-lt_iff_lt-mul some).0 (omega (arith, other, fits))
 
 -- the word after one before the end is none past it
-behind-within : (g : Geometry) (at : Cursor) (c : ℕ) → at.frame < end_frame g → first_free (behind g at.frame at.channel) c ≤ end_frame g
+behind-within : (g : Geometry) (at : Cursor) (c : ℕ) → at.frame < end_frame g → first_free (cursor_after g at.frame at.channel) c ≤ end_frame g
 behind-within g at c before = grind (arith, nat_tests)
 
 -- after one more take the next word is the one right after it, and after any other row it is the same
-pub next_of-took : (g : Geometry) (h : List Row) (r : Row) (t : Taken) → taking_of r ≡ Some t → next_of g (h ++ r ∷ []) ≡ behind g (next_of g h).frame (next_of g h).channel
+pub next_of-took : (g : Geometry) (h : List Row) (r : Row) (t : Taken) → taking_of r ≡ Some t → next_of g (h ++ r ∷ []) ≡ cursor_after g (next_of g h).frame (next_of g h).channel
 next_of-took g h r t one =
     let more : taken_of (h ++ r ∷ []) ≡ taken_of h ++ t ∷ [] = rw (filter_map-append taking_of h (r ∷ []), one) refl in
     ap (λ ts. next_word g (length ts)) more ∙ (ap (next_word g) (length-append (taken_of h) (t ∷ [])) ∙ next_word-suc g (length (taken_of h)))

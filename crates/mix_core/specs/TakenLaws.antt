@@ -20,7 +20,7 @@ use Rattle.mix_core.specs.Turn.{core_of, word_of_turn, view_of_turn}
 use Rattle.mix_core.specs.View.{View, word_at}
 
 -- the cursor after a frame and channel is of no earlier frame
-behind-frame : (g : Geometry) (f c : ℕ) → f ≤ (behind g f c).frame
+behind-frame : (g : Geometry) (f c : ℕ) → f ≤ (cursor_after g f c).frame
 behind-frame g f c = grind (arith, nat_tests)
 
 -- the next word's frame never falls

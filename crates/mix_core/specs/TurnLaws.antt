@@ -175,7 +175,7 @@ pub TurnEndsIn-part : (t : Turn) (xs ys : List Entry) → TurnEndsIn t (xs ++ ys
 TurnEndsIn-part t xs ys ends = (ends.0, (ends.1.0, (ends.1.1.0 ++ xs, ends.1.1.1 ∙ sym (append_assoc ends.1.1.0 xs ys))))
 
 -- what a turn placed moves the marks, and no word that it shows falls
-pub TurnLaid-shown : (t u : Turn) (es : List Entry) (f c word : ℕ) → TurnLaid t u es → shown t f c ≡ Some word → ShowsFrom shown u f c word
+pub TurnLaid-shown : (t u : Turn) (es : List Entry) (f c word : ℕ) → TurnLaid t u es → word_of_turn t f c ≡ Some word → ShowsFrom word_of_turn u f c word
 TurnLaid-shown t u es f c word laid is = record {
   now = word_at (core_of u) f c;
   shown = refl;

@@ -186,7 +186,8 @@ pub trait MixPort {
         ensures only_stopped { IfErr result (λ e. e ≡ PcmError.Stopped) };
 
     // What was placed between two states moves the marks, and the words that are shown never fall.
-    ghost laid_marks: { (p q : Self) (es : List Entry) → laid p q es → (view q).marks ≡ marks_from (view p).geometry (view p).marks es };
+    ghost laid_marks: { (p q : Self) (es : List Entry) → laid p q es
+        → (view q).marks ≡ marks_from (view p).geometry (view p).marks es };
 
     ghost shown_laid: { (p q : Self) (es : List Entry) (f c word : ℕ) → laid p q es
         → shows p f c ≡ Some word → ShowsFrom shows q f c word };

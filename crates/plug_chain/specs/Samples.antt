@@ -21,8 +21,8 @@ low_first [] = 0
 low_first (b ∷ bytes) = b + 256 * low_first bytes
 
 -- the signed number of so many bits that a number below 2 ^ bits represents
-abbrev pub signed : ℕ → ℕ → ℤ
-signed bits n = if nat_lt n (2 ^ (bits - 1)) then pos n else pos n -ℤ pos (2 ^ bits)
+abbrev pub signed_number : ℕ → ℕ → ℤ
+signed_number bits n = if nat_lt n (2 ^ (bits - 1)) then pos n else pos n -ℤ pos (2 ^ bits)
 
 -- the sample of 16 bits that bytes represent: a number of more bits is divided and rounded down
 abbrev pub wide_sample : Wide → List ℕ → ℤ

@@ -9,7 +9,7 @@ use Rattle.snd_base.specs.declared.places.Cursor.{Cursor}
 use Rattle.snd_base.specs.Places.{IsFrom, cursor_after, end_frame, first_free, lap, next_word, slot, word_index}
 
 -- after a frame and channel, the channels up to this one go on with the next frame
-pub first_free-behind_low : (g : Geometry) (f c d : ℕ) → c < g.channels → d ≤ c → first_free (behind g f c) d ≡ f + 1
+pub first_free-behind_low : (g : Geometry) (f c d : ℕ) → c < g.channels → d ≤ c → first_free (cursor_after g f c) d ≡ f + 1
 first_free-behind_low g f c d in_range low = grind (arith, nat_tests)
 
 -- and the channels after it with this frame
@@ -17,7 +17,7 @@ pub first_free-behind_high : (g : Geometry) (f c d : ℕ) → c < d → d < g.ch
 first_free-behind_high g f c d high in_range = grind (arith, nat_tests)
 
 -- a cursor that moves past a frame and channel from it on moves back for no channel
-pub first_free-behind_grows : (g : Geometry) (at : Cursor) (f c d : ℕ) → IsFrom at f c → d < g.channels → first_free at d ≤ first_free (behind g f c) d
+pub first_free-behind_grows : (g : Geometry) (at : Cursor) (f c d : ℕ) → IsFrom at f c → d < g.channels → first_free at d ≤ first_free (cursor_after g f c) d
 first_free-behind_grows g at f c d from in_range = grind (arith, nat_tests)
 
 -- what is before the cursor after a place is that place and what was before it
@@ -85,7 +85,7 @@ mod-suc_high n w some h =
     ap (λ x. x % w) e ∙ mod-mul-add (n / w + 1) w 0 some
 
 -- one more word was used: the next one is after the last
-pub next_word-suc : (g : Geometry) (n : ℕ) → next_word g (n + 1) ≡ behind g (next_word g n).frame (next_word g n).channel
+pub next_word-suc : (g : Geometry) (n : ℕ) → next_word g (n + 1) ≡ cursor_after g (next_word g n).frame (next_word g n).channel
 next_word-suc g n =
     let some : 0 < g.channels = omega (arith, g.channels_least) in
     let row : g.channels ≤ n % g.channels + 1 → ((n + 1) / g.channels ≡ n / g.channels + 1) × ((n + 1) % g.channels ≡ 0) = λ h. (div-suc_high n g.channels some h, mod-suc_high n g.channels some h) in

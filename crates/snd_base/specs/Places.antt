@@ -36,8 +36,8 @@ abbrev pub IsFrom : Cursor → ℕ → ℕ → Type 0
 IsFrom at f c = first_free at c ≤ f
 
 -- the cursor right after a frame and channel
-abbrev pub behind : Geometry → ℕ → ℕ → Cursor
-behind g f c =
+abbrev pub cursor_after : Geometry → ℕ → ℕ → Cursor
+cursor_after g f c =
     if nat_lt (c + 1) g.channels then record { frame = f; channel = c + 1 } else record { frame = f + 1; channel = 0 }
 
 -- a frame number from the first frame to one past the last

@@ -91,7 +91,7 @@ borne_out_second g t v w own knows = subst (λ k. IsBorneOut k t w) own (record 
 })
 
 -- what the load after a join shows the writer
-heard_knows : (v w : View) (slots found : ℕ) (x r : Me (Unit {0}) View) → is_tracked v.track ≡ true → x.0 ≡ both_of v w → learned (step slots 0 0 0 none) x found r
+heard_knows : (v w : View) (slots found : ℕ) (x r : Me (Unit {0}) View) → is_tracked v.track ≡ true → x.0 ≡ both_of v w → quiet_load (step slots 0 0 0 none) x found r
     → Knows (both_of v w) (the_track v.track)
 heard_knows v w slots found x r tracked both told =
     let t : Track = the_track v.track in

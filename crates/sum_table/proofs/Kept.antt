@@ -158,7 +158,7 @@ held_place g places es mine free marks seen ended f c s x y =
     omega (arith, one, x.few_held y.last.frame y.last.channel)
 
 -- where a place is from a cursor on, the cursor is before what is after the place
-later_of-behind : (g : Geometry) (at : Cursor) (f c : ℕ) → c < g.channels → IsFrom at f c → later_of at (behind g f c) ≡ behind g f c
+later_of-behind : (g : Geometry) (at : Cursor) (f c : ℕ) → c < g.channels → IsFrom at f c → later_of at (cursor_after g f c) ≡ cursor_after g f c
 later_of-behind g at f c c_in from =
     let test : is_before at (cursor_after g f c) ≡ true = grind (arith, nat_tests) in
     rw test refl

@@ -118,7 +118,7 @@ AreInOrder-more g ts x in_order here i d inside =
     ]
 
 -- the next word is after the one that is taken
-pub next_at-taken : (g : Geometry) (t : Track) (x : Taken) → next_at g (track_taken t x) ≡ behind g (next_at g t).frame (next_at g t).channel
+pub next_at-taken : (g : Geometry) (t : Track) (x : Taken) → next_at g (track_taken t x) ≡ cursor_after g (next_at g t).frame (next_at g t).channel
 next_at-taken g t x = ap (next_word g) (length-append t.taken (x ∷ [])) ∙ next_word-suc g (length t.taken)
 
 -- the next word was taken

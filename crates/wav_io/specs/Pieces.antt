@@ -20,8 +20,8 @@ found_from depths (DataBody format missing) kept bytes = body_found format (take
 found_from depths (Refused e) kept bytes = refused e
 
 -- a chunk of which the head is known, and the bytes after it
-abbrev pub sized : List ℕ → ℕ → List ℕ → Chunk
-sized name size bytes = record { name = name; size = size; body = take size bytes }
+abbrev pub chunk_of_size : List ℕ → ℕ → List ℕ → Chunk
+chunk_of_size name size bytes = record { name = name; size = size; body = take size bytes }
 
 abbrev pub bytes_after : ℕ → List ℕ → List ℕ
 bytes_after size bytes = drop (size + size % 2) bytes

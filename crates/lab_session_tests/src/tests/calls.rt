@@ -1,4 +1,4 @@
-// The calls that a run makes: the shelf's and the output's, counted by letting one of them fail.
+//! The calls that a run makes: the shelf's and the output's, counted by letting one of them fail.
 use lab_calls::{Left, MONO, call, files_of, text_in, wav_of};
 use std::alloc::{AllocError, Global};
 use std::marker::Sync;

@@ -1,5 +1,5 @@
 //! What each kind of step on the words shows the seat that makes it.
-ghost use Rattle.sum_table.specs.Steps.{exchanged, learned, located, looked, published, taken, unplugged};
+ghost use Rattle.sum_table.specs.Steps.{word_exchange, quiet_load, position_load, word_load, position_store, word_take, unplug_store};
 
 use crate::view::View;
 use atomic_table::Play;
