@@ -21,6 +21,7 @@ use wav_io::Wav;
 ///
 /// Its meaning is the client that it is in a run (`client_in`), and how it is at its port there (`IsAt`).
 #[derive(Drop)]
+#[repr(C)]
 pub struct LabClient<'r> {
     number: u32,
     own: Option<OpenClient<'r>>,
@@ -28,6 +29,9 @@ pub struct LabClient<'r> {
     // The segment that its last closing ended, so that a closing takes no memory; the next opening puts it to the others.
     last: Option<Segment>,
     rows: Vec<Row>,
+    // So that no two clients of a list have a cache line in common while each is used by a thread of its own: processors fetch two
+    // lines of 64 bytes at once.
+    apart: [u64; 16],
 }
 
 impl<'r> LabClient<'r> {
@@ -57,6 +61,7 @@ impl<'r> LabClient<'r> {
             ended: Vec::new(alloc),
             last: None,
             rows: Vec::new(alloc),
+            apart: [0; 16],
         }
     }
 

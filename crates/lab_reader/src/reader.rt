@@ -34,9 +34,13 @@ use std::alloc::Global;
 ///
 /// Its meaning is what a run of the script has of it: `reader_in`.
 #[derive(Drop)]
+#[repr(C)]
 pub struct LabReader<'r> {
     actor: ReaderActor,
     seat: Option<ReaderSeat<'r>>,
+    // So that no two readers of a list have a cache line in common while each is used by a thread of its own: processors fetch two
+    // lines of 64 bytes at once.
+    apart: [u64; 16],
 }
 
 /// A new stream at a ring, set up with an opening that fits it. It refuses for memory alone.
@@ -68,6 +72,7 @@ impl<'r> LabReader<'r> {
                 rows: Vec::new(alloc),
             },
             seat: None,
+            apart: [0; 16],
         }
     }
 
