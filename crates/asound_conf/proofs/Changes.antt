@@ -16,7 +16,7 @@ use Rattle.asound_conf.specs.declared.cell.Content.{Content}
 use Rattle.asound_conf.specs.declared.cell.Content.TheVariants as contents
 use Rattle.asound_conf.specs.declared.cell.Cell.{Cell}
 use Rattle.asound_conf.specs.Rows.{Contents, Row, row_at, with_row}
-use Rattle.asound_conf.specs.Table.{HasBelow, IsIndexed, IsLink, IsTable, bucket_at, bucket_of, cell_at, content_of, contents_of, fits, is_live, name_in, new_row, no_cell, no_number, content_with, parent_of, removed_row, row_of, span_in, value_in}
+use Rattle.asound_conf.specs.Table.{HasBelow, IsIndexed, IsLink, IsTable, bucket_at, bucket_of, cell_at, content_of, contents_of, fits, is_live, name_in, new_row, no_cell, no_number, content_with, parent_of, removed_row, cell_row, span_in, value_in}
 use Rattle.asound_conf.proofs.Tables.{IsLink-along, IsNew, IsNoted, IsSame, IsTable-push, IsTable-set, cell_at-push, is_live-noted, row_at-map, row_is, rows-push, rows-set}
 
 -- numbers are the same where their decimal texts are
@@ -29,8 +29,8 @@ bytes_eq-numbers m n small fits =
 -- a row's number is a cell's
 pub inside-rows : (text : List ℕ) (cells : List Cell) (now : Contents) (n : ℕ) → contents_of text cells ≡ now → n < length now.rows → n < length cells
 inside-rows text cells now n view inside =
-    let rows : length (map (row_of text) cells) ≡ length now.rows = ap (λ (k : Contents). length k.rows) view in
-    omega (arith, rows, inside, length-map cells (row_of text))
+    let rows : length (map (cell_row text) cells) ≡ length now.rows = ap (λ (k : Contents). length k.rows) view in
+    omega (arith, rows, inside, length-map cells (cell_row text))
 
 -- what is known of a cell that is given another content
 pub record IsChanged (cells : List Cell) (n : ℕ) (content : Content) (new : Cell) : Type 0 where
@@ -72,9 +72,9 @@ pub contents-removed : (text : List ℕ) (cells : List Cell) (now : Contents) (n
     → contents_of text (set cells n new) ≡ with_rows now.text (set now.rows n (removed_row (row_at now.rows n)))
 contents-removed text cells now n new it view =
     let old = row_at-map text cells n it.inside in
-    let row : row_of text new ≡ removed_row (row_at (map (row_of text) cells) n) =
+    let row : cell_row text new ≡ removed_row (row_at (map (cell_row text) cells) n) =
     row_is (ap (parent_of new.parent) it.content_is) (ap (name_in text) it.same.name ∙ ap (λ (r : Row). r.name) (sym old)) (ap (value_in text) it.content_is) in
-    ap (with_rows text) (rows-set text cells n new ∙ ap (set (map (row_of text) cells) n) row) ∙ ap (λ (k : Contents). with_rows k.text (set k.rows n (removed_row (row_at k.rows n)))) view
+    ap (with_rows text) (rows-set text cells n new ∙ ap (set (map (cell_row text) cells) n) row) ∙ ap (λ (k : Contents). with_rows k.text (set k.rows n (removed_row (row_at k.rows n)))) view
 
 -- a row with another text
 abbrev pub with_text : List ℕ → Row → Row
@@ -90,12 +90,12 @@ pub contents-text : (text : List ℕ) (cells : List Cell) (now : Contents) (n : 
 contents-text text cells now n span new it view some =
     let old = row_at-map text cells n it.inside in
     let its : is_none (value_in text (cell_at cells n).content) ≡ false = ap (λ (r : Row). is_none r.value) (sym old) ∙ ap (λ (k : Contents). is_none (row_at k.rows n).value) view ∙ some in
-    let row : row_of text new ≡ with_text (span_in text span) (row_at (map (row_of text) cells) n) =
+    let row : cell_row text new ≡ with_text (span_in text span) (row_at (map (cell_row text) cells) n) =
     row_is
     (ap (parent_of new.parent) it.content_is ∙ ap (λ (q : ℕ). parent_of q (contents.Text span)) it.same.parent ∙ parent-text text (cell_at cells n).parent (cell_at cells n).content span its ∙ ap (λ (r : Row). r.parent) (sym old))
     (ap (name_in text) it.same.name ∙ ap (λ (r : Row). r.name) (sym old))
     (ap (value_in text) it.content_is) in
-    ap (with_rows text) (rows-set text cells n new ∙ ap (set (map (row_of text) cells) n) row) ∙ ap (λ (k : Contents). with_rows k.text (set k.rows n (with_text (span_in k.text span) (row_at k.rows n)))) view
+    ap (with_rows text) (rows-set text cells n new ∙ ap (set (map (cell_row text) cells) n) row) ∙ ap (λ (k : Contents). with_rows k.text (set k.rows n (with_text (span_in k.text span) (row_at k.rows n)))) view
 
 -- what is known where a cell is added
 pub record IsAdded (text : List ℕ) (cells more : List Cell) (heads : List ℕ) (p : ℕ) (name : Name) (value : Option Span) (n b e : ℕ) (c g : Cell) : Type 0 where
@@ -119,10 +119,10 @@ pub contents-added : (text : List ℕ) (cells more : List Cell) (heads : List �
     → contents_of text (set more p g) ≡ with_row (new_row text p name value) (contents_of text cells)
 contents-added text cells more heads p name value n b e c g it =
     ap (with_rows text)
-    (ap (λ (x : List Cell). map (row_of text) (set x p g)) it.all ∙ ap (λ (x : ℕ). map (row_of text) (set (cells ++ c ∷ []) x g)) (sym it.parent)
+    (ap (λ (x : List Cell). map (cell_row text) (set x p g)) it.all ∙ ap (λ (x : ℕ). map (cell_row text) (set (cells ++ c ∷ []) x g)) (sym it.parent)
     ∙ rows-push text cells heads c g b value it.new it.noted it.content
-    ∙ ap (λ (q : ℕ). map (row_of text) cells ++ new_row text q c.name value ∷ []) it.parent
-    ∙ ap (λ (m : Name). map (row_of text) cells ++ new_row text p m value ∷ []) it.name_is)
+    ∙ ap (λ (q : ℕ). map (cell_row text) cells ++ new_row text q c.name value ∷ []) it.parent
+    ∙ ap (λ (m : Name). map (cell_row text) cells ++ new_row text p m value ∷ []) it.name_is)
 
 pub IsAdded-steps : (text : List ℕ) (cells more : List Cell) (heads : List ℕ) (p : ℕ) (name : Name) (value : Option Span) (n size b e : ℕ) (keyed : List ℕ) (content note : Content) (c c2 c3 g : Cell)
     → p < length cells → n ≡ length cells → n < no_number → size ≡ length heads → b < size → b ≡ bucket_of size p keyed → keyed ≡ name_in text name → content ≡ content_of value → e ≡ get_or heads b e

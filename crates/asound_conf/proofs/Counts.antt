@@ -7,7 +7,7 @@ use Rattle.std.proofs.lemmas.List.Sums.{sum_by-cons}
 use Rattle.asound_conf.specs.declared.cell.Cell.{Cell}
 use Rattle.asound_conf.specs.Device.{count_of}
 use Rattle.asound_conf.specs.Rows.{Contents, Row, group_of, is_in, node, group_in_rows}
-use Rattle.asound_conf.specs.Table.{contents_of, parent_of, row_of}
+use Rattle.asound_conf.specs.Table.{contents_of, parent_of, cell_row}
 use Rattle.asound_conf.specs.Tree.{entry}
 
 -- a cell is a node of a group
@@ -15,17 +15,17 @@ abbrev pub counts : ℕ → Cell → Bool
 counts p c = is_in p (parent_of c.parent c.content)
 
 -- a group has as many nodes as there are such cells
-count_of-within : (text : List ℕ) (p first : ℕ) (cells : List Cell) → count_of (group_in_rows p first (map (row_of text) cells)) ≡ count_by (counts p) cells
+count_of-within : (text : List ℕ) (p first : ℕ) (cells : List Cell) → count_of (group_in_rows p first (map (cell_row text) cells)) ≡ count_by (counts p) cells
 count_of-within text p first [] = refl
 count_of-within text p first (c ∷ cells) = by (counts p c) (count_of-within text p (suc first) cells) ∙ sym (sum_by-cons (λ (x : Cell). cond (counts p x) 1 0) c cells)
   where
-    by : (t : Bool) → count_of (group_in_rows p (suc first) (map (row_of text) cells)) ≡ count_by (counts p) cells
-        → count_of (if t then entry (row_of text c).name (node (row_of text c).value (group_in_rows first (suc first) (map (row_of text) cells))) (group_in_rows p (suc first) (map (row_of text) cells)) else group_in_rows p (suc first) (map (row_of text) cells))
+    by : (t : Bool) → count_of (group_in_rows p (suc first) (map (cell_row text) cells)) ≡ count_by (counts p) cells
+        → count_of (if t then entry (cell_row text c).name (node (cell_row text c).value (group_in_rows first (suc first) (map (cell_row text) cells))) (group_in_rows p (suc first) (map (cell_row text) cells)) else group_in_rows p (suc first) (map (cell_row text) cells))
         ≡ cond t 1 0 + count_by (counts p) cells
     by true e = omega (arith, e)
     by false e = omega (arith, e)
 
-drop-map : (text : List ℕ) (n : ℕ) (cells : List Cell) → drop n (map (row_of text) cells) ≡ map (row_of text) (drop n cells)
+drop-map : (text : List ℕ) (n : ℕ) (cells : List Cell) → drop n (map (cell_row text) cells) ≡ map (cell_row text) (drop n cells)
 drop-map text zero cells = refl
 drop-map text (suc n) [] = refl
 drop-map text (suc n) (c ∷ cells) = drop-map text n cells

@@ -12,7 +12,7 @@ use Rattle.asound_conf.specs.Place.{base, is_last, meets_text, node_met, put_or_
 use Rattle.asound_conf.specs.Rows.{Contents, Row, Alters, IsAbsent, IsNode, group_of, node, row_at}
 use Rattle.asound_conf.specs.Table.{name_in}
 use Rattle.asound_conf.specs.Tree.{Tree, group, Entries, get, group_in, is_text}
-use Rattle.asound_conf.specs.Way.{IsStep, IsWay}
+use Rattle.asound_conf.specs.Way.{IsKeyStep, IsWay}
 use Rattle.asound_conf.proofs.Groups.{Alters-both, get-IsAbsent, get-IsNode}
 use Rattle.asound_conf.proofs.Puts.{IsLed, led, meets_text-empty, meets_text-further, meets_text-one, meets_text-rest, put-down, put-last, put-last-way, put-refused}
 use Rattle.asound_conf.proofs.Ways.{IsWay-kept, IsWay-more}
@@ -45,15 +45,15 @@ here-placed d r first mid new q (p ∷ next ∷ parts) value path some none way 
     absurd (omega arith)
 
 pub here-way : (d : code.Part) (r : Result ℕ ConfWhy) (first mid new : Contents) (q : ℕ) (parts : List code.Part) (W : Type 0) (path : List Part) → 1 ≤ length parts → length (take (length parts - 1) (drop 1 parts)) ≡ 0 → IsWay first.rows 0 path q
-    → Alters q first.rows new.rows → mid.text ≡ first.text → IfOk r (λ n. W → IsStep new.rows q (part_named (name_in mid.text (get_or parts 0 d).name)) n) → IfOk r (λ n. W → IsWay new.rows 0 (path ++ without_marks (parts_in first.text parts)) n)
+    → Alters q first.rows new.rows → mid.text ≡ first.text → IfOk r (λ n. W → IsKeyStep new.rows q (part_named (name_in mid.text (get_or parts 0 d).name)) n) → IfOk r (λ n. W → IsWay new.rows 0 (path ++ without_marks (parts_in first.text parts)) n)
 here-way d r first mid new q [] W path some none way alters same step = absurd (omega arith)
 here-way d r first mid new q (p ∷ []) W path some none way alters same step =
-    put-last-way r first.rows new.rows q (part_in first.text p) W path way alters (subst (λ t. IfOk r (λ n. W → IsStep new.rows q (part_named (name_in t p.name)) n)) same step)
+    put-last-way r first.rows new.rows q (part_in first.text p) W path way alters (subst (λ t. IfOk r (λ n. W → IsKeyStep new.rows q (part_named (name_in t p.name)) n)) same step)
 here-way d r first mid new q (p ∷ next ∷ parts) W path some none way alters same step =
     let rest : length (next ∷ parts) ≡ 0 = sym (ap length (rest-cons p (next ∷ parts))) ∙ none in
     absurd (omega arith)
 
-pub step-row : (r : Result ℕ ConfWhy) (rows : List Row) (q : ℕ) (part : Part) (W : Type 0) → IfOk r (λ n. W → IsStep rows q part n) → IfOk r (λ n. W → (q < n) × (n < length rows))
+pub step-row : (r : Result ℕ ConfWhy) (rows : List Row) (q : ℕ) (part : Part) (W : Type 0) → IfOk r (λ n. W → IsKeyStep rows q part n) → IfOk r (λ n. W → (q < n) × (n < length rows))
 step-row (Ok n) rows q part W step = λ w. ((step w).is_node.falls, (step w).is_node.inside)
 step-row (Err cause) rows q part W step = tt
 
@@ -70,15 +70,15 @@ pub record IsDown (first mid : Contents) (q n : ℕ) (parts : List code.Part) : 
   pub more : 1 ≤ length rest
   pub same : mid.text ≡ first.text
   pub alters : Alters q first.rows mid.rows
-  pub step : IsStep mid.rows q (part_named (name_in first.text part.name)) n
+  pub step : IsKeyStep mid.rows q (part_named (name_in first.text part.name)) n
   pub leads : IsLed first.rows mid.rows q (part_in first.text part) n
 
 pub is_down : (d : code.Part) (first cleared mid : Contents) (q n : ℕ) (parts : List code.Part) → 1 ≤ length parts → 1 ≤ length (take (length parts - 1) (drop 1 parts)) → Alters q first.rows cleared.rows → cleared.text ≡ first.text → group_of q cleared.rows ≡ base (part_in first.text (get_or parts 0 d)) (group_of q first.rows)
     → Alters q cleared.rows mid.rows → mid.text ≡ cleared.text → put_or_clash None (part_named (name_in cleared.text (get_or parts 0 d).name) ∷ []) (group_of q cleared.rows) ≡ Ok (group_of q mid.rows)
-    → IsStep mid.rows q (part_named (name_in cleared.text (get_or parts 0 d).name)) n → IsDown first mid q n parts
+    → IsKeyStep mid.rows q (part_named (name_in cleared.text (get_or parts 0 d).name)) n → IsDown first mid q n parts
 is_down d first cleared mid q n [] some more clears same is puts also put_it step = absurd (omega arith)
 is_down d first cleared mid q n (p ∷ parts) some more clears same is puts also put_it step =
-    let step_there : IsStep mid.rows q (part_named (name_in first.text p.name)) n = subst (λ t. IsStep mid.rows q (part_named (name_in t p.name)) n) same step in
+    let step_there : IsKeyStep mid.rows q (part_named (name_in first.text p.name)) n = subst (λ t. IsKeyStep mid.rows q (part_named (name_in t p.name)) n) same step in
     let put_there : put_or_clash None (part_named (name_in first.text p.name) ∷ []) (group_of q cleared.rows) ≡ Ok (group_of q mid.rows) = subst (λ t. put_or_clash None (part_named (name_in t p.name) ∷ []) (group_of q cleared.rows) ≡ Ok (group_of q mid.rows)) same put_it in
     record {
       part = p;

@@ -9,12 +9,12 @@ use Rattle.asound_conf.specs.Place.{base, clashes, is_last, meets_text, node_met
 use Rattle.asound_conf.specs.Rows.{Contents, Row, Alters, IsAbsent, IsNode, group_of, no_row, node, row_at, with_row}
 use Rattle.asound_conf.specs.Tree.{Tree, text, group, Entries, empty, get, group_in, is_text, without_name}
 use Rattle.asound_conf.specs.Tree as tree
-use Rattle.asound_conf.specs.Way.{IsStep, IsWay}
+use Rattle.asound_conf.specs.Way.{IsKeyStep, IsWay}
 use Rattle.asound_conf.proofs.Below.{placed-below, placed-down, with_group}
 use Rattle.asound_conf.proofs.Groups.{Alters-both, Alters-same, get-IsAbsent, get-IsNode, group-push, group-set, has-IsAbsent}
 use Rattle.asound_conf.proofs.Places.{get-none, get-set, has-without, set-get, set-set}
 use Rattle.asound_conf.proofs.Rows.{Alters-push}
-use Rattle.asound_conf.proofs.Ways.{IsWay-kept, IsWay-more, group_at-IsWay, met-IsStep, with_group-IsWay}
+use Rattle.asound_conf.proofs.Ways.{IsWay-kept, IsWay-more, group_at-IsWay, met-IsKeyStep, with_group-IsWay}
 
 -- a part of a key meets what its group has once the part has cleared it
 pub get-base : (part : Part) (g : Entries) → get part.name (base part g) ≡ node_met part g
@@ -124,18 +124,18 @@ IsNode-push q name value rows inside =
     past : (rows : List Row) (j : ℕ) → length rows < j → row_at (rows ++ new_row q name value ∷ []) j ≡ no_row
     past rows j later = get_or_past (rows ++ new_row q name value ∷ []) j no_row (omega (arith, length-append rows (new_row q name value ∷ [])))
 
-pub IsStep-push : (r : Result ℕ ConfWhy) (q : ℕ) (name : List ℕ) (old new : Contents) → q < length old.rows → OnOk r (new ≡ with_row (new_row q name None) old) → IfOk r (λ n. n ≡ length old.rows) → IfOk r (λ n. IsStep new.rows q (part_named name) n)
-IsStep-push (Ok n) q name old new inside pushed number =
-    subst (λ (c : Contents). IsStep c.rows q (part_named name) n) (sym pushed) (subst (λ m. IsStep (old.rows ++ new_row q name None ∷ []) q (part_named name) m) (sym number)
+pub IsKeyStep-push : (r : Result ℕ ConfWhy) (q : ℕ) (name : List ℕ) (old new : Contents) → q < length old.rows → OnOk r (new ≡ with_row (new_row q name None) old) → IfOk r (λ n. n ≡ length old.rows) → IfOk r (λ n. IsKeyStep new.rows q (part_named name) n)
+IsKeyStep-push (Ok n) q name old new inside pushed number =
+    subst (λ (c : Contents). IsKeyStep c.rows q (part_named name) n) (sym pushed) (subst (λ m. IsKeyStep (old.rows ++ new_row q name None ∷ []) q (part_named name) m) (sym number)
     (record { stays = refl; is_node = IsNode-push q name None old.rows inside; is_group = ap (λ (r : Row). r.value) (at-length old.rows) }))
   where
     at-length : (rows : List Row) → row_at (rows ++ new_row q name None ∷ []) (length rows) ≡ new_row q name None
     at-length [] = refl
     at-length (r ∷ rows) = at-length rows
-IsStep-push (Err cause) q name old new inside pushed number = tt
+IsKeyStep-push (Err cause) q name old new inside pushed number = tt
 
-pub IsStep-IsNode : (rows : List Row) (q : ℕ) (name : List ℕ) (n : ℕ) → IsNode rows q name n → is_none (row_at rows n).value ≡ true → IsStep rows q (part_named name) n
-IsStep-IsNode rows q name n is is_group = record { stays = refl; is_node = is; is_group = is_none-true (row_at rows n).value is_group }
+pub IsKeyStep-IsNode : (rows : List Row) (q : ℕ) (name : List ℕ) (n : ℕ) → IsNode rows q name n → is_none (row_at rows n).value ≡ true → IsKeyStep rows q (part_named name) n
+IsKeyStep-IsNode rows q name n is is_group = record { stays = refl; is_node = is; is_group = is_none-true (row_at rows n).value is_group }
 
 -- an answer that was made of another one
 pub Leads-seen : {X S T : Type 0} (r : Result X ConfWhy) (new : S) (f : S → T) (given : Result S ConfWhy) → Leads r new given → Leads r (f new) (answer_view f given)
@@ -161,7 +161,7 @@ put-last r first mid new q part value path way clears puts cleared leads =
     (Leads-seen r (group_of q new) f (put_or_clash value (part_named part.name ∷ []) (group_of q mid)) leads)
 
 pub put-last-way : (r : Result ℕ ConfWhy) (first new : List Row) (q : ℕ) (part : Part) (W : Type 0) (path : List Part) → IsWay first 0 path q → Alters q first new
-    → IfOk r (λ n. W → IsStep new q (part_named part.name) n) → IfOk r (λ n. W → IsWay new 0 (path ++ without_marks (part ∷ [])) n)
+    → IfOk r (λ n. W → IsKeyStep new q (part_named part.name) n) → IfOk r (λ n. W → IsWay new 0 (path ++ without_marks (part ∷ [])) n)
 put-last-way (Ok n) first new q part W path way alters step = λ w. IsWay-more new 0 path q (part_named part.name) n (IsWay-kept q first new 0 path q alters (omega arith) way) (step w)
 put-last-way (Err cause) first new q part W path way alters step = tt
 
@@ -171,7 +171,7 @@ pub record IsLed (first mid : List Row) (q : ℕ) (part : Part) (n : ℕ) : Type
   pub sets : (h : Entries) → tree.set part.name (group h) (group_of q mid) ≡ tree.set part.name (group h) (base part (group_of q first))
   pub there : get part.name (group_of q mid) ≡ Some (group (group_of n mid))
 
-pub led : (first cleared mid : List Row) (q : ℕ) (part : Part) (n : ℕ) → group_of q cleared ≡ base part (group_of q first) → put_or_clash None (part_named part.name ∷ []) (group_of q cleared) ≡ Ok (group_of q mid) → IsStep mid q (part_named part.name) n → IsLed first mid q part n
+pub led : (first cleared mid : List Row) (q : ℕ) (part : Part) (n : ℕ) → group_of q cleared ≡ base part (group_of q first) → put_or_clash None (part_named part.name ∷ []) (group_of q cleared) ≡ Ok (group_of q mid) → IsKeyStep mid q (part_named part.name) n → IsLed first mid q part n
 led first cleared mid q part n is puts step = by_test (clashes None (get part.name (group_of q cleared))) (sym (placed-one None part.name (group_of q cleared)) ∙ puts)
   where
     by_test : (b : Bool) → cond b (Err why.Kind) (Ok (tree.set part.name (put_there None (get part.name (group_of q cleared))) (group_of q cleared))) ≡ Ok (group_of q mid) → IsLed first mid q part n
@@ -181,7 +181,7 @@ led first cleared mid q part n is puts step = by_test (clashes None (get part.na
         let g = group_of q cleared in
         let inner = group_in (get name g) in
         let now : group_of q mid ≡ tree.set name (group inner) g = cc in
-        let there : get name (group_of q mid) ≡ Some (group (group_of n mid)) = met-IsStep mid q (part_named name) n step in
+        let there : get name (group_of q mid) ≡ Some (group (group_of n mid)) = met-IsKeyStep mid q (part_named name) n step in
         let has_it : Some (group inner) ≡ Some (group (group_of n mid)) = sym (get-set name (group inner) g) ∙ ap (get name) (sym now) ∙ there in
         let same : inner ≡ group_of n mid = cc in
         record {

@@ -20,7 +20,7 @@ use Rattle.asound_conf.specs.declared.cell.Content.{Content}
 use Rattle.asound_conf.specs.declared.cell.Content.TheVariants as contents
 use Rattle.asound_conf.specs.declared.cell.Cell.{Cell}
 use Rattle.asound_conf.specs.Rows.{IsAbsent, IsNode, Row, is_in, no_row, row_at}
-use Rattle.asound_conf.specs.Table.{HasBelow, IsIndexed, IsLink, IsTable, bucket_at, bucket_of, cell_at, content_of, fits, is_live, key_bytes, lacks, name_in, new_row, no_cell, no_number, content_with, parent_of, number_after, row_of, value_in}
+use Rattle.asound_conf.specs.Table.{HasBelow, IsIndexed, IsLink, IsTable, bucket_at, bucket_of, cell_at, content_of, fits, is_live, key_bytes, lacks, name_in, new_row, no_cell, no_number, content_with, parent_of, number_after, cell_row, value_in}
 
 -- a conjunction's parts
 both : (a b : Bool) → (a && b) ≡ true → (a ≡ true) × (b ≡ true)
@@ -59,7 +59,7 @@ pub record Fits (text : List ℕ) (cell : Cell) (p : ℕ) (name : List ℕ) : Ty
   pub parent : cell.parent ≡ p
   pub named : name_in text cell.name ≡ name
 
-fits-true : (text : List ℕ) (cell : Cell) (p : ℕ) (name : List ℕ) → fits p name (row_of text cell) ≡ true → Fits text cell p name
+fits-true : (text : List ℕ) (cell : Cell) (p : ℕ) (name : List ℕ) → fits p name (cell_row text cell) ≡ true → Fits text cell p name
 fits-true text cell p name e =
     let parts = both (is_in p (parent_of cell.parent cell.content)) (bytes_eq (name_in text cell.name) name) e in
     let in_it = is_in-true p (parent_of cell.parent cell.content) parts.0 in
@@ -76,25 +76,25 @@ other_name row p name none e =
     subst (λ t. (t && bytes_eq row.name name) ≡ false) here none
 
 -- the row of a cell
-pub row_at-map : (text : List ℕ) (cells : List Cell) (j : ℕ) → j < length cells → row_at (map (row_of text) cells) j ≡ row_of text (cell_at cells j)
-row_at-map text cells j inside = get_or-map (row_of text) cells j no_cell no_row inside
+pub row_at-map : (text : List ℕ) (cells : List Cell) (j : ℕ) → j < length cells → row_at (map (cell_row text) cells) j ≡ cell_row text (cell_at cells j)
+row_at-map text cells j inside = get_or-map (cell_row text) cells j no_cell no_row inside
 
 -- beside the cells there is none
-no_row-past : (text : List ℕ) (cells : List Cell) (j : ℕ) → length cells ≤ j → row_at (map (row_of text) cells) j ≡ no_row
-no_row-past text cells j past = get_or_past (map (row_of text) cells) j no_row (omega (arith, length-map cells (row_of text)))
+no_row-past : (text : List ℕ) (cells : List Cell) (j : ℕ) → length cells ≤ j → row_at (map (cell_row text) cells) j ≡ no_row
+no_row-past text cells j past = get_or_past (map (cell_row text) cells) j no_row (omega (arith, length-map cells (cell_row text)))
 
 -- where a search for a name in a group is: it is left to look at the cells of the bucket up to this one
 pub record IsSought (text : List ℕ) (cells : List Cell) (buckets p : ℕ) (name : List ℕ) (at : ℕ) : Type 0 where
   pub inside : at < length cells
   pub same : 0 < at → bucket_at buckets text cells at ≡ bucket_of buckets p name
-  pub behind : (j : ℕ) → at < j → fits p name (row_of text (cell_at cells j)) ≡ false
+  pub behind : (j : ℕ) → at < j → fits p name (cell_row text (cell_at cells j)) ≡ false
 
 -- a cell of another bucket isn't sought
 apart : (text : List ℕ) (cells : List Cell) (buckets p : ℕ) (name : List ℕ) (j : ℕ) → (is_live (cell_at cells j).content ≡ true → bucket_at buckets text cells j ≡ bucket_of buckets p name → ⊥)
-    → fits p name (row_of text (cell_at cells j)) ≡ false
-apart text cells buckets p name j other = by (fits p name (row_of text (cell_at cells j))) refl
+    → fits p name (cell_row text (cell_at cells j)) ≡ false
+apart text cells buckets p name j other = by (fits p name (cell_row text (cell_at cells j))) refl
   where
-    by : (t : Bool) → fits p name (row_of text (cell_at cells j)) ≡ t → t ≡ false
+    by : (t : Bool) → fits p name (cell_row text (cell_at cells j)) ≡ t → t ≡ false
     by false e = refl
     by true e =
         let it = fits-true text (cell_at cells j) p name e in
@@ -109,12 +109,12 @@ IsSought-first text cells heads p name is inside =
       same = link.same;
       behind = λ j after. elim (cases_lt j (length cells)) [
         | inl in_it ↦ apart text cells (length heads) p name j (link.gap j after in_it)
-        | inr past ↦ ap (λ (c : Cell). fits p name (row_of text c)) (get_or_past cells j no_cell past)
+        | inr past ↦ ap (λ (c : Cell). fits p name (cell_row text c)) (get_or_past cells j no_cell past)
       ];
     }
 
 pub IsSought-next : (text : List ℕ) (cells : List Cell) (heads : List ℕ) (p : ℕ) (name : List ℕ) (at : ℕ) → IsIndexed text cells heads
-    → IsSought text cells (length heads) p name at → 0 < at → fits p name (row_of text (cell_at cells at)) ≡ false
+    → IsSought text cells (length heads) p name at → 0 < at → fits p name (cell_row text (cell_at cells at)) ≡ false
     → IsSought text cells (length heads) p name (cell_at cells at).earlier
 IsSought-next text cells heads p name at is sought some other =
     let link = is.link at some sought.inside in
@@ -124,7 +124,7 @@ IsSought-next text cells heads p name at is sought some other =
       behind = λ j after. elim (cases_lt at j) [
         | inl more ↦ sought.behind j more
         | inr less ↦ elim (cases_eq j at) [
-          | inl e ↦ ap (λ (k : ℕ). fits p name (row_of text (cell_at cells k))) e ∙ other
+          | inl e ↦ ap (λ (k : ℕ). fits p name (cell_row text (cell_at cells k))) e ∙ other
           | inr ne ↦ apart text cells (length heads) p name j (λ live e. link.gap j after (omega arith) live (e ∙ sym (sought.same some)))
         ]
       ];
@@ -135,33 +135,33 @@ pub earlier-less : (text : List ℕ) (cells : List Cell) (heads : List ℕ) (p :
 earlier-less text cells heads p name at is sought some = (is.link at some sought.inside).order
 
 -- rows of a group after a place have other names
-behind-row : (text : List ℕ) (cells : List Cell) (p : ℕ) (name : List ℕ) (at j : ℕ) → ((k : ℕ) → at < k → fits p name (row_of text (cell_at cells k)) ≡ false) → at < j
-    → (row_at (map (row_of text) cells) j).parent ≡ Some p → bytes_eq (row_at (map (row_of text) cells) j).name name ≡ false
+behind-row : (text : List ℕ) (cells : List Cell) (p : ℕ) (name : List ℕ) (at j : ℕ) → ((k : ℕ) → at < k → fits p name (cell_row text (cell_at cells k)) ≡ false) → at < j
+    → (row_at (map (cell_row text) cells) j).parent ≡ Some p → bytes_eq (row_at (map (cell_row text) cells) j).name name ≡ false
 behind-row text cells p name at j behind after e = elim (cases_lt j (length cells)) [
-  | inl inside ↦ other_name (row_at (map (row_of text) cells) j) p name (ap (fits p name) (row_at-map text cells j inside) ∙ behind j after) e
+  | inl inside ↦ other_name (row_at (map (cell_row text) cells) j) p name (ap (fits p name) (row_at-map text cells j inside) ∙ behind j after) e
   | inr past ↦ absurd (let none : None ≡ Some p = sym (ap (λ (r : Row). r.parent) (no_row-past text cells j past)) ∙ e in cc)
 ]
 
 pub IsAbsent-sought : (text : List ℕ) (cells : List Cell) (heads : List ℕ) (p : ℕ) (name : List ℕ) (at : ℕ) → IsIndexed text cells heads
-    → IsSought text cells (length heads) p name at → at ≡ 0 → IsAbsent (map (row_of text) cells) p name
+    → IsSought text cells (length heads) p name at → at ≡ 0 → IsAbsent (map (cell_row text) cells) p name
 IsAbsent-sought text cells heads p name at is sought none j e = elim (cases_lt at j) [
   | inl after ↦ behind-row text cells p name at j sought.behind after e
   | inr not_after ↦
       let root : j ≡ 0 = omega arith in
-      let parent : (row_at (map (row_of text) cells) j).parent ≡ None =
-      ap (λ (k : ℕ). (row_at (map (row_of text) cells) k).parent) root ∙ ap (λ (r : Row). r.parent) (row_at-map text cells 0 is.some)
+      let parent : (row_at (map (cell_row text) cells) j).parent ≡ None =
+      ap (λ (k : ℕ). (row_at (map (cell_row text) cells) k).parent) root ∙ ap (λ (r : Row). r.parent) (row_at-map text cells 0 is.some)
       ∙ ap (λ (q : ℕ). parent_of q (cell_at cells 0).content) is.root ∙ parent_of-root (cell_at cells 0).content in
       absurd (let bad : None ≡ Some p = sym parent ∙ e in cc)
 ]
 
 pub IsNode-sought : (text : List ℕ) (cells : List Cell) (heads : List ℕ) (p : ℕ) (name : List ℕ) (at : ℕ) → IsIndexed text cells heads
-    → IsSought text cells (length heads) p name at → 0 < at → fits p name (row_of text (cell_at cells at)) ≡ true → IsNode (map (row_of text) cells) p name at
+    → IsSought text cells (length heads) p name at → 0 < at → fits p name (cell_row text (cell_at cells at)) ≡ true → IsNode (map (cell_row text) cells) p name at
 IsNode-sought text cells heads p name at is sought some found =
     let it = fits-true text (cell_at cells at) p name found in
     let row = row_at-map text cells at sought.inside in
     let falls = is.falls at some sought.inside in
     record {
-      inside = omega (arith, length-map cells (row_of text), sought.inside);
+      inside = omega (arith, length-map cells (cell_row text), sought.inside);
       parent = ap (λ (r : Row). r.parent) row ∙ it.in_it;
       named = ap (λ (r : Row). r.name) row ∙ it.named;
       falls = omega (arith, falls, it.parent);
@@ -170,7 +170,7 @@ IsNode-sought text cells heads p name at is sought some found =
 
 -- a number past a group's names isn't there
 pub IsAbsent-lacks : (text : List ℕ) (cells : List Cell) (heads : List ℕ) (p : ℕ) (key : Key) → IsTable text cells heads
-    → lacks (cell_at cells p).content key ≡ true → IsAbsent (map (row_of text) cells) p (key_bytes key)
+    → lacks (cell_at cells p).content key ≡ true → IsAbsent (map (cell_row text) cells) p (key_bytes key)
 IsAbsent-lacks text cells heads p key is lacking j e = by (cell_at cells p).content key lacking (is.below p)
   where
     place : (cell_at cells j).parent ≡ p
@@ -179,18 +179,18 @@ IsAbsent-lacks text cells heads p key is lacking j e = by (cell_at cells p).cont
       | inr past ↦ absurd (let none : None ≡ Some p = sym (ap (λ (r : Row). r.parent) (no_row-past text cells j past)) ∙ e in cc)
     ]
 
-    named : (row_at (map (row_of text) cells) j).name ≡ name_in text (cell_at cells j).name
+    named : (row_at (map (cell_row text) cells) j).name ≡ name_in text (cell_at cells j).name
     named = elim (cases_lt j (length cells)) [
       | inl inside ↦ ap (λ (r : Row). r.name) (row_at-map text cells j inside)
       | inr past ↦ absurd (let none : None ≡ Some p = sym (ap (λ (r : Row). r.parent) (no_row-past text cells j past)) ∙ e in cc)
     ]
 
-    told : (name : List ℕ) (t : Bool) → bytes_eq (row_at (map (row_of text) cells) j).name name ≡ t → (name_in text (cell_at cells j).name ≡ name → ⊥) → t ≡ false
+    told : (name : List ℕ) (t : Bool) → bytes_eq (row_at (map (cell_row text) cells) j).name name ≡ t → (name_in text (cell_at cells j).name ≡ name → ⊥) → t ≡ false
     told name false same other = refl
-    told name true same other = absurd (other (sym named ∙ (bytes_eq-Decides (row_at (map (row_of text) cells) j).name name).0 same))
+    told name true same other = absurd (other (sym named ∙ (bytes_eq-Decides (row_at (map (cell_row text) cells) j).name name).0 same))
 
     by : (content : Content) (k : Key) → lacks content k ≡ true → HasBelow text cells p content
-        → bytes_eq (row_at (map (row_of text) cells) j).name (key_bytes k) ≡ false
+        → bytes_eq (row_at (map (cell_row text) cells) j).name (key_bytes k) ≡ false
     by (contents.Text s) k lacking below = absurd (false≢true lacking)
     by contents.Removed k lacking below = absurd (false≢true lacking)
     by (contents.Group numbers) (keys.Bytes b) lacking below = absurd (false≢true lacking)
@@ -198,7 +198,7 @@ IsAbsent-lacks text cells heads p key is lacking j e = by (cell_at cells p).cont
         let parts = both (nat_le numbers n) (nat_lt n no_number) lacking in
         let low : numbers ≤ n = grind (arith, nat_tests, parts.0) in
         let less : n < no_number = grind (arith, nat_tests, parts.1) in
-        told (decimal n) (bytes_eq (row_at (map (row_of text) cells) j).name (decimal n)) refl (below j n place low less)
+        told (decimal n) (bytes_eq (row_at (map (cell_row text) cells) j).name (decimal n)) refl (below j n place low less)
 
 -- a link is the same one by equal numbers
 pub IsLink-along : (m k : ℕ) (text : List ℕ) (cells : List Cell) (b c from start to : ℕ) → m ≡ k → b ≡ c → from ≡ start → IsLink m text cells b from to → IsLink k text cells c start to
@@ -545,16 +545,16 @@ row_is p q r i = record { parent = p i; name = q i; value = r i }
 
 -- the rows where a cell is added
 pub rows-push : (text : List ℕ) (cells : List Cell) (heads : List ℕ) (c g : Cell) (b : ℕ) (value : Option Span) → IsNew text cells heads c b → IsNoted cells c g → c.content ≡ content_of value
-    → map (row_of text) (set (cells ++ c ∷ []) c.parent g) ≡ map (row_of text) cells ++ new_row text c.parent c.name value ∷ []
+    → map (cell_row text) (set (cells ++ c ∷ []) c.parent g) ≡ map (cell_row text) cells ++ new_row text c.parent c.name value ∷ []
 rows-push text cells heads c g b value new is_noted content =
     let old = cell_at-push cells c c.parent new.parent in
-    let group : row_of text g ≡ row_of text (cell_at (cells ++ c ∷ []) c.parent) =
+    let group : cell_row text g ≡ cell_row text (cell_at (cells ++ c ∷ []) c.parent) =
     row_is
     (ap (λ (q : ℕ). parent_of q g.content) is_noted.place.parent ∙ ap (parent_of (cell_at cells c.parent).parent) is_noted.content ∙ parent_of-noted (cell_at cells c.parent).parent (cell_at cells c.parent).content c.name)
     (ap (name_in text) is_noted.place.name)
     (ap (value_in text) is_noted.content ∙ value_in-noted text (cell_at cells c.parent).content c.name)
-    ∙ ap (row_of text) (sym old) in
-    map-set_same (row_of text) (cells ++ c ∷ []) c.parent g no_cell group ∙ map-append (row_of text) cells (c ∷ []) ∙ ap (λ (r : Row). map (row_of text) cells ++ r ∷ []) (row_is (parent value content) refl (its value content))
+    ∙ ap (cell_row text) (sym old) in
+    map-set_same (cell_row text) (cells ++ c ∷ []) c.parent g no_cell group ∙ map-append (cell_row text) cells (c ∷ []) ∙ ap (λ (r : Row). map (cell_row text) cells ++ r ∷ []) (row_is (parent value content) refl (its value content))
   where
     none : (c.parent == no_number) ≡ false
     none = let less = new.parent in let most = new.room in grind (arith, nat_tests, less, most)
@@ -568,8 +568,8 @@ rows-push text cells heads c g b value new is_noted content =
     its None content = ap (value_in text) content
 
 -- the rows where a cell gets another content
-pub rows-set : (text : List ℕ) (cells : List Cell) (i : ℕ) (c : Cell) → map (row_of text) (set cells i c) ≡ set (map (row_of text) cells) i (row_of text c)
-rows-set text cells i c = map-set (row_of text) cells i c
+pub rows-set : (text : List ℕ) (cells : List Cell) (i : ℕ) (c : Cell) → map (cell_row text) (set cells i c) ≡ set (map (cell_row text) cells) i (cell_row text c)
+rows-set text cells i c = map-set (cell_row text) cells i c
 
 -- the cells of a table before anything is read
 pub IsTable-new : (text : List ℕ) (root : Cell) (heads : List ℕ) → root.parent ≡ no_number → root.content ≡ contents.Group 0 → 0 < length heads → ((b : ℕ) → b < length heads → get_or heads b 0 ≡ 0)

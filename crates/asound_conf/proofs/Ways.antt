@@ -6,7 +6,7 @@ use Rattle.asound_conf.specs.Place.{node_met}
 use Rattle.asound_conf.specs.Rows.{Row, Alters, IsNode, IsOnlyIn, group_of, node, row_at}
 use Rattle.asound_conf.specs.Tree.{Tree, group, Entries, get, group_in}
 use Rattle.asound_conf.specs.Tree as tree
-use Rattle.asound_conf.specs.Way.{IsStep, IsWay}
+use Rattle.asound_conf.specs.Way.{IsKeyStep, IsWay}
 use Rattle.asound_conf.proofs.Below.{found_in, group_at, inner_group, with_group}
 use Rattle.asound_conf.proofs.Groups.{at-IsNode, drop-after, get-IsNode, group-child}
 use Rattle.asound_conf.proofs.Rows.{is_in-Some, reaches, reaches-at, reaches-self}
@@ -19,8 +19,8 @@ IsWay-le rows p (part ∷ path) q way =
     omega arith
 
 -- a part of a key meets the group to which it leads
-pub met-IsStep : (rows : List Row) (p : ℕ) (part : Part) (n : ℕ) → IsStep rows p part n → node_met part (group_of p rows) ≡ Some (group (group_of n rows))
-met-IsStep rows p part n step =
+pub met-IsKeyStep : (rows : List Row) (p : ℕ) (part : Part) (n : ℕ) → IsKeyStep rows p part n → node_met part (group_of p rows) ≡ Some (group (group_of n rows))
+met-IsKeyStep rows p part n step =
     ap (λ b. cond b None (get part.name (group_of p rows))) step.stays
     ∙ get-IsNode rows p part.name n step.is_node
     ∙ ap (λ v. Some (node v (group_of n rows))) step.is_group
@@ -28,7 +28,7 @@ met-IsStep rows p part n step =
 pub group_at-IsWay : (rows : List Row) (p : ℕ) (path : List Part) (q : ℕ) → IsWay rows p path q → group_at path (group_of p rows) ≡ Some (group_of q rows)
 group_at-IsWay rows p [] q way = ap (λ n. Some (group_of n rows)) way
 group_at-IsWay rows p (part ∷ path) q way =
-    ap (λ m. found_in (inner_group m) (group_at path)) (met-IsStep rows p part way.0 way.1.0) ∙ group_at-IsWay rows way.0 path q way.1.1
+    ap (λ m. found_in (inner_group m) (group_at path)) (met-IsKeyStep rows p part way.0 way.1.0) ∙ group_at-IsWay rows way.0 path q way.1.1
 
 -- where a way leads is below where it begins
 reaches-IsWay : (rows : List Row) (p : ℕ) (path : List Part) (q : ℕ) → IsWay rows p path q → reaches q p (suc p) (drop (suc p) rows) ≡ true
@@ -48,7 +48,7 @@ with_group-IsWay old new p (part ∷ path) q a way =
     let high : n ≤ q = IsWay-le old n path q way.1.1 in
     group-child q p part.name n old new a step.is_node step.is_group (λ same. omega arith) (reaches-IsWay old n path q way.1.1)
     ∙ ap (λ h. tree.set part.name (group h) (group_of p old)) (with_group-IsWay old new n path q a way.1.1)
-    ∙ sym (ap (λ m. tree.set part.name (group (with_group path (group_of q new) (group_in m))) (group_of p old)) (met-IsStep old p part n step))
+    ∙ sym (ap (λ m. tree.set part.name (group (with_group path (group_of q new) (group_in m))) (group_of p old)) (met-IsKeyStep old p part n step))
 
 -- a node of a group that doesn't change
 row-kept : (q : ℕ) (old new : List Row) (p n : ℕ) → Alters q old new → p < q → (row_at old n).parent ≡ Some p → row_at old n ≡ row_at new n
@@ -96,6 +96,6 @@ IsWay-kept q old new p (part ∷ path) last a early way =
     (n, (record { stays = step.stays; is_node = IsNode-kept q old new p part.name n a (omega arith) step.is_node; is_group = ap (λ (r : Row). r.value) (sym same) ∙ step.is_group }, IsWay-kept q old new n path last a early way.1.1))
 
 -- a way that goes on
-pub IsWay-more : (rows : List Row) (p : ℕ) (path : List Part) (q : ℕ) (part : Part) (n : ℕ) → IsWay rows p path q → IsStep rows q part n → IsWay rows p (path ++ part ∷ []) n
-IsWay-more rows p [] q part n way step = (n, (subst (λ m. IsStep rows m part n) (sym way) step, refl))
+pub IsWay-more : (rows : List Row) (p : ℕ) (path : List Part) (q : ℕ) (part : Part) (n : ℕ) → IsWay rows p path q → IsKeyStep rows q part n → IsWay rows p (path ++ part ∷ []) n
+IsWay-more rows p [] q part n way step = (n, (subst (λ m. IsKeyStep rows m part n) (sym way) step, refl))
 IsWay-more rows p (first ∷ path) q part n way step = (way.0, (way.1.0, IsWay-more rows way.0 path q part n way.1.1 step))

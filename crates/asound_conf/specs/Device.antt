@@ -48,10 +48,10 @@ kind_named t =
     if bytes_eq t (codes "dshare") then Ok kinds.Dshare else Err why.PluginType
 
 -- the kind that a device's type is
-abbrev pub kind_of : Option Tree → Result DeviceKind ConfWhy
-kind_of (Some (text t)) = kind_named t
-kind_of (Some (group g)) = Err why.PluginType
-kind_of None = Err why.PluginType
+abbrev pub device_kind : Option Tree → Result DeviceKind ConfWhy
+device_kind (Some (text t)) = kind_named t
+device_kind (Some (group g)) = Err why.PluginType
+device_kind None = Err why.PluginType
 
 -- samples are of 16 bits, little-endian, where a format is given
 abbrev pub format_of : Option Tree → Result (Unit {0}) ConfWhy
@@ -104,18 +104,18 @@ abbrev pub or_default : ℕ → ℕ → ℕ
 or_default n other = if n == 0 then other else n
 
 -- how many frames a time in microseconds is
-abbrev pub frames_in : ℕ → ℕ → ℕ
-frames_in rate time = rate * time / 1000000
+abbrev pub frames_in_time : ℕ → ℕ → ℕ
+frames_in_time rate time = rate * time / 1000000
 
 -- the period in frames: its size, else its time, else 1024
 abbrev pub period_of : Numbers → ℕ → ℕ
-period_of n rate = or_default n.period_size (if n.period_time == 0 then 1024 else frames_in rate n.period_time)
+period_of n rate = or_default n.period_size (if n.period_time == 0 then 1024 else frames_in_time rate n.period_time)
 
 -- the ring in frames: the buffer's size, else its periods, else its time, else eight periods
 abbrev pub ring_of : Numbers → ℕ → ℕ → ℕ
 ring_of n rate period =
     or_default n.buffer_size (
-    if n.periods == 0 then (if n.buffer_time == 0 then 8 * period else frames_in rate n.buffer_time) else period * n.periods)
+    if n.periods == 0 then (if n.buffer_time == 0 then 8 * period else frames_in_time rate n.buffer_time) else period * n.periods)
 
 -- channels and rate are in their ranges
 abbrev pub is_stream : ℕ → ℕ → Bool
@@ -177,16 +177,16 @@ values_of g zero = Some []
 values_of g (suc n) = one_more (values_of g n) (number_in (get (decimal n) g))
 
 -- why a list of channels is refused
-abbrev pub cause_of : Why → ConfWhy
-cause_of base.BindingsTooMany = why.BindingsTooMany
-cause_of (base.BindingRange channel) = why.BindingRange channel
-cause_of (base.BindingTwice channel) = why.BindingTwice channel
-cause_of other = why.BindingsEmpty
+abbrev pub bindings_cause : Why → ConfWhy
+bindings_cause base.BindingsTooMany = why.BindingsTooMany
+bindings_cause (base.BindingRange channel) = why.BindingRange channel
+bindings_cause (base.BindingTwice channel) = why.BindingTwice channel
+bindings_cause other = why.BindingsEmpty
 
 -- the bindings that a list of channels is
 abbrev pub bound : Result (List ℕ) Why → Result (Option (List ℕ)) ConfWhy
 bound (Ok list) = Ok (Some list)
-bound (Err cause) = Err (cause_of cause)
+bound (Err cause) = Err (bindings_cause cause)
 
 -- the bindings of a group of channels: its names are 0 to n - 1 in some order, and its values numbers
 abbrev pub bindings_in : Option (List ℕ) → ℕ → Result (Option (List ℕ)) ConfWhy
@@ -194,21 +194,21 @@ bindings_in (Some list) channels = bound (answer_of list channels)
 bindings_in None channels = Err why.BindingKey
 
 -- the bindings of a device on a card of so many channels
-abbrev pub bindings_of : Option Tree → ℕ → Result (Option (List ℕ)) ConfWhy
-bindings_of (Some (group g)) channels = bindings_in (values_of g (count_of g)) channels
-bindings_of (Some (text t)) channels = Err why.BindingKey
-bindings_of None channels = Ok None
+abbrev pub device_bindings : Option Tree → ℕ → Result (Option (List ℕ)) ConfWhy
+device_bindings (Some (group g)) channels = bindings_in (values_of g (count_of g)) channels
+device_bindings (Some (text t)) channels = Err why.BindingKey
+device_bindings None channels = Ok None
 
 -- the device of this name, or why there is none
 unfoldable pub device_by : Entries → List ℕ → Result Device ConfWhy
 device_by root name = do
   definition ← definition_of (codes "pcm") name root
   slave ← slave_of root (get (codes "slave") definition)
-  kind ← kind_of (get (codes "type") definition)
+  kind ← device_kind (get (codes "type") definition)
   fits ← format_of (get (codes "format") slave)
   numbers ← numbers_of slave
   card ← card_of numbers
-  bindings ← bindings_of (get (codes "bindings") definition) card.channels
+  bindings ← device_bindings (get (codes "bindings") definition) card.channels
   Ok (record { kind = kind; channels = card.channels; rate = card.rate; period = card.period; ring = card.ring; bindings = bindings })
 
 -- a refusal of the text as a whole

@@ -14,12 +14,12 @@ abbrev pub path_of : Reading → List Part
 path_of r = take r.here.names r.path.items
 
 -- the parts of a key after them
-abbrev pub key_of : Reading → List Part
-key_of r = drop r.here.names r.path.items
+abbrev pub rest_of_key : Reading → List Part
+rest_of_key r = drop r.here.names r.path.items
 
 -- where the reader is
 abbrev pub state_of : Reading → State
-state_of r = state_in r.table (path_of r) (key_of r) r.here (reverse r.outer.items) r.awaits
+state_of r = state_in r.table (path_of r) (rest_of_key r) r.here (reverse r.outer.items) r.awaits
 
 -- where the reader was before the key
 abbrev pub before_key : Reading → State
@@ -27,7 +27,7 @@ before_key r = state_in r.table (path_of r) [] r.here (reverse r.outer.items) r.
 
 -- the ways of a reader lead where it is
 abbrev pub IsReading : Reading → Type 0
-IsReading r = IsOpen r.table (path_of r) (key_of r) r.here (reverse r.outer.items) r.awaits
+IsReading r = IsOpen r.table (path_of r) (rest_of_key r) r.here (reverse r.outer.items) r.awaits
 
 -- they lead where it was before the key
 abbrev pub IsBeforeKey : Reading → Type 0

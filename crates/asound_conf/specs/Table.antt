@@ -43,12 +43,12 @@ parent_of p (contents.Group numbers) = if p == no_number then None else Some p
 parent_of p contents.Removed = None
 
 -- the row that a cell is
-abbrev pub row_of : List ℕ → Cell → Row
-row_of text c = record { parent = parent_of c.parent c.content; name = name_in text c.name; value = value_in text c.content }
+abbrev pub cell_row : List ℕ → Cell → Row
+cell_row text c = record { parent = parent_of c.parent c.content; name = name_in text c.name; value = value_in text c.content }
 
 -- what a table has
 abbrev pub contents_of : List ℕ → List Cell → Contents
-contents_of text cells = record { text = text; rows = map (row_of text) cells }
+contents_of text cells = record { text = text; rows = map (cell_row text) cells }
 
 -- a row is a node of a group, under a name
 abbrev pub fits : ℕ → List ℕ → Row → Bool

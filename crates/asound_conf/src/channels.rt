@@ -1,6 +1,6 @@
 //! Bindings in a configuration: a group whose names are 0, 1 and so on.
 ghost use Rattle.std.specs.Prelude.{◌≡◌, ◌≤◌, option_map, take, IfSome};
-ghost use Rattle.asound_conf.specs.Device.{bindings_in, bindings_of, bound, cause_of, count_of, values_of};
+ghost use Rattle.asound_conf.specs.Device.{bindings_in, device_bindings, bound, bindings_cause, count_of, values_of};
 ghost use Rattle.asound_conf.specs.Node.{entries_in, tree_of};
 ghost use Rattle.bindings.specs.Answers.{answer_of};
 
@@ -30,7 +30,7 @@ fn values_of(group: Group<'_>) -> Option<([u32; 9], usize)>
 
 /// Why a list of channels is refused.
 fn cause_of(why: Why) -> ConfWhy
-    ensures { result ≡ cause_of why }
+    ensures { result ≡ bindings_cause why }
 {
     match why {
         Why::BindingsTooMany => ConfWhy::BindingsTooMany,
@@ -61,7 +61,7 @@ fn group_bindings(group: Group<'_>, channels: u8) -> Result<Option<Bindings>, Co
 
 /// The bindings of a device on a card of so many channels.
 pub fn read_bindings(node: Option<Node<'_>>, channels: u8) -> Result<Option<Bindings>, ConfWhy>
-    ensures { result ≡ bindings_of (option_map tree_of node.entry) channels }
+    ensures { result ≡ device_bindings (option_map tree_of node.entry) channels }
 {
     match node {
         Some(Node::Group(group)) => group_bindings(group, channels),

@@ -8,7 +8,7 @@ ghost use Rattle.asound_conf.specs.Place.{base, meets_text, put_or_clash};
 ghost use Rattle.asound_conf.specs.Rows.{Alters, group_of};
 ghost use Rattle.asound_conf.specs.Table.{name_in, span_in};
 ghost use Rattle.asound_conf.specs.Tree.{without_name};
-ghost use Rattle.asound_conf.specs.Way.{IsStep, IsWay};
+ghost use Rattle.asound_conf.specs.Way.{IsKeyStep, IsWay};
 
 use crate::cell::{Name, Span};
 use crate::error::ConfWhy;
@@ -71,7 +71,7 @@ fn put_group(table: &mut Table, group: u32, name: Name) -> Result<u32, ConfWhy>
     ensures value { Leads result (group_of group table.new.rows)
         (put_or_clash None (part_named (name_in table.old.text name) ∷ [])
         (group_of group table.old.rows)) }
-    ensures step { IfOk result (λ n. IsStep table.new.rows group
+    ensures step { IfOk result (λ n. IsKeyStep table.new.rows group
         (part_named (name_in table.old.text name)) n) }
     ensures text { table.new.text ≡ table.old.text }
     ensures alters { Alters group table.old.rows table.new.rows }
@@ -93,7 +93,7 @@ fn put_here(table: &mut Table, group: u32, name: Name, text: Option<Span>) -> Re
     ensures value { Leads result (group_of group table.new.rows)
         (put_or_clash (text_in table.old.text text) (part_named (name_in table.old.text name) ∷ [])
         (group_of group table.old.rows)) }
-    ensures step { IfOk result (λ n. text ≡ None → IsStep table.new.rows group
+    ensures step { IfOk result (λ n. text ≡ None → IsKeyStep table.new.rows group
         (part_named (name_in table.old.text name)) n) }
     ensures text { table.new.text ≡ table.old.text }
     ensures alters { Alters group table.old.rows table.new.rows }

@@ -1,6 +1,6 @@
 //! The dmix, dsnoop and dshare devices that a configuration defines.
 ghost use Rattle.std.specs.Prelude.{◌≡◌, ◌<◌, ◌≤◌, ◌+◌, ◌^◌, option_map, IfOk};
-ghost use Rattle.asound_conf.specs.Device.{IsCard, as_group, card_of, definition_of, device_by, field, field_in, format_of, frames_in, is_fit, is_period, is_ring, is_stream, kind_named, kind_of, number_in, numbers_of, or_default, period_of, ring_of, slave_of, bindings_of};
+ghost use Rattle.asound_conf.specs.Device.{IsCard, as_group, card_of, definition_of, device_by, field, field_in, format_of, frames_in_time, is_fit, is_period, is_ring, is_stream, kind_named, device_kind, number_in, numbers_of, or_default, period_of, ring_of, slave_of, device_bindings};
 ghost use Rattle.asound_conf.specs.Answer.{answer_view};
 ghost use Rattle.asound_conf.specs.Tree.{get};
 ghost use Rattle.asound_conf.specs.Node.{entries_in, tree_of};
@@ -115,7 +115,7 @@ fn kind_named(name: &[u8]) -> Result<DeviceKind, ConfWhy>
 
 /// The kind of device that a definition's type is.
 fn kind_of(node: Option<Node<'_>>) -> Result<DeviceKind, ConfWhy>
-    ensures { result ≡ kind_of (option_map tree_of node.entry) }
+    ensures { result ≡ device_kind (option_map tree_of node.entry) }
 {
     match node {
         Some(Node::Text(name)) => kind_named(name),
@@ -177,7 +177,7 @@ fn or_default(number: u64, other: u64) -> u64
 /// How many frames a time in microseconds is.
 fn frames_in(rate: u64, time: u32) -> u64
     requires { rate < 2 ^ 32 }
-    ensures value { result ≡ frames_in rate time }
+    ensures value { result ≡ frames_in_time rate time }
     ensures bound { result < 2 ^ 64 }
 {
     rate * u64::from(time) / 1_000_000

@@ -64,7 +64,7 @@ impl Reading {
     ghost use Rattle.asound_conf.specs.Answer.{Leads};
     ghost use Rattle.asound_conf.specs.Grammar.{at_number, close_group, close_to, equals_at, end_of_text, last_line, why_misplaced, open_at, open_group, put_key, put_text, separator_at, start, step, take_mark, take_text, value_place};
     ghost use Rattle.asound_conf.specs.Key.{key_defect, part_named, word_parts};
-    ghost use Rattle.asound_conf.specs.Reading.{IsBeforeKey, IsReading, Places, Reads, before_key, key_of, state_of};
+    ghost use Rattle.asound_conf.specs.Reading.{IsBeforeKey, IsReading, Places, Reads, before_key, rest_of_key, state_of};
     ghost use Rattle.asound_conf.specs.Start.{AreAt, IsAt};
     ghost use Rattle.asound_conf.specs.Table.{span_in};
     ghost use Rattle.asound_conf.specs.Token.{token_of};
@@ -94,9 +94,9 @@ impl Reading {
     /// short enough to be read.
     fn go_to_number(&mut self) -> Result<(), ConfWhy>
         requires valid { IsReading self.old }
-        requires none { length (key_of self.old) ≡ 0 }
+        requires none { length (rest_of_key self.old) ≡ 0 }
         ensures leads { Leads result (state_of self.new) (Ok (at_number (state_of self.old))) }
-        ensures key { IfOk result (λ _. 1 ≤ length (key_of self.new)) }
+        ensures key { IfOk result (λ _. 1 ≤ length (rest_of_key self.new)) }
         ensures valid { OnOk result (IsReading self.new) }
         ensures text { self.new.table.text ≡ self.old.table.text }
     {
@@ -116,8 +116,8 @@ impl Reading {
         requires valid { IsReading self.old }
         ensures place { Places result (state_of self.old) (state_of self.new)
             (value_place (state_of self.old) self.old.awaits self.old.here.array) }
-        ensures key { IfOk result (λ can. IsTrue can → 1 ≤ length (key_of self.new)) }
-        ensures none { IfOk result (λ can. IsFalse can → length (key_of self.new) ≡ 0) }
+        ensures key { IfOk result (λ can. IsTrue can → 1 ≤ length (rest_of_key self.new)) }
+        ensures none { IfOk result (λ can. IsFalse can → length (rest_of_key self.new) ≡ 0) }
         ensures valid { OnOk result (IsReading self.new) }
         ensures text { self.new.table.text ≡ self.old.table.text }
     {
@@ -134,7 +134,7 @@ impl Reading {
     /// Puts a text at its place.
     fn put_text(&mut self, text: Span) -> Result<(), ConfWhy>
         requires valid { IsReading self.old }
-        requires some { 1 ≤ length (key_of self.old) }
+        requires some { 1 ≤ length (rest_of_key self.old) }
         ensures leads { Leads result (state_of self.new)
             (put_text (state_of self.old) (span_in self.old.table.text text)) }
         ensures valid { OnOk result (IsReading self.new) }
@@ -153,10 +153,10 @@ impl Reading {
     /// Takes a key, whose parts are after those of the path.
     fn take_key(&mut self) -> Result<(), ConfWhy>
         requires valid { IsBeforeKey self.old }
-        requires some { 1 ≤ length (key_of self.old) }
+        requires some { 1 ≤ length (rest_of_key self.old) }
         ensures leads { Leads result (state_of self.new) (put_key (before_key self.old)
-            (key_defect (parts_in self.old.table.text (key_of self.old)))
-            (parts_in self.old.table.text (key_of self.old))) }
+            (key_defect (parts_in self.old.table.text (rest_of_key self.old)))
+            (parts_in self.old.table.text (rest_of_key self.old))) }
         ensures valid { OnOk result (IsReading self.new) }
         ensures text { self.new.table.text ≡ self.old.table.text }
     {
@@ -171,7 +171,7 @@ impl Reading {
     /// Takes a word at this place of the text as a key.
     fn take_word_key(&mut self, word: &[u8], start: u32) -> Result<(), ConfWhy>
         requires valid { IsReading self.old }
-        requires none { length (key_of self.old) ≡ 0 }
+        requires none { length (rest_of_key self.old) ≡ 0 }
         requires at { AreAt self.old.table.text start word.now }
         ensures leads { Leads result (state_of self.new)
             (put_key (state_of self.old) (key_defect (word_parts word.now)) (word_parts word.now)) }
@@ -185,7 +185,7 @@ impl Reading {
     /// Takes a quoted text at this place of the text as a key of one part.
     fn take_quoted_key(&mut self, text: &[u8], start: u32) -> Result<(), ConfWhy>
         requires valid { IsReading self.old }
-        requires none { length (key_of self.old) ≡ 0 }
+        requires none { length (rest_of_key self.old) ≡ 0 }
         requires at { AreAt self.old.table.text start text.now }
         ensures leads { Leads result (state_of self.new) (put_key (state_of self.old)
             (key_defect (part_named text.now ∷ [])) (part_named text.now ∷ [])) }
@@ -237,7 +237,7 @@ impl Reading {
     /// Opens a group or an array at its place.
     fn open_group(&mut self, line: u32, array: bool) -> Result<(), ConfWhy>
         requires valid { IsReading self.old }
-        requires some { 1 ≤ length (key_of self.old) }
+        requires some { 1 ≤ length (rest_of_key self.old) }
         ensures leads { Leads result (state_of self.new)
             (open_group (state_of self.old) line array) }
         ensures valid { OnOk result (IsReading self.new) }
@@ -285,7 +285,7 @@ impl Reading {
     /// Goes to what is around the innermost group.
     fn leave(&mut self) -> Result<(), ConfWhy>
         requires valid { IsReading self.old }
-        requires none { length (key_of self.old) ≡ 0 }
+        requires none { length (rest_of_key self.old) ≡ 0 }
         ensures leads { Leads result (state_of self.new)
             (close_to (state_of self.old) (state_of self.old).outer) }
         ensures valid { OnOk result (IsReading self.new) }

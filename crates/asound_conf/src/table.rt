@@ -3,7 +3,7 @@ ghost use Rattle.std.specs.Prelude.{◌≡◌, ◌<◌, ◌≤◌, ◌+◌, ◌-
 ghost use Rattle.std.specs.Fmt.{decimal};
 ghost use Rattle.asound_conf.specs.Device.{count_of};
 ghost use Rattle.asound_conf.specs.Rows.{group_of, is_in, no_row, row_at, with_row, IsAbsent, IsNode};
-ghost use Rattle.asound_conf.specs.Table.{IsTable, bucket_of, cell_at, content_of, contents_of, fits, hash_by, is_live, key_bytes, lacks, hash_with_byte, name_in, new_row, no_number, content_with, parent_of, number_after, removed_row, row_of, span_in, value_in};
+ghost use Rattle.asound_conf.specs.Table.{IsTable, bucket_of, cell_at, content_of, contents_of, fits, hash_by, is_live, key_bytes, lacks, hash_with_byte, name_in, new_row, no_number, content_with, parent_of, number_after, removed_row, cell_row, span_in, value_in};
 
 use crate::cell::{Cell, Content, Key, Name, Span};
 use crate::error::ConfWhy;
@@ -128,7 +128,7 @@ fn is_in(cell: Cell, group: u32) -> bool
 
 /// Whether a cell is the node that is sought in a group.
 fn fits(text: &[u8], cell: Cell, group: u32, key: Key<'_>) -> bool
-    ensures { result ≡ fits group (key_bytes key.entry) (row_of text.now cell) }
+    ensures { result ≡ fits group (key_bytes key.entry) (cell_row text.now cell) }
 {
     is_in(cell, group) && is_named(text, cell.name, key)
 }
@@ -154,9 +154,9 @@ fn last_in_bucket(
 ) -> Option<u32>
     requires { IsTable text.now cells.now heads.now }
     ensures some { IfSome result
-        (λ n. IsNode (map (row_of text.now) cells.now) group (key_bytes key.entry) n) }
+        (λ n. IsNode (map (cell_row text.now) cells.now) group (key_bytes key.entry) n) }
     ensures none { IfNone result
-        (IsAbsent (map (row_of text.now) cells.now) group (key_bytes key.entry)) }
+        (IsAbsent (map (cell_row text.now) cells.now) group (key_bytes key.entry)) }
 {
     let bucket = bucket_of(heads.len(), group, key);
     let mut at = heads[bucket];
@@ -174,9 +174,9 @@ fn last_in_bucket(
 fn find(text: &[u8], cells: &[Cell], heads: &[u32], group: u32, key: Key<'_>) -> Option<u32>
     requires { IsTable text.now cells.now heads.now }
     ensures some { IfSome result
-        (λ n. IsNode (map (row_of text.now) cells.now) group (key_bytes key.entry) n) }
+        (λ n. IsNode (map (cell_row text.now) cells.now) group (key_bytes key.entry) n) }
     ensures none { IfNone result
-        (IsAbsent (map (row_of text.now) cells.now) group (key_bytes key.entry)) }
+        (IsAbsent (map (cell_row text.now) cells.now) group (key_bytes key.entry)) }
 {
     if (group as usize) < cells.len() && lacks(cells[group as usize].content, key) {
         return None;

@@ -21,7 +21,7 @@ use Rattle.dmix_client.specs.declared.stream.PlaybackStream.{PlaybackStream}
 use Rattle.dmix_client.specs.Calls.{Answered, with_accepted, accepted_if, commit_count, committed_by, end_channel, end_of_commit, is_running, is_stop, late_at, late_of, over_of, seen_at, with_outcome, after_start, started_in, sync_count, after_sync, taken_of, with_number, written_on}
 use Rattle.dmix_client.specs.Causes.{IsCaused, IsGone, IsOfSteps, Reaches}
 use Rattle.mix_core.specs.Port.{IsPast, OnLate, PortView}
-use Rattle.dmix_client.specs.Port.{IsCommit, IsFound, IsStep}
+use Rattle.dmix_client.specs.Port.{IsCommit, IsFound, IsFrameStep}
 use Rattle.pcm_stream.specs.Status.{is_moving}
 use Rattle.dmix_client.specs.View.{avail_of, queued_of}
 use Rattle.dmix_client.proofs.Ends.{by-test, next-ends, after_start-ends, written-ends}
@@ -235,7 +235,7 @@ free-at c position here none = record {
 }
 
 module _ {S : Type 0} (view : S → PortView) (shows : S → ℕ → ℕ → Option ℕ) (q : S) where
-  pub IsCaused-plain : (c : PlaybackStream) (call : Call) (load : Option Position) (x : Commit) → IsStep c.status.state call → IfSome load (λ position. IsPlain position.gone (over_of (seen_at c position) position) x.ended)
+  pub IsCaused-plain : (c : PlaybackStream) (call : Call) (load : Option Position) (x : Commit) → IsFrameStep c.status.state call → IfSome load (λ position. IsPlain position.gone (over_of (seen_at c position) position) x.ended)
       → IfSome load (λ position. OnLate x.ended (λ word. IsPast view shows q (end_of_commit c x) (end_channel c x) word))
       → IsCaused {X = Unit {0}} view shows q c (after_sync c call load x).0 load (after_sync c call load x).1
   IsCaused-plain c call None x step plain shown = caused-none view shows q c (record c { status = record c.status { stopped = true } })
@@ -256,7 +256,7 @@ module _ {S : Type 0} (view : S → PortView) (shows : S → ℕ → ℕ → Opt
       (λ here drains in_time same. caused-other view shows q c _ (Some position) _ (free-at c position here (λ runs. absurd (cc))) (other-ok tt))
       (λ here drains in_time same. caused-other view shows q c _ (Some position) _ (free-at c position here (λ runs. absurd (cc))) other-again))
 
-  pub IsCaused-after_sync : (c : PlaybackStream) (call : Call) (load : Option Position) (x : Commit) → IsStep c.status.state call → IsFound load x (λ position. c) (sync_count c) (length c.setup.bindings)
+  pub IsCaused-after_sync : (c : PlaybackStream) (call : Call) (load : Option Position) (x : Commit) → IsFrameStep c.status.state call → IsFound load x (λ position. c) (sync_count c) (length c.setup.bindings)
       → IfSome load (λ position. OnLate x.ended (λ word. IsPast view shows q (end_of_commit c x) (end_channel c x) word))
       → IsCaused {X = Unit {0}} view shows q c (after_sync c call load x).0 load (after_sync c call load x).1
   IsCaused-after_sync c call load x step found shown = IsCaused-plain c call load x step (plain-found load found.commit_is) shown
@@ -313,7 +313,7 @@ after_sync-not_again c None x running = λ is. cc
 after_sync-not_again c (Some position) x running =
     by-test (λ (a : Answered (Unit {0})). a.1 ≡ Err Again → ⊥) (is_stop x.ended) _ _ (λ stop is. cc)
     (λ going. next-ends (λ (o : Outcome). o.answer ≡ Err Again → ⊥) c.status.state call.Transfer (queued_of (committed_by (seen_at c position) x)) position.gone (over_of (seen_at c position) position) (late_of (seen_at c position) x)
-    (subst (λ (s : State). IsStep s call.Transfer) (sym running) tt) (λ gone is. cc) (λ a f here runs over is. cc) (λ w here none late is. cc) (λ here runs none in_time is. cc) (λ here drains in_time is. cc) (λ here drains in_time same is. cc) (λ here drains in_time same. absurd (cc)))
+    (subst (λ (s : State). IsFrameStep s call.Transfer) (sym running) tt) (λ gone is. cc) (λ a f here runs over is. cc) (λ w here none late is. cc) (λ here runs none in_time is. cc) (λ here drains in_time is. cc) (λ here drains in_time same is. cc) (λ here drains in_time same. absurd (cc)))
 
 -- a write says so exactly where its sync went well, frames were offered and none can be taken
 pub written_on-again : (a : Answered (Unit {0})) (n : ℕ) (last : Commit) → (a.1 ≡ Err Again → ⊥) → ((written_on a n last).1 ≡ Err Again) ↔ ((a.1 ≡ Ok tt) × (0 < n) × (avail_of a.0 ≡ 0))
@@ -324,7 +324,7 @@ written_on-again (c, Ok done) n last other =
 written_on-again (c, Err e) n last other = (λ h. absurd (other (same-error {X = ℕ} e Again h)), λ h. let x = h.0 in cc)
 
 -- the calls of a stream that moves frames
-pub step-sync : (s : State) → is_moving s ≡ true → IsStep s call.Sync
+pub step-sync : (s : State) → is_moving s ≡ true → IsFrameStep s call.Sync
 step-sync Running is = tt
 step-sync Draining is = tt
 step-sync s is = absurd (cc)

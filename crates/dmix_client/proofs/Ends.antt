@@ -3,7 +3,7 @@ use Rattle.std.proofs.Common.{[], arith, refl, ℕ, ◌<◌, ◌∷◌, ◌≡�
 use Rattle.std.proofs.lemmas.Bool.Decides.{nat_tests}
 use Rattle.std.specs.Prelude.{Bool, Err, None, Ok, Option, Some, false, if◌then◌else◌, nat_eq, nat_lt, true, ◌&&◌}
 use Rattle.mix_core.specs.declared.port.Position.{Position}
-use Rattle.pcm_states.specs.Table.{done_in, draining, first_of, moving, next_of, outcome_of, refused_in, still_draining, stopped_by}
+use Rattle.pcm_states.specs.Table.{done_in, draining, first_outcome, moving, next_of, outcome_of, refused_in, still_draining, stopped_by}
 use Rattle.pcm_states.specs.declared.calls.Call.TheVariants as call
 use Rattle.pcm_states.specs.declared.calls.Call.{Call}
 use Rattle.pcm_states.specs.declared.calls.Outcome.{Outcome}
@@ -16,7 +16,7 @@ use Rattle.snd_base.specs.declared.errors.XrunWhy.{XrunWhy}
 use Rattle.snd_base.specs.declared.places.Cursor.{Cursor}
 use Rattle.dmix_client.specs.Calls.{Answered, with_accepted, accepted_if, committed_by, found_at, going_on, in_state, is_stop, late_of, seen_at, with_outcome, after_start, started_in, stopped_in, after_sync, taken_of, written_after}
 use Rattle.dmix_client.specs.Growth.{KeepsAccepted}
-use Rattle.dmix_client.specs.Port.{IsStep}
+use Rattle.dmix_client.specs.Port.{IsFrameStep}
 use Rattle.dmix_client.specs.View.{avail_of}
 use Rattle.dmix_client.specs.declared.commit.Commit.{Commit}
 use Rattle.dmix_client.specs.declared.stream.PlaybackStream.{PlaybackStream}
@@ -38,7 +38,7 @@ moving-ends X call queued false None (Some w) at_gone at_over at_late at_end = a
 moving-ends X call queued false None None at_gone at_over at_late at_end = at_end refl refl refl
 
 played-ends : (X : Outcome → Type 0) (call : Call) (played : Bool) → X (done_in Setup) → X (still_draining call)
-    → X (first_of ((if played then Some (done_in Setup) else None) ∷ []) (still_draining call))
+    → X (first_outcome ((if played then Some (done_in Setup) else None) ∷ []) (still_draining call))
 played-ends X call true at_end still = at_end
 played-ends X call false at_end still = still
 
@@ -51,7 +51,7 @@ draining-ends X call queued false over (Some w) at_gone at_late at_end still = a
 draining-ends X call queued false over None at_gone at_late at_end still = played-ends X call (nat_eq queued 0) (at_end refl refl) (still refl refl)
 
 -- a step of a stream that moves frames: the card is gone, the stop threshold is reached, the commit was late, or it goes on
-pub next-ends : (X : Outcome → Type 0) (state : State) (asked : Call) (queued : ℕ) (gone : Bool) (over : Option (ℕ × ℕ)) (late : Option XrunWhy) → IsStep state asked
+pub next-ends : (X : Outcome → Type 0) (state : State) (asked : Call) (queued : ℕ) (gone : Bool) (over : Option (ℕ × ℕ)) (late : Option XrunWhy) → IsFrameStep state asked
     → (gone ≡ true → X (refused_in Disconnected error.NoDevice))
     → ((a f : ℕ) → gone ≡ false → state ≡ Running → over ≡ Some (a, f) → X (stopped_by (why.Avail a f)))
     → ((w : XrunWhy) → gone ≡ false → (state ≡ Running → over ≡ None) → late ≡ Some w → X (stopped_by w))

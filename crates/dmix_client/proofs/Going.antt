@@ -21,7 +21,7 @@ use Rattle.snd_base.specs.declared.errors.XrunWhy.TheVariants as why
 use Rattle.snd_base.specs.declared.places.Cursor.{Cursor}
 use Rattle.dmix_client.proofs.Ends.{by-test, next-ends, after_start-ends}
 use Rattle.dmix_client.specs.Calls.{Answered, accepted_if, committed_by, is_stop, late_of, over_of, seen_at, with_outcome, after_start, started_in, stopped_in, after_sync}
-use Rattle.dmix_client.specs.Port.{CountsEnd, IsStep}
+use Rattle.dmix_client.specs.Port.{CountsEnd, IsFrameStep}
 use Rattle.dmix_client.specs.View.{queued_of}
 use Rattle.dmix_client.specs.declared.commit.Commit.{Commit}
 use Rattle.dmix_client.specs.declared.stream.PlaybackStream.{PlaybackStream}
@@ -66,7 +66,7 @@ after_sync-runs c None x runs = tt
 after_sync-runs c (Some position) x runs =
     by-test (λ (a : Answered (Unit {0})). OnOk a.1 (a.0.status.state ≡ Running)) (is_stop x.ended) _ _ (λ stop. tt)
     (λ going. next-ends (λ (o : Outcome). OnOk o.answer (o.state ≡ Running)) c.status.state call.Transfer (queued_of (committed_by (seen_at c position) x)) position.gone (over_of (seen_at c position) position) (late_of (seen_at c position) x)
-    (subst (λ (s : State). IsStep s call.Transfer) (sym runs) tt) (λ gone. tt) (λ a f here same is. tt) (λ w here none is. tt) (λ here same none in_time. refl) (λ here drains in_time. absurd (cc)) (λ here drains in_time same. absurd (cc)) (λ here drains in_time same. tt))
+    (subst (λ (s : State). IsFrameStep s call.Transfer) (sym runs) tt) (λ gone. tt) (λ a f here same is. tt) (λ w here none is. tt) (λ here same none in_time. refl) (λ here drains in_time. absurd (cc)) (λ here drains in_time same. absurd (cc)) (λ here drains in_time same. tt))
 
 pub OnOk-of : (r : Result (Unit {0}) PcmError) (Y : Type 0) → r ≡ Ok tt → OnOk r Y → Y
 OnOk-of (Ok done) Y is y = y
@@ -88,7 +88,7 @@ after_sync-still c (Some position) x drains going =
     let done : PlaybackStream = committed_by (seen_at c position) x in
     by-test IsStill (is_stop x.ended) _ _ (λ stop. stopped-still done)
     (λ goes. next-ends (λ (o : Outcome). IsStill (with_outcome done o)) c.status.state call.Drain (queued_of done) position.gone (over_of (seen_at c position) position) (late_of (seen_at c position) x)
-    (subst (λ (s : State). IsStep s call.Drain) (sym drains) tt) (λ gone. (λ h. cc, λ h. let y = h.0 in cc)) (λ a f here runs is. absurd (cc)) (λ w here none is. (λ h. cc, λ h. let y = h.0 in cc))
+    (subst (λ (s : State). IsFrameStep s call.Drain) (sym drains) tt) (λ gone. (λ h. cc, λ h. let y = h.0 in cc)) (λ a f here runs is. absurd (cc)) (λ w here none is. (λ h. cc, λ h. let y = h.0 in cc))
     (λ here runs none in_time. absurd (cc)) (λ here same in_time. (λ h. cc, λ h. let y = h.0 in cc)) (λ here same in_time is. absurd (cc)) (λ here same in_time is. (λ h. (refl, going), λ h. refl)))
 
 -- a start that leads to draining, and is refused

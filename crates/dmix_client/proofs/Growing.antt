@@ -13,7 +13,7 @@ use Rattle.dmix_client.specs.Calls.{window_end, Answered, accepted_if, taken_of}
 use Rattle.dmix_client.specs.Expansion.{run_entries, sample_at}
 use Rattle.dmix_client.specs.ExpansionLaws.{run_entries-append, run_entries-same}
 use Rattle.dmix_client.specs.Growth.{Follows, StandsFor, StandsUpTo, segment_entries}
-use Rattle.dmix_client.specs.View.{IsSound, hw_of, ring_sample}
+use Rattle.dmix_client.specs.View.{IsSoundClient, hw_of, ring_sample}
 use Rattle.dmix_client.specs.Writes.{ring_with}
 use Rattle.dmix_client.specs.declared.commit.Commit.{Commit}
 use Rattle.dmix_client.specs.declared.stream.PlaybackStream.{PlaybackStream}
@@ -74,7 +74,7 @@ accepted-none (d, Err e) = refl
 prepared_fits : (w b h k : ℕ) → w ≤ b → h ≡ 0 → (w ≤ h + b) × (min w h ≤ k)
 prepared_fits w b h k fits none = (omega (arith, fits, none), grind (arith, nat_tests))
 
-pub StandsUpTo-filled : (c : PlaybackStream) (ring samples offered : List ℤ) (n : ℕ) → IsSound c ring → c.status.state ≡ Prepared → n * length c.setup.bindings ≤ length offered
+pub StandsUpTo-filled : (c : PlaybackStream) (ring samples offered : List ℤ) (n : ℕ) → IsSoundClient c ring → c.status.state ≡ Prepared → n * length c.setup.bindings ≤ length offered
     → StandsFor c ring samples → Follows c samples offered n → StandsUpTo c (ring_with c ring offered (taken_of c n)) samples (c.stretch.written + taken_of c n)
 StandsUpTo-filled c ring samples offered n sound waits held_all stands follows =
     let p = sound.prepared waits in

@@ -37,7 +37,7 @@ use Rattle.dmix_client.proofs.Ends.{by-test, after_start-ends, written-ends}
 use Rattle.dmix_client.proofs.Going.{IsStill, OnOk-of, accepted_if-told, after_start-still, after_sync-runs, after_sync-still, told-going, told-stop}
 use Rattle.dmix_client.proofs.Growing.{StandsFor-after, StandsUpTo-filled, accepted-none, laid_at, laid_at-none, segment_entries-after}
 use Rattle.dmix_client.proofs.Looking.{starts-by}
-use Rattle.dmix_client.proofs.Sound.{CanUse-still, CommitsAs, min-none, CommitsAs-seen, CommitsAs-started, CommitsAs-written, IsLoaded, IsMoving-after, IsMoving-seen, IsMoving-written, IsSound-after, IsSound-status, IsSound-stopped, after, configured-moving, configured-prepared, count-whole, hw-started, if-le, next-GoesOn, none-of, not_paused-moving, not_prepared-moving, taken-none, taken_fits, whole-of, whole_least, window_end-above}
+use Rattle.dmix_client.proofs.Sound.{CanUse-still, CommitsAs, min-none, CommitsAs-seen, CommitsAs-started, CommitsAs-written, IsLoaded, IsMoving-after, IsMoving-seen, IsMoving-written, IsSoundClient-after, IsSoundClient-status, IsSoundClient-stopped, after, configured-moving, configured-prepared, count-whole, hw-started, if-le, next-GoesOn, none-of, not_paused-moving, not_prepared-moving, taken-none, taken_fits, whole-of, whole_least, window_end-above}
 use Rattle.dmix_client.proofs.Storing.{StandsUpTo-written}
 use Rattle.dmix_client.specs.Calls.{Answered, with_accepted, accepted_if, base_of, commit_count, committed_by, after_drop, end_channel, end_of_commit, facts_of, is_paused, is_stop, late_of, over_of, after_pause, pending_of, with_new_base, after_resume, seen_at, start_count, after_start, started_in, stopped_in, sync_count, after_sync, taken_of, with_number, written_after, written_on}
 use Rattle.dmix_client.specs.Causes.{Explains, ExplainsWrite, IsCaused}
@@ -45,9 +45,9 @@ use Rattle.dmix_client.specs.Course.{commits, looks, resumes, starts, starts_tak
 use Rattle.dmix_client.specs.CourseLaws.{LaysFrames, TakesAt-frames, TakesAt-looks, TakesAt-step}
 use Rattle.dmix_client.specs.Growth.{AnySamples, Follows, Keeps, KeepsAccepted, StandsFor, StandsUpTo, segment_entries}
 use Rattle.dmix_client.specs.GrowthLaws.{Grows-joined}
-use Rattle.dmix_client.specs.Port.{CanUse, CountsEnd, IsCommit, IsStep, LoadsAndCommits, TakesStep, entries_at, least_channel}
+use Rattle.dmix_client.specs.Port.{CanUse, CountsEnd, IsCommit, IsFrameStep, LoadsAndCommits, TakesStep, entries_at, least_channel}
 use Rattle.dmix_client.specs.RingLaws.{stored-HasRoom}
-use Rattle.dmix_client.specs.View.{ClientView, IsConfigured, IsGoing, IsLaidPast, IsMoving, IsSound, avail_of, hw_of, queued_of, ring_sample}
+use Rattle.dmix_client.specs.View.{ClientView, IsConfigured, IsGoing, IsLaidPast, IsMoving, IsSoundClient, avail_of, hw_of, queued_of, ring_sample}
 use Rattle.dmix_client.specs.Writes.{count_with, ring_with, taken_after}
 use Rattle.dmix_client.specs.declared.commit.Commit.{Commit}
 use Rattle.dmix_client.specs.declared.stream.PlaybackStream.{PlaybackStream}
@@ -68,8 +68,8 @@ pub IsSamePort-refl : (v : PortView) → IsSamePort v v
 IsSamePort-refl v = record { same_geometry = refl; same_member = refl; same_can_add = refl }
 
 -- the counts of a client whose ring took frames
-pub IsSound-stored : (c : PlaybackStream) (ring samples : List ℤ) (m : ℕ) → IsSound c ring → IsConfigured c ring → m * length c.setup.bindings ≤ length samples → IsSound c (ring_with c ring samples m)
-IsSound-stored c ring samples m sound k held_all =
+pub IsSoundClient-stored : (c : PlaybackStream) (ring samples : List ℤ) (m : ℕ) → IsSoundClient c ring → IsConfigured c ring → m * length c.setup.bindings ≤ length samples → IsSoundClient c (ring_with c ring samples m)
+IsSoundClient-stored c ring samples m sound k held_all =
     let has = stored-HasRoom c.setup.config.buffer_size (length c.setup.bindings) ring (c.stretch.source + c.stretch.written) samples m (record { some = k.buffer_least; room = k.room }) held_all in
     record {
       lead = sound.lead;
@@ -90,8 +90,8 @@ taken-room n b w fits = grind (arith, nat_tests)
 taken-waiting : (c : PlaybackStream) (n : ℕ) → c.stretch.started ≡ false → taken_of c n ≡ min n (min (c.setup.config.buffer_size + 0 - c.stretch.written) c.setup.config.buffer_size)
 taken-waiting c n waits = ap (λ (b : Bool). min n (min (c.setup.config.buffer_size + (if b then unwrap_or c.seen 0 - c.stretch.card else 0) - c.stretch.written) c.setup.config.buffer_size)) waits
 
-IsSound-filled : (c : PlaybackStream) (ring : List ℤ) (m : ℕ) → IsSound c ring → c.status.state ≡ Prepared → c.stretch.written + m ≤ c.setup.config.buffer_size → IsSound (with_accepted c m) ring
-IsSound-filled c ring m sound waits fits = record {
+IsSoundClient-filled : (c : PlaybackStream) (ring : List ℤ) (m : ℕ) → IsSoundClient c ring → c.status.state ≡ Prepared → c.stretch.written + m ≤ c.setup.config.buffer_size → IsSoundClient (with_accepted c m) ring
+IsSoundClient-filled c ring m sound waits fits = record {
   lead = sound.lead;
   seen = sound.seen;
   card = sound.card;
@@ -104,7 +104,7 @@ IsSound-filled c ring m sound waits fits = record {
   paused = λ is. absurd (cc);
 }
 
-filled-stands : (c : PlaybackStream) (ring stored samples all : List ℤ) (n m : ℕ) → m ≡ taken_of c n → stored ≡ ring_with c ring samples m → IsSound c ring → c.status.state ≡ Prepared
+filled-stands : (c : PlaybackStream) (ring stored samples all : List ℤ) (n m : ℕ) → m ≡ taken_of c n → stored ≡ ring_with c ring samples m → IsSoundClient c ring → c.status.state ≡ Prepared
     → n * length c.setup.bindings ≤ length samples → StandsFor c ring all → Follows c all samples n → StandsUpTo c stored all (c.stretch.written + m)
 filled-stands c ring stored samples all n m is is_stored sound waits held_all stands follows =
     subst (λ (new : List ℤ). StandsUpTo c new all (c.stretch.written + m)) (sym is_stored)
@@ -137,7 +137,7 @@ module _ {S T : Type 0} (P : mixport.Ghosts S) (G : gates.Ghosts T) (laid_compos
       TakesAt-step P G laid_composes loaded_composes (λ position. started_in c Running position cursor) (λ position. start_count c cursor position upto) ring c.setup.bindings (after_start c state cursor) s t a bound (λ position. refl) takes
 
   -- what a call keeps that placed nothing and left the segment as it was
-  pub Keeps-still : {X : Type 0} (s t : S × T) (c d : PlaybackStream) (ring new : List ℤ) (answer : Result X PcmError) (For : List ℤ → Type 0) → IsSound d new → CanUse d (P.view t.0) → P.laid s.0 t.0 []
+  pub Keeps-still : {X : Type 0} (s t : S × T) (c d : PlaybackStream) (ring new : List ℤ) (answer : Result X PcmError) (For : List ℤ → Type 0) → IsSoundClient d new → CanUse d (P.view t.0) → P.laid s.0 t.0 []
       → (c.status.stopped ≡ false → CountsStop answer (G.stops s.1) (G.stops t.1)) → ((samples : List ℤ) → StandsFor c ring samples → segment_entries d samples ≡ segment_entries c samples) → d.identity.member ≡ c.identity.member → d.setup.bindings ≡ c.setup.bindings
       → ((samples : List ℤ) → StandsFor c ring samples → For samples → StandsFor d new samples) → Keeps P G s t (client c ring) (client d new) answer For
   Keeps-still s t c d ring new answer For sound port laid_nothing told same same_member same_bindings stands = record {
@@ -154,7 +154,7 @@ module _ {S T : Type 0} (P : mixport.Ghosts S) (G : gates.Ghosts T) (laid_compos
       → (st.state ≡ Paused → ⊥) → CountsStop answer (G.stops s.1) (G.stops t.1) → (is_moving st.state ≡ true → st.stopped ≡ false → IsMoving (after c b x st written fed) × IsFrom (P.view t.0).marks.cursor (b.stretch.card + (c.stretch.committed + x.frames)) (least_channel c.setup.bindings))
       → Keeps P G s t (client c ring) (client (after c b x st written fed) new) answer For
   Keeps-after s t c b ring new x count upto For y port same saw laid_it stands st written fed answer few sums not_prepared not_paused told moves = record {
-    sound = IsSound-after c b new x count upto st written fed y sums not_prepared not_paused (λ m going. (moves m going).0);
+    sound = IsSoundClient-after c b new x count upto st written fed y sums not_prepared not_paused (λ m going. (moves m going).0);
     port = record {
       same_geometry = same.same_geometry ∙ port.same_geometry;
       same_member = same.same_member ∙ port.same_member;
@@ -182,9 +182,9 @@ module _ {S T : Type 0} (P : mixport.Ghosts S) (G : gates.Ghosts T) (laid_compos
     pub follows : (samples offered : List ℤ) (n : ℕ) → Follows c samples offered n → Follows a.0 samples offered n
 
   -- where it was stopped before it loaded a position
-  pub unloaded-kept : (s t : S × T) (c : PlaybackStream) (ring : List ℤ) (Past : PlaybackStream → Type 0) → IsSound c ring → CanUse c (P.view s.0) → IsSamePort (P.view s.0) (P.view t.0) → P.laid s.0 t.0 [] → G.stops t.1 ≡ G.stops s.1 + 1 → Synced s t c ring Past (stopped_in c)
+  pub unloaded-kept : (s t : S × T) (c : PlaybackStream) (ring : List ℤ) (Past : PlaybackStream → Type 0) → IsSoundClient c ring → CanUse c (P.view s.0) → IsSamePort (P.view s.0) (P.view t.0) → P.laid s.0 t.0 [] → G.stops t.1 ≡ G.stops s.1 + 1 → Synced s t c ring Past (stopped_in c)
   unloaded-kept s t c ring Past sound port same laid_nothing told = record {
-    keeps = Keeps-still s t c (stopped_in {T = Unit {0}} c).0 ring ring (Err error.Stopped) AnySamples (IsSound-stopped c ring sound) (CanUse-still c _ _ _ port same refl (λ moves going. cc)) laid_nothing (λ unstopped. told) (λ samples stands. refl) refl refl (λ samples stands any. stands);
+    keeps = Keeps-still s t c (stopped_in {T = Unit {0}} c).0 ring ring (Err error.Stopped) AnySamples (IsSoundClient-stopped c ring sound) (CanUse-still c _ _ _ port same refl (λ moves going. cc)) laid_nothing (λ unstopped. told) (λ samples stands. refl) refl refl (λ samples stands any. stands);
     goes = tt;
     past = λ moves going. absurd (cc);
     same = record { written = refl; fed = refl; bindings = refl };
@@ -192,7 +192,7 @@ module _ {S T : Type 0} (P : mixport.Ghosts S) (G : gates.Ghosts T) (laid_compos
   }
 
   -- where it loaded one, of a client that moves on in each state in which it goes on
-  pub loaded-kept : (s t : S × T) (c : PlaybackStream) (ring : List ℤ) (call : Call) (position : Position) (x : Commit) (count : ℕ) (Past : PlaybackStream → Type 0) → is_moving c.status.state ≡ true → c.status.stopped ≡ false → IsStep c.status.state call
+  pub loaded-kept : (s t : S × T) (c : PlaybackStream) (ring : List ℤ) (call : Call) (position : Position) (x : Commit) (count : ℕ) (Past : PlaybackStream → Type 0) → is_moving c.status.state ≡ true → c.status.stopped ≡ false → IsFrameStep c.status.state call
       → CommitsAs c (seen_at c position) ring x count c.stretch.written → CanUse c (P.view s.0) → IsSamePort (P.view s.0) (P.view t.0) → (P.view t.0).seen ≡ position.frame → P.laid s.0 t.0 (laid_at c (seen_at c position) ring x) → CountsEnd x.ended (G.stops s.1) (G.stops t.1)
       → ((st : State) → is_stop x.ended ≡ false → position.gone ≡ false → late_of (seen_at c position) x ≡ None → (c.status.state ≡ Running → over_of (seen_at c position) position ≡ None)
       → IsMoving (after c (seen_at c position) x (record c.status { state = st }) c.stretch.written c.fed) × IsFrom (P.view t.0).marks.cursor (end_of_commit c x) (least_channel c.setup.bindings) × Past (after c (seen_at c position) x (record c.status { state = st }) c.stretch.written c.fed))
@@ -221,7 +221,7 @@ module _ {S T : Type 0} (P : mixport.Ghosts S) (G : gates.Ghosts T) (laid_compos
       })
 
   -- a sync of a client that moves frames
-  looked-kept : (s t : S × T) (c : PlaybackStream) (ring : List ℤ) (call : Call) (load : Option Position) (x : Commit) → IsSound c ring → is_moving c.status.state ≡ true → c.status.stopped ≡ false → IsStep c.status.state call → CanUse c (P.view s.0)
+  looked-kept : (s t : S × T) (c : PlaybackStream) (ring : List ℤ) (call : Call) (load : Option Position) (x : Commit) → IsSoundClient c ring → is_moving c.status.state ≡ true → c.status.stopped ≡ false → IsFrameStep c.status.state call → CanUse c (P.view s.0)
       → IsSamePort (P.view s.0) (P.view t.0) → LoadsAndCommits P G s t ring (λ position. c) (sync_count c) (length c.setup.bindings) load x → Synced s t c ring IsLaidPast (after_sync c call load x)
   looked-kept s t c ring call None x sound moves going step port same l = unloaded-kept s t c ring IsLaidPast sound port same l.laid_them l.stopped
   looked-kept s t c ring call (Some position) x sound moves going step port same l =
@@ -239,7 +239,7 @@ module _ {S T : Type 0} (P : mixport.Ghosts S) (G : gates.Ghosts T) (laid_compos
             (whole_least c.stretch.written c.stretch.committed c.stretch.card x.frames position.frame _ (window_end-above position.frame c.identity.geometry.frames (end_frame c.identity.geometry) loaded.most) whole),
       ))
 
-  pub syncs-kept : (s t : S × T) (c : PlaybackStream) (ring : List ℤ) (call : Call) (a : Answered (Unit {0})) → IsSound c ring → is_moving c.status.state ≡ true → c.status.stopped ≡ false → IsStep c.status.state call
+  pub syncs-kept : (s t : S × T) (c : PlaybackStream) (ring : List ℤ) (call : Call) (a : Answered (Unit {0})) → IsSoundClient c ring → is_moving c.status.state ≡ true → c.status.stopped ≡ false → IsFrameStep c.status.state call
       → CanUse c (P.view s.0) → TakesAt P G s (syncs c call ring) t a → Synced s t c ring IsLaidPast a
   syncs-kept s t c ring call a sound moves going step port takes =
       let st = syncs-step s t c ring call a (configured-moving c ring sound moves).bound takes in
@@ -250,12 +250,12 @@ module _ {S T : Type 0} (P : mixport.Ghosts S) (G : gates.Ghosts T) (laid_compos
     pub keeps : Keeps P G s t (client c ring) (client (accepted_if m a).0 ring) (accepted_if m a).1 (λ samples. StandsUpTo c ring samples (c.stretch.written + m))
     pub goes : OnOk a.1 (a.0.status.state ≡ state × a.0.status.stopped ≡ c.status.stopped)
 
-  begun-kept : (s t : S × T) (c : PlaybackStream) (ring : List ℤ) (state : State) (m : ℕ) (load : Option Position) (x : Commit) → IsSound c ring → c.status.state ≡ Prepared → is_moving state ≡ true → c.stretch.written + m ≤ c.setup.config.buffer_size
+  begun-kept : (s t : S × T) (c : PlaybackStream) (ring : List ℤ) (state : State) (m : ℕ) (load : Option Position) (x : Commit) → IsSoundClient c ring → c.status.state ≡ Prepared → is_moving state ≡ true → c.stretch.written + m ≤ c.setup.config.buffer_size
       → (P.view s.0).marks.cursor.frame ≤ end_frame c.identity.geometry → CanUse c (P.view s.0) → IsSamePort (P.view s.0) (P.view t.0)
       → LoadsAndCommits P G s t ring (λ position. started_in c Running position (P.view s.0).marks.cursor) (λ position. start_count c (P.view s.0).marks.cursor position (c.stretch.written + m)) (length c.setup.bindings) load x
       → Begun s t c ring state m (after_start c state (P.view s.0).marks.cursor load x)
   begun-kept s t c ring state m None x sound waits leads fits near port same l = record {
-    keeps = Keeps-still s t c (stopped_in {T = ℕ} c).0 ring ring (Err error.Stopped) _ (IsSound-stopped c ring sound) (CanUse-still c _ _ _ port same refl (λ moves going. cc)) l.laid_them (λ unstopped. l.stopped) (λ samples stands. refl) refl refl (λ samples stands up. stands);
+    keeps = Keeps-still s t c (stopped_in {T = ℕ} c).0 ring ring (Err error.Stopped) _ (IsSoundClient-stopped c ring sound) (CanUse-still c _ _ _ port same refl (λ moves going. cc)) l.laid_them (λ unstopped. l.stopped) (λ samples stands. refl) refl refl (λ samples stands up. stands);
     goes = tt;
   }
   begun-kept s t c ring state m (Some position) x sound waits leads fits near port same l =
@@ -272,7 +272,7 @@ module _ {S T : Type 0} (P : mixport.Ghosts S) (G : gates.Ghosts T) (laid_compos
       let none = none-of x.ended x.frames x.part (length c.setup.bindings) (subst (λ (n : ℕ). IsCommit x.ended x.frames x.part n (length c.setup.bindings)) (ap (λ (g : Bool). if g then 0 else commit_count b position.frame upto) gone) l.found.commit_is) in
       let d : PlaybackStream = record c { status = record c.status { state = Disconnected }; seen = Some position.frame } in
       record {
-        keeps = Keeps-still s t c d ring ring (Err error.NoDevice) _ (IsSound-status c d.status d.seen ring sound most (λ is. absurd (cc)) (λ is. absurd (cc)) (λ moves going. absurd (cc)) (λ is. absurd (cc)))
+        keeps = Keeps-still s t c d ring ring (Err error.NoDevice) _ (IsSoundClient-status c d.status d.seen ring sound most (λ is. absurd (cc)) (λ is. absurd (cc)) (λ moves going. absurd (cc)) (λ is. absurd (cc)))
             (CanUse-still c d _ _ port same refl (λ moves going. cc)) (subst (P.laid s.0 t.0) (laid_at-none c b ring x none.0 none.1) l.laid_them) (λ unstopped. subst (λ (e : Ended). CountsEnd e (G.stops s.1) (G.stops t.1)) none.2 l.stopped)
             (λ samples stands. refl) refl refl (λ samples stands up j q low high in_range. stands j q (min-none c.stretch.committed (hw_of c) j p.no_frame) high in_range);
         goes = tt;
@@ -290,7 +290,7 @@ module _ {S T : Type 0} (P : mixport.Ghosts S) (G : gates.Ghosts T) (laid_compos
       })
 
   -- a start of a client that is prepared
-  pub starts-kept : (s t : S × T) (c : PlaybackStream) (ring : List ℤ) (state : State) (m : ℕ) (a : Answered (Unit {0})) → IsSound c ring → c.status.state ≡ Prepared → is_moving state ≡ true
+  pub starts-kept : (s t : S × T) (c : PlaybackStream) (ring : List ℤ) (state : State) (m : ℕ) (a : Answered (Unit {0})) → IsSoundClient c ring → c.status.state ≡ Prepared → is_moving state ≡ true
       → c.stretch.written + m ≤ c.setup.config.buffer_size → (P.view s.0).marks.cursor.frame ≤ end_frame c.identity.geometry → CanUse c (P.view s.0)
       → TakesAt P G s (starts c state (P.view s.0).marks.cursor (c.stretch.written + m) ring) t a → Begun s t c ring state m a
   starts-kept s t c ring state m a sound waits leads fits near port takes =
@@ -298,7 +298,7 @@ module _ {S T : Type 0} (P : mixport.Ghosts S) (G : gates.Ghosts T) (laid_compos
       subst (Begun s t c ring state m) st.outcome (begun-kept s t c ring state m st.load st.commit sound waits leads fits near port (TakesAt-same P G s t (starts c state (P.view s.0).marks.cursor (c.stretch.written + m) ring) a takes) st.looked)
 
   -- of all that is written
-  pub start-kept : (s t : S × T) (c : PlaybackStream) (ring : List ℤ) (state : State) (a : Answered (Unit {0})) → IsSound c ring → c.status.state ≡ Prepared → is_moving state ≡ true
+  pub start-kept : (s t : S × T) (c : PlaybackStream) (ring : List ℤ) (state : State) (a : Answered (Unit {0})) → IsSoundClient c ring → c.status.state ≡ Prepared → is_moving state ≡ true
       → (P.view s.0).marks.cursor.frame ≤ end_frame c.identity.geometry → CanUse c (P.view s.0) → TakesAt P G s (starts c state (P.view s.0).marks.cursor c.stretch.written ring) t a
       → Keeps P G s t (client c ring) (client a.0 ring) a.1 AnySamples × OnOk a.1 (a.0.status.state ≡ state × a.0.status.stopped ≡ c.status.stopped)
   start-kept s t c ring state a sound waits leads near port takes =
@@ -316,7 +316,7 @@ module _ {S T : Type 0} (P : mixport.Ghosts S) (G : gates.Ghosts T) (laid_compos
       )
 
   -- nothing was done
-  pub Keeps-none : {X : Type 0} (s : S × T) (c : ClientView) (answer : Result X PcmError) (For : List ℤ → Type 0) → IsSound c.stream c.ring → CanUse c.stream (P.view s.0)
+  pub Keeps-none : {X : Type 0} (s : S × T) (c : ClientView) (answer : Result X PcmError) (For : List ℤ → Type 0) → IsSoundClient c.stream c.ring → CanUse c.stream (P.view s.0)
       → (c.stream.status.stopped ≡ false → pass_by answer ≡ Go) → Keeps P G s s c c answer For
   Keeps-none s c answer For sound port told =
       Keeps-still s s c.stream c.stream c.ring c.ring answer For sound port (laid_composes.none s.0) (λ unstopped. ap (λ pass. stops_after pass (G.stops s.1)) (sym (told unstopped))) (λ samples stands. refl) refl refl (λ samples stands any. stands)
@@ -343,7 +343,7 @@ module _ {S T : Type 0} (P : mixport.Ghosts S) (G : gates.Ghosts T) (laid_compos
     pub keeps : Keeps P G s t (client c ring) (client a.0 (ring_with c ring offered (taken_of c n))) a.1 (λ all. Follows c all offered n)
     pub count : IfOk a.1 (λ taken. taken ≤ 16384)
 
-  written-kept : (s t : S × T) (c : PlaybackStream) (ring offered : List ℤ) (n : ℕ) (x : Commit) → IsSound c ring → is_moving c.status.state ≡ true → c.status.stopped ≡ false → IsLaidPast c → n * length c.setup.bindings ≤ length offered → CanUse c (P.view s.0) → IsSamePort (P.view s.0) (P.view t.0)
+  written-kept : (s t : S × T) (c : PlaybackStream) (ring offered : List ℤ) (n : ℕ) (x : Commit) → IsSoundClient c ring → is_moving c.status.state ≡ true → c.status.stopped ≡ false → IsLaidPast c → n * length c.setup.bindings ≤ length offered → CanUse c (P.view s.0) → IsSamePort (P.view s.0) (P.view t.0)
       → LaysFrames P G s t c.identity.member c.stretch.card c.setup.bindings (ring_sample c (ring_with c ring offered (taken_of c n))) (count_with c (taken_of c n)) c.stretch.committed x → Written s t c ring offered n (written_after c n x)
   written-kept s t c ring offered n x sound moves going past held_all port same laid =
       let k = configured-moving c ring sound moves in
@@ -352,7 +352,7 @@ module _ {S T : Type 0} (P : mixport.Ghosts S) (G : gates.Ghosts T) (laid_compos
       let new = ring_with c ring offered m in
       let upto : ℕ = c.stretch.written + m in
       let few : m * length c.setup.bindings ≤ n * length c.setup.bindings = mul-le-mul_right (length c.setup.bindings) (taken_fits c.stretch.written (hw_of c) c.setup.config.buffer_size n m was.fits refl).2 in
-      let sound_new = IsSound-stored c ring offered m sound k (omega (arith, few, held_all)) in
+      let sound_new = IsSoundClient-stored c ring offered m sound k (omega (arith, few, held_all)) in
       let up : (samples : List ℤ) → StandsFor c ring samples → Follows c samples offered n → StandsUpTo c new samples upto = λ samples stands for. StandsUpTo-written c ring samples offered n k held_all was.fits past stands for in
       let y = CommitsAs-written c new x m sound_new moves going laid.commit_is in
       let saw : unwrap_or c.seen 0 ≤ (P.view t.0).seen = subst (λ (v : PortView). unwrap_or c.seen 0 ≤ v.seen) (sym laid.view_is) (port.newer moves going) in
@@ -391,7 +391,7 @@ module _ {S T : Type 0} (P : mixport.Ghosts S) (G : gates.Ghosts T) (laid_compos
     pub outcome : written_after c n last ≡ a
     pub late : OnLate last.ended (λ word. IsPast P.view P.shows t.0 (end_of_commit c last) (end_channel c last) word)
 
-  pub takes_more-kept : (s t : S × T) (c : PlaybackStream) (ring offered : List ℤ) (n : ℕ) (a : Answered ℕ) → IsSound c ring → is_moving c.status.state ≡ true → c.status.stopped ≡ false → IsLaidPast c
+  pub takes_more-kept : (s t : S × T) (c : PlaybackStream) (ring offered : List ℤ) (n : ℕ) (a : Answered ℕ) → IsSoundClient c ring → is_moving c.status.state ≡ true → c.status.stopped ≡ false → IsLaidPast c
       → n * length c.setup.bindings ≤ length offered → CanUse c (P.view s.0) → TakesAt P G s (takes_more c ring offered n) t a → Taken s t c ring offered n a
   unfolding takes_more
   takes_more-kept s t c ring offered n a sound moves going past held_all port takes =
@@ -406,7 +406,7 @@ module _ {S T : Type 0} (P : mixport.Ghosts S) (G : gates.Ghosts T) (laid_compos
       }))
 
   -- why a sync and a start answered so
-  pub syncs-explained : (s t : S × T) (c : PlaybackStream) (ring : List ℤ) (call : Call) (a : Answered (Unit {0})) → AreBindings c.setup.bindings → IsStep c.status.state call
+  pub syncs-explained : (s t : S × T) (c : PlaybackStream) (ring : List ℤ) (call : Call) (a : Answered (Unit {0})) → AreBindings c.setup.bindings → IsFrameStep c.status.state call
       → TakesAt P G s (syncs c call ring) t a → Explains P G s t (client c ring) (λ position. c) (sync_count c) (after_sync c call) a
   syncs-explained s t c ring call a bound step takes =
       let st = syncs-step s t c ring call a bound takes in
@@ -452,7 +452,7 @@ module _ {S T : Type 0} (P : mixport.Ghosts S) (G : gates.Ghosts T) (laid_compos
       → ((e : PcmError) → middle.1 ≡ Err e → t ≡ m)
       → ExplainsWrite P G s t c ring new_ring offered n a
   writes-explained s m t c ring new_ring offered n middle a bound runs first rest is_ring last outcome late stays =
-      let step : IsStep c.status.state call.Transfer = subst (λ (state : State). IsStep state call.Transfer) (sym runs) tt in
+      let step : IsFrameStep c.status.state call.Transfer = subst (λ (state : State). IsFrameStep state call.Transfer) (sym runs) tt in
       let one = syncs-explained s m c ring call.Transfer middle bound step first in
       let st = one.step in
       record {
@@ -482,12 +482,12 @@ module _ {S T : Type 0} (P : mixport.Ghosts S) (G : gates.Ghosts T) (laid_compos
       subst (λ (b : Answered (Unit {0})). b.1 ≡ Err e → IsStill b) st.outcome (after_start-still c cursor st.load st.commit e) is
 
   -- a write into a prepared stream that doesn't start it
-  pub stored-kept : (s : S × T) (c : PlaybackStream) (ring stored samples : List ℤ) (n m : ℕ) → m ≡ taken_of c n → stored ≡ ring_with c ring samples m → IsSound c ring → IsSound c stored → c.status.state ≡ Prepared
+  pub stored-kept : (s : S × T) (c : PlaybackStream) (ring stored samples : List ℤ) (n m : ℕ) → m ≡ taken_of c n → stored ≡ ring_with c ring samples m → IsSoundClient c ring → IsSoundClient c stored → c.status.state ≡ Prepared
       → n * length c.setup.bindings ≤ length samples → CanUse c (P.view s.0)
       → Keeps P G s s (client c ring) (client (with_accepted c m) stored) (let r : Result ℕ PcmError = Ok m in r) (λ all. Follows c all samples n)
   stored-kept s c ring stored samples n m is is_stored sound sound_stored waits held_all port =
       Keeps-still s s c (with_accepted c m) ring stored (Ok m) (λ all. Follows c all samples n)
-      (IsSound-filled c stored m sound_stored waits (omega (arith, is, taken-room n c.setup.config.buffer_size c.stretch.written (sound.prepared waits).fits, taken-waiting c n (sound.prepared waits).waiting)))
+      (IsSoundClient-filled c stored m sound_stored waits (omega (arith, is, taken-room n c.setup.config.buffer_size c.stretch.written (sound.prepared waits).fits, taken-waiting c n (sound.prepared waits).waiting)))
       (CanUse-still c (with_accepted c m) (P.view s.0) (P.view s.0) port (IsSamePort-refl (P.view s.0)) refl (λ moves going. not_prepared-moving c.status.state moves waits)) (laid_composes.none s.0) (λ unstopped. refl) (λ all stands. refl) refl refl
       (λ all stands for. filled-stands c ring stored samples all n m is is_stored sound waits held_all stands for)
 
@@ -498,7 +498,7 @@ module _ {S T : Type 0} (P : mixport.Ghosts S) (G : gates.Ghosts T) (laid_compos
     pub explains : Explains P G s t (client c stored) (λ position. started_in c Running position (P.view s.0).marks.cursor) (λ position. start_count c (P.view s.0).marks.cursor position (c.stretch.written + m))
         (λ load commit. accepted_if m (after_start c Running (P.view s.0).marks.cursor load commit)) a
 
-  pub filled-kept : (s t : S × T) (c : PlaybackStream) (ring stored samples : List ℤ) (n m : ℕ) (a : Answered ℕ) → m ≡ taken_of c n → stored ≡ ring_with c ring samples m → IsSound c ring → IsSound c stored → c.status.state ≡ Prepared
+  pub filled-kept : (s t : S × T) (c : PlaybackStream) (ring stored samples : List ℤ) (n m : ℕ) (a : Answered ℕ) → m ≡ taken_of c n → stored ≡ ring_with c ring samples m → IsSoundClient c ring → IsSoundClient c stored → c.status.state ≡ Prepared
       → n * length c.setup.bindings ≤ length samples → (P.view s.0).marks.cursor.frame ≤ end_frame c.identity.geometry → CanUse c (P.view s.0)
       → TakesAt P G s (starts_taking c stored (P.view s.0).marks.cursor m) t a → Filled s t c ring stored samples n m a
   unfolding starts_taking
@@ -524,13 +524,13 @@ module _ {S T : Type 0} (P : mixport.Ghosts S) (G : gates.Ghosts T) (laid_compos
     pub count : IfOk a.1 (λ taken. taken ≤ 16384)
     pub explains : ExplainsWrite P G s t c ring new offered n a
 
-  pub writes-kept : (s m t : S × T) (c d : PlaybackStream) (ring new offered : List ℤ) (n : ℕ) (a : Answered ℕ) → new ≡ ring_with d ring offered (taken_of d n) → IsSound c ring → c.status.state ≡ Running → c.status.stopped ≡ false
+  pub writes-kept : (s m t : S × T) (c d : PlaybackStream) (ring new offered : List ℤ) (n : ℕ) (a : Answered ℕ) → new ≡ ring_with d ring offered (taken_of d n) → IsSoundClient c ring → c.status.state ≡ Running → c.status.stopped ≡ false
       → n * length c.setup.bindings ≤ length offered → CanUse c (P.view s.0) → TakesAt P G s (syncs c call.Transfer ring) m (d, Ok tt) → TakesAt P G m (takes_more d ring offered n) t a
       → Wrote s t c ring new offered n a
   writes-kept s m t c d ring new offered n a is_new sound runs unstopped held_all port one two =
       let moves : is_moving c.status.state ≡ true = ap is_moving runs in
       let bound = (configured-moving c ring sound moves).bound in
-      let first = syncs-kept s m c ring call.Transfer (d, Ok tt) sound moves unstopped (subst (λ (state : State). IsStep state call.Transfer) (sym runs) tt) port one in
+      let first = syncs-kept s m c ring call.Transfer (d, Ok tt) sound moves unstopped (subst (λ (state : State). IsFrameStep state call.Transfer) (sym runs) tt) port one in
       let still : d.status.state ≡ Running = syncs-runs s m c ring (d, Ok tt) bound runs refl one in
       let later = takes_more-kept m t d ring offered n a first.keeps.sound (ap is_moving still) first.goes.unstopped (first.past (ap is_moving still) first.goes.unstopped) (subst (λ (bs : List ℕ). n * length bs ≤ length offered) (sym first.same.bindings) held_all) first.keeps.port two in
       subst (λ (r : List ℤ). Wrote s t c ring r offered n a) (sym is_new) (record {
@@ -542,17 +542,17 @@ module _ {S T : Type 0} (P : mixport.Ghosts S) (G : gates.Ghosts T) (laid_compos
       })
 
   -- a client whose state is left, with nothing done
-  left-kept : (s : S × T) (c : PlaybackStream) (ring : List ℤ) (state : State) → IsSound (record c { status = record c.status { state = state } }) ring → CanUse c (P.view s.0) → is_moving state ≡ false
+  left-kept : (s : S × T) (c : PlaybackStream) (ring : List ℤ) (state : State) → IsSoundClient (record c { status = record c.status { state = state } }) ring → CanUse c (P.view s.0) → is_moving state ≡ false
       → Keeps P G s s (client c ring) (client (record c { status = record c.status { state = state } }) ring) (let r : Result (Unit {0}) PcmError = Ok tt in r) AnySamples
   left-kept s c ring state sound port rests =
       Keeps-still s s c (record c { status = record c.status { state = state } }) ring ring (Ok tt) AnySamples sound
       (CanUse-still c (record c { status = record c.status { state = state } }) (P.view s.0) (P.view s.0) port (IsSamePort-refl (P.view s.0)) refl (λ moves going. cc)) (laid_composes.none s.0) (λ unstopped. refl) (λ samples stands. refl) refl refl (λ samples stands any. stands)
 
   -- a drain with nothing to play
-  pub dropped-kept : (s : S × T) (c : PlaybackStream) (ring : List ℤ) → IsSound c ring → refusal_of Playback c.status call.Drain ≡ None → CanUse c (P.view s.0)
+  pub dropped-kept : (s : S × T) (c : PlaybackStream) (ring : List ℤ) → IsSoundClient c ring → refusal_of Playback c.status call.Drain ≡ None → CanUse c (P.view s.0)
       → Keeps P G s s (client c ring) (client (after_drop c) ring) (let r : Result (Unit {0}) PcmError = Ok tt in r) AnySamples
   dropped-kept s c ring sound admitted port =
-      left-kept s c ring Setup (IsSound-status c (record c.status { state = Setup }) c.seen ring sound sound.seen (λ is. sound.set_up (drain-set_up c.status.stopped c.status.state admitted)) (λ is. absurd (cc)) (λ moves going. absurd (cc)) (λ is. absurd (cc))) port refl
+      left-kept s c ring Setup (IsSoundClient-status c (record c.status { state = Setup }) c.seen ring sound sound.seen (λ is. sound.set_up (drain-set_up c.status.stopped c.status.state admitted)) (λ is. absurd (cc)) (λ moves going. absurd (cc)) (λ is. absurd (cc))) port refl
 
 -- ---- what a pause and a resume keep, and why a resume answered so
 
@@ -585,8 +585,8 @@ pub base-anew : (c d : PlaybackStream) → c.status.state ≡ Paused → is_paus
 base-anew c d is goes = anew-based (is_paused c.status.state) (is_paused d.status.state) c (with_new_base c) (ap is_paused is) goes
 
 -- the counts of a paused client, based anew, are those of a prepared one
-pub IsSound-rebased : (c : PlaybackStream) (ring : List ℤ) → IsSound c ring → c.status.state ≡ Paused → IsSound (with_new_base c) ring
-IsSound-rebased c ring sound is =
+pub IsSoundClient-rebased : (c : PlaybackStream) (ring : List ℤ) → IsSoundClient c ring → c.status.state ≡ Paused → IsSoundClient (with_new_base c) ring
+IsSoundClient-rebased c ring sound is =
     let m = sound.paused is in
     record {
       lead = sound.lead;
@@ -602,9 +602,9 @@ IsSound-rebased c ring sound is =
     }
 
 -- a client that is paused
-IsSound-paused : (c : PlaybackStream) (ring : List ℤ) → IsSound c ring → c.status.state ≡ Running → c.status.stopped ≡ false → IsSound (after_pause c) ring
-IsSound-paused c ring sound runs going =
-    IsSound-status c (record c.status { state = Paused }) c.seen ring sound sound.seen (λ set. sound.set_up (ap is_set_up runs)) (λ waits. absurd (cc)) (λ moves still. absurd (cc)) (λ still. sound.moving (ap is_moving runs) going)
+IsSoundClient-paused : (c : PlaybackStream) (ring : List ℤ) → IsSoundClient c ring → c.status.state ≡ Running → c.status.stopped ≡ false → IsSoundClient (after_pause c) ring
+IsSoundClient-paused c ring sound runs going =
+    IsSoundClient-status c (record c.status { state = Paused }) c.seen ring sound sound.seen (λ set. sound.set_up (ap is_set_up runs)) (λ waits. absurd (cc)) (λ moves still. absurd (cc)) (λ still. sound.moving (ap is_moving runs) going)
 
 -- a start that loaded the position isn't paused
 not_paused-after_start : (c : PlaybackStream) (cursor : Cursor) (position : Position) (commit : Commit) → is_paused (after_start c Running cursor (Some position) commit).0.status.state ≡ false
@@ -613,38 +613,38 @@ not_paused-after_start c cursor position commit =
 
 module _ {S T : Type 0} (P : mixport.Ghosts S) (G : gates.Ghosts T) (laid_composes : Composes P.laid) (loaded_composes : Composes P.loaded) where
   -- a pause
-  pub paused-kept : (s : S × T) (c : PlaybackStream) (ring : List ℤ) → IsSound c ring → refusal_of Playback c.status call.Pause ≡ None → CanUse c (P.view s.0)
+  pub paused-kept : (s : S × T) (c : PlaybackStream) (ring : List ℤ) → IsSoundClient c ring → refusal_of Playback c.status call.Pause ≡ None → CanUse c (P.view s.0)
       → Keeps P G s s (client (base_of c (after_pause c)) ring) (client (after_pause c) ring) (let r : Result (Unit {0}) PcmError = Ok tt in r) AnySamples
   paused-kept s c ring sound admitted port =
       let is = pause-runs c.status.stopped c.status.state admitted in
       subst (λ (b : PlaybackStream). Keeps P G s s (client b ring) (client (after_pause c) ring) (let r : Result (Unit {0}) PcmError = Ok tt in r) AnySamples) (sym (base-kept c (after_pause c) (λ is. refl)))
-      (left-kept P G laid_composes loaded_composes s c ring Paused (IsSound-paused c ring sound is.0 is.1) port refl)
+      (left-kept P G laid_composes loaded_composes s c ring Paused (IsSoundClient-paused c ring sound is.0 is.1) port refl)
 
   CanUse-rebased : (c : PlaybackStream) (v : PortView) → CanUse c v → CanUse (with_new_base c) v
   CanUse-rebased c v port = CanUse-still c (with_new_base c) v v port (IsSamePort-refl v) refl (λ moves going. cc)
 
   -- a resume without pending frames
-  pub rebased-kept : (s : S × T) (c : PlaybackStream) (ring : List ℤ) → IsSound c ring → refusal_of Playback c.status call.Resume ≡ None → CanUse c (P.view s.0)
+  pub rebased-kept : (s : S × T) (c : PlaybackStream) (ring : List ℤ) → IsSoundClient c ring → refusal_of Playback c.status call.Resume ≡ None → CanUse c (P.view s.0)
       → Keeps P G s s (client (base_of c (with_new_base c)) ring) (client (with_new_base c) ring) (let r : Result (Unit {0}) PcmError = Ok tt in r) AnySamples
   rebased-kept s c ring sound admitted port =
       let is = resume-paused c.status.stopped c.status.state admitted in
       subst (λ (b : PlaybackStream). Keeps P G s s (client b ring) (client (with_new_base c) ring) (let r : Result (Unit {0}) PcmError = Ok tt in r) AnySamples) (sym (base-anew c (with_new_base c) is refl))
-      (Keeps-none P G laid_composes loaded_composes s (client (with_new_base c) ring) (Ok tt) AnySamples (IsSound-rebased c ring sound is) (CanUse-rebased c (P.view s.0) port) (λ unstopped. refl))
+      (Keeps-none P G laid_composes loaded_composes s (client (with_new_base c) ring) (Ok tt) AnySamples (IsSoundClient-rebased c ring sound is) (CanUse-rebased c (P.view s.0) port) (λ unstopped. refl))
 
   -- a resume with pending frames
-  resumed-by : (s t : S × T) (c : PlaybackStream) (ring : List ℤ) (cursor : Cursor) (load : Option Position) (commit : Commit) → IsSound c ring → c.status.state ≡ Paused → CanUse c (P.view s.0) → IsSamePort (P.view s.0) (P.view t.0)
+  resumed-by : (s t : S × T) (c : PlaybackStream) (ring : List ℤ) (cursor : Cursor) (load : Option Position) (commit : Commit) → IsSoundClient c ring → c.status.state ≡ Paused → CanUse c (P.view s.0) → IsSamePort (P.view s.0) (P.view t.0)
       → P.laid s.0 t.0 (entries_at load (λ position. started_in (with_new_base c) Running position cursor) ring commit)
       → Keeps P G s t (client (with_new_base c) ring) (client (after_start (with_new_base c) Running cursor load commit).0 ring) (after_start (with_new_base c) Running cursor load commit).1 AnySamples
       → Keeps P G s t (client (base_of c (after_resume c cursor load commit).0) ring) (client (after_resume c cursor load commit).0 ring) (after_resume c cursor load commit).1 AnySamples
   resumed-by s t c ring cursor None commit sound is port same laid_nothing keeps =
       let d : PlaybackStream = record c { status = record c.status { stopped = true } } in
       subst (λ (b : PlaybackStream). Keeps P G s t (client b ring) (client d ring) (let r : Result (Unit {0}) PcmError = Err error.Stopped in r) AnySamples) (sym (base-kept c d (λ is. is)))
-      (Keeps-still P G laid_composes loaded_composes s t c d ring ring (Err error.Stopped) AnySamples (IsSound-stopped c ring sound) (CanUse-still c d (P.view s.0) (P.view t.0) port same refl (λ moves going. cc)) laid_nothing keeps.told (λ samples stands. refl) refl refl (λ samples stands any. stands))
+      (Keeps-still P G laid_composes loaded_composes s t c d ring ring (Err error.Stopped) AnySamples (IsSoundClient-stopped c ring sound) (CanUse-still c d (P.view s.0) (P.view t.0) port same refl (λ moves going. cc)) laid_nothing keeps.told (λ samples stands. refl) refl refl (λ samples stands any. stands))
   resumed-by s t c ring cursor (Some position) commit sound is port same laid_nothing keeps =
       subst (λ (b : PlaybackStream). Keeps P G s t (client b ring) (client (after_start (with_new_base c) Running cursor (Some position) commit).0 ring) (after_start (with_new_base c) Running cursor (Some position) commit).1 AnySamples)
       (sym (base-anew c (after_start (with_new_base c) Running cursor (Some position) commit).0 is (not_paused-after_start (with_new_base c) cursor position commit))) keeps
 
-  pub resumes-kept : (s t : S × T) (c : PlaybackStream) (ring : List ℤ) (a : Answered (Unit {0})) → IsSound c ring → c.status.state ≡ Paused → (P.view s.0).marks.cursor.frame ≤ end_frame c.identity.geometry → CanUse c (P.view s.0)
+  pub resumes-kept : (s t : S × T) (c : PlaybackStream) (ring : List ℤ) (a : Answered (Unit {0})) → IsSoundClient c ring → c.status.state ≡ Paused → (P.view s.0).marks.cursor.frame ≤ end_frame c.identity.geometry → CanUse c (P.view s.0)
       → TakesAt P G s (resumes c (P.view s.0).marks.cursor ring) t a → Keeps P G s t (client (base_of c a.0) ring) (client a.0 ring) a.1 AnySamples
   unfolding resumes
   resumes-kept s t c ring a sound is near port takes =
@@ -654,7 +654,7 @@ module _ {S T : Type 0} (P : mixport.Ghosts S) (G : gates.Ghosts T) (laid_compos
       let bound = (sound.configured (sound.set_up (ap is_set_up is))).bound in
       let parts = Takes-parts (LoadsAt P G) (LaysAt P G) NoGet s t (looks at count ring) (λ found. ends (after_resume c cursor found.0 found.1)) a takes in
       let begun : Answered (Unit {0}) = after_start (with_new_base c) Running cursor parts.1.0 parts.1.1 in
-      let keeps = (start-kept P G laid_composes loaded_composes s parts.0 (with_new_base c) ring Running begun (IsSound-rebased c ring sound is) refl refl near (CanUse-rebased c (P.view s.0) port)
+      let keeps = (start-kept P G laid_composes loaded_composes s parts.0 (with_new_base c) ring Running begun (IsSoundClient-rebased c ring sound is) refl refl near (CanUse-rebased c (P.view s.0) port)
       (starts-by P G s parts.0 (with_new_base c) Running cursor (pending_of c) ring parts.1.0 parts.1.1 begun parts.2 refl)).0 in
       let looked = TakesAt-looks P G laid_composes loaded_composes at count ring c.setup.bindings s parts.0 parts.1.0 parts.1.1 bound (λ position. refl) parts.2 in
       subst (λ (u : S × T). Keeps P G s u (client (base_of c a.0) ring) (client a.0 ring) a.1 AnySamples) (sym parts.3.there)
@@ -667,7 +667,7 @@ module _ {S T : Type 0} (P : mixport.Ghosts S) (G : gates.Ghosts T) (laid_compos
   why-resumed t c cursor None commit shown = caused-none P.view P.shows t.0 (with_new_base c) (record c { status = record c.status { stopped = true } })
   why-resumed t c cursor (Some position) commit shown = IsCaused-after_start P.view P.shows t.0 (with_new_base c) Running cursor (Some position) commit refl shown
 
-  pub resumes-explained : (s t : S × T) (c : PlaybackStream) (ring : List ℤ) (cursor : Cursor) (a : Answered (Unit {0})) → IsSound c ring → c.status.state ≡ Paused → TakesAt P G s (resumes c cursor ring) t a
+  pub resumes-explained : (s t : S × T) (c : PlaybackStream) (ring : List ℤ) (cursor : Cursor) (a : Answered (Unit {0})) → IsSoundClient c ring → c.status.state ≡ Paused → TakesAt P G s (resumes c cursor ring) t a
       → Explains P G s t (client (with_new_base c) ring) (λ position. started_in (with_new_base c) Running position cursor) (λ position. start_count (with_new_base c) cursor position (pending_of c)) (after_resume c cursor) a
   unfolding resumes
   resumes-explained s t c ring cursor a sound is takes =

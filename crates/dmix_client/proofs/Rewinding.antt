@@ -41,10 +41,10 @@ use Rattle.dmix_client.specs.Course.{nothing, course_with_number}
 use Rattle.dmix_client.specs.Expansion.{run_entries, sample_at}
 use Rattle.dmix_client.specs.ExpansionLaws.{frames_used, run_entries-append, run_entries-same}
 use Rattle.dmix_client.specs.Growth.{AnySamples, Keeps, KeepsBack, Loses, StandsFor, TakesAway, segment_entries}
-use Rattle.dmix_client.specs.Port.{CanUse, IsStep, least_channel}
+use Rattle.dmix_client.specs.Port.{CanUse, IsFrameStep, least_channel}
 use Rattle.dmix_client.specs.Rewind.{back_of, checks, held_entries, last_channel, last_laid, rewind_on, rewindable_of, rewinds, after_rewind, take_frames, taken_back, takes_back, without_frames}
 use Rattle.dmix_client.specs.RewindCauses.{ExplainsCheck, ExplainsRewind, IsKeptCause}
-use Rattle.dmix_client.specs.View.{ClientView, IsGoing, IsMoving, IsSound, hw_of, queued_of, ring_sample}
+use Rattle.dmix_client.specs.View.{ClientView, IsGoing, IsMoving, IsSoundClient, hw_of, queued_of, ring_sample}
 use Rattle.dmix_client.specs.declared.commit.Commit.{Commit}
 use Rattle.dmix_client.specs.declared.stream.PlaybackStream.{PlaybackStream}
 
@@ -75,17 +75,17 @@ after_sync-timely : (c : PlaybackStream) (load : Option Position) (frame channel
 after_sync-timely c None frame channel word runs = λ is. cc
 after_sync-timely c (Some position) frame channel word runs =
     next-ends (λ (o : Outcome). o.answer ≡ Err (error.Xrun (why.Late frame channel word)) → ⊥) c.status.state call.Transfer (queued_of (committed_by (seen_at c position) nothing)) position.gone (over_of (seen_at c position) position) None
-    (subst (λ (s : State). IsStep s call.Transfer) (sym runs) tt) (λ gone is. cc) (λ a f here same over is. cc) (λ w here none late. absurd (cc)) (λ here same none in_time is. cc) (λ here drains in_time is. cc) (λ here drains in_time same is. cc) (λ here drains in_time same is. cc)
+    (subst (λ (s : State). IsFrameStep s call.Transfer) (sym runs) tt) (λ gone is. cc) (λ a f here same over is. cc) (λ w here none late. absurd (cc)) (λ here same none in_time is. cc) (λ here drains in_time is. cc) (λ here drains in_time same is. cc) (λ here drains in_time same is. cc)
 
 module _ {S T : Type 0} (P : mixport.Ghosts S) (G : gates.Ghosts T) (laid_composes : Composes P.laid) (loaded_composes : Composes P.loaded) where
   -- by what was loaded: what is kept, and that the frames played don't fall
-  checked-by : (s t : S × T) (c : PlaybackStream) (ring : List ℤ) (load : Option Position) → IsSound c ring → c.status.state ≡ Running → c.status.stopped ≡ false → CanUse c (P.view s.0) → IsSamePort (P.view s.0) (P.view t.0) → LoadsAt P G s load t
+  checked-by : (s t : S × T) (c : PlaybackStream) (ring : List ℤ) (load : Option Position) → IsSoundClient c ring → c.status.state ≡ Running → c.status.stopped ≡ false → CanUse c (P.view s.0) → IsSamePort (P.view s.0) (P.view t.0) → LoadsAt P G s load t
       → Synced P G laid_composes loaded_composes s t c ring (λ d. Unit {0}) (after_sync c call.Transfer load nothing) × (min c.stretch.committed (hw_of c) ≤ hw_of (after_sync c call.Transfer load nothing).0)
   checked-by s t c ring None sound runs going port same step =
       (unloaded-kept P G laid_composes loaded_composes s t c ring (λ d. Unit {0}) sound port same step.laid_nothing step.stopped, min-newer c.stretch.committed (hw_of c) (hw_of c) (omega arith))
   checked-by s t c ring (Some position) sound runs going port same step =
       let moves : is_moving c.status.state ≡ true = ap is_moving runs in
-      let callable : IsStep c.status.state call.Transfer = subst (λ (st : State). IsStep st call.Transfer) (sym runs) tt in
+      let callable : IsFrameStep c.status.state call.Transfer = subst (λ (st : State). IsFrameStep st call.Transfer) (sym runs) tt in
       let loaded = loaded-of c (P.view s.0) position moves going port step.newer step.within in
       let m = IsMoving-seen c position (sound.moving moves going) loaded in
       let y = CommitsAs-seen c ring position nothing 0 sound moves going loaded (omega arith) (refl, refl) in
@@ -96,12 +96,12 @@ module _ {S T : Type 0} (P : mixport.Ghosts S) (G : gates.Ghosts T) (laid_compos
         after_sync-leaves (λ (d : PlaybackStream). min c.stretch.committed (hw_of c) ≤ hw_of d) c call.Transfer position nothing (λ st. y.later),
       )
 
-  pub checks-kept : (s t : S × T) (c : PlaybackStream) (ring : List ℤ) (a : Answered (Unit {0})) → IsSound c ring → c.status.state ≡ Running → c.status.stopped ≡ false → CanUse c (P.view s.0)
+  pub checks-kept : (s t : S × T) (c : PlaybackStream) (ring : List ℤ) (a : Answered (Unit {0})) → IsSoundClient c ring → c.status.state ≡ Running → c.status.stopped ≡ false → CanUse c (P.view s.0)
       → TakesAt P G s (checks c) t a → Checked P G s t c ring a
   unfolding checks
   checks-kept s t c ring a sound runs going port (load, m, step, rest) =
       let kept = checked-by s m c ring load sound runs going port (TakesAt-same P G s m (checks c) (after_sync c call.Transfer load nothing) (load, m, step, record { there = refl; result = refl })) step in
-      let callable : IsStep c.status.state call.Transfer = subst (λ (st : State). IsStep st call.Transfer) (sym runs) tt in
+      let callable : IsFrameStep c.status.state call.Transfer = subst (λ (st : State). IsFrameStep st call.Transfer) (sym runs) tt in
       subst (λ (u : S × T). Checked P G s u c ring a) (sym rest.there) (subst (λ (b : Answered (Unit {0})). Checked P G s m c ring b) (sym rest.result) (record {
         keeps = kept.0.keeps;
         goes = kept.0.goes;
@@ -233,16 +233,16 @@ module _ {S : Type 0} (view : S → PortView) (shows : S → ℕ → ℕ → Opt
       kept-of load c d (Err e) (caused-number view shows q load c (λ x. 0) (d, Err e) first)
       (λ frame channel word h. timely frame channel word (let is : e ≡ error.Xrun (why.Late frame channel word) = cc in ap (λ (x : PcmError). let r : Result (Unit {0}) PcmError = Err x in r) is))
 
-module _ (d : PlaybackStream) (ring : List ℤ) (floor : Cursor) (n : ℕ) (sound : IsSound d ring) (runs : d.status.state ≡ Running) (going : d.status.stopped ≡ false) (is : IsBack d floor n) where
+module _ (d : PlaybackStream) (ring : List ℤ) (floor : Cursor) (n : ℕ) (sound : IsSoundClient d ring) (runs : d.status.state ≡ Running) (going : d.status.stopped ≡ false) (is : IsBack d floor n) where
   m : IsMoving d
   m = sound.moving (ap is_moving runs) going
 
   bound : AreBindings d.setup.bindings
   bound = (configured-moving d ring sound (ap is_moving runs)).bound
 
-  IsSound-back : (x : Commit) (s : State) (stopped : Bool) → x.frames ≤ back_of d n → (s ≡ Prepared → ⊥) → (s ≡ Paused → ⊥) → (is_moving s ≡ true → stopped ≡ false → IsMoving (back_in d n x s stopped))
-      → IsSound (back_in d n x s stopped) ring
-  IsSound-back x s stopped few not_prepared not_paused moves = record {
+  IsSoundClient-back : (x : Commit) (s : State) (stopped : Bool) → x.frames ≤ back_of d n → (s ≡ Prepared → ⊥) → (s ≡ Paused → ⊥) → (is_moving s ≡ true → stopped ≡ false → IsMoving (back_in d n x s stopped))
+      → IsSoundClient (back_in d n x s stopped) ring
+  IsSoundClient-back x s stopped few not_prepared not_paused moves = record {
     lead = sound.lead;
     seen = sound.seen;
     card = sound.card;
@@ -338,7 +338,7 @@ module _ (d : PlaybackStream) (ring : List ℤ) (floor : Cursor) (n : ℕ) (soun
         let few = left-few x.ended x.frames x.part (back_of d n) (length d.setup.bindings) took.are_left in
         record {
           keeps = record {
-            sound = IsSound-back x st stopped few.0 not_prepared not_paused (λ moving unstopped. let all = moves moving unstopped in IsMoving-back x st stopped all.0 all.1);
+            sound = IsSoundClient-back x st stopped few.0 not_prepared not_paused (λ moving unstopped. let all = moves moving unstopped in IsMoving-back x st stopped all.0 all.1);
             port = record {
               same_geometry = ap (λ (v : PortView). v.geometry) took.view_is ∙ port.same_geometry;
               same_member = ap (λ (v : PortView). v.member) took.view_is ∙ port.same_member;
@@ -505,7 +505,7 @@ module _ {S T : Type 0} (P : mixport.Ghosts S) (G : gates.Ghosts T) (holds : Hol
   rewound-by s m t c ring n (d, Ok done) a checked takes = rewound-well s m t c d ring n a checked takes
   rewound-by s m t c ring n (d, Err e) a checked takes = rewound-ill s m t c d ring n e a checked takes
 
-  pub rewinds-kept : (s t : S × T) (c : PlaybackStream) (ring : List ℤ) (n : ℕ) (a : Answered ℕ) → IsSound c ring → c.status.state ≡ Running → c.status.stopped ≡ false → CanUse c (P.view s.0)
+  pub rewinds-kept : (s t : S × T) (c : PlaybackStream) (ring : List ℤ) (n : ℕ) (a : Answered ℕ) → IsSoundClient c ring → c.status.state ≡ Running → c.status.stopped ≡ false → CanUse c (P.view s.0)
       → TakesAt P G s (rewinds c ring (P.view s.0).marks.floor n) t a → Rewound s t c ring n a
   unfolding rewinds
   rewinds-kept s t c ring n a sound runs going port takes =
@@ -538,7 +538,7 @@ module _ {S T : Type 0} (P : mixport.Ghosts S) (G : gates.Ghosts T) (holds : Hol
     pub keeps : Keeps P G s t (client c ring) (client b.0 ring) b.1 AnySamples
     pub explains : ExplainsCheck P G s t c (λ load. with_number number (after_sync c call.Transfer load nothing)) b
 
-  pub numbered-kept : (s t : S × T) (c : PlaybackStream) (ring : List ℤ) (number : PlaybackStream → ℕ) (b : Answered ℕ) → IsSound c ring → c.status.state ≡ Running → c.status.stopped ≡ false → CanUse c (P.view s.0)
+  pub numbered-kept : (s t : S × T) (c : PlaybackStream) (ring : List ℤ) (number : PlaybackStream → ℕ) (b : Answered ℕ) → IsSoundClient c ring → c.status.state ≡ Running → c.status.stopped ≡ false → CanUse c (P.view s.0)
       → TakesAt P G s (course_with_number number (checks c)) t b → Numbered s t c ring number b
   unfolding course_with_number
   numbered-kept s t c ring number b sound runs going port takes =
@@ -567,7 +567,7 @@ module _ {S T : Type 0} (P : mixport.Ghosts S) (G : gates.Ghosts T) (holds : Hol
     stands = λ samples stands. stands;
   }
 
-  pub without-kept : (s : S × T) (c : PlaybackStream) (ring : List ℤ) (n : ℕ) → IsSound c ring → c.status.state ≡ Prepared → n ≤ c.stretch.written → CanUse c (P.view s.0)
+  pub without-kept : (s : S × T) (c : PlaybackStream) (ring : List ℤ) (n : ℕ) → IsSoundClient c ring → c.status.state ≡ Prepared → n ≤ c.stretch.written → CanUse c (P.view s.0)
       → KeepsBack P G s s (client c ring) (client (without_frames c n) ring) (let r : Result ℕ PcmError = Ok n in r)
   without-kept s c ring n sound waits few port =
       let p = sound.prepared waits in

@@ -21,8 +21,8 @@ use Rattle.snd_base.specs.declared.places.Cursor.{Cursor}
 use Rattle.dmix_client.proofs.Ends.{next-ends}
 use Rattle.dmix_client.specs.Calls.{commit_count, is_running, is_stop, late_at, over_of, seen_at, start_count, started_in, sync_count, taken_of, window_end}
 use Rattle.dmix_client.specs.ExpansionLaws.{frames_used}
-use Rattle.dmix_client.specs.Port.{CanUse, IsCommit, IsStep}
-use Rattle.dmix_client.specs.View.{IsConfigured, IsMoving, IsPrepared, IsSound, hw_of}
+use Rattle.dmix_client.specs.Port.{CanUse, IsCommit, IsFrameStep}
+use Rattle.dmix_client.specs.View.{IsConfigured, IsMoving, IsPrepared, IsSoundClient, hw_of}
 use Rattle.dmix_client.specs.Writes.{count_with}
 use Rattle.dmix_client.specs.declared.commit.Commit.{Commit}
 use Rattle.dmix_client.specs.declared.stream.PlaybackStream.{PlaybackStream}
@@ -35,7 +35,7 @@ pub record GoesOn (state : State) (o : Outcome) (gone : Bool) (over : Option (�
   pub goes : OnOk o.answer ((o.state ≡ Setup → ⊥) → is_moving o.state ≡ true)
   pub told : (before after : ℕ) → after ≡ before → CountsStop o.answer before after
 
-pub next-GoesOn : (state : State) (call : Call) (queued : ℕ) (gone : Bool) (over : Option (ℕ × ℕ)) (late : Option XrunWhy) → IsStep state call
+pub next-GoesOn : (state : State) (call : Call) (queued : ℕ) (gone : Bool) (over : Option (ℕ × ℕ)) (late : Option XrunWhy) → IsFrameStep state call
     → GoesOn state (next_of state call (record { capture = false; queued = queued; starts = true; gone = gone; over = over; late = late })) gone over late
 next-GoesOn state call queued gone over late step =
     next-ends (λ o. GoesOn state o gone over late) state call queued gone over late step
@@ -59,10 +59,10 @@ set_up-moving Running is = refl
 set_up-moving Draining is = refl
 set_up-moving s is = absurd (cc)
 
-pub configured-moving : (c : PlaybackStream) (ring : List ℤ) → IsSound c ring → is_moving c.status.state ≡ true → IsConfigured c ring
+pub configured-moving : (c : PlaybackStream) (ring : List ℤ) → IsSoundClient c ring → is_moving c.status.state ≡ true → IsConfigured c ring
 configured-moving c ring sound moves = sound.configured (sound.set_up (set_up-moving c.status.state moves))
 
-pub configured-prepared : (c : PlaybackStream) (ring : List ℤ) → IsSound c ring → c.status.state ≡ Prepared → IsConfigured c ring
+pub configured-prepared : (c : PlaybackStream) (ring : List ℤ) → IsSoundClient c ring → c.status.state ≡ Prepared → IsConfigured c ring
 configured-prepared c ring sound waits = sound.configured (sound.set_up (ap is_set_up waits))
 
 pub hw-started : (c : PlaybackStream) → c.stretch.started ≡ true → hw_of c ≡ unwrap_or c.seen 0 - c.stretch.card
@@ -71,9 +71,9 @@ hw-started c is = ap (λ (b : Bool). if b then unwrap_or c.seen 0 - c.stretch.ca
 -- ---- of a client whose counts stay
 
 -- a client in another status that has seen another position, where its counts are as that status asks
-pub IsSound-status : (c : PlaybackStream) (s : Status) (seen : Option ℕ) (ring : List ℤ) → IsSound c ring → unwrap_or seen 0 ≤ end_frame c.identity.geometry → (is_set_up s.state ≡ true → c.setup.configured ≡ true) → (s.state ≡ Prepared → IsPrepared c)
-    → (is_moving s.state ≡ true → s.stopped ≡ false → IsMoving (record c { seen = seen })) → (s.state ≡ Paused → IsMoving (record c { seen = seen })) → IsSound (record c { status = s; seen = seen }) ring
-IsSound-status c s seen ring sound near is_set waits moves rests = record {
+pub IsSoundClient-status : (c : PlaybackStream) (s : Status) (seen : Option ℕ) (ring : List ℤ) → IsSoundClient c ring → unwrap_or seen 0 ≤ end_frame c.identity.geometry → (is_set_up s.state ≡ true → c.setup.configured ≡ true) → (s.state ≡ Prepared → IsPrepared c)
+    → (is_moving s.state ≡ true → s.stopped ≡ false → IsMoving (record c { seen = seen })) → (s.state ≡ Paused → IsMoving (record c { seen = seen })) → IsSoundClient (record c { status = s; seen = seen }) ring
+IsSoundClient-status c s seen ring sound near is_set waits moves rests = record {
   lead = sound.lead;
   seen = near;
   card = sound.card;
@@ -87,8 +87,8 @@ IsSound-status c s seen ring sound near is_set waits moves rests = record {
 }
 
 -- a client that was stopped before it took a step
-pub IsSound-stopped : (c : PlaybackStream) (ring : List ℤ) → IsSound c ring → IsSound (record c { status = record c.status { stopped = true } }) ring
-IsSound-stopped c ring sound = IsSound-status c (record c.status { stopped = true }) c.seen ring sound sound.seen sound.set_up sound.prepared (λ moves going. absurd (cc)) sound.paused
+pub IsSoundClient-stopped : (c : PlaybackStream) (ring : List ℤ) → IsSoundClient c ring → IsSoundClient (record c { status = record c.status { stopped = true } }) ring
+IsSoundClient-stopped c ring sound = IsSoundClient-status c (record c.status { stopped = true }) c.seen ring sound sound.seen sound.set_up sound.prepared (λ moves going. absurd (cc)) sound.paused
 
 -- a port can be used by a client that doesn't move frames, or is stopped
 pub CanUse-still : (c d : PlaybackStream) (v w : PortView) → CanUse c v → IsSamePort v w → d.identity ≡ c.identity → (is_moving d.status.state ≡ true → d.status.stopped ≡ false → ⊥) → CanUse d w
@@ -168,7 +168,7 @@ count_at c b upto = min upto (window_end c.identity.geometry (unwrap_or b.seen 0
 
 -- a client makes a commit of some frames, of those before one, as `b`: it has started, at a position that is no older
 pub record CommitsAs (c b : PlaybackStream) (ring : List ℤ) (x : Commit) (count upto : ℕ) : Type 0 where
-  pub sound : IsSound c ring
+  pub sound : IsSoundClient c ring
   pub set : c.setup.configured ≡ true
   pub whole : c.stretch.part ≡ 0
   pub low : c.stretch.committed ≤ upto
@@ -198,9 +198,9 @@ IsMoving-after c b ring x count upto s fed y fits all none =
     }
 
 -- its counts are in order, in a status in which it isn't prepared nor paused
-pub IsSound-after : (c b : PlaybackStream) (ring : List ℤ) (x : Commit) (count upto : ℕ) (s : Status) (written fed : ℕ) → CommitsAs c b ring x count upto → written + c.stretch.source ≡ fed → (s.state ≡ Prepared → ⊥) → (s.state ≡ Paused → ⊥)
-    → (is_moving s.state ≡ true → s.stopped ≡ false → IsMoving (after c b x s written fed)) → IsSound (after c b x s written fed) ring
-IsSound-after c b ring x count upto s written fed y sums not_prepared not_paused moves = record {
+pub IsSoundClient-after : (c b : PlaybackStream) (ring : List ℤ) (x : Commit) (count upto : ℕ) (s : Status) (written fed : ℕ) → CommitsAs c b ring x count upto → written + c.stretch.source ≡ fed → (s.state ≡ Prepared → ⊥) → (s.state ≡ Paused → ⊥)
+    → (is_moving s.state ≡ true → s.stopped ≡ false → IsMoving (after c b x s written fed)) → IsSoundClient (after c b x s written fed) ring
+IsSoundClient-after c b ring x count upto s written fed y sums not_prepared not_paused moves = record {
   lead = y.sound.lead;
   seen = y.near;
   card = y.card_most;
@@ -227,7 +227,7 @@ IsMoving-seen c position m loaded =
     record { started = m.started; whole = m.whole; laid_most = m.laid_most; fits = omega (arith, later, hw, m.fits, loaded.newer); pending = m.pending }
 
 -- a client that moves frames makes a commit at a position that it loaded
-pub CommitsAs-seen : (c : PlaybackStream) (ring : List ℤ) (position : Position) (x : Commit) (count : ℕ) → IsSound c ring → is_moving c.status.state ≡ true → c.status.stopped ≡ false → IsLoaded c position
+pub CommitsAs-seen : (c : PlaybackStream) (ring : List ℤ) (position : Position) (x : Commit) (count : ℕ) → IsSoundClient c ring → is_moving c.status.state ≡ true → c.status.stopped ≡ false → IsLoaded c position
     → count ≤ commit_count c position.frame c.stretch.written → IsCommit x.ended x.frames x.part count (length c.setup.bindings) → CommitsAs c (seen_at c position) ring x count c.stretch.written
 CommitsAs-seen c ring position x count sound moves going loaded few commit_is =
     let m = sound.moving moves going in
@@ -275,7 +275,7 @@ first_free-near cursor stop low = grind (arith, nat_tests)
 pub min-none : (k h n : ℕ) → k ≡ 0 → min k h ≤ n
 min-none k h n none = grind (arith, nat_tests)
 
-pub CommitsAs-started : (c : PlaybackStream) (ring : List ℤ) (state : State) (position : Position) (cursor : Cursor) (x : Commit) (upto : ℕ) → IsSound c ring → c.status.state ≡ Prepared → cursor.frame ≤ end_frame c.identity.geometry
+pub CommitsAs-started : (c : PlaybackStream) (ring : List ℤ) (state : State) (position : Position) (cursor : Cursor) (x : Commit) (upto : ℕ) → IsSoundClient c ring → c.status.state ≡ Prepared → cursor.frame ≤ end_frame c.identity.geometry
     → position.frame ≤ end_frame c.identity.geometry → IsCommit x.ended x.frames x.part (start_count c cursor position upto) (length c.setup.bindings) → CommitsAs c (started_in c state position cursor) ring x (start_count c cursor position upto) upto
 CommitsAs-started c ring state position cursor x upto sound waits low near commit_is =
     let p = sound.prepared waits in
@@ -297,7 +297,7 @@ CommitsAs-started c ring state position cursor x upto sound waits low near commi
 
 -- ---- a write
 
-pub CommitsAs-written : (c : PlaybackStream) (ring : List ℤ) (x : Commit) (m : ℕ) → IsSound c ring → is_moving c.status.state ≡ true → c.status.stopped ≡ false
+pub CommitsAs-written : (c : PlaybackStream) (ring : List ℤ) (x : Commit) (m : ℕ) → IsSoundClient c ring → is_moving c.status.state ≡ true → c.status.stopped ≡ false
     → IsCommit x.ended x.frames x.part (count_with c m) (length c.setup.bindings) → CommitsAs c c ring x (count_with c m) (c.stretch.written + m)
 CommitsAs-written c ring x m sound moves going commit_is =
     let was = sound.moving moves going in

@@ -41,8 +41,8 @@ run_entries-append member bindings sample_of card first n k part =
     ∙ ap (λ (es : List Entry). es ++ (flat_map frame (range_with_len (first + n) k) ++ rest (first + n + k))) (sym (append-nil (flat_map frame (range_with_len first n))))
 
 -- a list of accepted frames, of which those from one to before another are in the local ring
-abbrev pub Holds : PlaybackStream → List ℤ → List ℤ → ℕ → ℕ → Type 0
-Holds c ring samples from to = (j q : ℕ) → from ≤ j → j < to → q < length c.setup.bindings → ring_sample c ring j q ≡ sample_at samples (length c.setup.bindings) j q
+abbrev pub HoldsFrames : PlaybackStream → List ℤ → List ℤ → ℕ → ℕ → Type 0
+HoldsFrames c ring samples from to = (j q : ℕ) → from ≤ j → j < to → q < length c.setup.bindings → ring_sample c ring j q ≡ sample_at samples (length c.setup.bindings) j q
 
 -- two functions that agree on a list's elements give one list
 pub map-same : {X : Type 0} (f g : ℕ → X) (xs : List ℕ)
@@ -102,7 +102,7 @@ run_entries-same member bindings s t card first whole part are same =
 
 -- what a commit placed of the local ring is what it placed of the accepted frames
 pub commit_entries-accepted : (c : PlaybackStream) (ring samples : List ℤ) (commit : Commit) (to : ℕ)
-    → AreBindings c.setup.bindings → Holds c ring samples c.stretch.committed to
+    → AreBindings c.setup.bindings → HoldsFrames c ring samples c.stretch.committed to
     → c.stretch.committed + frames_used commit.frames commit.part ≤ to
     → commit_entries c ring commit ≡ run_entries c.identity.member c.setup.bindings
     (sample_at samples (length c.setup.bindings)) c.stretch.card c.stretch.committed commit.frames
@@ -113,7 +113,7 @@ commit_entries-accepted c ring samples commit to are holds within =
 
 -- the entries of a segment grow by exactly what a commit placed
 pub expand-grows : (c : PlaybackStream) (ring samples : List ℤ) (commit : Commit) (to : ℕ)
-    → AreBindings c.setup.bindings → Holds c ring samples c.stretch.committed to
+    → AreBindings c.setup.bindings → HoldsFrames c ring samples c.stretch.committed to
     → c.stretch.committed + frames_used commit.frames commit.part ≤ to → c.stretch.part ≡ 0
     → run_entries c.identity.member c.setup.bindings (sample_at samples (length c.setup.bindings))
     c.stretch.card 0 (c.stretch.committed + commit.frames) commit.part

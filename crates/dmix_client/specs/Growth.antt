@@ -10,7 +10,7 @@ use Rattle.dmix_client.specs.Calls.{segment_of}
 use Rattle.dmix_client.specs.Expansion.{expand, sample_at}
 use Rattle.course.specs.Stops.{CountsStop}
 use Rattle.dmix_client.specs.Port.{CanUse}
-use Rattle.dmix_client.specs.View.{ClientView, IsSound, hw_of, ring_sample}
+use Rattle.dmix_client.specs.View.{ClientView, IsSoundClient, hw_of, ring_sample}
 
 -- of some samples, interleaved, the frames of a client before one that are not both placed and played are in its local
 -- ring: frame j since the last prepare is frame `source + j` of the samples
@@ -48,7 +48,7 @@ pub record Grows {S : Type 0} (laid : S → S → List Entry → Type 0) (p q : 
 -- this fact holds, its segment grew by exactly what was placed, and it represents the list afterwards
 pub record Keeps {S T X : Type 0} (P : mixport.Ghosts S) (G : gates.Ghosts T) (s t : S × T)
     (c d : ClientView) (answer : Result X PcmError) (For : List ℤ → Type 0) : Type 0 where
-  pub sound : IsSound d.stream d.ring
+  pub sound : IsSoundClient d.stream d.ring
   pub port : CanUse d.stream (P.view t.0)
   pub told : c.stream.status.stopped ≡ false → CountsStop answer (G.stops s.1) (G.stops t.1)
   pub grows : (samples : List ℤ) → StandsFor c.stream c.ring samples → For samples
@@ -78,7 +78,7 @@ pub record Loses {S : Type 0} (laid : S → S → List Entry → Type 0)
 -- lost at the end of its standing adds
 pub record KeepsBack {S T X : Type 0} (P : mixport.Ghosts S) (G : gates.Ghosts T) (s t : S × T)
     (c d : ClientView) (answer : Result X PcmError) : Type 0 where
-  pub sound : IsSound d.stream d.ring
+  pub sound : IsSoundClient d.stream d.ring
   pub port : CanUse d.stream (P.view t.0)
   pub told : c.stream.status.stopped ≡ false → CountsStop answer (G.stops s.1) (G.stops t.1)
   pub loses : (samples : List ℤ) → StandsFor c.stream c.ring samples

@@ -9,7 +9,7 @@ use Rattle.pcm_states.specs.declared.states.State.TheVariants.{Paused}
 use Rattle.dmix_client.specs.Calls.{with_new_base}
 use Rattle.dmix_client.specs.Expansion.{sample_at}
 use Rattle.dmix_client.specs.Growth.{Grows, StandsFor, segment_entries}
-use Rattle.dmix_client.specs.View.{IsSound}
+use Rattle.dmix_client.specs.View.{IsSoundClient}
 
 -- a client with nothing written, as after `hw_params` and `prepare`, represents all samples
 pub StandsFor-nothing : (c : PlaybackStream) (ring samples : List ℤ) → c.stretch.written ≡ 0
@@ -17,7 +17,7 @@ pub StandsFor-nothing : (c : PlaybackStream) (ring samples : List ℤ) → c.str
 StandsFor-nothing c ring samples none j q low high in_range = absurd (omega (arith, high, none))
 
 -- a paused client that represents some samples does so with its counts based anew
-pub StandsFor-rebased : (c : PlaybackStream) (ring samples : List ℤ) → IsSound c ring
+pub StandsFor-rebased : (c : PlaybackStream) (ring samples : List ℤ) → IsSoundClient c ring
     → c.status.state ≡ Paused → StandsFor c ring samples → StandsFor (with_new_base c) ring samples
 StandsFor-rebased c ring samples sound is stands j q low high in_range =
     let most = (sound.paused is).laid_most in

@@ -50,12 +50,12 @@ pub record IsOnCard (bindings : List ℕ) (g : Geometry) : Type 0 where
   pub below : All (λ channel. channel < g.channels) bindings
 
 -- the calls that take the step of a stream which moves frames
-abbrev pub IsStep : State → Call → Type 0
-IsStep Running Sync = ⊤
-IsStep Running Transfer = ⊤
-IsStep Draining Sync = ⊤
-IsStep Draining Drain = ⊤
-IsStep state call = ⊥
+abbrev pub IsFrameStep : State → Call → Type 0
+IsFrameStep Running Sync = ⊤
+IsFrameStep Running Transfer = ⊤
+IsFrameStep Draining Sync = ⊤
+IsFrameStep Draining Drain = ⊤
+IsFrameStep state call = ⊥
 
 -- a port that a client can use: it is the client's, it can add, and where the client moves frames nobody else has used
 -- it since the start

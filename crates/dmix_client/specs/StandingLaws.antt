@@ -20,7 +20,7 @@ use Rattle.dmix_client.specs.Growth.{IsBacked, Keeps, KeepsBack, segment_entries
 use Rattle.dmix_client.specs.GrowthLaws.{StandsFor-rebased}
 use Rattle.dmix_client.specs.Rewind.{held_entries}
 use Rattle.pcm_stream.specs.Status.{is_moving, is_set_up}
-use Rattle.dmix_client.specs.View.{ClientView, IsSound, hw_of, ring_sample}
+use Rattle.dmix_client.specs.View.{ClientView, IsSoundClient, hw_of, ring_sample}
 
 -- a segment's entries are adds
 AreAdds-append : (es fs : List Entry) → AreAdds es → AreAdds fs → AreAdds (es ++ fs)
@@ -90,7 +90,7 @@ module _ {S T : Type 0} (P : mixport.Ghosts S) (G : gates.Ghosts T) where
 
   -- with its counts based anew
   pub IsBacked-rebased : (p : S) (c : PlaybackStream) (ring samples : List ℤ)
-      → ((q : S) (xs ys : List Entry) → P.ends_in q (xs ++ ys) → P.ends_in q ys) → IsSound c ring
+      → ((q : S) (xs ys : List Entry) → P.ends_in q (xs ++ ys) → P.ends_in q ys) → IsSoundClient c ring
       → c.status.state ≡ Paused
       → IsBacked P.ends_in p (record { stream = c; ring = ring }) samples
       → IsBacked P.ends_in p (record { stream = with_new_base c; ring = ring }) samples
@@ -105,7 +105,7 @@ module _ {S T : Type 0} (P : mixport.Ghosts S) (G : gates.Ghosts T) where
   -- what a rewind asks
   pub IsBacked-held : (p : S) (c : ClientView) (samples : List ℤ)
       → ((q : S) (xs ys : List Entry) → P.ends_in q (xs ++ ys) → P.ends_in q ys)
-      → IsSound c.stream c.ring → c.stream.status.state ≡ Running → c.stream.status.stopped ≡ false
+      → IsSoundClient c.stream c.ring → c.stream.status.state ≡ Running → c.stream.status.stopped ≡ false
       → IsBacked P.ends_in p c samples → P.ends_in p (held_entries c.stream c.ring)
   IsBacked-held p c samples part sound runs going is =
       let d = c.stream in

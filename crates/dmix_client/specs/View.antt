@@ -94,7 +94,7 @@ abbrev pub IsPrepared : PlaybackStream → Type 0
 IsPrepared c = IsWaiting c.stretch c.setup.config.buffer_size
 
 -- what every client keeps
-pub record IsSound (c : PlaybackStream) (ring : List ℤ) : Type 0 where
+pub record IsSoundClient (c : PlaybackStream) (ring : List ℤ) : Type 0 where
   pub lead : c.identity.lead < c.identity.geometry.frames
   pub seen : unwrap_or c.seen 0 ≤ end_frame c.identity.geometry
   pub card : c.stretch.card ≤ end_frame c.identity.geometry + c.identity.geometry.frames

@@ -5,7 +5,7 @@ ghost use Rattle.pcm_stream.specs.Setup.{Checks, config_of};
 ghost use Rattle.pcm_stream.specs.Status.{refusal_of};
 ghost use Rattle.pcm_stream.specs.declared.direction.Direction.{Direction};
 ghost use Rattle.dmix_client.specs.Calls.{configured_with, after_drop, after_hw_free, new_client, after_prepare, segment_of, with_params};
-ghost use Rattle.dmix_client.specs.View.{ClientView, IsSound};
+ghost use Rattle.dmix_client.specs.View.{ClientView, IsSoundClient};
 ghost use Rattle.sw_limits.specs.Boundary.{IsBoundary};
 
 use crate::stream::PlaybackStream;
@@ -35,15 +35,15 @@ pub struct Client {
 }
 
 impl Model for Client {
-    ghost use Rattle.dmix_client.specs.View.{ClientView, IsSound};
+    ghost use Rattle.dmix_client.specs.View.{ClientView, IsSoundClient};
 
     ghost Value = { ClientView };
 
-    ghost use Rattle.dmix_client.specs.View.{IsSound};
+    ghost use Rattle.dmix_client.specs.View.{IsSoundClient};
 
     ghost view = { λ c. record { stream = c.stream; ring = c.ring.items } };
 
-    ghost invariant = { λ c. IsSound c.stream c.ring.items };
+    ghost invariant = { λ c. IsSoundClient c.stream c.ring.items };
 }
 
 impl Client {
@@ -61,7 +61,7 @@ impl Client {
 
     /// What every client keeps: how its counts and its local ring fit each other. A fact for contracts; it does nothing.
     pub fn counts_are_sound(&self)
-        ensures { IsSound self.now.stream self.now.ring }
+        ensures { IsSoundClient self.now.stream self.now.ring }
     {
         let _ = &self.stream;
     }

@@ -8,7 +8,7 @@ ghost use Rattle.dmix_client.specs.Calls.{start_count, started_in, sync_count, w
 ghost use Rattle.dmix_client.specs.Course.{commits, lay_frame, lay_frames, looks};
 ghost use Rattle.dmix_client.specs.Port.{CanUse, IsFound, IsOnCard, least_channel};
 ghost use Rattle.pcm_stream.specs.Status.{is_moving};
-ghost use Rattle.dmix_client.specs.View.{IsSound, ring_sample, slot_sample};
+ghost use Rattle.dmix_client.specs.View.{IsSoundClient, ring_sample, slot_sample};
 
 use crate::stream::PlaybackStream;
 use bindings::Bindings;
@@ -326,7 +326,7 @@ pub(crate) fn look_and_commit<P: MixPort, G: Gate>(
     port: &mut P,
     gate: &mut G,
 ) -> Found
-    requires sound { IsSound stream.now ring.now }
+    requires sound { IsSoundClient stream.now ring.now }
     requires moving { is_moving stream.now.status.state ≡ true }
     requires unstopped { stream.now.status.stopped ≡ false }
     requires port { CanUse stream.now (P.view port.old) }
@@ -361,7 +361,7 @@ pub(crate) fn look_and_start<P: MixPort, G: Gate>(
 ) -> Found
     requires cursor { cursor ≡ (P.view port.old).marks.cursor }
     requires cursor_most { cursor.frame ≤ end_frame stream.now.identity.geometry }
-    requires sound { IsSound stream.now ring.now }
+    requires sound { IsSoundClient stream.now ring.now }
     requires prepared { stream.now.status.state ≡ State.Prepared }
     requires port { CanUse stream.now (P.view port.old) }
     ensures takes { TakesAt P.MixPort G.Gate (port.old, gate.old)

@@ -10,7 +10,7 @@ ghost use Rattle.dmix_client.specs.Causes.{Explains};
 ghost use Rattle.dmix_client.specs.Course.{if_admitted, drain_course, drains, start_course, starts};
 ghost use Rattle.dmix_client.specs.Growth.{AnySamples, Keeps, KeepsAccepted};
 ghost use Rattle.dmix_client.specs.Port.{CanUse};
-ghost use Rattle.dmix_client.specs.View.{IsSound};
+ghost use Rattle.dmix_client.specs.View.{IsSoundClient};
 
 use crate::client::Client;
 use crate::commit::look_and_start;
@@ -31,7 +31,7 @@ pub(crate) fn begin<P: MixPort, G: Gate>(
     state: State,
     upto: u64,
 ) -> (PlaybackStream, Result<(), PcmError>)
-    requires sound { IsSound stream.now ring.now }
+    requires sound { IsSoundClient stream.now ring.now }
     requires prepared { stream.now.status.state ≡ State.Prepared }
     requires fits { upto ≤ stream.now.setup.config.buffer_size }
     requires port { CanUse stream.now (P.view port.old) }
@@ -54,7 +54,7 @@ fn start_all<P: MixPort, G: Gate>(
     gate: &mut G,
     state: State,
 ) -> Result<(), PcmError>
-    requires sound { IsSound stream.old ring.now }
+    requires sound { IsSoundClient stream.old ring.now }
     requires prepared { stream.old.status.state ≡ State.Prepared }
     requires leads { is_moving state ≡ true }
     requires port { CanUse stream.old (P.view port.old) }
@@ -86,14 +86,14 @@ pub(crate) fn start_and_drain<P: MixPort, G: Gate>(
     port: &mut P,
     gate: &mut G,
 ) -> Result<(), PcmError>
-    requires sound { IsSound stream.old ring.now }
+    requires sound { IsSoundClient stream.old ring.now }
     requires prepared { stream.old.status.state ≡ State.Prepared }
     requires unstopped { stream.old.status.stopped ≡ false }
     requires port { CanUse stream.old (P.view port.old) }
     ensures takes { TakesAt P.MixPort G.Gate (port.old, gate.old)
         (drains stream.old ring.now (P.view port.old).marks.cursor) (port.new, gate.new)
         (stream.new, result) }
-    ensures sound { IsSound stream.new ring.now }
+    ensures sound { IsSoundClient stream.new ring.now }
     ensures keeps { Keeps P.MixPort G.Gate (port.old, gate.old) (port.new, gate.new)
         (record { stream = stream.old; ring = ring.now })
         (record { stream = stream.new; ring = ring.now }) result AnySamples }

@@ -9,7 +9,7 @@ ghost use Rattle.dmix_client.specs.Causes.{Explains};
 ghost use Rattle.dmix_client.specs.Course.{if_admitted, pause_call, pause_course, resumes};
 ghost use Rattle.dmix_client.specs.Growth.{AnySamples, Keeps};
 ghost use Rattle.dmix_client.specs.Port.{CanUse};
-ghost use Rattle.dmix_client.specs.View.{IsSound};
+ghost use Rattle.dmix_client.specs.View.{IsSoundClient};
 
 use crate::client::Client;
 use crate::commit::look_and_start;
@@ -27,7 +27,7 @@ fn resume<P: MixPort, G: Gate>(
     port: &mut P,
     gate: &mut G,
 ) -> Result<(), PcmError>
-    requires sound { IsSound stream.old ring.now }
+    requires sound { IsSoundClient stream.old ring.now }
     requires paused { stream.old.status.state ≡ State.Paused }
     requires port { CanUse stream.old (P.view port.old) }
     ensures takes { TakesAt P.MixPort G.Gate (port.old, gate.old)

@@ -11,7 +11,7 @@ ghost use Rattle.dmix_client.specs.Growth.{AnySamples, Keeps, KeepsBack};
 ghost use Rattle.dmix_client.specs.Port.{CanUse};
 ghost use Rattle.dmix_client.specs.Rewind.{checks, held_entries, rewindable_course, rewindable_of, rewind_course, rewinds, takes_back};
 ghost use Rattle.dmix_client.specs.RewindCauses.{ExplainsCheck, ExplainsRewind};
-ghost use Rattle.dmix_client.specs.View.{IsSound};
+ghost use Rattle.dmix_client.specs.View.{IsSoundClient};
 
 use crate::client::Client;
 use crate::commit::Commit;
@@ -40,7 +40,7 @@ fn check<P: MixPort, G: Gate>(
     port: &mut P,
     gate: &mut G,
 ) -> Result<(), PcmError>
-    requires sound { (ring : List ℤ) × IsSound stream.old ring }
+    requires sound { (ring : List ℤ) × IsSoundClient stream.old ring }
     requires running { stream.old.status.state ≡ State.Running }
     requires unstopped { stream.old.status.stopped ≡ false }
     requires port { CanUse stream.old (P.view port.old) }
@@ -61,7 +61,7 @@ fn take_back<P: MixPort, G: Gate>(
     gate: &mut G,
     frames: u64,
 ) -> Result<u64, PcmError>
-    requires sound { IsSound stream.old ring.now }
+    requires sound { IsSoundClient stream.old ring.now }
     requires running { stream.old.status.state ≡ State.Running }
     requires unstopped { stream.old.status.stopped ≡ false }
     requires port { CanUse stream.old (P.view port.old) }
@@ -82,14 +82,14 @@ fn rewindable_running<P: MixPort, G: Gate>(
     port: &mut P,
     gate: &mut G,
 ) -> Result<u64, PcmError>
-    requires sound { (ring : List ℤ) × IsSound stream.old ring }
+    requires sound { (ring : List ℤ) × IsSoundClient stream.old ring }
     requires running { stream.old.status.state ≡ State.Running }
     requires unstopped { stream.old.status.stopped ≡ false }
     requires port { CanUse stream.old (P.view port.old) }
     ensures takes { TakesAt P.MixPort G.Gate (port.old, gate.old)
         (course_with_number (rewindable_of (P.view port.old).marks.floor) (checks stream.old))
         (port.new, gate.new) (stream.new, result) }
-    ensures keeps { (ring : List ℤ) → IsSound stream.old ring →
+    ensures keeps { (ring : List ℤ) → IsSoundClient stream.old ring →
         Keeps P.MixPort G.Gate (port.old, gate.old) (port.new, gate.new)
         (record { stream = stream.old; ring = ring }) (record { stream = stream.new; ring = ring })
         result AnySamples }
@@ -110,7 +110,7 @@ fn rewind_running<P: MixPort, G: Gate>(
     gate: &mut G,
     frames: u64,
 ) -> Result<u64, PcmError>
-    requires sound { IsSound stream.old ring.now }
+    requires sound { IsSoundClient stream.old ring.now }
     requires running { stream.old.status.state ≡ State.Running }
     requires unstopped { stream.old.status.stopped ≡ false }
     requires port { CanUse stream.old (P.view port.old) }

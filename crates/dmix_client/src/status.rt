@@ -9,8 +9,8 @@ ghost use Rattle.dmix_client.specs.Calls.{avail_answer, delay_answer, sync_count
 ghost use Rattle.dmix_client.specs.Causes.{Explains};
 ghost use Rattle.dmix_client.specs.Course.{if_admitted, number_course, sync_course, syncs};
 ghost use Rattle.dmix_client.specs.Growth.{AnySamples, Keeps, KeepsAccepted};
-ghost use Rattle.dmix_client.specs.Port.{CanUse, IsStep};
-ghost use Rattle.dmix_client.specs.View.{IsGoing, IsSound};
+ghost use Rattle.dmix_client.specs.Port.{CanUse, IsFrameStep};
+ghost use Rattle.dmix_client.specs.View.{IsGoing, IsSoundClient};
 
 use crate::client::Client;
 use crate::commit::look_and_commit;
@@ -38,17 +38,17 @@ pub(crate) fn sync_call<P: MixPort, G: Gate>(
     gate: &mut G,
     call: Call,
 ) -> Result<(), PcmError>
-    requires sound { IsSound stream.old ring.now }
+    requires sound { IsSoundClient stream.old ring.now }
     requires moving { is_moving stream.old.status.state ≡ true }
     requires unstopped { stream.old.status.stopped ≡ false }
-    requires step { IsStep stream.old.status.state call }
+    requires step { IsFrameStep stream.old.status.state call }
     requires port { CanUse stream.old (P.view port.old) }
     ensures takes { TakesAt P.MixPort G.Gate (port.old, gate.old) (syncs stream.old call ring.now)
         (port.new, gate.new) (stream.new, result) }
     ensures keeps { Keeps P.MixPort G.Gate (port.old, gate.old) (port.new, gate.new)
         (record { stream = stream.old; ring = ring.now })
         (record { stream = stream.new; ring = ring.now }) result AnySamples }
-    ensures sound { IsSound stream.new ring.now }
+    ensures sound { IsSoundClient stream.new ring.now }
     ensures port { CanUse stream.new (P.view port.new) }
     ensures goes { OnOk result (IsGoing stream.new) }
     ensures same { KeepsAccepted stream.old stream.new }

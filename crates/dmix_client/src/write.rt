@@ -10,7 +10,7 @@ ghost use Rattle.dmix_client.specs.Causes.{Explains, ExplainsWrite};
 ghost use Rattle.dmix_client.specs.Course.{if_admitted, commits, fills, starts_taking, takes_more, write_course, writes_on};
 ghost use Rattle.dmix_client.specs.Growth.{Follows, Keeps};
 ghost use Rattle.dmix_client.specs.Port.{CanUse, IsCommit};
-ghost use Rattle.dmix_client.specs.View.{IsSound};
+ghost use Rattle.dmix_client.specs.View.{IsSoundClient};
 ghost use Rattle.dmix_client.specs.Writes.{IsOffer, count_with, frames_in, ring_with, starts_with};
 
 use crate::client::Client;
@@ -34,7 +34,7 @@ fn commit_taken<P: MixPort, G: Gate>(
     gate: &mut G,
     taken: u64,
 ) -> Commit
-    requires sound { IsSound stream.now ring.now }
+    requires sound { IsSoundClient stream.now ring.now }
     requires moving { is_moving stream.now.status.state ≡ true }
     requires unstopped { stream.now.status.stopped ≡ false }
     requires few { taken ≤ 16384 }
@@ -57,7 +57,7 @@ fn write_taken<P: MixPort, G: Gate>(
     samples: &[i16],
     frames: u64,
 ) -> Result<u64, PcmError>
-    requires sound { IsSound stream.old ring.old }
+    requires sound { IsSoundClient stream.old ring.old }
     requires moving { is_moving stream.old.status.state ≡ true }
     requires unstopped { stream.old.status.stopped ≡ false }
     requires held { frames * length stream.old.setup.bindings ≤ length samples.now }
@@ -80,11 +80,11 @@ fn write_taken<P: MixPort, G: Gate>(
 
 /// Stores the first `taken` frames of some samples after what is written.
 fn store_taken(stream: &PlaybackStream, ring: &mut [i16], samples: &[i16], taken: u64)
-    requires sound { IsSound stream.now ring.old }
+    requires sound { IsSoundClient stream.now ring.old }
     requires configured { stream.now.setup.configured ≡ true }
     requires held { taken * length stream.now.setup.bindings ≤ length samples.now }
     ensures ring { ring.new ≡ ring_with stream.now ring.old samples.now taken }
-    ensures sound { IsSound stream.now ring.new }
+    ensures sound { IsSoundClient stream.now ring.new }
 {
     store(
         ring,
@@ -105,7 +105,7 @@ fn write_running<P: MixPort, G: Gate>(
     samples: &[i16],
     frames: u64,
 ) -> Result<u64, PcmError>
-    requires sound { IsSound stream.old ring.old }
+    requires sound { IsSoundClient stream.old ring.old }
     requires running { stream.old.status.state ≡ State.Running }
     requires unstopped { stream.old.status.stopped ≡ false }
     requires held { frames * length stream.old.setup.bindings ≤ length samples.now }
@@ -115,7 +115,7 @@ fn write_running<P: MixPort, G: Gate>(
     ensures takes { TakesAt P.MixPort G.Gate (port.old, gate.old)
         (writes_on stream.old ring.old samples.now frames) (port.new, gate.new)
         (stream.new, result) }
-    ensures sound { IsSound stream.new ring.new }
+    ensures sound { IsSoundClient stream.new ring.new }
     ensures count { IfOk result (λ n. n ≤ 16384) }
     ensures keeps { Keeps P.MixPort G.Gate (port.old, gate.old) (port.new, gate.new)
         (record { stream = stream.old; ring = ring.old })
@@ -139,7 +139,7 @@ fn start_write<P: MixPort, G: Gate>(
     gate: &mut G,
     taken: u64,
 ) -> Result<u64, PcmError>
-    requires sound { IsSound stream.old ring.now }
+    requires sound { IsSoundClient stream.old ring.now }
     requires prepared { stream.old.status.state ≡ State.Prepared }
     requires fits { stream.old.stretch.written + taken ≤ stream.old.setup.config.buffer_size }
     requires fed { stream.old.fed < 2 ^ 63 }
@@ -166,7 +166,7 @@ fn write_prepared<P: MixPort, G: Gate>(
     samples: &[i16],
     frames: u64,
 ) -> Result<u64, PcmError>
-    requires sound { IsSound stream.old ring.old }
+    requires sound { IsSoundClient stream.old ring.old }
     requires prepared { stream.old.status.state ≡ State.Prepared }
     requires held { frames * length stream.old.setup.bindings ≤ length samples.now }
     requires few { frames ≤ 4194304 }
@@ -177,7 +177,7 @@ fn write_prepared<P: MixPort, G: Gate>(
         (port.new, gate.new) (stream.new, result) }
     ensures ring { ring.new
         ≡ ring_with stream.old ring.old samples.now (taken_of stream.old frames) }
-    ensures sound { IsSound stream.new ring.new }
+    ensures sound { IsSoundClient stream.new ring.new }
     ensures count { IfOk result (λ n. n ≤ 16384) }
     ensures keeps { Keeps P.MixPort G.Gate (port.old, gate.old) (port.new, gate.new)
         (record { stream = stream.old; ring = ring.old })

@@ -28,7 +28,7 @@ use Rattle.dsnoop_client.specs.declared.stream.CaptureStream.{CaptureStream}
 use Rattle.dsnoop_client.specs.Calls.{Answered, facts_with, in_state, over_of, seen_at, with_outcome, after_start, after_sync, with_avail}
 use Rattle.dsnoop_client.specs.Causes.{Explains, FindsNone, IsMissed, IsOfSteps, Reaches}
 use Rattle.dsnoop_client.specs.Port.{Keeps}
-use Rattle.dsnoop_client.specs.View.{CanUse, avail_of, IsSound, IsStart, IsSync, is_of_capture}
+use Rattle.dsnoop_client.specs.View.{CanUse, avail_of, IsSoundReader, IsStart, IsSync, is_of_capture}
 
 -- ---- the state table
 
@@ -78,7 +78,7 @@ pub record Went {S T : Type 0} (P : snoopport.Ghosts S) (G : gates.Ghosts T) (s 
   pub saw : u.seen ≡ Some position.frame
   pub running : u.status.state ≡ state.Running
   pub unstopped : u.status.stopped ≡ false
-  pub sound : IsSound u
+  pub sound : IsSoundReader u
   pub view_is : P.view t.0 ≡ record (P.view s.0) { seen = position.frame }
   pub loaded_it : P.loaded s.0 t.0 (position ∷ [])
   pub stops : G.stops t.1 ≡ stops_after pass (G.stops s.1)
@@ -86,8 +86,8 @@ pub record Went {S T : Type 0} (P : snoopport.Ghosts S) (G : gates.Ghosts T) (s 
   pub begins : (c.status.state ≡ state.Running → ⊥) → u.next ≡ position.frame
 
 -- a reader is sound in another state, with another position seen and another next frame
-pub sound-at : (c : CaptureStream) (f n : ℕ) (st : State) → IsSound c → f ≤ end_frame c.geometry → is_of_capture st ≡ true → (is_set_up st ≡ true → c.setup.configured ≡ true)
-    → (st ≡ state.Running → (first_frame c.geometry ≤ n) × (n ≤ f)) → IsSound (in_state (record c { seen = Some f; next = n }) st)
+pub sound-at : (c : CaptureStream) (f n : ℕ) (st : State) → IsSoundReader c → f ≤ end_frame c.geometry → is_of_capture st ≡ true → (is_set_up st ≡ true → c.setup.configured ≡ true)
+    → (st ≡ state.Running → (first_frame c.geometry ≤ n) × (n ≤ f)) → IsSoundReader (in_state (record c { seen = Some f; next = n }) st)
 sound-at c f n st sound most captures set_up reading = record {
   captures = captures;
   seen = most;
@@ -117,7 +117,7 @@ module _ {S T : Type 0} (P : snoopport.Ghosts S) (G : gates.Ghosts T) where
   -- a call that loaded a position
   unfoldable pub explained-some : {X : Type 0} (s t : S × T) (c d : CaptureStream) (position : Position) (answer : Result X PcmError) → CanUse c (P.view s.0)
       → P.view t.0 ≡ record (P.view s.0) { seen = position.frame } → P.loaded s.0 t.0 (position ∷ []) → G.stops t.1 ≡ stops_after (pass_by answer) (G.stops s.1)
-      → d.geometry ≡ c.geometry → d.setup ≡ c.setup → d.seen ≡ Some position.frame → IsSound d
+      → d.geometry ≡ c.geometry → d.setup ≡ c.setup → d.seen ≡ Some position.frame → IsSoundReader d
       → ((answer ≡ Err Stopped) ↔ (d.status.stopped ≡ true)) → IfErr answer IsOfSteps → ((answer ≡ Err NoDevice) ↔ (position.gone ≡ true))
       → ((avail frame : ℕ) → (answer ≡ Err (Xrun (Avail avail frame))) ↔ Reaches c (Some position) avail frame)
       → ((frame channel word : ℕ) → answer ≡ Err (Xrun (Overtaken frame channel word)) → IsMissed P t.0 d frame channel word)
@@ -144,7 +144,7 @@ module _ {S T : Type 0} (P : snoopport.Ghosts S) (G : gates.Ghosts T) where
   }
 
   -- the gate stopped the load
-  pub told-none : {X : Type 0} (s t : S × T) (c : CaptureStream) → IsSound c → CanUse c (P.view s.0) → LoadsAtSnoop P G s None t
+  pub told-none : {X : Type 0} (s t : S × T) (c : CaptureStream) → IsSoundReader c → CanUse c (P.view s.0) → LoadsAtSnoop P G s None t
       → IsExplained {X = X} P G s t c (record c { status = record c.status { stopped = true } }) (Err Stopped)
   explained-none s t c sound can step = record {
     keeps = record {
@@ -168,7 +168,7 @@ module _ {S T : Type 0} (P : snoopport.Ghosts S) (G : gates.Ghosts T) where
   }
 
   -- the card was gone at the position
-  pub told-gone : {X : Type 0} (s t : S × T) (c : CaptureStream) (position : Position) → IsSound c → c.status.stopped ≡ false → CanUse c (P.view s.0) → LoadsAtSnoop P G s (Some position) t
+  pub told-gone : {X : Type 0} (s t : S × T) (c : CaptureStream) (position : Position) → IsSoundReader c → c.status.stopped ≡ false → CanUse c (P.view s.0) → LoadsAtSnoop P G s (Some position) t
       → position.gone ≡ true → IsExplained {X = X} P G s t c (in_state (seen_at c position) state.Disconnected) (Err NoDevice)
   explained-gone s t c position sound unstopped can step gone =
       explained-some s t c (in_state (seen_at c position) state.Disconnected) position (Err NoDevice) can step.view_is step.loaded_it step.stopped refl refl refl
@@ -177,7 +177,7 @@ module _ {S T : Type 0} (P : snoopport.Ghosts S) (G : gates.Ghosts T) where
       (λ avail frame. (λ h. cc, λ h. let here = h.0 in cc)) (λ frame channel word h. cc)
 
   -- the stop threshold was reached at the position
-  pub told-over : {X : Type 0} (s t : S × T) (c : CaptureStream) (position : Position) → IsSound c → c.status.stopped ≡ false → c.status.state ≡ state.Running → CanUse c (P.view s.0)
+  pub told-over : {X : Type 0} (s t : S × T) (c : CaptureStream) (position : Position) → IsSoundReader c → c.status.stopped ≡ false → c.status.state ≡ state.Running → CanUse c (P.view s.0)
       → LoadsAtSnoop P G s (Some position) t → position.gone ≡ false → c.setup.params.stop_threshold ≤ position.frame - c.next
       → IsExplained {X = X} P G s t c (in_state (seen_at c position) state.Xrun) (Err (Xrun (Avail (position.frame - c.next) position.frame)))
   explained-over s t c position sound unstopped running can step here over =
@@ -201,7 +201,7 @@ module _ {S T : Type 0} (P : snoopport.Ghosts S) (G : gates.Ghosts T) where
 
   -- a call that went well from a position
   unfoldable pub explained-went : {X : Type 0} (s t : S × T) (c u d : CaptureStream) (position : Position) (pass : Pass) (answer : Result X PcmError) → Went P G s t c u position pass → pass_by answer ≡ pass
-      → d.geometry ≡ u.geometry → d.setup ≡ u.setup → d.seen ≡ u.seen → IsSound d → ((answer ≡ Err Stopped) ↔ (d.status.stopped ≡ true)) → IfErr answer IsOfSteps
+      → d.geometry ≡ u.geometry → d.setup ≡ u.setup → d.seen ≡ u.seen → IsSoundReader d → ((answer ≡ Err Stopped) ↔ (d.status.stopped ≡ true)) → IfErr answer IsOfSteps
       → (answer ≡ Err NoDevice → ⊥) → ((avail frame : ℕ) → answer ≡ Err (Xrun (Avail avail frame)) → ⊥)
       → ((frame channel word : ℕ) → answer ≡ Err (Xrun (Overtaken frame channel word)) → IsMissed P t.0 d frame channel word)
       → IsExplained P G s t c d answer
@@ -220,7 +220,7 @@ module _ {S T : Type 0} (P : snoopport.Ghosts S) (G : gates.Ghosts T) where
   }
 
   -- a start, by what its load gave
-  pub start-after : (s t : S × T) (c : CaptureStream) (k : Call) (load : Option Position) (done : Answered (Unit {0})) → IsSound c → c.status.state ≡ state.Prepared → c.status.stopped ≡ false → IsStart k
+  pub start-after : (s t : S × T) (c : CaptureStream) (k : Call) (load : Option Position) (done : Answered (Unit {0})) → IsSoundReader c → c.status.state ≡ state.Prepared → c.status.stopped ≡ false → IsStart k
       → CanUse c (P.view s.0) → LoadsAtSnoop P G s load t → done ≡ after_start c k load → After s t c done
   unfolding explained-none explained-gone explained-some
   start-after s t c k None done sound waits unstopped start can step is =
@@ -255,7 +255,7 @@ module _ {S T : Type 0} (P : snoopport.Ghosts S) (G : gates.Ghosts T) where
           }) step.asked_it)
 
   -- a sync, by what its load gave
-  pub sync-after : (s t : S × T) (c : CaptureStream) (k : Call) (load : Option Position) (done : Answered (Unit {0})) → IsSound c → c.status.state ≡ state.Running → c.status.stopped ≡ false → IsSync k
+  pub sync-after : (s t : S × T) (c : CaptureStream) (k : Call) (load : Option Position) (done : Answered (Unit {0})) → IsSoundReader c → c.status.state ≡ state.Running → c.status.stopped ≡ false → IsSync k
       → CanUse c (P.view s.0) → LoadsAtSnoop P G s load t → done ≡ after_sync c k load → After s t c done
   unfolding explained-none explained-over explained-some explained-gone
   sync-after s t c k None done sound runs unstopped sync can step is =

@@ -26,8 +26,8 @@ use Rattle.dsnoop_client.specs.declared.stream.CaptureStream.{CaptureStream}
 use Rattle.dsnoop_client.specs.Calls.{in_state, read_after, read_to, taken_of}
 use Rattle.dsnoop_client.specs.Causes.{FindsNone, IsMissed}
 use Rattle.dsnoop_client.specs.Port.{Asks, IsLookNumber}
-use Rattle.dsnoop_client.specs.Reads.{AreFrames, Fills, Reads}
-use Rattle.dsnoop_client.specs.View.{IsSound, avail_of}
+use Rattle.dsnoop_client.specs.Reads.{AreFrames, Fills, GivesFrames}
+use Rattle.dsnoop_client.specs.View.{IsSoundReader, avail_of}
 use Rattle.dsnoop_client.proofs.CameTo.{CameTo, IsUpTo}
 use Rattle.dsnoop_client.proofs.Explaining.{IsExplained, Went, explained-some, explained-went}
 
@@ -37,7 +37,7 @@ module _ {S : Type 0} (P : snoopport.Ghosts S) (p q : S) (c : CaptureStream) (be
   are-frames : (done : ℕ) (ended : Got) (fills : Fills P p q c.setup.bindings c.next done ended before after) → AreFrames fills.frames c.next c.geometry.channels
   are-frames done ended fills = subst (λ (g : Geometry). AreFrames fills.frames c.next g.channels) same fills.are
 
-  reads-error : (done : ℕ) (ended : Got) (d : CaptureStream) (e : PcmError) → d.next ≡ c.next → Fills P p q c.setup.bindings c.next done ended before after → Reads P p q c d before after (Err e)
+  reads-error : (done : ℕ) (ended : Got) (d : CaptureStream) (e : PcmError) → d.next ≡ c.next → Fills P p q c.setup.bindings c.next done ended before after → GivesFrames P p q c d before after (Err e)
   reads-error done ended d e stays fills = record {
     first = c.next;
     begins = λ runs. refl;
@@ -50,7 +50,7 @@ module _ {S : Type 0} (P : snoopport.Ghosts S) (p q : S) (c : CaptureStream) (be
   }
 
   reads-if : (test : Bool) (done : ℕ) (ended : Got) → Fills P p q c.setup.bindings c.next done ended before after
-      → Reads P p q c (if test then (c, Err Again) else read_to c done ended).0 before after (if test then (c, Err Again) else read_to c done ended).1
+      → GivesFrames P p q c (if test then (c, Err Again) else read_to c done ended).0 before after (if test then (c, Err Again) else read_to c done ended).1
   reads-if true done ended fills = reads-error done ended c Again refl fills
   reads-if false done Whole fills = record {
     first = c.next;
@@ -66,7 +66,7 @@ module _ {S : Type 0} (P : snoopport.Ghosts S) (p q : S) (c : CaptureStream) (be
   reads-if false done Stopped fills = reads-error done Stopped (record c { status = record c.status { stopped = true } }) error.Stopped refl fills
 
   pub reads-of : (n done : ℕ) (ended : Got) → Fills P p q c.setup.bindings c.next done ended before after
-      → Reads P p q c (read_after c n done ended).0 before after (read_after c n done ended).1
+      → GivesFrames P p q c (read_after c n done ended).0 before after (read_after c n done ended).1
   reads-of n done ended fills = reads-if (nat_lt 0 n && nat_eq (avail_of c) 0) done ended fills
 
 -- ---- why it answers so
@@ -133,7 +133,7 @@ module _ {S T : Type 0} (P : snoopport.Ghosts S) (G : gates.Ghosts T) (composes 
   no-frames n count done Stopped none is_count up_to = absurd (omega (arith, none, is_count, up_to))
 
   -- a reader that has read frames, one that missed one, and one that was stopped
-  sound-next : (done : ℕ) → done ≤ avail_of u → IsSound (record u { next = u.next + done })
+  sound-next : (done : ℕ) → done ≤ avail_of u → IsSoundReader (record u { next = u.next + done })
   sound-next done few = record {
     captures = went.sound.captures;
     seen = went.sound.seen;
@@ -142,7 +142,7 @@ module _ {S T : Type 0} (P : snoopport.Ghosts S) (G : gates.Ghosts T) (composes 
     reading = λ runs. let at = went.sound.reading runs in record { least = omega (arith, at.least); most = omega (arith, at.most, few) };
   }
 
-  sound-missed : IsSound (in_state u state.Xrun)
+  sound-missed : IsSoundReader (in_state u state.Xrun)
   sound-missed = record {
     captures = refl;
     seen = went.sound.seen;
@@ -151,7 +151,7 @@ module _ {S T : Type 0} (P : snoopport.Ghosts S) (G : gates.Ghosts T) (composes 
     reading = λ h. cc;
   }
 
-  sound-stopped : IsSound (record u { status = record u.status { stopped = true } })
+  sound-stopped : IsSoundReader (record u { status = record u.status { stopped = true } })
   sound-stopped = record {
     captures = went.sound.captures;
     seen = went.sound.seen;

@@ -23,8 +23,8 @@ use Rattle.dsnoop_client.specs.declared.stream.CaptureStream.{CaptureStream}
 use Rattle.dsnoop_client.specs.Calls.{Answered, read_after, taken_of, waits}
 use Rattle.dsnoop_client.specs.Course.{gets_frames, reads_first, reads_on, starts, syncs, transfer_on, transfers}
 use Rattle.dsnoop_client.specs.Port.{IsLookNumber}
-use Rattle.dsnoop_client.specs.Reads.{AreFrames, Reads, through_all}
-use Rattle.dsnoop_client.specs.View.{CanUse, IsGoing, IsSound, IsStart, IsSync}
+use Rattle.dsnoop_client.specs.Reads.{AreFrames, GivesFrames, through_all}
+use Rattle.dsnoop_client.specs.View.{CanUse, IsGoing, IsSoundReader, IsStart, IsSync}
 use Rattle.dsnoop_client.proofs.CameTo.{gets_frames-come}
 use Rattle.dsnoop_client.proofs.Reading.{IsReadExplained, read-explained}
 use Rattle.dsnoop_client.proofs.Explaining.{After, NeverOvertaken, same_error, start-after, sync-after, explained-error, why-error}
@@ -35,13 +35,13 @@ no-looks error.Stopped next channels n never = omega arith
 no-looks other next channels n never = refl
 
 module _ {S T : Type 0} (P : snoopport.Ghosts S) (G : gates.Ghosts T) where
-  pub syncs-after : (s t : S × T) (c : CaptureStream) (k : Call) (done : Answered (Unit {0})) → IsSound c → c.status.state ≡ state.Running → c.status.stopped ≡ false → IsSync k
+  pub syncs-after : (s t : S × T) (c : CaptureStream) (k : Call) (done : Answered (Unit {0})) → IsSoundReader c → c.status.state ≡ state.Running → c.status.stopped ≡ false → IsSync k
       → CanUse c (P.view s.0) → TakesAtSnoop P G s (syncs c k) t done → After P G s t c done
   unfolding syncs
   syncs-after s t c k done sound runs unstopped sync can (load, m, step, rest) =
       subst (λ (u : S × T). After P G s u c done) (sym rest.there) (sync-after P G s m c k load done sound runs unstopped sync can step rest.result)
 
-  pub starts-after : (s t : S × T) (c : CaptureStream) (k : Call) (done : Answered (Unit {0})) → IsSound c → c.status.state ≡ state.Prepared → c.status.stopped ≡ false → IsStart k
+  pub starts-after : (s t : S × T) (c : CaptureStream) (k : Call) (done : Answered (Unit {0})) → IsSoundReader c → c.status.state ≡ state.Prepared → c.status.stopped ≡ false → IsStart k
       → CanUse c (P.view s.0) → TakesAtSnoop P G s (starts c k) t done → After P G s t c done
   unfolding starts
   starts-after s t c k done sound waits unstopped start can (load, m, step, rest) =
@@ -85,14 +85,14 @@ module _ {S T : Type 0} (P : snoopport.Ghosts S) (G : gates.Ghosts T) where
         asks = record { looks = 0; looks_number = no-looks e u.next u.geometry.channels n after.ended.2; asked_them = after.asked };
       }))
 
-  pub reads_on-told : Composes P.loaded → AsksCompose G.asked → (s t : S × T) (c : CaptureStream) (n : ℕ) (d : Answered ℕ) → IsSound c → c.status.state ≡ state.Running → c.status.stopped ≡ false
+  pub reads_on-told : Composes P.loaded → AsksCompose G.asked → (s t : S × T) (c : CaptureStream) (n : ℕ) (d : Answered ℕ) → IsSoundReader c → c.status.state ≡ state.Running → c.status.stopped ≡ false
       → CanUse c (P.view s.0) → TakesAtSnoop P G s (reads_on c n) t d → IsReadExplained P G s t c d.0 n d.1
   unfolding reads_on
   reads_on-explained composes asks s t c n d sound runs unstopped can takes =
       let parts = Takes-parts (LoadsAtSnoop P G) NoLay (GetsAtSnoop P G) s t (syncs c call.Transfer) (transfer_on n) d takes in
       transfer_on-explained composes asks s parts.0 t c parts.1 n d (syncs-after s parts.0 c call.Transfer parts.1 sound runs unstopped tt can parts.2) parts.3
 
-  pub reads_first-told : Composes P.loaded → AsksCompose G.asked → (s t : S × T) (c : CaptureStream) (n : ℕ) (d : Answered ℕ) → IsSound c → c.status.state ≡ state.Prepared → c.status.stopped ≡ false
+  pub reads_first-told : Composes P.loaded → AsksCompose G.asked → (s t : S × T) (c : CaptureStream) (n : ℕ) (d : Answered ℕ) → IsSoundReader c → c.status.state ≡ state.Prepared → c.status.stopped ≡ false
       → CanUse c (P.view s.0) → TakesAtSnoop P G s (reads_first c n) t d → IsReadExplained P G s t c d.0 n d.1
   unfolding reads_first
   reads_first-explained composes asks s t c n d sound waits unstopped can takes =
@@ -100,7 +100,7 @@ module _ {S T : Type 0} (P : snoopport.Ghosts S) (G : gates.Ghosts T) where
       transfer_on-explained composes asks s parts.0 t c parts.1 n d (starts-after s parts.0 c call.Transfer parts.1 sound waits unstopped tt can parts.2) parts.3
 
 -- a call that did nothing, and got no frame
-pub reads-none : {S : Type 0} (P : snoopport.Ghosts S) (p q : S) (c d : CaptureStream) (out after : List ℤ) (e : PcmError) → P.got p q [] → (c.status.state ≡ state.Running → d.next ≡ c.next) → Reads P p q c d out after (Err e)
+pub reads-none : {S : Type 0} (P : snoopport.Ghosts S) (p q : S) (c d : CaptureStream) (out after : List ℤ) (e : PcmError) → P.got p q [] → (c.status.state ≡ state.Running → d.next ≡ c.next) → GivesFrames P p q c d out after (Err e)
 reads-none P p q c d out after e nothing stays = record {
   first = d.next;
   begins = stays;
@@ -114,7 +114,7 @@ reads-none P p q c d out after e nothing stays = record {
 
 -- frames that were got after a load of the position
 pub reads-behind : {S : Type 0} (P : snoopport.Ghosts S) → Composes P.got → (p m q : S) (c u d : CaptureStream) (before after : List ℤ) (answer : Result ℕ PcmError) → P.got p m [] → u.geometry ≡ c.geometry → u.setup ≡ c.setup
-    → u.status.state ≡ state.Running → (c.status.state ≡ state.Running → u.next ≡ c.next) → Reads P m q u d before after answer → Reads P p q c d before after answer
+    → u.status.state ≡ state.Running → (c.status.state ≡ state.Running → u.next ≡ c.next) → GivesFrames P m q u d before after answer → GivesFrames P p q c d before after answer
 reads-behind P composes p m q c u d before after answer nothing same_ring same_setup runs stays reads = record {
   first = reads.first;
   begins = λ is. reads.begins runs ∙ stays is;
@@ -127,7 +127,7 @@ reads-behind P composes p m q c u d before after answer nothing same_ring same_s
 }
 
 -- a read that waits gives nothing
-reads-if_waits : {S : Type 0} (P : snoopport.Ghosts S) → Composes P.got → (p : S) (c : CaptureStream) (out : List ℤ) (none : Bool) → Reads P p p c c out out (if none then Ok 0 else Err Again)
+reads-if_waits : {S : Type 0} (P : snoopport.Ghosts S) → Composes P.got → (p : S) (c : CaptureStream) (out : List ℤ) (none : Bool) → GivesFrames P p p c c out out (if none then Ok 0 else Err Again)
 reads-if_waits P composes p c out true = record {
   first = c.next;
   begins = λ runs. refl;
@@ -140,10 +140,10 @@ reads-if_waits P composes p c out true = record {
 }
 reads-if_waits P composes p c out false = reads-none P p p c c out out Again (composes.none p) (λ runs. refl)
 
-pub reads-waits : {S : Type 0} (P : snoopport.Ghosts S) → Composes P.got → (p : S) (c : CaptureStream) (out : List ℤ) (n : ℕ) (answer : Result ℕ PcmError) → answer ≡ waits n → Reads P p p c c out out answer
-reads-waits P composes p c out n answer is = subst (λ (r : Result ℕ PcmError). Reads P p p c c out out r) (sym is) (reads-if_waits P composes p c out (nat_eq n 0))
+pub reads-waits : {S : Type 0} (P : snoopport.Ghosts S) → Composes P.got → (p : S) (c : CaptureStream) (out : List ℤ) (n : ℕ) (answer : Result ℕ PcmError) → answer ≡ waits n → GivesFrames P p p c c out out answer
+reads-waits P composes p c out n answer is = subst (λ (r : Result ℕ PcmError). GivesFrames P p p c c out out r) (sym is) (reads-if_waits P composes p c out (nat_eq n 0))
 
 -- a read that was refused gives nothing
-pub reads-refused : {S : Type 0} (P : snoopport.Ghosts S) → Composes P.got → (p : S) (c : CaptureStream) (out : List ℤ) (e : PcmError) (answer : Result ℕ PcmError) → IsErrAnd answer (λ f. f ≡ e) → Reads P p p c c out out answer
+pub reads-refused : {S : Type 0} (P : snoopport.Ghosts S) → Composes P.got → (p : S) (c : CaptureStream) (out : List ℤ) (e : PcmError) (answer : Result ℕ PcmError) → IsErrAnd answer (λ f. f ≡ e) → GivesFrames P p p c c out out answer
 reads-refused P composes p c out e (Ok n) is = absurd is
 reads-refused P composes p c out e (Err f) is = reads-none P p p c c out out f (composes.none p) (λ runs. refl)

@@ -8,13 +8,13 @@ use Rattle.mix_core.specs.declared.gate.StepKind.TheVariants as kind
 use Rattle.snoop_core.specs.declared.port.SnoopPort as snoopport
 use Rattle.course.specs.Stops.{CountsStop, pass_by}
 use Rattle.dsnoop_client.specs.declared.stream.CaptureStream.{CaptureStream}
-use Rattle.dsnoop_client.specs.View.{CanUse, IsSound}
+use Rattle.dsnoop_client.specs.View.{CanUse, IsSoundReader}
 
 -- what every call that takes steps keeps: the reader's counts fit each other, it can use the port again, its ring and its setup are the
 -- same, it is stopped exactly where it answers `Stopped`, and where it wasn't stopped before, so is the gate's count of stops
 pub record Keeps {S T X : Type 0} (P : snoopport.Ghosts S) (G : gates.Ghosts T)
     (s t : S × T) (c d : CaptureStream) (answer : Result X PcmError) : Type 0 where
-  pub sound : IsSound d
+  pub sound : IsSoundReader d
   pub port : CanUse d (P.view t.0)
   pub same_ring : d.geometry ≡ c.geometry
   pub same_setup : d.setup ≡ c.setup

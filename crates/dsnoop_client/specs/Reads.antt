@@ -40,7 +40,7 @@ count_of_answer (Err e) = 0
 -- what a read answers: the frames that its port got, one after the other from a first one on, are the samples that it gives, through
 -- the bindings, and the rest of the room is as it was; only a read that is Ok counts frames, and the reader's next frame is after
 -- those; the first is the next frame of a reader that runs
-pub record Reads {S : Type 0} (P : snoopport.Ghosts S) (p q : S) (c d : CaptureStream)
+pub record GivesFrames {S : Type 0} (P : snoopport.Ghosts S) (p q : S) (c d : CaptureStream)
     (before after : List ℤ) (answer : Result ℕ PcmError) : Type 0 where
   pub first : ℕ
   pub begins : c.status.state ≡ Running → first ≡ c.next

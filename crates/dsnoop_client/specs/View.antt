@@ -44,7 +44,7 @@ pub record IsReading (c : CaptureStream) : Type 0 where
   pub most : c.next ≤ unwrap_or c.seen 0
 
 -- what every reader keeps
-pub record IsSound (c : CaptureStream) : Type 0 where
+pub record IsSoundReader (c : CaptureStream) : Type 0 where
   pub captures : is_of_capture c.status.state ≡ true
   pub seen : unwrap_or c.seen 0 ≤ end_frame c.geometry
   pub set_up : is_set_up c.status.state ≡ true → c.setup.configured ≡ true

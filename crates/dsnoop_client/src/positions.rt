@@ -8,7 +8,7 @@ ghost use Rattle.course.specs.AtSnoopPort.{LoadsAtSnoop, TakesAtSnoop};
 ghost use Rattle.dsnoop_client.specs.Causes.{Explains};
 ghost use Rattle.dsnoop_client.specs.Course.{if_admitted, avail_course, starts, sync_course, syncs};
 ghost use Rattle.dsnoop_client.specs.Port.{Keeps};
-ghost use Rattle.dsnoop_client.specs.View.{CanUse, IsGoing, IsReadyIf, IsSound, IsStart, IsSync, is_running};
+ghost use Rattle.dsnoop_client.specs.View.{CanUse, IsGoing, IsReadyIf, IsSoundReader, IsStart, IsSync, is_running};
 
 use crate::parts::{after_start, after_sync, with_avail};
 use crate::reader::Reader;
@@ -36,7 +36,7 @@ pub(crate) fn start_call<P: SnoopPort, G: Gate>(
     gate: &mut G,
     call: Call,
 ) -> Result<(), PcmError>
-    requires sound { IsSound stream.old }
+    requires sound { IsSoundReader stream.old }
     requires prepared { stream.old.status.state ≡ State.Prepared }
     requires unstopped { stream.old.status.stopped ≡ false }
     requires start { IsStart call }
@@ -62,7 +62,7 @@ pub(crate) fn sync_call<P: SnoopPort, G: Gate>(
     gate: &mut G,
     call: Call,
 ) -> Result<(), PcmError>
-    requires sound { IsSound stream.old }
+    requires sound { IsSoundReader stream.old }
     requires running { stream.old.status.state ≡ State.Running }
     requires unstopped { stream.old.status.stopped ≡ false }
     requires sync { IsSync call }

@@ -8,8 +8,8 @@ ghost use Rattle.dsnoop_client.specs.Calls.{waits};
 ghost use Rattle.dsnoop_client.specs.Causes.{ExplainsRead};
 ghost use Rattle.dsnoop_client.specs.Course.{if_admitted, read_course, reads_first, reads_on, transfers};
 ghost use Rattle.dsnoop_client.specs.Port.{Asks, Keeps};
-ghost use Rattle.dsnoop_client.specs.Reads.{Reads};
-ghost use Rattle.dsnoop_client.specs.View.{CanRead, CanUse, HasRoom, IsGoing, IsSound, LoadsFor, frames_in, is_running};
+ghost use Rattle.dsnoop_client.specs.Reads.{GivesFrames};
+ghost use Rattle.dsnoop_client.specs.View.{CanRead, CanUse, HasRoom, IsGoing, IsSoundReader, LoadsFor, frames_in, is_running};
 
 use crate::frames::load_frames;
 use crate::parts::{read_after, waits};
@@ -31,13 +31,13 @@ fn transfer<P: SnoopPort, G: Gate>(
     out: &mut [i16],
     frames: u64,
 ) -> Result<u64, PcmError>
-    requires sound { IsSound stream.old }
+    requires sound { IsSoundReader stream.old }
     requires going { IsGoing stream.old (P.view port.old) }
     requires room { HasRoom stream.old frame.old }
     requires fits { frames * length stream.old.setup.bindings ≤ length out.old }
     ensures takes { TakesAtSnoop P.SnoopPort G.Gate (port.old, gate.old)
         (transfers stream.old frames) (port.new, gate.new) (stream.new, result) }
-    ensures reads { Reads P.SnoopPort port.old port.new stream.old stream.new
+    ensures reads { GivesFrames P.SnoopPort port.old port.new stream.old stream.new
         out.old out.new result }
     ensures few { IfOk result (λ n. n ≤ frames) }
 {
@@ -58,7 +58,7 @@ fn read_running<P: SnoopPort, G: Gate>(
     out: &mut [i16],
     frames: u64,
 ) -> Result<u64, PcmError>
-    requires sound { IsSound stream.old }
+    requires sound { IsSoundReader stream.old }
     requires running { stream.old.status.state ≡ State.Running }
     requires unstopped { stream.old.status.stopped ≡ false }
     requires port { CanUse stream.old (P.view port.old) }
@@ -66,7 +66,7 @@ fn read_running<P: SnoopPort, G: Gate>(
     requires fits { frames * length stream.old.setup.bindings ≤ length out.old }
     ensures takes { TakesAtSnoop P.SnoopPort G.Gate (port.old, gate.old)
         (reads_on stream.old frames) (port.new, gate.new) (stream.new, result) }
-    ensures reads { Reads P.SnoopPort port.old port.new stream.old stream.new
+    ensures reads { GivesFrames P.SnoopPort port.old port.new stream.old stream.new
         out.old out.new result }
     ensures few { IfOk result (λ n. n ≤ frames) }
 {
@@ -85,7 +85,7 @@ fn read_starting<P: SnoopPort, G: Gate>(
     out: &mut [i16],
     frames: u64,
 ) -> Result<u64, PcmError>
-    requires sound { IsSound stream.old }
+    requires sound { IsSoundReader stream.old }
     requires prepared { stream.old.status.state ≡ State.Prepared }
     requires unstopped { stream.old.status.stopped ≡ false }
     requires port { CanUse stream.old (P.view port.old) }
@@ -93,7 +93,7 @@ fn read_starting<P: SnoopPort, G: Gate>(
     requires fits { frames * length stream.old.setup.bindings ≤ length out.old }
     ensures takes { TakesAtSnoop P.SnoopPort G.Gate (port.old, gate.old)
         (reads_first stream.old frames) (port.new, gate.new) (stream.new, result) }
-    ensures reads { Reads P.SnoopPort port.old port.new stream.old stream.new
+    ensures reads { GivesFrames P.SnoopPort port.old port.new stream.old stream.new
         out.old out.new result }
     ensures few { IfOk result (λ n. n ≤ frames) }
 {
@@ -120,14 +120,14 @@ fn read_admitted<P: SnoopPort, G: Gate>(
     gate: &mut G,
     out: &mut [i16],
 ) -> Result<u64, PcmError>
-    requires sound { IsSound stream.old }
+    requires sound { IsSoundReader stream.old }
     requires admitted { refusal_of Direction.Capture stream.old.status call.Transfer ≡ None }
     requires port { CanUse stream.old (P.view port.old) }
     requires room { HasRoom stream.old frame.old }
     ensures takes { TakesAtSnoop P.SnoopPort G.Gate (port.old, gate.old)
         (read_course stream.old (frames_in stream.old out.old)) (port.new, gate.new)
         (stream.new, result) }
-    ensures reads { Reads P.SnoopPort port.old port.new stream.old stream.new
+    ensures reads { GivesFrames P.SnoopPort port.old port.new stream.old stream.new
         out.old out.new result }
     ensures keeps { Keeps P.SnoopPort G.Gate (port.old, gate.old) (port.new, gate.new)
         stream.old stream.new result }
@@ -194,7 +194,7 @@ impl Reader {
             → refusal_of Direction.Capture self.old.status call.Transfer ≡ Some e
             → (result ≡ Err e) × (self.new ≡ self.old)
             × (port.new ≡ port.old) × (gate.new ≡ gate.old) × (out.new ≡ out.old) }
-        ensures reads { Reads P.SnoopPort port.old port.new self.old self.new
+        ensures reads { GivesFrames P.SnoopPort port.old port.new self.old self.new
             out.old out.new result }
         ensures keeps { Keeps P.SnoopPort G.Gate (port.old, gate.old) (port.new, gate.new)
             self.old self.new result }

@@ -6,7 +6,7 @@ ghost use Rattle.pcm_stream.specs.Status.{refusal_of};
 ghost use Rattle.pcm_stream.specs.declared.direction.Direction.{Direction};
 ghost use Rattle.sw_limits.specs.Boundary.{IsBoundary};
 ghost use Rattle.dsnoop_client.specs.Calls.{configured_with, after_hw_free, in_state, new_reader, with_params};
-ghost use Rattle.dsnoop_client.specs.View.{IsSound};
+ghost use Rattle.dsnoop_client.specs.View.{IsSoundReader};
 
 use crate::stream::CaptureStream;
 use bindings::Bindings;
@@ -32,13 +32,13 @@ pub struct Reader {
 
 impl Model for Reader {
     ghost use Rattle.dsnoop_client.specs.declared.stream.CaptureStream.{CaptureStream};
-    ghost use Rattle.dsnoop_client.specs.View.{HasRoom, IsSound};
+    ghost use Rattle.dsnoop_client.specs.View.{HasRoom, IsSoundReader};
 
     ghost Value = { CaptureStream };
 
     ghost view = { λ r. r.stream };
 
-    ghost invariant = { λ r. IsSound r.stream × HasRoom r.stream r.frame.items };
+    ghost invariant = { λ r. IsSoundReader r.stream × HasRoom r.stream r.frame.items };
 }
 
 impl Reader {
@@ -55,7 +55,7 @@ impl Reader {
     /// What every reader keeps: how its state, its settings and its counts fit each other. A fact for contracts; it does
     /// nothing.
     pub fn counts_are_sound(&self)
-        ensures { IsSound self.now }
+        ensures { IsSoundReader self.now }
     {
         let _ = &self.stream;
     }

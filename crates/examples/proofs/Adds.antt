@@ -7,7 +7,7 @@ use Rattle.snd_base.specs.declared.geometry.Geometry.{Geometry}
 use Rattle.snd_base.specs.declared.places.Segment.{Segment}
 use Rattle.mix_core.specs.declared.port.Entry.{Entry}
 use Rattle.mix_core.specs.declared.port.Kind.TheVariants.{Added}
-use Rattle.mix_core.specs.History.{Row, row_of}
+use Rattle.mix_core.specs.History.{Row, entry_row}
 use Rattle.mix_core.specs.Laid.{AreAdds}
 use Rattle.mix_core.specs.Turn.{AllContinue, continues}
 use Rattle.dmix_client.specs.Expansion.{frame_entries}
@@ -37,4 +37,4 @@ AreAdds-entries g member s samples = AreAdds-append _ _
 pub AllContinue-adds : (g : Geometry) (members : ℕ) (h : List Row) (es : List Entry) → AreAdds es → AllContinue g members h es
 AllContinue-adds g members h [] adds = tt
 AllContinue-adds g members h (e ∷ es) adds =
-    (subst (λ k. continues k g members h e.member e.frame e.channel e.sample) (sym adds.0) tt, AllContinue-adds g members (h ++ row_of e ∷ []) es adds.1)
+    (subst (λ k. continues k g members h e.member e.frame e.channel e.sample) (sym adds.0) tt, AllContinue-adds g members (h ++ entry_row e ∷ []) es adds.1)

@@ -9,8 +9,8 @@ use Rattle.mix_core.specs.declared.event.Reply.TheVariants.{Published, Took}
 use Rattle.mix_core.specs.declared.event.Taken.{Taken}
 use Rattle.mix_core.specs.declared.turn.Turn.{Turn}
 use Rattle.mix_core.specs.Calls.{IsNew, IsPublished, IsTaken}
-use Rattle.mix_core.specs.History.{AreExact, AreInOrder, Row, row_of, taken_of}
-use Rattle.mix_core.specs.HistoryLaws.{laid_of-append_published, laid_of-append_rows, laid_of-append_took, taken_of-append_published, taken_of-append_rows, taken_of-append_took}
+use Rattle.mix_core.specs.History.{AreExact, AreInOrder, Row, entry_row, taken_words}
+use Rattle.mix_core.specs.HistoryLaws.{laid_of-append_published, laid_of-append_rows, laid_of-append_took, taken_words-append_published, taken_words-append_rows, taken_words-append_took}
 use Rattle.mix_core.specs.Stands.{Stands}
 use Rattle.mix_core.specs.Turn.{TurnLaid, core_of}
 use Rattle.mix_core.specs.View.{View}
@@ -28,13 +28,13 @@ pub HasMixed-new : (v : View) (g : Geometry) (members : ℕ) → IsNew v g membe
 HasMixed-new v g members new = record { history = []; represented = new.stands; placed_is = refl; taken_is = refl }
 
 -- entries were placed
-HasMixed-placed : (v w : View) (placed es : List Entry) (taken : List Taken) → ((h : List Row) → Stands v h → Stands w (h ++ map row_of es))
+HasMixed-placed : (v w : View) (placed es : List Entry) (taken : List Taken) → ((h : List Row) → Stands v h → Stands w (h ++ map entry_row es))
     → HasMixed v placed taken → HasMixed w (placed ++ es) taken
 HasMixed-placed v w placed es taken goes mixed = record {
-  history = mixed.history ++ map row_of es;
+  history = mixed.history ++ map entry_row es;
   represented = goes mixed.history mixed.represented;
   placed_is = laid_of-append_rows mixed.history es ∙ ap (λ (xs : List Entry). xs ++ es) mixed.placed_is;
-  taken_is = taken_of-append_rows mixed.history es ∙ mixed.taken_is;
+  taken_is = taken_words-append_rows mixed.history es ∙ mixed.taken_is;
 }
 
 -- a word was taken
@@ -43,7 +43,7 @@ HasMixed-taken v w placed taken t step mixed = record {
   history = mixed.history ++ (Take, Took t.frame t.channel t.value) ∷ [];
   represented = step.stands mixed.history mixed.represented;
   placed_is = laid_of-append_took mixed.history t.frame t.channel t.value ∙ mixed.placed_is;
-  taken_is = taken_of-append_took mixed.history t.frame t.channel t.value ∙ ap (λ (ts : List Taken). ts ++ t ∷ []) mixed.taken_is;
+  taken_is = taken_words-append_took mixed.history t.frame t.channel t.value ∙ ap (λ (ts : List Taken). ts ++ t ∷ []) mixed.taken_is;
 }
 
 -- the position was published
@@ -52,14 +52,14 @@ HasMixed-published v w placed taken step mixed = record {
   history = mixed.history ++ (Publish, Published v.next.frame) ∷ [];
   represented = step.stands mixed.history mixed.represented;
   placed_is = laid_of-append_published mixed.history v.next.frame ∙ mixed.placed_is;
-  taken_is = taken_of-append_published mixed.history v.next.frame ∙ mixed.taken_is;
+  taken_is = taken_words-append_published mixed.history v.next.frame ∙ mixed.taken_is;
 }
 
 -- what was taken are the sums of what was placed
 pub HasMixed-sums : (v : View) (g : Geometry) (placed : List Entry) (taken : List Taken) → v.geometry ≡ g → HasMixed v placed taken → AreSums g placed taken
 HasMixed-sums v g placed taken same mixed =
-    let in_order : AreInOrder g (taken_of mixed.history) = subst (λ (x : Geometry). AreInOrder x (taken_of mixed.history)) same mixed.represented.agrees.in_order in
-    let exact : AreExact placed (taken_of mixed.history) = subst (λ (es : List Entry). AreExact es (taken_of mixed.history)) mixed.placed_is mixed.represented.agrees.exact in
+    let in_order : AreInOrder g (taken_words mixed.history) = subst (λ (x : Geometry). AreInOrder x (taken_words mixed.history)) same mixed.represented.agrees.in_order in
+    let exact : AreExact placed (taken_words mixed.history) = subst (λ (es : List Entry). AreExact es (taken_words mixed.history)) mixed.placed_is mixed.represented.agrees.exact in
     record {
       in_order = subst (AreInOrder g) mixed.taken_is in_order;
       exact = subst (AreExact placed) mixed.taken_is exact;

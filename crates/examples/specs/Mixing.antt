@@ -5,7 +5,7 @@ use Rattle.snd_base.specs.declared.geometry.Geometry.{Geometry}
 use Rattle.snd_base.specs.declared.places.Segment.{Segment}
 use Rattle.mix_core.specs.declared.event.Taken.{Taken}
 use Rattle.mix_core.specs.declared.port.Entry.{Entry}
-use Rattle.mix_core.specs.History.{AreExact, AreInOrder, Row, laid_of, taken_of}
+use Rattle.mix_core.specs.History.{AreExact, AreInOrder, Row, laid_of, taken_words}
 use Rattle.mix_core.specs.Stands.{Stands}
 use Rattle.mix_core.specs.View.{View}
 use Rattle.pcm_states.specs.declared.states.State.TheVariants.{Prepared}
@@ -22,7 +22,7 @@ pub record HasMixed (core : View) (placed : List Entry) (taken : List Taken) : T
   pub history : List Row
   pub represented : Stands core history
   pub placed_is : laid_of history ≡ placed
-  pub taken_is : taken_of history ≡ taken
+  pub taken_is : taken_words history ≡ taken
 
 -- the words of a ring from its first frame on, in the order of frames and channels: each value is the saturated sum of what was
 -- placed at its frame and channel

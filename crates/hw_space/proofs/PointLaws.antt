@@ -21,7 +21,7 @@ use Rattle.hw_space.specs.declared.quantity.Quantity.{Quantity}
 use Rattle.hw_space.specs.declared.quantity.Quantity.TheVariants.{SampleBits, FrameBits, Channels, Rate, PeriodTime, PeriodSize, PeriodBytes, Periods, BufferTime, BufferSize, BufferBytes}
 use Rattle.hw_space.specs.Boxes.{part, IsBoxWithin}
 use Rattle.hw_space.specs.BoxLaws.{IsBoxWithin-refl, IsBoxWithin-trans, IsBoxWithin-part, with_part-IsBoxWithin}
-use Rattle.hw_space.specs.Choices.{IsFirstNumber, Makes, Chooses, done, fails, goes, choices, HasPoints, IsChoice}
+use Rattle.hw_space.specs.Choices.{IsFirstNumber, ChoiceLeaves, Chooses, done, fails, goes, choices, HasPoints, IsChoice}
 use Rattle.hw_space.specs.Narrowings.{with_refined, point, at_most, at_least, least_end, greatest_end, with_access, with_format, distance, nearest, LeavesOf, IsNear}
 use Rattle.hw_space.specs.Settled.{IsSettled, IsLeft, Leaves}
 use Rattle.hw_space.specs.SettledLaws.{IsSettled-IsNormal}
@@ -43,7 +43,7 @@ IsFirstNumber-trailing_zeros m filled fits =
 
 -- the steps from a place on, one of them first
 pub Chooses-next : (cs : List Choice) (i : ℕ) (c : Choice) (b d : ParamBox) (o : Option ParamBox) → i < length cs
-    → Makes (get_or cs i c) b (Some d) → Chooses (drop (i + 1) cs) d o → Chooses (drop i cs) b o
+    → ChoiceLeaves (get_or cs i c) b (Some d) → Chooses (drop (i + 1) cs) d o → Chooses (drop i cs) b o
 Chooses-next cs i c b d o inside makes rest =
     let P : List Choice → Type 0 = λ xs. Chooses xs b o in
     let Q : ℕ → Type 0 = λ k. Chooses (drop k cs) d o in
@@ -51,7 +51,7 @@ Chooses-next cs i c b d o inside makes rest =
     subst P (sym (drop-cons cs i c inside)) (goes makes after)
 
 pub Chooses-stop : (cs : List Choice) (i : ℕ) (c : Choice) (b : ParamBox) → i < length cs
-    → Makes (get_or cs i c) b None → Chooses (drop i cs) b None
+    → ChoiceLeaves (get_or cs i c) b None → Chooses (drop i cs) b None
 Chooses-stop cs i c b inside makes =
     let P : List Choice → Type 0 = λ xs. Chooses xs b None in
     subst P (sym (drop-cons cs i c inside)) (fails makes)
@@ -232,7 +232,7 @@ IsAtEnd-near b d q n h = near-cases b d q n h.low h.high h.below h.above h.left
 
 -- ---- all steps
 
-IsMoved-makes : (c : Choice) (b d : ParamBox) → Makes c b (Some d) → IsMoved b d
+IsMoved-makes : (c : Choice) (b d : ParamBox) → ChoiceLeaves c b (Some d) → IsMoved b d
 IsMoved-makes Settle b d makes = IsMoved-left b b d (IsBoxWithin-refl b) makes
 IsMoved-makes FirstAccess b d makes = IsMoved-left b (with_access b makes.0) d (with_access-IsBoxWithin b makes.0) makes.2
 IsMoved-makes FirstFormat b d makes =
@@ -245,7 +245,7 @@ IsMoved-makes (Near q n) b d makes = (IsAtEnd-near b d q n makes).moved
 -- the first step, and the box that it leaves
 record IsFirst (c : Choice) (cs : List Choice) (b f : ParamBox) : Type 0 where
   box : ParamBox
-  makes : Makes c b (Some box)
+  makes : ChoiceLeaves c b (Some box)
   rest : Chooses cs box (Some f)
 
 first_step : (c : Choice) (cs : List Choice) (b f : ParamBox) → Chooses (c ∷ cs) b (Some f) → IsFirst c cs b f

@@ -24,8 +24,8 @@ use Rattle.hw_space.specs.SettledLaws.{computed-IsWithin}
 use Rattle.hw_space.specs.ConfigurationLaws.{computed-IsMember}
 use Rattle.hw_space.specs.Proper.{IsProper}
 use Rattle.hw_space.specs.Narrowings.{with_refined}
-use Rattle.hw_space.specs.Steps.{IsStep}
-use Rattle.hw_space.proofs.StepLaws.{IsStep-trans, either_false, IsMissedByNone, with_part-IsStep, IsVoid-part, IsFormatMissedByNone, with_formats, with_formats-IsStep, IsVoid-format}
+use Rattle.hw_space.specs.Steps.{IsBoxStep}
+use Rattle.hw_space.proofs.StepLaws.{IsBoxStep-trans, either_false, IsMissedByNone, with_part-IsBoxStep, IsVoid-part, IsFormatMissedByNone, with_formats, with_formats-IsBoxStep, IsVoid-format}
 
 -- ---- the table
 
@@ -101,14 +101,14 @@ missed_by_equal : (b : ParamBox) (r : Rule) (x : Interval) → IsProper b → Is
 missed_by_equal b r x proper listed equal =
     let P : Interval → Type 0 = IsMissedByNone b r.target in subst P (sym equal) (computed-IsMissedByNone b r proper listed)
 
-pub apply-IsStep : (b new : ParamBox) (r : Rule) (x : Interval) (changed : Bool) → IsProper b → IsListed r → x ≡ result_of_rule r b
+pub apply-IsBoxStep : (b new : ParamBox) (r : Rule) (x : Interval) (changed : Bool) → IsProper b → IsListed r → x ≡ result_of_rule r b
     → IsNonEmpty (refinement (part b r.target) x)
     → (changed ≡ false ↔ (refinement (part b r.target) x ≡ part b r.target))
-    → new ≡ with_refined b r.target x → IsStep b new changed
-apply-IsStep b new r x changed proper listed equal filled unchanged becomes =
-    let P : ParamBox → Type 0 = λ d. IsStep b d changed in
+    → new ≡ with_refined b r.target x → IsBoxStep b new changed
+apply-IsBoxStep b new r x changed proper listed equal filled unchanged becomes =
+    let P : ParamBox → Type 0 = λ d. IsBoxStep b d changed in
     subst P (sym becomes)
-    (with_part-IsStep b r.target x changed proper (missed_by_equal b r x proper listed equal) filled unchanged.0 unchanged.1)
+    (with_part-IsBoxStep b r.target x changed proper (missed_by_equal b r x proper listed equal) filled unchanged.0 unchanged.1)
 
 pub apply-IsVoid : (b : ParamBox) (r : Rule) (x : Interval) → IsProper b → IsListed r → x ≡ result_of_rule r b
     → IsEmpty (refinement (part b r.target) x) → IsVoid b
@@ -127,15 +127,15 @@ kept_more a b rs i x inside same so_far here k d below =
 
 -- ---- formats and sample bits
 
-pub sample_bits-IsStep : (b new : ParamBox) (x : Interval) (changed : Bool) → IsProper b → x ≡ bits_of_formats b.format
+pub sample_bits-IsBoxStep : (b new : ParamBox) (x : Interval) (changed : Bool) → IsProper b → x ≡ bits_of_formats b.format
     → IsNonEmpty (refinement b.sample_bits x)
     → (changed ≡ false ↔ (refinement b.sample_bits x ≡ b.sample_bits))
-    → new ≡ with_refined b SampleBits x → IsStep b new changed
-sample_bits-IsStep b new x changed proper equal filled unchanged becomes =
-    let P : ParamBox → Type 0 = λ d. IsStep b d changed in
+    → new ≡ with_refined b SampleBits x → IsBoxStep b new changed
+sample_bits-IsBoxStep b new x changed proper equal filled unchanged becomes =
+    let P : ParamBox → Type 0 = λ d. IsBoxStep b d changed in
     let Q : Interval → Type 0 = IsMissedByNone b SampleBits in
     subst P (sym becomes)
-    (with_part-IsStep b SampleBits x changed proper (subst Q (sym equal) (bits_of_formats-IsMissedByNone b)) filled unchanged.0 unchanged.1)
+    (with_part-IsBoxStep b SampleBits x changed proper (subst Q (sym equal) (bits_of_formats-IsMissedByNone b)) filled unchanged.0 unchanged.1)
 
 pub sample_bits-IsVoid : (b : ParamBox) (x : Interval) → x ≡ bits_of_formats b.format → IsEmpty (refinement b.sample_bits x) → IsVoid b
 sample_bits-IsVoid b x equal empty =
@@ -148,15 +148,15 @@ formats_of_bits-IsFormatMissedByNone b = record {
   configurations = HasNumber-formats_of_bits b;
 }
 
-pub format-IsStep : (b new : ParamBox) (m : Mask) (changed : Bool) → IsProper b → m ≡ formats_of_bits b.sample_bits
+pub format-IsBoxStep : (b new : ParamBox) (m : Mask) (changed : Bool) → IsProper b → m ≡ formats_of_bits b.sample_bits
     → (common_mask b.format m).bits ≢ 0
     → (changed ≡ false ↔ (common_mask b.format m ≡ b.format))
-    → new ≡ with_formats b (common_mask b.format m) → IsStep b new changed
-format-IsStep b new m changed proper equal filled unchanged becomes =
-    let P : ParamBox → Type 0 = λ d. IsStep b d changed in
+    → new ≡ with_formats b (common_mask b.format m) → IsBoxStep b new changed
+format-IsBoxStep b new m changed proper equal filled unchanged becomes =
+    let P : ParamBox → Type 0 = λ d. IsBoxStep b d changed in
     let Q : Mask → Type 0 = IsFormatMissedByNone b in
     subst P (sym becomes)
-    (with_formats-IsStep b m changed proper (subst Q (sym equal) (formats_of_bits-IsFormatMissedByNone b)) filled unchanged.0 unchanged.1)
+    (with_formats-IsBoxStep b m changed proper (subst Q (sym equal) (formats_of_bits-IsFormatMissedByNone b)) filled unchanged.0 unchanged.1)
 
 pub format-IsVoid : (b : ParamBox) (m : Mask) → m ≡ formats_of_bits b.sample_bits → (common_mask b.format m).bits ≡ 0 → IsVoid b
 format-IsVoid b m equal empty =
@@ -175,15 +175,15 @@ all-IsListed k d below = record {
 
 -- ---- a pass over all rules
 
-pub pass-IsStep : (a b c d e f : ParamBox) (p q r s t : Bool)
-    → IsStep a b p → IsStep b c q → IsStep c d r → IsStep d e s → IsStep e f t → IsStep a f ((((p || q) || r) || s) || t)
-pass-IsStep a b c d e f p q r s t one two three four five =
-    IsStep-trans a e f (((p || q) || r) || s) t
-    (IsStep-trans a d e ((p || q) || r) s (IsStep-trans a c d (p || q) r (IsStep-trans a b c p q one two) three) four) five
+pub pass-IsBoxStep : (a b c d e f : ParamBox) (p q r s t : Bool)
+    → IsBoxStep a b p → IsBoxStep b c q → IsBoxStep c d r → IsBoxStep d e s → IsBoxStep e f t → IsBoxStep a f ((((p || q) || r) || s) || t)
+pass-IsBoxStep a b c d e f p q r s t one two three four five =
+    IsBoxStep-trans a e f (((p || q) || r) || s) t
+    (IsBoxStep-trans a d e ((p || q) || r) s (IsBoxStep-trans a c d (p || q) r (IsBoxStep-trans a b c p q one two) three) four) five
 
 -- where it changes nothing, the box was settled
 pub pass-IsSettled : (a b c d e : ParamBox) (p q r s t : Bool)
-    → IsProper a → IsStep a b p → IsStep b c q → IsStep c d r → IsStep d e s
+    → IsProper a → IsBoxStep a b p → IsBoxStep b c q → IsBoxStep c d r → IsBoxStep d e s
     → (r ≡ false → All (Keeps c) rules)
     → (s ≡ false → refinement d.sample_bits (bits_of_formats d.format) ≡ d.sample_bits)
     → (t ≡ false → common_mask e.format (formats_of_bits e.sample_bits) ≡ e.format)

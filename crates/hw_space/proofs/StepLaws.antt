@@ -15,12 +15,12 @@ use Rattle.hw_space.specs.BoxLaws.{with_part-each, access-with_part, format-with
 use Rattle.hw_space.specs.Settled.{IsSettled, Configuration, IsExact, IsHeld, IsVoid}
 use Rattle.hw_space.specs.SettledLaws.{IsSettled-IsNormal}
 use Rattle.hw_space.specs.Proper.{IsProper}
-use Rattle.hw_space.specs.Steps.{IsStep}
+use Rattle.hw_space.specs.Steps.{IsBoxStep}
 
 -- ---- steps compose
 
-pub IsStep-refl : (b : ParamBox) → IsProper b → IsStep b b false
-IsStep-refl b proper = record {
+pub IsBoxStep-refl : (b : ParamBox) → IsProper b → IsBoxStep b b false
+IsBoxStep-refl b proper = record {
   within = IsBoxWithin-refl b;
   settled = λ s h in_b. in_b;
   configurations = λ x exact held. held;
@@ -33,14 +33,14 @@ pub either_false : (a b : Bool) → (a || b) ≡ false → (a ≡ false) × (b �
 either_false true b e = absurd (cc)
 either_false false b e = (refl, e)
 
-size-moved : (a b d : ParamBox) (c e : Bool) → IsStep a b c → IsStep b d e → (c || e) ≡ true → size_of_box d < size_of_box a
+size-moved : (a b d : ParamBox) (c e : Bool) → IsBoxStep a b c → IsBoxStep b d e → (c || e) ≡ true → size_of_box d < size_of_box a
 size-moved a b d true true h g some = omega (arith, h.moved refl, g.moved refl)
 size-moved a b d true false h g some = omega (arith, h.moved refl, ap size_of_box (g.still refl))
 size-moved a b d false true h g some = omega (arith, ap size_of_box (h.still refl), g.moved refl)
 size-moved a b d false false h g some = absurd (cc)
 
-pub IsStep-trans : (a b d : ParamBox) (c e : Bool) → IsStep a b c → IsStep b d e → IsStep a d (c || e)
-IsStep-trans a b d c e h g = record {
+pub IsBoxStep-trans : (a b d : ParamBox) (c e : Bool) → IsBoxStep a b c → IsBoxStep b d e → IsBoxStep a d (c || e)
+IsBoxStep-trans a b d c e h g = record {
   within = IsBoxWithin-trans d b a g.within h.within;
   settled = λ s settled in_a. g.settled s settled (h.settled s settled in_a);
   configurations = λ x exact held. g.configurations x exact (h.configurations x exact held);
@@ -50,7 +50,7 @@ IsStep-trans a b d c e h g = record {
 }
 
 -- where nothing is left after a step, nothing was left before
-pub IsVoid-before : (a b : ParamBox) (c : Bool) → IsStep a b c → IsVoid b → IsVoid a
+pub IsVoid-before : (a b : ParamBox) (c : Bool) → IsBoxStep a b c → IsVoid b → IsVoid a
 IsVoid-before a b c h void = record {
   settled = λ s settled in_a. void.settled s settled (h.settled s settled in_a);
   configurations = λ x exact held. void.configurations x exact (h.configurations x exact held);
@@ -95,11 +95,11 @@ with_part-IsProper b q x proper filled =
     (rw (format-with_part b q (refinement (part b q) x)) proper.format)
     (with_part-each (λ p i. IsNonEmpty i) b q (refinement (part b q) x) proper.filled filled)
 
-pub with_part-IsStep : (b : ParamBox) (q : Quantity) (x : Interval) (changed : Bool) → IsProper b → IsMissedByNone b q x
+pub with_part-IsBoxStep : (b : ParamBox) (q : Quantity) (x : Interval) (changed : Bool) → IsProper b → IsMissedByNone b q x
     → IsNonEmpty (refinement (part b q) x)
     → (changed ≡ false → refinement (part b q) x ≡ part b q) → (refinement (part b q) x ≡ part b q → changed ≡ false)
-    → IsStep b (with_part b q (refinement (part b q) x)) changed
-with_part-IsStep b q x changed proper missed filled same differs = record {
+    → IsBoxStep b (with_part b q (refinement (part b q) x)) changed
+with_part-IsBoxStep b q x changed proper missed filled same differs = record {
   within = with_part-IsBoxWithin b q (refinement (part b q) x) (refined-IsWithin_left (part b q) x);
   settled = λ s h in_b.
       IsBoxWithin-with_part s b q (refinement (part b q) x) in_b
@@ -166,11 +166,11 @@ with_formats-IsProper b m proper within filled =
     IsProper-within (with_formats b m) b proper (with_formats-IsBoxWithin b m within) proper.access filled
     (λ q. parts-format b m q (λ p i. IsNonEmpty i) (proper.filled q))
 
-pub with_formats-IsStep : (b : ParamBox) (m : Mask) (changed : Bool) → IsProper b → IsFormatMissedByNone b m
+pub with_formats-IsBoxStep : (b : ParamBox) (m : Mask) (changed : Bool) → IsProper b → IsFormatMissedByNone b m
     → (common_mask b.format m).bits ≢ 0
     → (changed ≡ false → common_mask b.format m ≡ b.format) → (common_mask b.format m ≡ b.format → changed ≡ false)
-    → IsStep b (with_formats b (common_mask b.format m)) changed
-with_formats-IsStep b m changed proper missed filled same differs = record {
+    → IsBoxStep b (with_formats b (common_mask b.format m)) changed
+with_formats-IsBoxStep b m changed proper missed filled same differs = record {
   within = with_formats-IsBoxWithin b (common_mask b.format m) (common_mask-IsMaskWithin_left b.format m);
   settled = λ s h in_b. record {
     access = in_b.access;
@@ -203,6 +203,6 @@ or_true : (c : Bool) → (c || true) ≡ true
 or_true true = refl
 or_true false = refl
 
-pub IsStep-moved : (a b d : ParamBox) (c e : Bool) → IsStep a b c → IsStep b d e → e ≡ true → IsStep a d true
-IsStep-moved a b d c true h g some = subst (IsStep a d) (or_true c) (IsStep-trans a b d c true h g)
-IsStep-moved a b d c false h g some = absurd (cc)
+pub IsBoxStep-moved : (a b d : ParamBox) (c e : Bool) → IsBoxStep a b c → IsBoxStep b d e → e ≡ true → IsBoxStep a d true
+IsBoxStep-moved a b d c true h g some = subst (IsBoxStep a d) (or_true c) (IsBoxStep-trans a b d c true h g)
+IsBoxStep-moved a b d c false h g some = absurd (cc)

@@ -20,10 +20,10 @@ use Rattle.hw_space.specs.Proper.{IsProper}
 use Rattle.hw_space.specs.Rules.{no_rule}
 use Rattle.hw_space.specs.Settled.{IsSettled, Configuration, IsExact, IsHeld, IsResult, IsVoid}
 use Rattle.hw_space.specs.SettledLaws.{IsSettled-IsNormal, IsSettled-max}
-use Rattle.hw_space.specs.Steps.{IsStep}
+use Rattle.hw_space.specs.Steps.{IsBoxStep}
 use Rattle.hw_space.specs.WholeTimes.{HasWholeTime, HasNoneFrom, size_of_span, time_of_span}
 use Rattle.hw_space.specs.Widest.{whole_from_to}
-use Rattle.hw_space.proofs.StepLaws.{IsMissedByNone, with_part-IsStep, IsVoid-part}
+use Rattle.hw_space.proofs.StepLaws.{IsMissedByNone, with_part-IsBoxStep, IsVoid-part}
 
 -- ---- closed ends within rounded ones
 
@@ -300,15 +300,15 @@ read-IsMissedByNone b span p q time size x proper p_is time_is whole one_rate q_
     (whole_sizes-IsMissedByNone b span b.rate.min x.min x.max proper is_whole refl one_rate none_below none_above)
 
 -- so the refinement is a step
-pub whole_time-IsStep : (b new : ParamBox) (span : Span) (q : Quantity) (x : Interval) (changed : Bool) → IsProper b
+pub whole_time-IsBoxStep : (b new : ParamBox) (span : Span) (q : Quantity) (x : Interval) (changed : Bool) → IsProper b
     → q ≡ size_of_span span → IsMissedByNone b (size_of_span span) x
     → IsNonEmpty (refinement (part b q) x)
     → (changed ≡ false ↔ (refinement (part b q) x ≡ part b q))
-    → new ≡ with_refined b q x → IsStep b new changed
-whole_time-IsStep b new span q x changed proper q_is missed filled unchanged becomes =
-    let P : ParamBox → Type 0 = λ d. IsStep b d changed in
+    → new ≡ with_refined b q x → IsBoxStep b new changed
+whole_time-IsBoxStep b new span q x changed proper q_is missed filled unchanged becomes =
+    let P : ParamBox → Type 0 = λ d. IsBoxStep b d changed in
     let Q : Quantity → Type 0 = λ v. IsMissedByNone b v x in
-    subst P (sym becomes) (with_part-IsStep b q x changed proper (subst Q (sym q_is) missed) filled unchanged.0 unchanged.1)
+    subst P (sym becomes) (with_part-IsBoxStep b q x changed proper (subst Q (sym q_is) missed) filled unchanged.0 unchanged.1)
 
 -- and where it leaves nothing, nothing was there
 pub whole_time-IsVoid : (b : ParamBox) (span : Span) (q : Quantity) (x : Interval)

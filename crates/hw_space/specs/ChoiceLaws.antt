@@ -10,7 +10,7 @@ use Rattle.hw_space.specs.declared.config.Config.{Config}
 use Rattle.hw_space.specs.declared.param_box.ParamBox.{ParamBox}
 use Rattle.hw_space.specs.declared.quantity.Quantity.{Quantity}
 use Rattle.hw_space.specs.Boxes.{part}
-use Rattle.hw_space.specs.Choices.{IsFirstNumber, Makes, Chooses, done, fails, goes, choices, HasPoints, IsChoice}
+use Rattle.hw_space.specs.Choices.{IsFirstNumber, ChoiceLeaves, Chooses, done, fails, goes, choices, HasPoints, IsChoice}
 use Rattle.hw_space.specs.Narrowings.{with_refined, at_most, at_least, least_end, greatest_end, with_access, with_format, nearest, LeavesOf, IsNear}
 use Rattle.hw_space.specs.Settled.{Leaves}
 use Rattle.hw_space.specs.SettledLaws.{IsGreatest-unique}
@@ -47,17 +47,17 @@ IsFirstNumber-unique m n k one other =
     ]
 
 -- a step leaves one box, or nothing
-pub Makes-unique : (c : Choice) (b : ParamBox) (o p : Option ParamBox) → Makes c b o → Makes c b p → o ≡ p
-Makes-unique Settle b o p one other = Leaves-unique b o p one other
-Makes-unique FirstAccess b o p one other =
+pub ChoiceLeaves-unique : (c : Choice) (b : ParamBox) (o p : Option ParamBox) → ChoiceLeaves c b o → ChoiceLeaves c b p → o ≡ p
+ChoiceLeaves-unique Settle b o p one other = Leaves-unique b o p one other
+ChoiceLeaves-unique FirstAccess b o p one other =
     let same = IsFirstNumber-unique b.access other.0 one.0 other.1 one.1 in
     Leaves-unique (with_access b one.0) o p one.2 (subst (λ (n : ℕ). Leaves (with_access b n) p) same other.2)
-Makes-unique FirstFormat b o p one other =
+ChoiceLeaves-unique FirstFormat b o p one other =
     let same = IsFirstNumber-unique b.format other.0 one.0 other.1 one.1 in
     Leaves-unique (with_format b one.0) o p one.2 (subst (λ (n : ℕ). Leaves (with_format b n) p) same other.2)
-Makes-unique (First q) b o p one other = Leaves-unique (with_refined b q (least_end (part b q))) o p one other
-Makes-unique (Last q) b o p one other = Leaves-unique (with_refined b q (greatest_end (part b q))) o p one other
-Makes-unique (Near q n) b o p one other = IsNear-unique b q n o p one other
+ChoiceLeaves-unique (First q) b o p one other = Leaves-unique (with_refined b q (least_end (part b q))) o p one other
+ChoiceLeaves-unique (Last q) b o p one other = Leaves-unique (with_refined b q (greatest_end (part b q))) o p one other
+ChoiceLeaves-unique (Near q n) b o p one other = IsNear-unique b q n o p one other
 
 -- how steps can end: there are none, the first leaves nothing, or the others go on
 end_case : (b : ParamBox) (o : Option ParamBox) → Chooses [] b o → o ≡ Some b
@@ -65,7 +65,7 @@ end_case b (Some x) done = refl
 end_case b None ended = elim ended [ ]
 
 first_case : (c : Choice) (cs : List Choice) (b : ParamBox) (o : Option ParamBox) → Chooses (c ∷ cs) b o
-    → ((o ≡ None) × Makes c b None) ⊎ ((d : ParamBox) × Makes c b (Some d) × Chooses cs d o)
+    → ((o ≡ None) × ChoiceLeaves c b None) ⊎ ((d : ParamBox) × ChoiceLeaves c b (Some d) × Chooses cs d o)
 first_case c cs b o (fails makes) = inl (refl, makes)
 first_case c cs b o (goes {d = d} makes rest) = inr (d, makes, rest)
 
@@ -76,12 +76,12 @@ Chooses-unique (c ∷ cs) b o p one other =
     elim (first_case c cs b o one) [
       | inl x ↦ elim (first_case c cs b p other) [
         | inl y ↦ x.0 ∙ sym y.0
-        | inr y ↦ let e : None ≡ Some y.0 = Makes-unique c b None (Some y.0) x.1 y.1 in absurd (cc)
+        | inr y ↦ let e : None ≡ Some y.0 = ChoiceLeaves-unique c b None (Some y.0) x.1 y.1 in absurd (cc)
       ]
       | inr x ↦ elim (first_case c cs b p other) [
-        | inl y ↦ let e : Some x.0 ≡ None = Makes-unique c b (Some x.0) None x.1 y.1 in absurd (cc)
+        | inl y ↦ let e : Some x.0 ≡ None = ChoiceLeaves-unique c b (Some x.0) None x.1 y.1 in absurd (cc)
         | inr y ↦
-            let e : Some x.0 ≡ Some y.0 = Makes-unique c b (Some x.0) (Some y.0) x.1 y.1 in
+            let e : Some x.0 ≡ Some y.0 = ChoiceLeaves-unique c b (Some x.0) (Some y.0) x.1 y.1 in
             let same : y.0 ≡ x.0 = cc in
             Chooses-unique cs x.0 o p x.2 (subst (λ (d : ParamBox). Chooses cs d p) same y.2)
       ]

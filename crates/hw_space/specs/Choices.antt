@@ -19,19 +19,19 @@ pub record IsFirstNumber (m : Mask) (n : ℕ) : Type 0 where
   pub least : (k : ℕ) → k < n → ¬ HasNumber m k
 
 -- what one step leaves of a box, if it leaves anything
-abbrev pub Makes : Choice → ParamBox → Option ParamBox → Type 0
-Makes Settle b o = Leaves b o
-Makes FirstAccess b o = (n : ℕ) × IsFirstNumber b.access n × Leaves (with_access b n) o
-Makes FirstFormat b o = (n : ℕ) × IsFirstNumber b.format n × Leaves (with_format b n) o
-Makes (First q) b o = Leaves (with_refined b q (least_end (part b q))) o
-Makes (Last q) b o = Leaves (with_refined b q (greatest_end (part b q))) o
-Makes (Near q n) b o = IsNear b q n o
+abbrev pub ChoiceLeaves : Choice → ParamBox → Option ParamBox → Type 0
+ChoiceLeaves Settle b o = Leaves b o
+ChoiceLeaves FirstAccess b o = (n : ℕ) × IsFirstNumber b.access n × Leaves (with_access b n) o
+ChoiceLeaves FirstFormat b o = (n : ℕ) × IsFirstNumber b.format n × Leaves (with_format b n) o
+ChoiceLeaves (First q) b o = Leaves (with_refined b q (least_end (part b q))) o
+ChoiceLeaves (Last q) b o = Leaves (with_refined b q (greatest_end (part b q))) o
+ChoiceLeaves (Near q n) b o = IsNear b q n o
 
 -- what steps leave of a box, one after the other: nothing, as soon as one leaves nothing
 pub data Chooses : List Choice → ParamBox → Option ParamBox → Type 0 where
   done : {b : ParamBox} → Chooses [] b (Some b)
-  fails : {c : Choice} {cs : List Choice} {b : ParamBox} → Makes c b None → Chooses (c ∷ cs) b None
-  goes : {c : Choice} {cs : List Choice} {b d : ParamBox} {o : Option ParamBox} → Makes c b (Some d) → Chooses cs d o → Chooses (c ∷ cs) b o
+  fails : {c : Choice} {cs : List Choice} {b : ParamBox} → ChoiceLeaves c b None → Chooses (c ∷ cs) b None
+  goes : {c : Choice} {cs : List Choice} {b d : ParamBox} {o : Option ParamBox} → ChoiceLeaves c b (Some d) → Chooses cs d o → Chooses (c ∷ cs) b o
 
 -- the steps, with the period of the slave
 abbrev pub choices : ℕ → List Choice

@@ -6,7 +6,7 @@ use Rattle.hw_space.specs.Settled.{IsSettled, KeepsConfigurations}
 use Rattle.hw_space.specs.Proper.{IsProper}
 
 -- the box became smaller, or stayed as it was, and no settled box and no configuration was lost
-pub record IsStep (old new : ParamBox) (changed : Bool) : Type 0 where
+pub record IsBoxStep (old new : ParamBox) (changed : Bool) : Type 0 where
   pub within : IsBoxWithin new old
   pub settled : (s : ParamBox) → IsSettled s → IsBoxWithin s old → IsBoxWithin s new
   pub configurations : KeepsConfigurations old new

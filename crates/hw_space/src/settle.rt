@@ -8,7 +8,7 @@ ghost use Rattle.hw_space.specs.Narrowings.{with_refined};
 ghost use Rattle.hw_space.specs.Rules.{IsListed};
 ghost use Rattle.hw_space.specs.Settled.{Keeps, IsSettled, IsVoid};
 ghost use Rattle.hw_space.specs.Proper.{IsProper};
-ghost use Rattle.hw_space.specs.Steps.{IsStep};
+ghost use Rattle.hw_space.specs.Steps.{IsBoxStep};
 
 use crate::formats::{bits_of_formats, formats_of_bits};
 use crate::param_box::ParamBox;
@@ -41,7 +41,7 @@ pub fn narrow_part(
 fn apply(ranges: &mut ParamBox, rule: &Rule) -> Result<bool, Empty>
     requires proper { IsProper ranges.old }
     requires listed { IsListed rule.now }
-    ensures step { IfOk result (IsStep ranges.old ranges.new) }
+    ensures step { IfOk result (IsBoxStep ranges.old ranges.new) }
     ensures kept { IfOk result (λ changed. changed ≡ false → Keeps ranges.old rule.now) }
     ensures empty { OnErr result (IsVoid ranges.old) }
 {
@@ -56,7 +56,7 @@ fn apply(ranges: &mut ParamBox, rule: &Rule) -> Result<bool, Empty>
 fn round(ranges: &mut ParamBox, rules: &[Rule]) -> Result<bool, Empty>
     requires proper { IsProper ranges.old }
     requires listed { All IsListed rules.now }
-    ensures step { IfOk result (IsStep ranges.old ranges.new) }
+    ensures step { IfOk result (IsBoxStep ranges.old ranges.new) }
     ensures kept { IfOk result (λ changed. changed ≡ false → All (Keeps ranges.old) rules.now) }
     ensures empty { OnErr result (IsVoid ranges.old) }
 {
@@ -87,7 +87,7 @@ pub fn narrow_format(ranges: &mut ParamBox, other: &Mask) -> Result<bool, Empty>
 /// Refines the sample bits with those of the formats. `Ok(true)` says that they changed.
 fn refine_sample_bits(ranges: &mut ParamBox) -> Result<bool, Empty>
     requires { IsProper ranges.old }
-    ensures step { IfOk result (IsStep ranges.old ranges.new) }
+    ensures step { IfOk result (IsBoxStep ranges.old ranges.new) }
     ensures kept { IfOk result (λ changed. changed ≡ false →
         refinement ranges.old.sample_bits (bits_of_formats ranges.old.format)
         ≡ ranges.old.sample_bits) }
@@ -101,7 +101,7 @@ fn refine_sample_bits(ranges: &mut ParamBox) -> Result<bool, Empty>
 /// Refines the formats with those of the sample bits. `Ok(true)` says that they changed.
 fn refine_format(ranges: &mut ParamBox) -> Result<bool, Empty>
     requires { IsProper ranges.old }
-    ensures step { IfOk result (IsStep ranges.old ranges.new) }
+    ensures step { IfOk result (IsBoxStep ranges.old ranges.new) }
     ensures kept { IfOk result (λ changed. changed ≡ false →
         common_mask ranges.old.format (formats_of_bits ranges.old.sample_bits)
         ≡ ranges.old.format) }
@@ -115,7 +115,7 @@ fn refine_format(ranges: &mut ParamBox) -> Result<bool, Empty>
 /// Applies every rule once. `Ok(true)` says that something changed.
 fn pass(ranges: &mut ParamBox) -> Result<bool, Empty>
     requires { IsProper ranges.old }
-    ensures step { IfOk result (IsStep ranges.old ranges.new) }
+    ensures step { IfOk result (IsBoxStep ranges.old ranges.new) }
     ensures settled { IfOk result (λ changed. changed ≡ false → IsSettled ranges.old) }
     ensures empty { OnErr result (IsVoid ranges.old) }
 {
@@ -138,7 +138,7 @@ fn pass(ranges: &mut ParamBox) -> Result<bool, Empty>
 /// few sizes divide the buffer size, until they meet near its root: some 250 passes at most.
 pub fn settle(ranges: &mut ParamBox) -> Result<bool, Empty>
     requires { IsProper ranges.old }
-    ensures step { IfOk result (IsStep ranges.old ranges.new) }
+    ensures step { IfOk result (IsBoxStep ranges.old ranges.new) }
     ensures settled { OnOk result (IsSettled ranges.new) }
     ensures empty { OnErr result (IsVoid ranges.old) }
 {

@@ -2,7 +2,7 @@
 ghost use Rattle.std.specs.Prelude.{◌≡◌, ◌↔◌, ◌+◌, ◌-◌, ◌^◌, ◌<◌, ◌≤◌, IsTrue, OnErr, IfOk};
 ghost use Rattle.hw_space.specs.Proper.{IsProper};
 ghost use Rattle.hw_space.specs.Settled.{IsVoid};
-ghost use Rattle.hw_space.specs.Steps.{IsStep};
+ghost use Rattle.hw_space.specs.Steps.{IsBoxStep};
 ghost use Rattle.hw_space.specs.Widest.{whole_from_to};
 ghost use Rattle.hw_space.specs.WholeTimes.{HasWholeTime, HasNoneFrom, size_of_span, time_of_span};
 
@@ -48,7 +48,7 @@ impl Span {
 /// them, and each takes a pass over all rules.
 pub fn refine_whole_time(ranges: &mut ParamBox, span: Span) -> Result<bool, Empty>
     requires { IsProper ranges.old }
-    ensures step { IfOk result (IsStep ranges.old ranges.new) }
+    ensures step { IfOk result (IsBoxStep ranges.old ranges.new) }
     ensures empty { OnErr result (IsVoid ranges.old) }
 {
     let rate = ranges.rate;

@@ -26,7 +26,7 @@ use Rattle.dmix_client.specs.Calls.{Answered, base_of, after_drop, in_state, is_
 use Rattle.dmix_client.specs.Course.{if_admitted, admitted_by}
 use Rattle.dmix_client.specs.Growth.{AnySamples, IsBacked, Keeps, KeepsBack, segment_entries}
 use Rattle.dmix_client.specs.StandingLaws.{IsBacked-back, IsBacked-grows, IsBacked-new, IsBacked-rebased}
-use Rattle.dmix_client.specs.View.{ClientView, IsSound}
+use Rattle.dmix_client.specs.View.{ClientView, IsSoundClient}
 use Rattle.lab_script.specs.declared.line.Op.{Op}
 use Rattle.lab_script.specs.declared.line.Op.TheVariants as op
 use Rattle.lab_report.specs.declared.row.Answer.{Answer}
@@ -86,7 +86,7 @@ module _ {S T : Type 0} (P : mixport.Ghosts S) (G : gates.Ghosts T) (composes : 
 
   -- A resume. Where the client isn't paused any more its stretch ended, and its counts were based anew.
   pub called-resume : {X : Type 0} (s t : S × T) (wav : Sound) (c d : ClientView) (answer : Answer) (result : Result X PcmError)
-      → IsReady P wav s.0 c → IsSound c.stream c.ring → TakesAt P G s (made_call c.ring [] (P.view s.0).marks c.stream op.Resume) t (d.stream, answer)
+      → IsReady P wav s.0 c → IsSoundClient c.stream c.ring → TakesAt P G s (made_call c.ring [] (P.view s.0).marks c.stream op.Resume) t (d.stream, answer)
       → Keeps P G s t (record { stream = base_of c.stream d.stream; ring = c.ring }) d result AnySamples → d.stream.fed ≤ frames_of wav → HasClientCalled P G s t wav c d op.Resume answer
   called-resume s t wav c d answer result ready sound takes keeps fed = by_test (is_paused c.stream.status.state && not (is_paused d.stream.status.state)) refl
     where

@@ -22,7 +22,7 @@ use Rattle.dmix_client.specs.declared.stream.PlaybackStream.{PlaybackStream}
 use Rattle.dmix_client.specs.Calls.{Answered, accepted_if, committed_by, in_draining, found_at, going_on, going_on_by, has_frames, is_running, is_stop, late_at, late_of, pending_of, with_new_base, after_resume, seen_at, with_outcome, after_start, started_in, stopped_in, after_sync, taken_of, with_number, written_after}
 use Rattle.dmix_client.specs.Course.{if_admitted, admitted_by, drain_course, drain_on, drains, fills, number_course, course_with_number, pause_course, resumes, start_course, starts, starts_taking, sync_course, syncs, takes_more, write_course, write_on, writes_on}
 use Rattle.dmix_client.specs.Rewind.{back_of, back_on, checks, last_channel, last_laid, left_of, rewind_course, rewind_on, rewindable_course, rewindable_of, rewinds, after_rewind, take_frames, taken_back, takes_back, without_frames}
-use Rattle.dmix_client.specs.View.{IsSound, avail_of}
+use Rattle.dmix_client.specs.View.{IsSoundClient, avail_of}
 use Rattle.dmix_client.specs.Writes.{frames_in, starts_with}
 use Rattle.lab_actor.proofs.Gives.{Gives, Gives-behind, Gives-then, Gives-weaker}
 
@@ -245,7 +245,7 @@ running-moves : (state : State) → is_running state ≡ true → is_moving stat
 running-moves Running runs = refl
 running-moves other runs = absurd (cc)
 
-pub rewind-fed : (c : PlaybackStream) (ring : List ℤ) (floor : Cursor) (n : ℕ) → IsSound c ring → c.status.stopped ≡ false → Gives (IsFed c.fed) (if_admitted c call.Transfer (rewind_course c ring floor n))
+pub rewind-fed : (c : PlaybackStream) (ring : List ℤ) (floor : Cursor) (n : ℕ) → IsSoundClient c ring → c.status.stopped ≡ false → Gives (IsFed c.fed) (if_admitted c call.Transfer (rewind_course c ring floor n))
 unfolding rewinds
 rewind-fed c ring floor n sound going = admitted-gives c call.Transfer _ (IsFed c.fed) (by_running (is_running c.status.state) refl) (λ e. record { most = omega arith })
   where

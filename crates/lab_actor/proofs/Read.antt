@@ -28,7 +28,7 @@ use Rattle.dsnoop_client.specs.Calls.{Answered, in_state}
 use Rattle.dsnoop_client.specs.Course.{if_admitted, admitted_by, read_course}
 use Rattle.dsnoop_client.specs.FewerReads.{most_read, read_course-fewer}
 use Rattle.dsnoop_client.specs.Port.{Keeps}
-use Rattle.dsnoop_client.specs.Reads.{Reads, bound_samples, through_all}
+use Rattle.dsnoop_client.specs.Reads.{GivesFrames, bound_samples, through_all}
 use Rattle.dsnoop_client.specs.View.{CanRead, CanUse, frames_in}
 use Rattle.lab_script.specs.declared.line.Op.{Op}
 use Rattle.lab_script.specs.declared.line.Op.TheVariants as op
@@ -226,7 +226,7 @@ module _ {S T : Type 0} (P : snoopport.Ghosts S) (G : gates.Ghosts T) (composes 
   -- a read of n frames into room for as many of them as a read gets or starts by; the samples that it gave are kept
   pub called-read : (s t : S × T) (r d : CaptureStream) (before samples room filled : List ℤ) (n : ℕ) (result : Result ℕ PcmError) (answer : Answer)
       → 1 ≤ length r.setup.bindings → length room ≡ min n (most_read r) * length r.setup.bindings
-      → TakesAtSnoop P G s (if_admitted r call.Transfer (read_course r (frames_in r room))) t (d, result) → Reads P s.0 t.0 r d room filled result
+      → TakesAtSnoop P G s (if_admitted r call.Transfer (read_course r (frames_in r room))) t (d, result) → GivesFrames P s.0 t.0 r d room filled result
       → Keeps P G s t r d result → answer ≡ count_answer result → samples ≡ before ++ take (result_unwrap_or result 0 * length r.setup.bindings) filled
       → HasReaderCalled P G s t r d before samples (op.Read n) answer
   called-read s t r d before samples room filled n result answer some size takes reads keeps is kept = record {
@@ -245,11 +245,11 @@ module _ {S T : Type 0} (P : snoopport.Ghosts S) (G : gates.Ghosts T) (composes 
     };
   }
     where
-      below_next : (result : Result ℕ PcmError) → Reads P s.0 t.0 r d room filled result → answer ≡ count_answer result → got_by (op.Read n) answer ≤ d.next
+      below_next : (result : Result ℕ PcmError) → GivesFrames P s.0 t.0 r d room filled result → answer ≡ count_answer result → got_by (op.Read n) answer ≤ d.next
       below_next (Ok count) reads is = subst (λ (a : Answer). got_by (op.Read n) a ≤ d.next) (sym is) (let next = reads.next_is in omega (arith, next))
       below_next (Err e) reads is = subst (λ (a : Answer). got_by (op.Read n) a ≤ d.next) (sym is) (omega arith)
 
-      samples_of : (result : Result ℕ PcmError) → Reads P s.0 t.0 r d room filled result → answer ≡ count_answer result
+      samples_of : (result : Result ℕ PcmError) → GivesFrames P s.0 t.0 r d room filled result → answer ≡ count_answer result
           → AreSamples P s.0 t.0 r (frames_by (op.Read n) answer d) (take (result_unwrap_or result 0 * length r.setup.bindings) filled)
       samples_of (Ok count) reads is = subst (λ (a : Answer). AreSamples P s.0 t.0 r (frames_by (op.Read n) a d) (take (count * length r.setup.bindings) filled)) (sym is) (record {
         got = reads.frames;

@@ -30,7 +30,7 @@ use Rattle.lab_run.specs.Reader.{Reader, frames_by, reader_kind, row_by}
 use Rattle.lab_run.specs.ReaderAtPort.{IsAtSnoop, IsReaderLine}
 use Rattle.lab_run.specs.Stretches.{got_by}
 use Rattle.lab_actor.specs.declared.reader.ReaderActor.{ReaderActor}
-use Rattle.lab_actor.specs.FrameRuns.{frames_in}
+use Rattle.lab_actor.specs.FrameRuns.{frames_of_runs}
 use Rattle.lab_actor.specs.ReaderLines.{AreSamples, HasReaderAnswered, HasSameSetup}
 use Rattle.lab_actor.specs.Progress.{Progress-joined, Progress-most, SeesAtMost}
 use Rattle.lab_actor.specs.ReaderPart.{Appends, HasReaderDone, HasGot, HasRowsFor, IsSameReader, ReaderLine, ReaderPart, TakesRow, channels_of, reader_of}
@@ -235,7 +235,7 @@ module _ {S : Type 0} (P : snoopport.Ghosts S) (composes : Composes P.got) where
   pub Appends-none : (p : S) (a : ReaderActor) → Appends P p p a a
   Appends-none p a = record {
     numbers = [];
-    numbers_are = sym (append-nil (frames_in a.frames.runs));
+    numbers_are = sym (append-nil (frames_of_runs a.frames.runs));
     more = [];
     more_are = sym (append-nil a.samples.items);
     samples = record {
@@ -252,7 +252,7 @@ module _ {S : Type 0} (P : snoopport.Ghosts S) (composes : Composes P.got) where
   pub Appends-joined : (p q s : S) (a x b : ReaderActor) → IsSameReader a x → Appends P p q a x → Appends P q s x b → Appends P p s a b
   Appends-joined p q s a x b same one two = record {
     numbers = one.numbers ++ two.numbers;
-    numbers_are = two.numbers_are ∙ ap (λ (frames : List ℕ). frames ++ two.numbers) one.numbers_are ∙ append_assoc (frames_in a.frames.runs) one.numbers two.numbers;
+    numbers_are = two.numbers_are ∙ ap (λ (frames : List ℕ). frames ++ two.numbers) one.numbers_are ∙ append_assoc (frames_of_runs a.frames.runs) one.numbers two.numbers;
     more = one.more ++ two.more;
     more_are = two.more_are ∙ ap (λ (samples : List ℤ). samples ++ two.more) one.more_are ∙ append_assoc a.samples.items one.more two.more;
     samples = AreSamples-joined p q s a.reader one.numbers two.numbers one.more two.more one.samples (AreSamples-same q s a.reader x.reader two.numbers two.more same.setup two.samples);
@@ -344,7 +344,7 @@ pub ReaderPart-shared : {S T U : Type 0} (P : snoopport.Ghosts S) (left : T → 
     → left g ≡ other_left k → by_gate g ≡ by_other k → left h ≡ other_left m → by_gate h ≡ by_other m → IsSameButLeft b c
     → ReaderPart P left by_gate (p, g) (q, h) phase played a b ops → ReaderPart P other_left by_other (p, k) (q, m) phase played a c ops
 ReaderPart-shared P left by_gate other_left by_other p q g h k m phase played a b c ops left_before gate_before left_after gate_after same part =
-    let same_reader : reader_of b ≡ reader_of c = λ i. record { own = Some ((sym same.reader) i); frames = frames_in ((sym same.frames) i) } in
+    let same_reader : reader_of b ≡ reader_of c = λ i. record { own = Some ((sym same.reader) i); frames = frames_of_runs ((sym same.frames) i) } in
     record {
       rows = part.rows;
       rows_are = same.rows ∙ part.rows_are;
@@ -359,7 +359,7 @@ ReaderPart-shared P left by_gate other_left by_other p q g h k m phase played a 
       loaded = part.loaded;
       appends = record {
         numbers = part.appends.numbers;
-        numbers_are = ap frames_in same.frames ∙ part.appends.numbers_are;
+        numbers_are = ap frames_of_runs same.frames ∙ part.appends.numbers_are;
         more = part.appends.more;
         more_are = same.samples ∙ part.appends.more_are;
         samples = part.appends.samples;

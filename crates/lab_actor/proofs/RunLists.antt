@@ -7,7 +7,7 @@ use Rattle.std.specs.Prelude.{◌≢◌, Bool, true, false, nat_eq, if◌then◌
 use Rattle.std.specs.List.{range_with_len}
 use Rattle.dmix_client.specs.ExpansionLaws.{range_with_len-append}
 use Rattle.lab_run.specs.LabRun.{joined_runs, runs_of}
-use Rattle.lab_actor.specs.FrameRuns.{AreApart, frames_in}
+use Rattle.lab_actor.specs.FrameRuns.{AreApart, frames_of_runs}
 
 -- no run begins at the end of the one before
 IsBefore : ℕ → List (ℕ × ℕ) → Type 0
@@ -28,8 +28,8 @@ joined-next frame count runs =
     ap (λ (test : Bool). if test then (frame, count + 1) ∷ runs else (frame, 1) ∷ (frame + 1, count) ∷ runs) same
 
 -- the frames of a run, and then those of runs that don't go on with it
-runs_of-run : (count first : ℕ) (runs : List (ℕ × ℕ)) → IsBefore (first + suc count) runs → runs_of (frames_in runs) ≡ runs
-    → runs_of (range_with_len first (suc count) ++ frames_in runs) ≡ (first, suc count) ∷ runs
+runs_of-run : (count first : ℕ) (runs : List (ℕ × ℕ)) → IsBefore (first + suc count) runs → runs_of (frames_of_runs runs) ≡ runs
+    → runs_of (range_with_len first (suc count) ++ frames_of_runs runs) ≡ (first, suc count) ∷ runs
 runs_of-run zero first runs before is =
     ap (joined_runs first) is ∙ joined-apart first runs (subst (λ (end : ℕ). IsBefore end runs) (let same : first + suc zero ≡ first + 1 = omega arith in same) before)
 runs_of-run (suc count) first runs before is =
@@ -38,7 +38,7 @@ runs_of-run (suc count) first runs before is =
     ∙ ap (λ (n : ℕ). (first, n) ∷ runs) (let same : suc count + 1 ≡ suc (suc count) = omega arith in same)
 
 -- runs that are apart are the runs of their frames
-pub runs_of-apart : (runs : List (ℕ × ℕ)) → AreApart runs → runs_of (frames_in runs) ≡ runs
+pub runs_of-apart : (runs : List (ℕ × ℕ)) → AreApart runs → runs_of (frames_of_runs runs) ≡ runs
 unfolding IsBefore
 runs_of-apart [] apart = refl
 runs_of-apart ((first, zero) ∷ []) apart = absurd (omega (arith, apart))
@@ -60,15 +60,15 @@ apart-longer (x ∷ []) first count more apart = (apart.0, apart.1, let some = a
 apart-longer (x ∷ y ∷ runs) first count more apart = (apart.0, apart.1, apart-longer (y ∷ runs) first count more apart.2)
 
 -- the frames then
-pub frames_in-more : (runs : List (ℕ × ℕ)) (first count : ℕ) → frames_in (runs ++ (first, count) ∷ []) ≡ frames_in runs ++ range_with_len first count
-frames_in-more runs first count =
+pub frames_of_runs-more : (runs : List (ℕ × ℕ)) (first count : ℕ) → frames_of_runs (runs ++ (first, count) ∷ []) ≡ frames_of_runs runs ++ range_with_len first count
+frames_of_runs-more runs first count =
     flat_map-append (λ (run : ℕ × ℕ). range_with_len run.0 run.1) runs ((first, count) ∷ [])
-    ∙ ap (λ (frames : List ℕ). frames_in runs ++ frames) (append-nil (range_with_len first count))
+    ∙ ap (λ (frames : List ℕ). frames_of_runs runs ++ frames) (append-nil (range_with_len first count))
 
-pub frames_in-longer : (runs : List (ℕ × ℕ)) (begin length first count : ℕ) → begin + length ≡ first
-    → frames_in (runs ++ (begin, length + count) ∷ []) ≡ frames_in (runs ++ (begin, length) ∷ []) ++ range_with_len first count
-frames_in-longer runs begin length first count meets =
-    frames_in-more runs begin (length + count)
-    ∙ ap (λ (frames : List ℕ). frames_in runs ++ frames) (range_with_len-append begin length count ∙ ap (λ (next : ℕ). range_with_len begin length ++ range_with_len next count) meets)
-    ∙ sym (append_assoc (frames_in runs) (range_with_len begin length) (range_with_len first count))
-    ∙ ap (λ (frames : List ℕ). frames ++ range_with_len first count) (sym (frames_in-more runs begin length))
+pub frames_of_runs-longer : (runs : List (ℕ × ℕ)) (begin length first count : ℕ) → begin + length ≡ first
+    → frames_of_runs (runs ++ (begin, length + count) ∷ []) ≡ frames_of_runs (runs ++ (begin, length) ∷ []) ++ range_with_len first count
+frames_of_runs-longer runs begin length first count meets =
+    frames_of_runs-more runs begin (length + count)
+    ∙ ap (λ (frames : List ℕ). frames_of_runs runs ++ frames) (range_with_len-append begin length count ∙ ap (λ (next : ℕ). range_with_len begin length ++ range_with_len next count) meets)
+    ∙ sym (append_assoc (frames_of_runs runs) (range_with_len begin length) (range_with_len first count))
+    ∙ ap (λ (frames : List ℕ). frames ++ range_with_len first count) (sym (frames_of_runs-more runs begin length))

@@ -3,8 +3,8 @@ use Rattle.std.specs.Prelude.{◌≢◌, ℕ, ◌+◌, ◌≤◌, ⊤, List, [],
 use Rattle.std.specs.List.{flat_map, range_with_len}
 
 -- the frames of some runs, by their numbers
-abbrev pub frames_in : List (ℕ × ℕ) → List ℕ
-frames_in runs = flat_map (λ (run : ℕ × ℕ). range_with_len run.0 run.1) runs
+abbrev pub frames_of_runs : List (ℕ × ℕ) → List ℕ
+frames_of_runs runs = flat_map (λ (run : ℕ × ℕ). range_with_len run.0 run.1) runs
 
 -- each run has a frame, and none begins where the one before it ends
 abbrev pub AreApart : List (ℕ × ℕ) → Type 0

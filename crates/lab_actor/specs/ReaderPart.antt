@@ -13,14 +13,14 @@ use Rattle.lab_run.specs.Phases.{is_reader, ops_by, played_in}
 use Rattle.lab_run.specs.Reader.{Reader, reader_kind, row_by}
 use Rattle.lab_run.specs.ReaderAtPort.{IsAtSnoop, IsReaderLine}
 use Rattle.lab_actor.specs.declared.reader.ReaderActor.{ReaderActor}
-use Rattle.lab_actor.specs.FrameRuns.{frames_in}
+use Rattle.lab_actor.specs.FrameRuns.{frames_of_runs}
 use Rattle.lab_actor.specs.Progress.{Progress, SeesAtMost}
 use Rattle.lab_actor.specs.ReaderLines.{AreSamples, HasLoaded, HasSameSetup}
 use Rattle.lab_actor.specs.Room.{GrowsBy, HasSpace, asked_by, frames_wanted, most_wanted, spare_frames, wanted_by}
 
 -- the reader of an actor, as a run has it
 abbrev pub reader_of : ReaderActor → Reader
-reader_of a = record { own = Some a.reader; frames = frames_in a.frames.runs }
+reader_of a = record { own = Some a.reader; frames = frames_of_runs a.frames.runs }
 
 -- what stays of an actor
 pub record IsSameReader (a b : ReaderActor) : Type 0 where
@@ -64,7 +64,7 @@ pub record HasGot (v w : SnoopView) (a b : ReaderActor) (ops : List Op) : Type 0
 pub record Appends {S : Type 0} (P : snoopport.Ghosts S) (p q : S)
     (a b : ReaderActor) : Type 0 where
   pub numbers : List ℕ
-  pub numbers_are : frames_in b.frames.runs ≡ frames_in a.frames.runs ++ numbers
+  pub numbers_are : frames_of_runs b.frames.runs ≡ frames_of_runs a.frames.runs ++ numbers
   pub more : List ℤ
   pub more_are : b.samples.items ≡ a.samples.items ++ more
   pub samples : AreSamples P p q a.reader numbers more

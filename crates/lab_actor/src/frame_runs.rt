@@ -2,7 +2,7 @@
 ghost use Rattle.std.specs.Prelude.{◌≡◌, ◌+◌, ◌^◌, ◌<◌, ◌≤◌, ◌↔◌, ◌∷◌, [], ◌++◌, IsTrue, OnErr, OnOk, vec_capacity, vec_len};
 ghost use Rattle.std.specs.List.{range_with_len};
 ghost use Rattle.lab_run.specs.LabRun.{runs_of};
-ghost use Rattle.lab_actor.specs.FrameRuns.{frames_in};
+ghost use Rattle.lab_actor.specs.FrameRuns.{frames_of_runs};
 
 use std::alloc::{AllocError, Global};
 use std::marker::Model;
@@ -61,7 +61,7 @@ impl FrameRuns {
     /// The runs, each by its first frame and how many frames it has. They are the runs that a report has of these frames.
     pub fn as_slice(&self) -> &[(u64, u64)]
         ensures value { result.now ≡ self.now.runs }
-        ensures runs { runs_of (frames_in self.now.runs) ≡ result.now }
+        ensures runs { runs_of (frames_of_runs self.now.runs) ≡ result.now }
     {
         self.runs.as_slice()
     }
@@ -80,7 +80,7 @@ impl FrameRuns {
     pub fn push(&mut self, first: u64, count: u64)
         requires room { 1 ≤ self.old.room }
         requires fits { first + count < 2 ^ 64 }
-        ensures frames { frames_in self.new.runs ≡ frames_in self.old.runs
+        ensures frames { frames_of_runs self.new.runs ≡ frames_of_runs self.old.runs
             ++ range_with_len first count }
         ensures room { self.old.room ≤ self.new.room + 1 }
     {

@@ -30,7 +30,7 @@ use Rattle.snoop_core.specs.Word.{laps_of}
 use Rattle.snoop_table.specs.declared.seats.reader.ReaderSeat.{ReaderSeat}
 use Rattle.snoop_table.specs.declared.view.Track as snoop_track
 use Rattle.snoop_table.specs.declared.view.View as snoop_view
-use Rattle.snoop_table.specs.Captured.{next_of, position_of}
+use Rattle.snoop_table.specs.Captured.{next_to_store, position_of}
 use Rattle.snoop_table.specs.Readers as readers
 use Rattle.snoop_table.specs.Writers.{writer_geometry, writer_track}
 use Rattle.wav_io.specs.Sound.{Sound}
@@ -323,8 +323,8 @@ module _ {capture : Option Sound} {phase : ℕ} (c : Card) (a b : CardActor) (d 
       let own : readers.geometry_of u ≡ writer_geometry (writer_of c) = reader.geometry ∙ (reader.informed.geometry ∙ reader.of_ring.1) in
       let same : readers.geometry_of u ≡ g = own ∙ sym writer-geometry in
       let rings : g ≡ geometry_of_card c = writer-geometry ∙ sym c.in_step.geometry in
-      let next : next_of g (writer_track (writer_of d)) ≡ at_frame (frame_of_card d) = writer-next d (records-between ∙ records) in
-      let start : first_free (next_of g (writer_track (writer_of d))) n ≡ frame_of_card d = first_free-at_frame (next_of g (writer_track (writer_of d))) (frame_of_card d) n next in
+      let next : next_to_store g (writer_track (writer_of d)) ≡ at_frame (frame_of_card d) = writer-next d (records-between ∙ records) in
+      let start : first_free (next_to_store g (writer_track (writer_of d))) n ≡ frame_of_card d = first_free-at_frame (next_to_store g (writer_track (writer_of d))) (frame_of_card d) n next in
       let channel : n < g.channels = subst (λ (h : Geometry). n < h.channels) same past.channel in
       let later : f / g.frames + 1 < laps_of word = subst (λ (h : Geometry). f / h.frames + 1 < laps_of word) same past.past in
       let noted : (k : ℕ) → k % g.frames ≡ f % g.frames → slice_index_or (readers.view_of v).noted (index_of g k n) None ≡ Some word =

@@ -14,7 +14,7 @@ use Rattle.sum_table.specs.declared.seats.player.PlayerSeat.{PlayerSeat}
 use Rattle.sum_table.specs.declared.view.Key.{Key}
 use Rattle.sum_table.specs.Players.{next_of_player, player_geometry, track_of}
 use Rattle.snoop_table.specs.declared.seats.writer.WriterSeat.{WriterSeat}
-use Rattle.snoop_table.specs.Captured.{next_of}
+use Rattle.snoop_table.specs.Captured.{next_to_store}
 use Rattle.snoop_table.specs.Writers.{next_frame, writer_geometry, writer_track}
 use Rattle.wav_io.specs.Sound.{Sound}
 use Rattle.card_player.specs.PlayLaws.{behind_words-append, words_at-append}
@@ -157,7 +157,7 @@ pub next-at_frame : (c : Card) → next_of_player (seat_of_card c) ≡ at_frame 
 next-at_frame c = c.in_step.whole
 
 -- and stored as many where it records
-pub writer-next : (c : Card) → records_of c ≡ true → next_of (writer_geometry (writer_of c)) (writer_track (writer_of c)) ≡ at_frame (frame_of_card c)
+pub writer-next : (c : Card) → records_of c ≡ true → next_to_store (writer_geometry (writer_of c)) (writer_track (writer_of c)) ≡ at_frame (frame_of_card c)
 writer-next c records =
     let w : WriterSeat = writer_of c in
     sym w.desk.known.next_is

@@ -39,7 +39,7 @@ use Rattle.lab_card.specs.declared.card.CardActor.{CardActor}
 use Rattle.lab_card.specs.Findings.{CardPhase, client-found, rules_between}
 use Rattle.lab_client.specs.declared.open_client.OpenClient.{OpenClient}
 use Rattle.lab_client.specs.declared.client.LabClient.{LabClient}
-use Rattle.lab_client.specs.Clients.{AllRefused, HasLaidBy, IsAt, IsAtBy, IsCardOf, IsClientHeard, IsClientInformed, IsSameRest, RunsLines, Stays, client_by, client_in, ended_of, number_of, open_of, rows_by, rows_of}
+use Rattle.lab_client.specs.Clients.{AllRefused, HasLaidBy, IsAt, IsAtBy, IsCardOf, IsClientHeard, IsClientInformed, IsSameRest, RunsLines, GoesOrRests, client_by, client_in, ended_of, number_of, open_of, rows_by, rows_of}
 use Rattle.lab_client.specs.OpenClients.{HasLaid, HasRun, IsHeard, IsInformed, IsOpenAt, IsSameOpening, stream_of}
 use Rattle.lab_client.specs.SeatLaws.{IsPlace-same, IsReady-same, IsSameSeat, IsSameSeat-informed, IsSameSeat-same}
 use Rattle.lab_client.specs.SeatPort.{seat_port}
@@ -175,7 +175,7 @@ abbrev pub ClientRun : ℕ → Sound → Rules → List Line → TableId → Key
     → ℕ → ℕ → AtPort → LabClient → LabClient → Type 0
 ClientRun phase wav rules lines ring key last base after first d e =
     PhaseRun phase wav (number_of d) rules lines base after (IsAt ring key wav last e)
-    (λ ended. Stays (HasLaidBy wav ended) (ended ≡ []) (open_of d) (open_of e)) first
+    (λ ended. GoesOrRests (HasLaidBy wav ended) (ended ≡ []) (open_of d) (open_of e)) first
     (client_in d) (client_in e) (rows_of d) (rows_of e)
 
 -- an actor's part in a phase is what the phase allows to it (lab_run: `parts_are_runs`)
@@ -184,11 +184,11 @@ ClientPartsAreRuns phase wav rules =
     (number : ℕ) → PartsAreRuns (client_kind phase wav number) rules
 
 -- a client that isn't open has the rows that it had
-Stays-rows : (Goes : OpenClient → OpenClient → Type 0) (w x : LabClient) (o p : Option OpenClient) → Stays Goes (x.rows ≡ w.rows) o p → Stays Goes (x.rows.items ≡ w.rows.items) o p
-Stays-rows Goes w x None None same = ap (λ (v : Vec Row). v.items) same
-Stays-rows Goes w x (Some o) (Some p) goes = goes
-Stays-rows Goes w x None (Some p) never = absurd never
-Stays-rows Goes w x (Some o) None never = absurd never
+GoesOrRests-rows : (Goes : OpenClient → OpenClient → Type 0) (w x : LabClient) (o p : Option OpenClient) → GoesOrRests Goes (x.rows ≡ w.rows) o p → GoesOrRests Goes (x.rows.items ≡ w.rows.items) o p
+GoesOrRests-rows Goes w x None None same = ap (λ (v : Vec Row). v.items) same
+GoesOrRests-rows Goes w x (Some o) (Some p) goes = goes
+GoesOrRests-rows Goes w x None (Some p) never = absurd never
+GoesOrRests-rows Goes w x (Some o) None never = absurd never
 
 module _ {capture : Option Sound} {phase : ℕ} (c : Card) (a b : CardActor) (d : Card) (lines : List Line) (is : CardPhase capture phase c a b d lines) (ring : TableId) (key : Key)
     (of : IsCardOf ring key c) (wav : Sound) (last : Option ℕ) (base before after : ℕ) (lasts : LastsAreOwn)
@@ -272,9 +272,9 @@ module _ {capture : Option Sound} {phase : ℕ} (c : Card) (a b : CardActor) (d 
 
   -- by whether the client is open
   phase-by : (number : ℕ) (segments : List Segment) (rows informed_rows run_rows heard_rows : List Row) (o p q r : Option OpenClient) (first : AtPort)
-      → IsAtBy ring key wav last number o first → first.by_gate + base ≡ before → Stays (IsInformed c) (informed_rows ≡ rows) o p
-      → Stays (HasRun before after phase wav lines) (AllRefused before after phase number lines informed_rows run_rows) p q → Stays (IsHeard d) (heard_rows ≡ run_rows) q r
-      → PhaseRun phase wav number (rules_between c b.card lines) lines base after (IsAtBy ring key wav last number r) (λ ended. Stays (HasLaidBy wav ended) (ended ≡ []) o r) first
+      → IsAtBy ring key wav last number o first → first.by_gate + base ≡ before → GoesOrRests (IsInformed c) (informed_rows ≡ rows) o p
+      → GoesOrRests (HasRun before after phase wav lines) (AllRefused before after phase number lines informed_rows run_rows) p q → GoesOrRests (IsHeard d) (heard_rows ≡ run_rows) q r
+      → PhaseRun phase wav number (rules_between c b.card lines) lines base after (IsAtBy ring key wav last number r) (λ ended. GoesOrRests (HasLaidBy wav ended) (ended ≡ []) o r) first
       (client_by segments o) (client_by segments r) (rows_by rows o) (rows_by heard_rows r)
   phase-by number segments rows informed_rows run_rows heard_rows None None None None first at counts informed run heard =
       closed-phase number first segments rows heard_rows counts
@@ -295,12 +295,12 @@ module _ {capture : Option Sound} {phase : ℕ} (c : Card) (a b : CardActor) (d 
   client-phase w x y z first at counts informed run heard =
       let number : number_of z ≡ number_of w = heard.rest.number ∙ (run.rest.number ∙ informed.rest.number) in
       let segments : ended_of z ≡ ended_of w = heard.rest.ended ∙ (run.rest.ended ∙ informed.rest.ended) in
-      let lines_run = subst (λ (n : ℕ). Stays (HasRun before after phase wav lines) (AllRefused before after phase n lines x.rows.items y.rows.items) (open_of x) (open_of y))
+      let lines_run = subst (λ (n : ℕ). GoesOrRests (HasRun before after phase wav lines) (AllRefused before after phase n lines x.rows.items y.rows.items) (open_of x) (open_of y))
       informed.rest.number run.own in
       let whole = phase-by (number_of w) (ended_of w) w.rows.items x.rows.items y.rows.items z.rows.items (open_of w) (open_of x) (open_of y) (open_of z) first at counts
-      (Stays-rows (IsInformed c) w x (open_of w) (open_of x) informed.own) lines_run (Stays-rows (IsHeard d) y z (open_of y) (open_of z) heard.own) in
+      (GoesOrRests-rows (IsInformed c) w x (open_of w) (open_of x) informed.own) lines_run (GoesOrRests-rows (IsHeard d) y z (open_of y) (open_of z) heard.own) in
       let rules : Rules = rules_between c b.card lines in
       subst (λ (n : ℕ). PhaseRun phase wav (number_of w) rules lines base after (IsAtBy ring key wav last n (open_of z))
-      (λ ended. Stays (HasLaidBy wav ended) (ended ≡ []) (open_of w) (open_of z)) first (client_in w) (client_in z) (rows_of w) (rows_of z)) (sym number)
+      (λ ended. GoesOrRests (HasLaidBy wav ended) (ended ≡ []) (open_of w) (open_of z)) first (client_in w) (client_in z) (rows_of w) (rows_of z)) (sym number)
       (subst (λ (es : List Segment). PhaseRun phase wav (number_of w) rules lines base after (IsAtBy ring key wav last (number_of w) (open_of z))
-      (λ ended. Stays (HasLaidBy wav ended) (ended ≡ []) (open_of w) (open_of z)) first (client_in w) (client_by es (open_of z)) (rows_of w) (rows_of z)) (sym segments) whole)
+      (λ ended. GoesOrRests (HasLaidBy wav ended) (ended ≡ []) (open_of w) (open_of z)) first (client_in w) (client_by es (open_of z)) (rows_of w) (rows_of z)) (sym segments) whole)

@@ -101,11 +101,11 @@ abbrev pub HasRoom : List Line → LabClient → Type 0
 HasRoom lines d = HasRoomBy lines d (open_of d)
 
 -- what is so of a client that is open before and after, and of one that is open neither before nor after
-abbrev pub Stays : (OpenClient → OpenClient → Type 0) → Type 0 → Option OpenClient
+abbrev pub GoesOrRests : (OpenClient → OpenClient → Type 0) → Type 0 → Option OpenClient
     → Option OpenClient → Type 0
-Stays Goes Rests None None = Rests
-Stays Goes Rests (Some o) (Some p) = Goes o p
-Stays Goes Rests before after = ⊥
+GoesOrRests Goes Rests None None = Rests
+GoesOrRests Goes Rests (Some o) (Some p) = Goes o p
+GoesOrRests Goes Rests before after = ⊥
 
 -- what a client keeps beside its stream
 pub record IsSameRest (d e : LabClient) : Type 0 where
@@ -122,18 +122,18 @@ pub record AllRefused (before after : ℕ) (phase number : ℕ) (lines : List Li
 
 -- before a phase a client's seat met a note of the card; in it the client did its lines; and after it the card met a note of the seat
 pub record IsClientInformed (c : Card) (d e : LabClient) : Type 0 where
-  pub own : Stays (IsInformed c) (e.rows ≡ d.rows) (open_of d) (open_of e)
+  pub own : GoesOrRests (IsInformed c) (e.rows ≡ d.rows) (open_of d) (open_of e)
   pub rest : IsSameRest d e
 
 pub record RunsLines (before after : ℕ) (phase : ℕ) (wav : Sound) (lines : List Line)
     (d e : LabClient) : Type 0 where
-  pub own : Stays (HasRun before after phase wav lines)
+  pub own : GoesOrRests (HasRun before after phase wav lines)
       (AllRefused before after phase (number_of d) lines d.rows.items e.rows.items)
       (open_of d) (open_of e)
   pub rest : IsSameRest d e
 
 pub record IsClientHeard (c : Card) (d e : LabClient) : Type 0 where
-  pub own : Stays (IsHeard c) (e.rows ≡ d.rows) (open_of d) (open_of e)
+  pub own : GoesOrRests (IsHeard c) (e.rows ≡ d.rows) (open_of d) (open_of e)
   pub rest : IsSameRest d e
 
 -- what was placed for a client in a phase, in which its segments grew by these
@@ -144,5 +144,5 @@ HasLaidBy wav ended o p =
 
 -- the same client as before, but for its rows and its room
 pub record IsSameBut (d e : LabClient) : Type 0 where
-  pub own : Stays IsSameOpen ⊤ (open_of d) (open_of e)
+  pub own : GoesOrRests IsSameOpen ⊤ (open_of d) (open_of e)
   pub rest : IsSameRest d e

@@ -26,7 +26,7 @@ use Rattle.lab_card.specs.Meets.{IsClientOf}
 use Rattle.lab_card.specs.Moves.{seat_of_card}
 use Rattle.lab_client.specs.declared.client.LabClient.{LabClient}
 use Rattle.lab_client.specs.declared.open_client.OpenClient.{OpenClient}
-use Rattle.lab_client.specs.Clients.{AllRefused, CanRun, HasRoom, HasRoomBy, IsAt, IsAtBy, IsCardOf, IsClientHeard, IsClientInformed, IsOfCard, IsSameBut, RunsLines, Stays, client_by, client_in, ended_of, number_of, open_of}
+use Rattle.lab_client.specs.Clients.{AllRefused, CanRun, HasRoom, HasRoomBy, IsAt, IsAtBy, IsCardOf, IsClientHeard, IsClientInformed, IsOfCard, IsSameBut, RunsLines, GoesOrRests, client_by, client_in, ended_of, number_of, open_of}
 use Rattle.lab_client.specs.OpenClients.{HasRun, IsHeard, IsInformed, IsReadyAt, IsSameOpen}
 use Rattle.lab_client.specs.SeatLaws.{IsReady-same, IsSameSeat-informed, IsSameSeat-same}
 use Rattle.lab_client.specs.SeatPort.{seat_port}
@@ -75,7 +75,7 @@ module _ (ring : TableId) (key : Key) where
   pub IsOfRing-informed : (c : Card) (d e : LabClient) → IsClientInformed c d e → IsOfRing ring key d → IsOfRing ring key e
   IsOfRing-informed c d e informed is = by_open (open_of d) (open_of e) informed.own is
     where
-      by_open : (o p : Option OpenClient) → Stays (IsInformed c) (e.rows ≡ d.rows) o p → IfSome o (IsSeatOf ring key) → IfSome p (IsSeatOf ring key)
+      by_open : (o p : Option OpenClient) → GoesOrRests (IsInformed c) (e.rows ≡ d.rows) o p → IfSome o (IsSeatOf ring key) → IfSome p (IsSeatOf ring key)
       by_open None None goes seat = tt
       by_open (Some o) (Some p) goes seat = record { of_ring = goes.seat.ring ∙ seat.of_ring; of_key = goes.seat.key ∙ seat.of_key }
       by_open None (Some p) never seat = absurd never
@@ -84,7 +84,7 @@ module _ (ring : TableId) (key : Key) where
   pub IsOfRing-run : (before after phase : ℕ) (wav : Sound) (lines : List Line) (d e : LabClient) → RunsLines before after phase wav lines d e → IsOfRing ring key d → IsOfRing ring key e
   IsOfRing-run before after phase wav lines d e run is = by_open (open_of d) (open_of e) run.own is
     where
-      by_open : (o p : Option OpenClient) → Stays (HasRun before after phase wav lines) (AllRefused before after phase (number_of d) lines d.rows.items e.rows.items) o p
+      by_open : (o p : Option OpenClient) → GoesOrRests (HasRun before after phase wav lines) (AllRefused before after phase (number_of d) lines d.rows.items e.rows.items) o p
           → IfSome o (IsSeatOf ring key) → IfSome p (IsSeatOf ring key)
       by_open None None goes seat = tt
       by_open (Some o) (Some p) goes seat =
@@ -96,7 +96,7 @@ module _ (ring : TableId) (key : Key) where
   pub IsOfRing-same : (d e : LabClient) → IsSameBut d e → IsOfRing ring key d → IsOfRing ring key e
   IsOfRing-same d e same is = by_open (open_of d) (open_of e) same.own is
     where
-      by_open : (o p : Option OpenClient) → Stays IsSameOpen ⊤ o p → IfSome o (IsSeatOf ring key) → IfSome p (IsSeatOf ring key)
+      by_open : (o p : Option OpenClient) → GoesOrRests IsSameOpen ⊤ o p → IfSome o (IsSeatOf ring key) → IfSome p (IsSeatOf ring key)
       by_open None None stays seat = tt
       by_open (Some o) (Some p) stays seat =
           record { of_ring = ap ring_of stays.seat ∙ seat.of_ring; of_key = ap key_of stays.seat ∙ seat.of_key }
@@ -108,7 +108,7 @@ module _ (ring : TableId) (key : Key) where
   IsAt-same wav last d e a same at =
       subst (λ (n : ℕ). IsAtBy ring key wav last n (open_of e) a) (sym same.rest.number) (by_open (open_of d) (open_of e) same.own at)
     where
-      by_open : (o p : Option OpenClient) → Stays IsSameOpen ⊤ o p → IsAtBy ring key wav last (number_of d) o a → IsAtBy ring key wav last (number_of d) p a
+      by_open : (o p : Option OpenClient) → GoesOrRests IsSameOpen ⊤ o p → IsAtBy ring key wav last (number_of d) o a → IsAtBy ring key wav last (number_of d) p a
       by_open None None stays is = is
       by_open (Some o) (Some p) stays is = record {
         numbered = stays.number ∙ is.numbered;
@@ -129,7 +129,7 @@ module _ (ring : TableId) (key : Key) where
 pub client_in-same : (d e : LabClient) → IsSameBut d e → client_in e ≡ client_in d
 client_in-same d e same = by_open (open_of d) (open_of e) same.own
   where
-    by_open : (o p : Option OpenClient) → Stays IsSameOpen ⊤ o p → client_by (ended_of e) p ≡ client_by (ended_of d) o
+    by_open : (o p : Option OpenClient) → GoesOrRests IsSameOpen ⊤ o p → client_by (ended_of e) p ≡ client_by (ended_of d) o
     by_open None None stays = ap (λ (es : List Segment). client_by es None) same.rest.ended
     by_open (Some o) (Some p) stays =
         ap (λ (n : ℕ). run_client n p.actor.client p.actor.ended.items) stays.number
@@ -141,7 +141,7 @@ client_in-same d e same = by_open (open_of d) (open_of e) same.own
 pub CanRun-same : (wav : Sound) (d e : LabClient) → IsSameBut d e → CanRun wav d → CanRun wav e
 CanRun-same wav d e same can = by_open (open_of d) (open_of e) same.own can
   where
-    by_open : (o p : Option OpenClient) → Stays IsSameOpen ⊤ o p → IfSome o (IsReadyAt wav) → IfSome p (IsReadyAt wav)
+    by_open : (o p : Option OpenClient) → GoesOrRests IsSameOpen ⊤ o p → IfSome o (IsReadyAt wav) → IfSome p (IsReadyAt wav)
     by_open None None stays ready = tt
     by_open (Some o) (Some p) stays ready = CanRun-open wav o p stays ready
     by_open None (Some p) never ready = absurd never
@@ -150,7 +150,7 @@ CanRun-same wav d e same can = by_open (open_of d) (open_of e) same.own can
 pub CanRun-heard : (c : Card) (wav : Sound) (d e : LabClient) → IsClientHeard c d e → CanRun wav d → CanRun wav e
 CanRun-heard c wav d e heard can = by_open (open_of d) (open_of e) heard.own can
   where
-    by_open : (o p : Option OpenClient) → Stays (IsHeard c) (e.rows ≡ d.rows) o p → IfSome o (IsReadyAt wav) → IfSome p (IsReadyAt wav)
+    by_open : (o p : Option OpenClient) → GoesOrRests (IsHeard c) (e.rows ≡ d.rows) o p → IfSome o (IsReadyAt wav) → IfSome p (IsReadyAt wav)
     by_open None None goes ready = tt
     by_open (Some o) (Some p) goes ready =
         subst (λ (x : ClientActor). IsReady seat_port wav p.seat x.client) (sym goes.actor)
@@ -161,7 +161,7 @@ CanRun-heard c wav d e heard can = by_open (open_of d) (open_of e) heard.own can
 pub CanRun-run : (before after phase : ℕ) (wav : Sound) (lines : List Line) (d e : LabClient) → RunsLines before after phase wav lines d e → CanRun wav e
 CanRun-run before after phase wav lines d e run = by_open (open_of d) (open_of e) run.own
   where
-    by_open : (o p : Option OpenClient) → Stays (HasRun before after phase wav lines) (AllRefused before after phase (number_of d) lines d.rows.items e.rows.items) o p
+    by_open : (o p : Option OpenClient) → GoesOrRests (HasRun before after phase wav lines) (AllRefused before after phase (number_of d) lines d.rows.items e.rows.items) o p
         → IfSome p (IsReadyAt wav)
     by_open None None goes = tt
     by_open (Some o) (Some p) goes = goes.ready
@@ -180,7 +180,7 @@ IsOfRing-card c d is = by_open (open_of d) is
 pub CanRun-informed : (c : Card) (wav : Sound) (d e : LabClient) → IsClientInformed c d e → CanRun wav d → CanRun wav e
 CanRun-informed c wav d e informed can = by_open (open_of d) (open_of e) informed.own can
   where
-    by_open : (o p : Option OpenClient) → Stays (IsInformed c) (e.rows ≡ d.rows) o p → IfSome o (IsReadyAt wav) → IfSome p (IsReadyAt wav)
+    by_open : (o p : Option OpenClient) → GoesOrRests (IsInformed c) (e.rows ≡ d.rows) o p → IfSome o (IsReadyAt wav) → IfSome p (IsReadyAt wav)
     by_open None None goes ready = tt
     by_open (Some o) (Some p) goes ready =
         subst (λ (x : ClientActor). IsReady seat_port wav p.seat x.client) (sym goes.actor)
@@ -191,7 +191,7 @@ CanRun-informed c wav d e informed can = by_open (open_of d) (open_of e) informe
 pub HasRoom-informed : (c : Card) (lines : List Line) (d e : LabClient) → IsClientInformed c d e → HasRoom lines d → HasRoom lines e
 HasRoom-informed c lines d e informed room = by_open (open_of d) (open_of e) informed.own room
   where
-    by_open : (o p : Option OpenClient) → Stays (IsInformed c) (e.rows ≡ d.rows) o p → HasRoomBy lines d o → HasRoomBy lines e p
+    by_open : (o p : Option OpenClient) → GoesOrRests (IsInformed c) (e.rows ≡ d.rows) o p → HasRoomBy lines d o → HasRoomBy lines e p
     by_open None None same space =
         subst (λ (n : ℕ). HasSpace (line_count (actor.Client n) lines) e.rows) (sym informed.rest.number)
         (subst (λ (rows : Vec Row). HasSpace (line_count (actor.Client d.number) lines) rows) (sym same) space)

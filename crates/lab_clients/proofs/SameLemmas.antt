@@ -5,7 +5,7 @@ use Rattle.std.proofs.lemmas.Bool.{cases_lt}
 use Rattle.lab_actors.specs.Walks.{AreEach, AreEach-from, HasWalked}
 use Rattle.lab_client.specs.declared.client.LabClient.{LabClient}
 use Rattle.lab_client.specs.declared.open_client.OpenClient.{OpenClient}
-use Rattle.lab_client.specs.Clients.{IsSameBut, Stays, open_of}
+use Rattle.lab_client.specs.Clients.{IsSameBut, GoesOrRests, open_of}
 use Rattle.lab_client.specs.OpenClients.{IsSameOpen}
 
 -- a fact, whatever the answer
@@ -35,6 +35,6 @@ IsSameOpen-none o = record {
 pub IsSameBut-none : (d : LabClient) → IsSameBut d d
 IsSameBut-none d = record { own = by_open (open_of d); rest = record { number = refl; ended = refl } }
   where
-    by_open : (o : Option OpenClient) → Stays IsSameOpen ⊤ o o
+    by_open : (o : Option OpenClient) → GoesOrRests IsSameOpen ⊤ o o
     by_open None = tt
     by_open (Some o) = IsSameOpen-none o

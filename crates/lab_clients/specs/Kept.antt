@@ -15,7 +15,7 @@ use Rattle.lab_places.specs.Holdings.{Holding, Holdings}
 use Rattle.lab_actors.specs.Walks.{AreEach}
 use Rattle.lab_client.specs.declared.client.LabClient.{LabClient}
 use Rattle.lab_client.specs.declared.open_client.OpenClient.{OpenClient}
-use Rattle.lab_client.specs.Clients.{AllRefused, IsAtBy, IsClientHeard, IsClientInformed, IsSameBut, RunsLines, Stays, number_of, open_of}
+use Rattle.lab_client.specs.Clients.{AllRefused, IsAtBy, IsClientHeard, IsClientInformed, IsSameBut, RunsLines, GoesOrRests, number_of, open_of}
 use Rattle.lab_client.specs.Keeps.{IsAt-same, client_in-same}
 use Rattle.lab_client.specs.OpenClients.{HasRun, IsHeard, IsInformed, IsSameOpen, IsSameOpening}
 use Rattle.lab_clients.specs.AtStage.{IsClientDone, IsClientIn, IsSetUp, holding_by, laid_for, laid_open}
@@ -25,13 +25,13 @@ use Rattle.lab_clients.specs.Steps.{HasClientRows, sound_at}
 
 -- a client that is open keeps its opening, and one that isn't stays so
 abbrev pub IsSameOpened : Option OpenClient → Option OpenClient → Type 0
-IsSameOpened o p = Stays IsSameOpening ⊤ o p
+IsSameOpened o p = GoesOrRests IsSameOpening ⊤ o p
 
-Stays-map : (P Q : OpenClient → OpenClient → Type 0) (R S : Type 0) (o p : Option OpenClient) → ((a b : OpenClient) → P a b → Q a b) → (R → S) → Stays P R o p → Stays Q S o p
-Stays-map P Q R S None None goes rests stays = rests stays
-Stays-map P Q R S (Some o) (Some p) goes rests stays = goes o p stays
-Stays-map P Q R S None (Some p) goes rests never = absurd never
-Stays-map P Q R S (Some o) None goes rests never = absurd never
+GoesOrRests-map : (P Q : OpenClient → OpenClient → Type 0) (R S : Type 0) (o p : Option OpenClient) → ((a b : OpenClient) → P a b → Q a b) → (R → S) → GoesOrRests P R o p → GoesOrRests Q S o p
+GoesOrRests-map P Q R S None None goes rests stays = rests stays
+GoesOrRests-map P Q R S (Some o) (Some p) goes rests stays = goes o p stays
+GoesOrRests-map P Q R S None (Some p) goes rests never = absurd never
+GoesOrRests-map P Q R S (Some o) None goes rests never = absurd never
 
 pub IsSameOpened-joined : (o p q : Option OpenClient) → IsSameOpened o p → IsSameOpened p q → IsSameOpened o q
 IsSameOpened-joined None None None one two = tt
@@ -43,21 +43,21 @@ IsSameOpened-joined None None (Some q) one two = absurd two
 IsSameOpened-joined (Some o) (Some p) None one two = absurd two
 
 pub IsSameOpened-same : (d e : LabClient) → IsSameBut d e → IsSameOpened (open_of d) (open_of e)
-IsSameOpened-same d e same = Stays-map IsSameOpen IsSameOpening ⊤ ⊤ (open_of d) (open_of e) (λ o p is. is.same) (λ rests. rests) same.own
+IsSameOpened-same d e same = GoesOrRests-map IsSameOpen IsSameOpening ⊤ ⊤ (open_of d) (open_of e) (λ o p is. is.same) (λ rests. rests) same.own
 
 pub IsSameOpened-informed : (c : Card) (d e : LabClient) → IsClientInformed c d e → IsSameOpened (open_of d) (open_of e)
 IsSameOpened-informed c d e informed =
-    Stays-map (IsInformed c) IsSameOpening (e.rows ≡ d.rows) ⊤ (open_of d) (open_of e) (λ o p is. is.same) (λ rests. tt) informed.own
+    GoesOrRests-map (IsInformed c) IsSameOpening (e.rows ≡ d.rows) ⊤ (open_of d) (open_of e) (λ o p is. is.same) (λ rests. tt) informed.own
 
 pub IsSameOpened-run : (before after phase : ℕ) (wav : Sound) (lines : List Line) (d e : LabClient) → RunsLines before after phase wav lines d e
     → IsSameOpened (open_of d) (open_of e)
 IsSameOpened-run before after phase wav lines d e run =
-    Stays-map (HasRun before after phase wav lines) IsSameOpening (AllRefused before after phase (number_of d) lines d.rows.items e.rows.items) ⊤ (open_of d) (open_of e)
+    GoesOrRests-map (HasRun before after phase wav lines) IsSameOpening (AllRefused before after phase (number_of d) lines d.rows.items e.rows.items) ⊤ (open_of d) (open_of e)
     (λ o p is. is.same) (λ rests. tt) run.own
 
 pub IsSameOpened-heard : (c : Card) (d e : LabClient) → IsClientHeard c d e → IsSameOpened (open_of d) (open_of e)
 IsSameOpened-heard c d e heard =
-    Stays-map (IsHeard c) IsSameOpening (e.rows ≡ d.rows) ⊤ (open_of d) (open_of e) (λ o p is. is.same) (λ rests. tt) heard.own
+    GoesOrRests-map (IsHeard c) IsSameOpening (e.rows ≡ d.rows) ⊤ (open_of d) (open_of e) (λ o p is. is.same) (λ rests. tt) heard.own
 
 -- ---- what it holds
 
@@ -104,7 +104,7 @@ IsClientIn-same session ring key holdings number d e x same is =
 pub laid_for-same : (d e : LabClient) (f k : ℕ) → IsSameBut d e → laid_for (open_of e) f k ≡ laid_for (open_of d) f k
 laid_for-same d e f k same = by_open (open_of d) (open_of e) same.own
   where
-    by_open : (o p : Option OpenClient) → Stays IsSameOpen ⊤ o p → laid_for p f k ≡ laid_for o f k
+    by_open : (o p : Option OpenClient) → GoesOrRests IsSameOpen ⊤ o p → laid_for p f k ≡ laid_for o f k
     by_open None None stays = refl
     by_open (Some o) (Some p) stays = ap (λ (s : MixSeat). total (view_of s).laid f k) stays.seat
     by_open None (Some p) never = absurd never

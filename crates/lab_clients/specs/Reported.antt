@@ -23,7 +23,7 @@ use Rattle.lab_run.specs.Rules.{AtPort}
 use Rattle.lab_run.specs.Stage.{Session, Setup}
 use Rattle.lab_actor.specs.ClientLines.{entries_by as stretch_entries}
 use Rattle.lab_client.specs.declared.open_client.OpenClient.{OpenClient}
-use Rattle.lab_client.specs.Clients.{HasLaidBy, Stays, client_by}
+use Rattle.lab_client.specs.Clients.{HasLaidBy, GoesOrRests, client_by}
 use Rattle.lab_client.specs.OpenClients.{stream_of}
 use Rattle.lab_clients.specs.AtStage.{IsSetUp, laid_for}
 use Rattle.lab_clients.specs.Steps.{sound_at}
@@ -143,7 +143,7 @@ laid_for-run session number alike o p ended is then_is ended_are laid f k =
 -- So it is of each client, open or not.
 pub laid_for-phase : (session : Session) (number : ℕ) → AllLayAlike → number < length session.sounds → (segments next ended : List Segment) (o p : Option OpenClient)
     → IsSetUp (slice_index_or session.clients number None) o → IsSetUp (slice_index_or session.clients number None) p
-    → (client_by next p).ended ≡ (client_by segments o).ended ++ ended → Stays (HasLaidBy (sound_at session.sounds number) ended) (ended ≡ []) o p → (f k : ℕ)
+    → (client_by next p).ended ≡ (client_by segments o).ended ++ ended → GoesOrRests (HasLaidBy (sound_at session.sounds number) ended) (ended ≡ []) o p → (f k : ℕ)
     → laid_for p f k +ℤ given_by session (own_segments number (client_by segments o)) f k ≡ laid_for o f k +ℤ given_by session (own_segments number (client_by next p)) f k
 laid_for-phase session number alike file segments next ended None None is then_is ended_are laid f k =
     let same : next ≡ segments = ended_are ∙ (ap (λ (more : List Segment). segments ++ more) laid ∙ append-nil segments) in

@@ -22,7 +22,7 @@ use Rattle.lab_make.specs.declared.workload.Workload.{Workload}
 use Rattle.lab_workload.specs.Made.{IsMade, IsMadePart}
 use Rattle.lab_commands.specs.Words.{make, run}
 use Rattle.lab_commands.specs.Run.{HasFinished, IsUnfinished}
-use Rattle.lab_commands.specs.Top.{Leaves}
+use Rattle.lab_commands.specs.Top.{CommandLeaves}
 
 -- what the laws of runs say of each run
 pub record RunLaws : Type 0 where
@@ -56,25 +56,25 @@ module _ (laws : RunLaws) (input : RunInput) (script out : List ℕ) (gates : St
 
   -- what a run leaves that was read and stopped
   pub Leaves-stopped : (stop : Stop) → IsWriteStop stop → HasPlayedPart input out between after taken taken_after
-      → Leaves {X = Unit {0}} (Err stop) (Some (run script out)) gates before after taken taken_after
-  Leaves-stopped Words only part = absurd only
-  Leaves-stopped (Script error) only part = absurd only
-  Leaves-stopped (Conf error) only part = absurd only
-  Leaves-stopped (Wav name why) only part = absurd only
-  Leaves-stopped (Read name) only part = absurd only
-  Leaves-stopped Write only part = left-part part
-  Leaves-stopped Memory only part = left-part part
+      → CommandLeaves {X = Unit {0}} (Err stop) (Some (run script out)) gates before after taken taken_after
+  CommandLeaves-stopped Words only part = absurd only
+  CommandLeaves-stopped (Script error) only part = absurd only
+  CommandLeaves-stopped (Conf error) only part = absurd only
+  CommandLeaves-stopped (Wav name why) only part = absurd only
+  CommandLeaves-stopped (Read name) only part = absurd only
+  CommandLeaves-stopped Write only part = left-part part
+  CommandLeaves-stopped Memory only part = left-part part
 
 -- what a call leaves that makes a workload
-pub Leaves-made : (w : Workload) (gates : Stops) (before after : Option Files) (taken taken_after : Option (List ℕ)) (r : Result (Unit {0}) Stop) → IfErr r IsWriteStop
+pub CommandLeaves-made : (w : Workload) (gates : Stops) (before after : Option Files) (taken taken_after : Option (List ℕ)) (r : Result (Unit {0}) Stop) → IfErr r IsWriteStop
     → OnOk r (IsMade w gates before after taken taken_after)
     → OnErr r (IsUntouched before after taken taken_after ⊎ IsMadePart w gates before after taken taken_after)
-    → Leaves r (Some (make w)) gates before after taken taken_after
-Leaves-made w gates before after taken taken_after (Ok x) only done part = done
-Leaves-made w gates before after taken taken_after (Err Words) only done part = absurd only
-Leaves-made w gates before after taken taken_after (Err (Script error)) only done part = absurd only
-Leaves-made w gates before after taken taken_after (Err (Conf error)) only done part = absurd only
-Leaves-made w gates before after taken taken_after (Err (Wav name why)) only done part = absurd only
-Leaves-made w gates before after taken taken_after (Err (Read name)) only done part = absurd only
-Leaves-made w gates before after taken taken_after (Err Write) only done part = part
-Leaves-made w gates before after taken taken_after (Err Memory) only done part = part
+    → CommandLeaves r (Some (make w)) gates before after taken taken_after
+CommandLeaves-made w gates before after taken taken_after (Ok x) only done part = done
+CommandLeaves-made w gates before after taken taken_after (Err Words) only done part = absurd only
+CommandLeaves-made w gates before after taken taken_after (Err (Script error)) only done part = absurd only
+CommandLeaves-made w gates before after taken taken_after (Err (Conf error)) only done part = absurd only
+CommandLeaves-made w gates before after taken taken_after (Err (Wav name why)) only done part = absurd only
+CommandLeaves-made w gates before after taken taken_after (Err (Read name)) only done part = absurd only
+CommandLeaves-made w gates before after taken taken_after (Err Write) only done part = part
+CommandLeaves-made w gates before after taken taken_after (Err Memory) only done part = part

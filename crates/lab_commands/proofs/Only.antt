@@ -21,7 +21,7 @@ use Rattle.lab_stop.specs.Stops.{status_of}
 use Rattle.wav_io.specs.Sound.{Sound}
 use Rattle.lab_commands.specs.Words.{Form, run, refine, conf, make, help, version}
 use Rattle.lab_commands.specs.Run.{HasFinished, IsOnlyRun, IsOnlyRunOf}
-use Rattle.lab_commands.specs.Top.{Leaves, OnlyIn}
+use Rattle.lab_commands.specs.Top.{CommandLeaves, OnlyIn}
 
 -- each script has one session
 abbrev pub OneSession : Type 0
@@ -49,7 +49,7 @@ Finished-only one script out gates before after taken taken_after done files is 
 
 -- what a command leaves with status 0
 pub DoneIn-only : OneSession → {X : Type 0} (r : Result X Stop) (form : Option Form) (gates : Stops) (before after : Option Files) (taken taken_after : Option (List ℕ))
-    → Leaves r form gates before after taken taken_after → status_of r ≡ 0 → OnlyIn form gates before after taken taken_after
+    → CommandLeaves r form gates before after taken taken_after → status_of r ≡ 0 → OnlyIn form gates before after taken taken_after
 DoneIn-only one (Ok x) None gates before after taken taken_after done zero = absurd done
 DoneIn-only one (Ok x) (Some (run script out)) gates before after taken taken_after done zero = Finished-only one script out gates before after taken taken_after done
 DoneIn-only one (Ok x) (Some (refine text)) gates before after taken taken_after done zero = tt

@@ -124,12 +124,12 @@ IsLeft result words gates before after taken taken_after =
     ⊎ (((result ≡ 5) ⊎ (result ≡ 6)) × PartIn (form_of words) gates before after taken taken_after)
 
 -- what a command leaves, by how it ended
-abbrev pub Leaves : {X : Type 0} → Result X Stop → Option Form → Stops → Option Files → Option Files → Option (List ℕ) → Option (List ℕ) → Type 0
-Leaves (Ok x) form gates before after taken taken_after = DoneIn form gates before after taken taken_after
-Leaves (Err stops.Words) form gates before after taken taken_after = IsUntouched before after taken taken_after
-Leaves (Err (stops.Script error)) form gates before after taken taken_after = IsUntouched before after taken taken_after
-Leaves (Err (stops.Conf error)) form gates before after taken taken_after = IsUntouched before after taken taken_after
-Leaves (Err (stops.Wav name why)) form gates before after taken taken_after = IsUntouched before after taken taken_after
-Leaves (Err (stops.Read name)) form gates before after taken taken_after = IsUntouched before after taken taken_after
-Leaves (Err stops.Write) form gates before after taken taken_after = IsUntouched before after taken taken_after ⊎ PartIn form gates before after taken taken_after
-Leaves (Err stops.Memory) form gates before after taken taken_after = IsUntouched before after taken taken_after ⊎ PartIn form gates before after taken taken_after
+abbrev pub CommandLeaves : {X : Type 0} → Result X Stop → Option Form → Stops → Option Files → Option Files → Option (List ℕ) → Option (List ℕ) → Type 0
+CommandLeaves (Ok x) form gates before after taken taken_after = DoneIn form gates before after taken taken_after
+CommandLeaves (Err stops.Words) form gates before after taken taken_after = IsUntouched before after taken taken_after
+CommandLeaves (Err (stops.Script error)) form gates before after taken taken_after = IsUntouched before after taken taken_after
+CommandLeaves (Err (stops.Conf error)) form gates before after taken taken_after = IsUntouched before after taken taken_after
+CommandLeaves (Err (stops.Wav name why)) form gates before after taken taken_after = IsUntouched before after taken taken_after
+CommandLeaves (Err (stops.Read name)) form gates before after taken taken_after = IsUntouched before after taken taken_after
+CommandLeaves (Err stops.Write) form gates before after taken taken_after = IsUntouched before after taken taken_after ⊎ PartIn form gates before after taken taken_after
+CommandLeaves (Err stops.Memory) form gates before after taken taken_after = IsUntouched before after taken taken_after ⊎ PartIn form gates before after taken taken_after

@@ -93,17 +93,17 @@ IsWithinLimits commands.Help = ⊤
 IsWithinLimits commands.Version = ⊤
 
 -- lines of text, each with its line feed
-abbrev pub lines_of : List (List ℕ) → List ℕ
-lines_of [] = []
-lines_of (line ∷ lines) = line ++ 10 ∷ lines_of lines
+abbrev pub text_of_lines : List (List ℕ) → List ℕ
+text_of_lines [] = []
+text_of_lines (line ∷ lines) = line ++ 10 ∷ text_of_lines lines
 
 -- what `--version` puts
 abbrev pub version_text : List ℕ
-version_text = lines_of (codes "dmixlab 0.1.0" ∷ [])
+version_text = text_of_lines (codes "dmixlab 0.1.0" ∷ [])
 
 -- what `--help` puts; a long text, into which no proof but that of `help` looks
 unfoldable pub help_text : List ℕ
-help_text = lines_of (codes "usage: dmixlab run SCRIPT OUT"
+help_text = text_of_lines (codes "usage: dmixlab run SCRIPT OUT"
     ∷ codes "       dmixlab refine TEXT"
     ∷ codes "       dmixlab conf FILE NAME"
     ∷ codes "       dmixlab make SEED CLIENTS PHASES"

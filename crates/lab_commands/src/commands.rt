@@ -10,7 +10,7 @@ ghost use Rattle.lab_refine.specs.Answered.{request_in};
 ghost use Rattle.lab_stop.specs.Causes.{cause};
 ghost use Rattle.lab_stop.specs.Stops.{EndsOf, EndsReliably, InputFaults, OutputFaults, Refuses};
 ghost use Rattle.lab_commands.specs.Words.{conf, make, refine, run};
-ghost use Rattle.lab_commands.specs.Top.{Leaves};
+ghost use Rattle.lab_commands.specs.Top.{CommandLeaves};
 
 use lab_conf::describe_device;
 use lab_headline::{actors_do_their_own, runs_are_exact};
@@ -37,7 +37,7 @@ pub(crate) fn run_command<R: Threads + Sync, S: Shelf, K: Sink, G: Gate + Send>(
     name: &[u8],
 ) -> Result<(), Stop>
     requires gates { 128 ≤ length gates.old }
-    ensures leaves { Leaves result (Some (run script.now name.now))
+    ensures leaves { CommandLeaves result (Some (run script.now name.now))
         (rises (stops_by G.stops gates.old) (stops_by G.stops gates.new))
         (S.files shelf.old) (S.files shelf.new) (K.taken out.old) (K.taken out.new) }
     ensures cause { ForSome (S.files shelf.old)
@@ -67,7 +67,7 @@ pub(crate) fn make_command<R: Threads + Sync, S: Shelf, K: Sink, G: Gate + Send>
 ) -> Result<(), Stop>
     requires workload { IsWorkload workload.now }
     requires gates { 128 ≤ length gates.old }
-    ensures leaves { Leaves result (Some (make workload.now))
+    ensures leaves { CommandLeaves result (Some (make workload.now))
         (rises (stops_by G.stops gates.old) (stops_by G.stops gates.new))
         (S.files shelf.old) (S.files shelf.new) (K.taken out.old) (K.taken out.new) }
     ensures cause { EndsOf result None }
@@ -88,7 +88,7 @@ pub(crate) fn refine_command<S: Shelf, K: Sink>(
     out: &mut K,
     name: &[u8],
 ) -> Result<(), Stop>
-    ensures leaves { (gates : Stops) → Leaves result (Some (refine name.now)) gates
+    ensures leaves { (gates : Stops) → CommandLeaves result (Some (refine name.now)) gates
         (S.files shelf.old) (S.files shelf.new) (K.taken out.old) (K.taken out.new) }
     ensures cause { ForSome (S.files shelf.old)
         (λ files. EndsOf result (cause (request_in files name.now))) }
@@ -111,7 +111,7 @@ pub(crate) fn conf_command<S: Shelf, K: Sink>(
     file: &[u8],
     name: &[u8],
 ) -> Result<(), Stop>
-    ensures leaves { (gates : Stops) → Leaves result (Some (conf file.now name.now)) gates
+    ensures leaves { (gates : Stops) → CommandLeaves result (Some (conf file.now name.now)) gates
         (S.files shelf.old) (S.files shelf.new) (K.taken out.old) (K.taken out.new) }
     ensures cause { ForSome (S.files shelf.old)
         (λ files. EndsOf result (cause (device_in files file.now name.now))) }

@@ -6,7 +6,7 @@ ghost use Rattle.lab_play.specs.Played.{rises};
 ghost use Rattle.lab_shelf.specs.Counts.{Rose};
 ghost use Rattle.lab_stop.specs.Stops.{EndsOf, EndsReliably, InputFaults, OutputFaults, Refuses};
 ghost use Rattle.lab_commands.specs.Words.{form_of, texts};
-ghost use Rattle.lab_commands.specs.Top.{cause_in, ComesExactly, EndsWell, Headline, IsExact, IsLeft, IsMissing, IsTextRefused, IsValid, IsWavRefused, Leaves};
+ghost use Rattle.lab_commands.specs.Top.{cause_in, ComesExactly, EndsWell, Headline, IsExact, IsLeft, IsMissing, IsTextRefused, IsValid, IsWavRefused, CommandLeaves};
 
 use crate::commands::{conf_command, make_command, refine_command, run_command};
 use crate::words::{Command, help, read_command, version};
@@ -151,7 +151,7 @@ fn command<R: Threads + Sync, S: Shelf, K: Sink, G: Gate + Send>(
     gates: &mut [G],
 ) -> Result<(), Stop>
     requires { 128 ≤ length gates.old }
-    ensures leaves { Leaves result (form_of (texts words.now))
+    ensures leaves { CommandLeaves result (form_of (texts words.now))
         (rises (stops_by G.stops gates.old) (stops_by G.stops gates.new))
         (S.files shelf.old) (S.files shelf.new) (K.taken out.old) (K.taken out.new) }
     ensures cause { ForSome (S.files shelf.old)

@@ -9,11 +9,11 @@ use Rattle.asound_conf.specs.Device.{IsCard}
 use Rattle.asound_conf.specs.Text.{card_line}
 use Rattle.lab_script.specs.declared.error.ScriptWhy.TheVariants as why
 use Rattle.lab_script.specs.Draft.{card_alone}
-use Rattle.lab_script.specs.Lexing.{lines_of}
+use Rattle.lab_script.specs.Lexing.{word_lines}
 use Rattle.lab_script.specs.Reading.{after, on_line, refusal_at, script_at, script_of_lines}
 use Rattle.lab_conf.specs.Described.{IsScriptText, card_script}
 use Rattle.lab_conf.proofs.CardWords.{AreNumerals, card_line-words, words_with}
-use Rattle.lab_conf.proofs.LineWords.{is_plain_word, lines_of-line}
+use Rattle.lab_conf.proofs.LineWords.{is_plain_word, word_lines-line}
 use Rattle.lab_conf.proofs.Numerals.{is_plain_word-decimal, length-decimal-few, number_of-decimal}
 
 -- the words of a device's card line
@@ -36,15 +36,15 @@ plain : (channels rate period ring : List ℕ) → is_plain_word channels ≡ tr
 plain channels rate period ring a b c e = rw (a, b, c, e) refl
 
 -- a device's card line has its words on the first line
-lines_of-card_line : (d : Device) → IsCard d.channels d.rate d.period d.ring → lines_of (card_line d) ≡ (1, card_words d) ∷ []
+word_lines-card_line : (d : Device) → IsCard d.channels d.rate d.period d.ring → word_lines (card_line d) ≡ (1, card_words d) ∷ []
 unfolding card_words
-lines_of-card_line d card =
+word_lines-card_line d card =
     let channels = is_plain_word-decimal d.channels (omega (arith, card.channels_high)) in
     let rate = is_plain_word-decimal d.rate (omega (arith, card.rate_high)) in
     let period = is_plain_word-decimal d.period (omega (arith, card.period_twice, card.ring_high)) in
     let ring = is_plain_word-decimal d.ring (omega (arith, card.ring_high)) in
-    ap lines_of (card_line-card_words d)
-    ∙ lines_of-line (codes "card") _ (plain (decimal d.channels) (decimal d.rate) (decimal d.period) (decimal d.ring) channels rate period ring)
+    ap word_lines (card_line-card_words d)
+    ∙ word_lines-line (codes "card") _ (plain (decimal d.channels) (decimal d.rate) (decimal d.period) (decimal d.ring) channels rate period ring)
 
 -- a device's card line is short
 length-card_line : (d : Device) → IsCard d.channels d.rate d.period d.ring → length (card_line d) ≤ 1048576
@@ -68,7 +68,7 @@ IsScriptText-card d card =
       is_period = number_of-decimal d.period (omega (arith, card.period_twice, card.ring_high));
       is_ring = number_of-decimal d.ring (omega (arith, card.ring_high));
     } in
-    ap (λ t. cond t (Err (refusal_at 0 why.TooLong)) (script_of_lines (lines_of text))) fits
-    ∙ ap script_of_lines (lines_of-card_line d card)
+    ap (λ t. cond t (Err (refusal_at 0 why.TooLong)) (script_of_lines (word_lines text))) fits
+    ∙ ap script_of_lines (word_lines-card_line d card)
     ∙ ap (λ card. on_line 1 card (λ made. script_at (after (card_alone made) [])))
     (card_line-words (decimal d.channels) (decimal d.rate) (decimal d.period) (decimal d.ring) d.channels d.rate d.period d.ring numerals card)

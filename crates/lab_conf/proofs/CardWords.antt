@@ -4,7 +4,7 @@ use Rattle.std.proofs.lemmas.Bool.Decides.{nat_tests}
 use Rattle.asound_conf.specs.Device.{IsCard}
 use Rattle.lab_script.specs.declared.script.Share.TheVariants as share
 use Rattle.lab_script.specs.Draft.{card_of, divides}
-use Rattle.lab_script.specs.Keys.{key_of}
+use Rattle.lab_script.specs.Keys.{key_value}
 use Rattle.lab_script.specs.Reading.{card_line}
 use Rattle.lab_script.specs.Word.{number_of}
 
@@ -75,7 +75,7 @@ pub card_line-words : (channels rate period ring : List ℕ) (c r p n : ℕ) →
       capture = None;
       share = share.Dmix;
     })
-unfolding card_of key_of
+unfolding card_of key_value
 card_line-words channels rate period ring c r p n are card =
     let t = AreTested-card c r p n card in
     rw (are.is_channels, are.is_rate, are.is_period, are.is_ring, t.channels_low, t.channels_high, t.channels_most, t.rate_low, t.rate_high, t.rate_most, t.period_low, t.period_high, t.ring_low, t.ring_high, t.ring_most, t.divides) refl

@@ -7,7 +7,7 @@ use Rattle.std.proofs.lemmas.List.{take_all}
 use Rattle.std.proofs.lemmas.List.Splits.{slice_split_at, slice_split_none}
 use Rattle.std.proofs.lemmas.List.Folds.{list_all-append}
 use Rattle.lab_script.specs.Word.{is_feed, is_file_byte}
-use Rattle.lab_script.specs.Lexing.{is_blank, is_hash, is_word, lines_of, numbered_lines, put_line, without_return, words_between, words_in}
+use Rattle.lab_script.specs.Lexing.{is_blank, is_hash, is_word, word_lines, numbered_lines, put_line, without_return, words_between, words_in}
 
 -- a word of visible bytes, none of them `#`
 abbrev pub is_plain_word : List ℕ → Bool
@@ -117,8 +117,8 @@ words_in-join w ws e =
     ∙ words_between-join w ws e
 
 -- a text of one such line has its words on the first line
-pub lines_of-line : (w : List ℕ) (ws : List (List ℕ)) → list_all is_plain_word (w ∷ ws) ≡ true → lines_of (join_with_byte 32 (w ∷ ws) ++ 10 ∷ []) ≡ (1, w ∷ ws) ∷ []
-lines_of-line w ws e =
+pub word_lines-line : (w : List ℕ) (ws : List (List ℕ)) → list_all is_plain_word (w ∷ ws) ≡ true → word_lines (join_with_byte 32 (w ∷ ws) ++ 10 ∷ []) ≡ (1, w ∷ ws) ∷ []
+word_lines-line w ws e =
     let line = join_with_byte 32 (w ∷ ws) in
     let no_feed = all_of is_line_byte is_feed line_byte-feed line (join-line w ws e) in
     ap (numbered_lines 1) (slice_split_at is_feed line 10 [] no_feed refl)

@@ -15,7 +15,7 @@ use Rattle.pcm_states.specs.declared.calls.Facts.{Facts}
 use Rattle.pcm_states.specs.declared.calls.Outcome.{Outcome}
 use Rattle.pcm_states.specs.declared.states.State.{State}
 use Rattle.pcm_states.specs.declared.states.State.TheVariants.{Draining, Prepared, Running, Setup}
-use Rattle.pcm_states.specs.Table.{Cell, already, done_in, draining, ebadfd, eio, enodev, filling, first_of, if_empty, if_gone, if_late, if_none_left, if_over, if_played, moving, next_of, outcome_of, resuming, row_of, starting, still_draining, stopped_by, to}
+use Rattle.pcm_states.specs.Table.{Cell, already, done_in, draining, ebadfd, eio, enodev, filling, first_outcome, if_empty, if_gone, if_late, if_none_left, if_over, if_played, moving, next_of, outcome_of, resuming, call_row, starting, still_draining, stopped_by, to}
 use Rattle.course.specs.Course.{◌>>=◌, Course, ends}
 use Rattle.wav_io.specs.Sound.{Sound}
 use Rattle.dmix_client.specs.declared.commit.Commit.{Commit}
@@ -46,7 +46,7 @@ use Rattle.lab_headline.specs.Late.{IsLate}
 abbrev Says : Outcome → Type 0
 Says o = LateIn (λ frame channel. o.state ≡ Xrun) o.answer
 
-first-case : (o : Option Outcome) (rest : List (Option Outcome)) (d : Outcome) → IfSome o Says → Says (first_of rest d) → Says (first_of (o ∷ rest) d)
+first-case : (o : Option Outcome) (rest : List (Option Outcome)) (d : Outcome) → IfSome o Says → Says (first_outcome rest d) → Says (first_outcome (o ∷ rest) d)
 first-case None rest d here there = there
 first-case (Some x) rest d here there = here
 
@@ -99,7 +99,7 @@ cell-says already s c f = tt
 cell-says starting s c f = first-case (if_empty f) _ _ (empty-case f) (first-case (if_gone f) _ _ (gone-case f) (first-case (if_late f) _ _ (late-case f) tt))
 cell-says filling s c f = by_start f.starts
   where
-    by_start : (b : Bool) → Says (if b then first_of (if_gone f ∷ if_late f ∷ []) (done_in Running) else done_in Prepared)
+    by_start : (b : Bool) → Says (if b then first_outcome (if_gone f ∷ if_late f ∷ []) (done_in Running) else done_in Prepared)
     by_start true = first-case (if_gone f) (if_late f ∷ []) (done_in Running) (gone-case f) (first-case (if_late f) [] (done_in Running) (late-case f) tt)
     by_start false = tt
 cell-says moving s c f = first-case (if_gone f) _ _ (gone-case f) (first-case (if_over f) _ _ (over-case f) (first-case (if_late f) _ _ (late-case f) tt))
@@ -109,7 +109,7 @@ cell-says resuming s c f =
     first-case (if_none_left f) _ _ (zero-case f.queued Prepared) (first-case (if_gone f) _ _ (gone-case f) (first-case (if_late f) _ _ (late-case f) tt))
 
 next-says : (s : State) (c : Call) (f : Facts) → Says (next_of s c f)
-next-says s c f = cell-says (row_of f.capture c s) s c f
+next-says s c f = cell-says (call_row f.capture c s) s c f
 
 -- ---- a call's parts
 

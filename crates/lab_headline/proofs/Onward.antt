@@ -22,7 +22,7 @@ use Rattle.pcm_states.specs.declared.calls.Facts.{Facts}
 use Rattle.pcm_states.specs.declared.calls.Outcome.{Outcome}
 use Rattle.pcm_states.specs.declared.states.State.{State}
 use Rattle.pcm_states.specs.declared.states.State.TheVariants.{Disconnected, Draining, Prepared, Running, Setup, Xrun}
-use Rattle.pcm_states.specs.Table.{done_in, first_of, if_gone, if_late, if_over, if_played, next_of, still_draining, stopped_by}
+use Rattle.pcm_states.specs.Table.{done_in, first_outcome, if_gone, if_late, if_over, if_played, next_of, still_draining, stopped_by}
 use Rattle.pcm_stream.specs.Status.{is_moving}
 use Rattle.snd_base.specs.declared.errors.XrunWhy.{XrunWhy}
 use Rattle.snoop_core.specs.declared.port.Got.{Got}
@@ -31,7 +31,7 @@ use Rattle.dmix_client.specs.declared.commit.Commit.{Commit}
 use Rattle.dmix_client.specs.declared.stream.PlaybackStream.{PlaybackStream}
 use Rattle.dmix_client.specs.Calls.{Answered, committed_by, facts_of, found_at, going_on, going_on_by, is_prepared, is_stop, late_of, over_of, seen_at, with_outcome, start_count, start_frame, after_start, started_in, stopped_in, sync_count, after_sync}
 use Rattle.dmix_client.specs.Course.{commits, go_on, lay_each, lay_frame, lay_frames, looks, nothing, one_frame_more, one_more, starts, syncs}
-use Rattle.dmix_client.specs.Port.{IsStep}
+use Rattle.dmix_client.specs.Port.{IsFrameStep}
 use Rattle.dmix_client.specs.View.{ring_sample}
 
 -- ---- marks
@@ -289,8 +289,8 @@ moving-begun p x y m c moves (inr waits) = absurd (false≢true (sym waits.still
 -- ---- the state table
 
 module _ (P : State → Type 0) where
-  pub first-state : (o : Option Outcome) (rest : List (Option Outcome)) (d : Outcome) → IfSome o (λ (x : Outcome). P x.state) → P (first_of rest d).state
-      → P (first_of (o ∷ rest) d).state
+  pub first-state : (o : Option Outcome) (rest : List (Option Outcome)) (d : Outcome) → IfSome o (λ (x : Outcome). P x.state) → P (first_outcome rest d).state
+      → P (first_outcome (o ∷ rest) d).state
   first-state None rest d here there = there
   first-state (Some x) rest d here there = here
 
@@ -329,16 +329,16 @@ pub still-draining : (asked : Call) → Unprepared (still_draining asked).state
 still-draining call.Drain = refl
 still-draining other = refl
 
-pub moving-unprepared : (f : Facts) → Unprepared (first_of (if_gone f ∷ if_over f ∷ if_late f ∷ []) (done_in Running)).state
+pub moving-unprepared : (f : Facts) → Unprepared (first_outcome (if_gone f ∷ if_over f ∷ if_late f ∷ []) (done_in Running)).state
 moving-unprepared f = first-state Unprepared (if_gone f) _ _ (gone-state Unprepared f refl)
     (first-state Unprepared (if_over f) _ _ (over-state Unprepared f refl) (first-state Unprepared (if_late f) _ _ (late-state Unprepared f refl) refl))
 
-pub draining-unprepared : (f : Facts) (asked : Call) → Unprepared (first_of (if_gone f ∷ if_late f ∷ if_played f ∷ []) (still_draining asked)).state
+pub draining-unprepared : (f : Facts) (asked : Call) → Unprepared (first_outcome (if_gone f ∷ if_late f ∷ if_played f ∷ []) (still_draining asked)).state
 draining-unprepared f asked = first-state Unprepared (if_gone f) _ _ (gone-state Unprepared f refl)
     (first-state Unprepared (if_late f) _ _ (late-state Unprepared f refl) (first-state Unprepared (if_played f) _ _ (played-state Unprepared f.queued Setup refl) (still-draining asked)))
 
 -- a step of a stream that moves frames leads to no prepared one
-pub stepped-unprepared : (s : State) (asked : Call) (f : Facts) → IsStep s asked → f.capture ≡ false → Unprepared (next_of s asked f).state
+pub stepped-unprepared : (s : State) (asked : Call) (f : Facts) → IsFrameStep s asked → f.capture ≡ false → Unprepared (next_of s asked f).state
 stepped-unprepared Running call.Sync f step play = moving-unprepared f
 stepped-unprepared Running call.Transfer f step play = moving-unprepared f
 stepped-unprepared Draining call.Sync f step play = draining-unprepared f call.Sync
@@ -373,7 +373,7 @@ module _ (p : ℕ) (g : Geometry) (x y : ℕ) where
 
   -- the sync of a client that moves frames
   pub after_sync-goes : (c : PlaybackStream) (asked : Call) (position : Position) (commit : Commit) (n : Marks) → Channels c.setup.bindings → c.stretch.started ≡ true → is_prepared c.status.state ≡ false
-      → IsStep c.status.state asked → x ≤ c.stretch.card → Lies p x y c.stretch.card (end_of c) (end_of (committed_by c commit)) n
+      → IsFrameStep c.status.state asked → x ≤ c.stretch.card → Lies p x y c.stretch.card (end_of c) (end_of (committed_by c commit)) n
       → Begun p x y n (after_sync c asked (Some position) commit).0
   after_sync-goes c asked position commit n bound started unprepared step past lies = by_stop (is_stop commit.ended)
     where
@@ -390,7 +390,7 @@ module _ (p : ℕ) (g : Geometry) (x y : ℕ) where
       by_stop true = record { bound = bound; started = started; unprepared = unprepared; past = past; lies = there }
       by_stop false = record { bound = bound; started = started; unprepared = stepped-unprepared c.status.state asked f step refl; past = past; lies = there }
 
-  pub syncs-go : (c : PlaybackStream) (asked : Call) (ring : List ℤ) (m : Marks) → IsStep c.status.state asked → Begun p x y m c
+  pub syncs-go : (c : PlaybackStream) (asked : Call) (ring : List ℤ) (m : Marks) → IsFrameStep c.status.state asked → Begun p x y m c
       → Leads p g (λ n done. Begun p x y n done.0) m (syncs c asked ring)
   unfolding syncs
   syncs-go c asked ring m step is =

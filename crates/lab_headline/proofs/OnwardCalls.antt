@@ -21,7 +21,7 @@ use Rattle.dmix_client.specs.declared.commit.Commit.{Commit}
 use Rattle.dmix_client.specs.declared.stream.PlaybackStream.{PlaybackStream}
 use Rattle.dmix_client.specs.Calls.{Answered, committed_by, found_at, is_prepared, is_stop, late_of, with_outcome, start_count, after_start, started_in, stopped_in, accepted_if, avail_answer, delay_answer, in_draining, after_drop, has_frames, in_state, is_running, late_at, pending_of, after_prepare, with_new_base, after_resume, taken_of, with_number, written_after}
 use Rattle.dmix_client.specs.Course.{commits, looks, nothing, starts, syncs, if_admitted, admitted_by, drain_course, drain_on, drains, fills, number_course, course_with_number, pause_course, resumes, start_course, starts_taking, sync_course, takes_more, write_on, writes_on}
-use Rattle.dmix_client.specs.Port.{IsStep}
+use Rattle.dmix_client.specs.Port.{IsFrameStep}
 use Rattle.dmix_client.specs.Rewind.{back_of, checks, last_channel, last_laid, rewind_course, rewind_on, rewindable_course, rewindable_of, rewinds, after_rewind, take_frames, taken_back, takes_back, without_frames}
 use Rattle.dmix_client.specs.View.{avail_of, ring_sample}
 use Rattle.dmix_client.specs.Writes.{count_with, ring_with, starts_with}
@@ -35,12 +35,12 @@ use Rattle.lab_headline.proofs.Withdrawn.{below-sum, frames-back}
 
 -- ---- the calls
 
-pub moving-syncs : (s : State) → is_moving s ≡ true → IsStep s call.Sync
+pub moving-syncs : (s : State) → is_moving s ≡ true → IsFrameStep s call.Sync
 moving-syncs Running moves = tt
 moving-syncs Draining moves = tt
 moving-syncs other moves = absurd (false≢true moves)
 
-pub running-transfers : (s : State) → is_running s ≡ true → IsStep s call.Transfer
+pub running-transfers : (s : State) → is_running s ≡ true → IsFrameStep s call.Transfer
 running-transfers Running runs = tt
 running-transfers other runs = absurd (false≢true runs)
 
@@ -92,7 +92,7 @@ module _ (p : ℕ) (g : Geometry) (x y : ℕ) where
   unfolding course_with_number
   numbered-goes number m course leads = Leads-then p g (OnwardAfter p x y) (OnwardAfter p x y) m course (λ done. ends (with_number number done)) leads (number-goes number)
 
-  pub syncs-goes : (c : PlaybackStream) (asked : Call) (m : Marks) → IsStep c.status.state asked → Begun p x y m c → Leads p g (OnwardAfter p x y) m (syncs c asked [])
+  pub syncs-goes : (c : PlaybackStream) (asked : Call) (m : Marks) → IsFrameStep c.status.state asked → Begun p x y m c → Leads p g (OnwardAfter p x y) m (syncs c asked [])
   syncs-goes c asked m step is = Leads-map p g (λ n done. Begun p x y n done.0) (OnwardAfter p x y) m (syncs c asked []) (syncs-go p g x y c asked [] m step is) (λ n done begun. inl begun)
 
   pub sync-goes : (c : PlaybackStream) (m : Marks) → Onward p x y m c → Leads p g (OnwardAfter p x y) m (sync_course c [])
@@ -180,7 +180,7 @@ module _ (p : ℕ) (g : Geometry) (x y : ℕ) where
   -- a drain
   pub drain_on-goes : (m : Marks) (done : Answered (Unit {0})) → Started p g x y Draining m done → Leads p g (OnwardAfter p x y) m (drain_on [] done)
   drain_on-goes m (c, Err e) (is, drains) = is
-  drain_on-goes m (c, Ok done) (is, drains) = syncs-goes c call.Drain m (subst (λ s. IsStep s call.Drain) (sym drains) tt)
+  drain_on-goes m (c, Ok done) (is, drains) = syncs-goes c call.Drain m (subst (λ s. IsFrameStep s call.Drain) (sym drains) tt)
       (moving-begun p x y m c (subst (λ s. is_moving s ≡ true) (sym drains) refl) is)
 
   pub drain-goes : (c : PlaybackStream) (m : Marks) → Onward p x y m c → Leads p g (OnwardAfter p x y) m (drain_course c [] m.cursor)

@@ -10,7 +10,7 @@ use Rattle.lab_script.specs.declared.line.Item.TheVariants as item
 use Rattle.lab_script.specs.declared.line.Op.{Op}
 use Rattle.lab_script.specs.declared.line.Op.TheVariants as op
 use Rattle.lab_script.specs.Draft.{State, card_of, client_of, border_of, ends_lap, is_beside, actor_named, with_end, with_line, with_open, with_phase}
-use Rattle.lab_script.specs.Keys.{key_of}
+use Rattle.lab_script.specs.Keys.{key_value}
 use Rattle.lab_script.specs.Ops.{op_of, played_by}
 use Rattle.lab_script.specs.Reading.{card_line}
 use Rattle.lab_script.specs.Script.{is_of_card, is_unplug}
@@ -21,7 +21,7 @@ use Rattle.lab_make.proofs.NumberTests.{below_test}
 
 -- the card's line
 pub card_line-made : card_line 1 card_words ≡ Ok made_card
-unfolding card_of key_of
+unfolding card_of key_value
 card_line-made = refl
 
 -- a client's line without keys

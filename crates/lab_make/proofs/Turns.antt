@@ -10,7 +10,7 @@ use Rattle.lab_script.specs.declared.line.Item.TheVariants as item
 use Rattle.lab_script.specs.declared.line.Line.{Line}
 use Rattle.lab_script.specs.declared.line.Op.TheVariants as op
 use Rattle.lab_script.specs.Draft.{State, card_alone}
-use Rattle.lab_script.specs.Lexing.{lines_of}
+use Rattle.lab_script.specs.Lexing.{word_lines}
 use Rattle.lab_script.specs.Reading.{after, on_line, refusal_at, script_at, script_of, script_of_lines}
 use Rattle.lab_make.specs.Lines.{all_turn_lines, client_lines, made_lines, made_text, open_lines, play_lines, turn_lines, write_lines}
 use Rattle.lab_make.specs.Script.{made_card, made_client, made_script, turn_items, turn_line}
@@ -128,7 +128,7 @@ script_of-made_text clients turns few short =
     let lines = client_lines clients ++ (open_lines clients ++ all_turn_lines clients turns) in
     let size = length-made_text clients turns few short in
     let fits : nat_lt 1048576 (length text) ≡ false = nat_lt-le 1048576 (length text) (omega (arith, size)) in
-    ap (λ t. cond t (Err (refusal_at 0 why.TooLong)) (script_of_lines (lines_of text))) fits
+    ap (λ t. cond t (Err (refusal_at 0 why.TooLong)) (script_of_lines (word_lines text))) fits
     ∙ ap script_of_lines (lines_from-lines_text 1 (made_lines clients turns) (made_lines-plain clients turns few))
     ∙ ap (λ card. on_line 1 card (λ made. script_at (after (card_alone made) (enumerate_from 2 lines)))) card_line-made
     ∙ ap script_at (after-made clients turns few short)

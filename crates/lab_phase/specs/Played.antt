@@ -10,7 +10,7 @@ use Rattle.snd_base.specs.Places.{cursor_after}
 use Rattle.lap_word.specs.Clamp.{clamp_of}
 use Rattle.mix_core.specs.declared.event.Taken.{Taken}
 use Rattle.mix_core.specs.declared.port.Entry.{Entry}
-use Rattle.mix_core.specs.History.{AreExact, AreInOrder, place_of}
+use Rattle.mix_core.specs.History.{AreExact, AreInOrder, taken_place}
 use Rattle.mix_core.specs.Laid.{total}
 use Rattle.card_player.specs.Plays.{words_at}
 use Rattle.lab_script.specs.Script.{first_frame}
@@ -53,7 +53,7 @@ played-mix_of session segments g at xs es frames channels first in_order exact t
         let words : List Taken = words_at g at xs in
         let within : i < length words = let len_is = length-words_at g at xs in omega (arith, inside, len_is) in
         let word : Taken = slice_index_or words i no_word in
-        let place : place_of word ≡ places.next_word g i = in_order i no_word within in
+        let place : taken_place word ≡ places.next_word g i = in_order i no_word within in
         let frame : word.frame ≡ first_frame session.card + i / session.card.channels =
         ap (λ (c : Cursor). c.frame) place ∙ (ap (λ (n : ℕ). n + i / g.channels) first ∙ ap (λ (n : ℕ). first_frame session.card + i / n) channels) in
         let channel : word.channel ≡ i % session.card.channels = ap (λ (c : Cursor). c.channel) place ∙ ap (λ (n : ℕ). i % n) channels in

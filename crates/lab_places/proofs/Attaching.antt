@@ -17,7 +17,7 @@ use Rattle.lobby.specs.declared.lobby.Lobby.{Lobby as Free}
 use Rattle.lobby.specs.Lobbies.{Attaches, LoadsAt, Outcome, free_seats, seen_of_lobby}
 use Rattle.lobby.specs.Seats.{IsBusy, last_of, lowest_free, lowest_silent, seat_at}
 use Rattle.lobby.specs.Seats as seats
-use Rattle.lab_run.specs.Places.{Lobby, Place, after_attach, attached_by, held_by, is_below, is_free, is_silent, next_of}
+use Rattle.lab_run.specs.Places.{Lobby, Place, after_attach, attached_by, held_by, is_below, is_free, is_silent, place_after}
 use Rattle.lab_places.specs.Held.{AreAtPlaces, HoldsGiven, HoldsNone, HoldsPlace, IsAnswer, IsAtPlace}
 use Rattle.lab_places.proofs.Least.{least_last-is}
 
@@ -158,7 +158,7 @@ attaches-at load number position lobby before between after place r at found loa
     by_answer (Err e) out =
         let busy : IsBusy position before e = out.0 in
         let is = attached-some number position lobby before place None at found busy.none in
-        let until : next_of (Rattle.lab_run.specs.Places.least_last lobby.places) ≡ Some (busy.least + 1) = ap next_of (least_last-is before lobby.places busy.least at busy.is_least) in
+        let until : place_after (Rattle.lab_run.specs.Places.least_last lobby.places) ≡ Some (busy.least + 1) = ap place_after (least_last-is before lobby.places busy.least at busy.is_least) in
         record {
           places = subst (λ (x : Lobby × Result (Unit {0}) PcmError). AreAtPlaces after x.0.places) (sym is) (subst (λ seats. AreAtPlaces seats lobby.places) (sym out.1) loaded);
           answer = ap (λ (x : Lobby × Result (Unit {0}) PcmError). x.1) is ∙ ap Err (ap (λ o. Busy o position) until ∙ sym busy.is);

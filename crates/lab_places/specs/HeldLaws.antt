@@ -14,7 +14,7 @@ use Rattle.lobby.specs.Seats as seats
 use Rattle.lab_script.specs.declared.script.Share.{Share}
 use Rattle.lab_run.specs.Claims.{claim_refusal, with_claim}
 use Rattle.lab_run.specs.Items.{Held}
-use Rattle.lab_run.specs.Places.{Lobby, Place, attached_by, held_by, is_below, is_free, is_held_by, is_silent, last_of, least_last, left_place, next_of}
+use Rattle.lab_run.specs.Places.{Lobby, Place, attached_by, held_by, is_below, is_free, is_held_by, is_silent, last_of, least_last, left_place, place_after}
 use Rattle.lab_places.specs.declared.places.Places.{Places}
 use Rattle.lab_places.specs.Held.{AreAtPlaces, HoldsNone, HoldsPlace, IsLobby, attached_held, closed_held, lobby_of, new_held, opened_held, opened_if}
 
@@ -112,7 +112,7 @@ opened_held-cases sharing client channels at held P unclaimed unplaced given = b
   where
     by_place : claim_refusal sharing held.claims channels at ≡ None → (place : Option ℕ) → position (is_silent at) held.lobby.places ≡ place
         → P (attached_held sharing channels held (attached_by place client at held.lobby))
-    by_place granted None is = unplaced at (Busy (next_of (least_last held.lobby.places)) at)
+    by_place granted None is = unplaced at (Busy (place_after (least_last held.lobby.places)) at)
     by_place granted (Some place) is = given place granted (IsFreePlace-silent at place held.lobby.places is)
 
     by_free : claim_refusal sharing held.claims channels at ≡ None → (some_free : Bool) → P (attached_held sharing channels held (

@@ -15,7 +15,7 @@ use Rattle.lab_run.specs.Phases.{is_reader, ops_by, played_in}
 use Rattle.lab_run.specs.Rules.{AtPort}
 use Rattle.lab_run.specs.Stage.{Setup, new_port, opened_reader}
 use Rattle.lab_actor.specs.declared.reader.ReaderActor.{ReaderActor}
-use Rattle.lab_actor.specs.FrameRuns.{frames_in}
+use Rattle.lab_actor.specs.FrameRuns.{frames_of_runs}
 use Rattle.lab_actor.specs.ReaderPart.{HasRoomFor}
 use Rattle.lab_card.specs.Meets.{IsInformedReader}
 use Rattle.lab_reader.specs.declared.reader.LabReader.{LabReader}
@@ -28,7 +28,7 @@ use Rattle.lab_reader.specs.Runs.{HasClosed, HasOpened, IsInformed, IsNew, IsSam
 pub reader_in-new : (number : ℕ) (r : LabReader) → IsNew number r → reader_in r ≡ record { own = None; frames = [] }
 reader_in-new number r new =
     ap (λ (seat : Option ReaderSeat). reader_at seat r.actor) new.closed
-    ∙ ap (λ (runs : List (ℕ × ℕ)). record { own = None; frames = frames_in runs }) new.frames
+    ∙ ap (λ (runs : List (ℕ × ℕ)). record { own = None; frames = frames_of_runs runs }) new.frames
 
 pub IsAt-new : (ring : TableId) (geometry : Geometry) (number k : ℕ) (r : LabReader) → IsNew number r → IsAt ring geometry r (new_port geometry k)
 IsAt-new ring geometry number k r new = subst (λ (seat : Option ReaderSeat). IsSeatedAt ring geometry r.actor seat (new_port geometry k)) (sym new.closed) refl
@@ -38,7 +38,7 @@ pub IsRecorded-new : (capture : Option Sound) (geometry : Geometry) (bindings : 
 IsRecorded-new capture geometry bindings number r on_card new = record {
   on_card = on_card;
   bound = subst (λ (seat : Option ReaderSeat). OnSeat seat (λ at. r.actor.reader.setup.bindings ≡ bindings)) (sym new.closed) tt;
-  samples = new.samples ∙ ap (λ (runs : List (ℕ × ℕ)). recorded_samples capture (first_frame geometry) bindings (frames_in runs)) (sym new.frames);
+  samples = new.samples ∙ ap (λ (runs : List (ℕ × ℕ)). recorded_samples capture (first_frame geometry) bindings (frames_of_runs runs)) (sym new.frames);
 }
 
 -- ---- opened
@@ -47,8 +47,8 @@ pub reader_in-opened : (seat : ReaderSeat) (setup : Setup) (r s : LabReader) →
     → reader_in s ≡ record (reader_in r) { own = Some (opened_reader (geometry_of seat) setup) }
 reader_in-opened seat setup r s opened =
     ap (λ (at : Option ReaderSeat). reader_at at s.actor) opened.seat_is
-    ∙ (ap (λ (stream : CaptureStream). record { own = Some stream; frames = frames_in s.actor.frames.runs }) opened.stream
-    ∙ ap (λ (runs : List (ℕ × ℕ)). record { own = Some (opened_reader (geometry_of seat) setup); frames = frames_in runs }) opened.file.frames)
+    ∙ (ap (λ (stream : CaptureStream). record { own = Some stream; frames = frames_of_runs s.actor.frames.runs }) opened.stream
+    ∙ ap (λ (runs : List (ℕ × ℕ)). record { own = Some (opened_reader (geometry_of seat) setup); frames = frames_of_runs runs }) opened.file.frames)
 
 -- it is at a new port, whichever position its seat has seen
 pub IsAt-opened : (ring : TableId) (geometry : Geometry) (k : ℕ) (seat : ReaderSeat) (setup : Setup) (r s : LabReader) → ring_of seat ≡ ring → geometry_of seat ≡ geometry
@@ -72,7 +72,7 @@ IsRecorded-opened capture geometry bindings seat setup r s bound opened is =
     record {
       on_card = is.on_card;
       bound = subst (λ (at : Option ReaderSeat). OnSeat at (λ now. s.actor.reader.setup.bindings ≡ bindings)) (sym opened.seat_is) stream;
-      samples = opened.file.samples ∙ (is.samples ∙ ap (λ (runs : List (ℕ × ℕ)). recorded_samples capture (first_frame geometry) bindings (frames_in runs)) (sym opened.file.frames));
+      samples = opened.file.samples ∙ (is.samples ∙ ap (λ (runs : List (ℕ × ℕ)). recorded_samples capture (first_frame geometry) bindings (frames_of_runs runs)) (sym opened.file.frames));
     }
 
 -- ---- closed
@@ -80,7 +80,7 @@ IsRecorded-opened capture geometry bindings seat setup r s bound opened is =
 pub reader_in-closed : (seat : ReaderSeat) (r s : LabReader) → HasClosed seat r s → reader_in s ≡ record (reader_in r) { own = None }
 reader_in-closed seat r s closed =
     ap (λ (at : Option ReaderSeat). reader_at at s.actor) closed.seat_is
-    ∙ ap (λ (x : ReaderActor). record { own = None; frames = frames_in x.frames.runs }) closed.actor
+    ∙ ap (λ (x : ReaderActor). record { own = None; frames = frames_of_runs x.frames.runs }) closed.actor
 
 pub IsAt-closed : (ring : TableId) (geometry : Geometry) (k : ℕ) (seat : ReaderSeat) (r s : LabReader) → HasClosed seat r s → IsAt ring geometry s (new_port geometry k)
 IsAt-closed ring geometry k seat r s closed = subst (λ (at : Option ReaderSeat). IsSeatedAt ring geometry s.actor at (new_port geometry k)) (sym closed.seat_is) refl
@@ -90,7 +90,7 @@ pub IsRecorded-closed : (capture : Option Sound) (geometry : Geometry) (bindings
 IsRecorded-closed capture geometry bindings seat r s closed is = record {
   on_card = is.on_card;
   bound = subst (λ (at : Option ReaderSeat). OnSeat at (λ now. s.actor.reader.setup.bindings ≡ bindings)) (sym closed.seat_is) tt;
-  samples = subst (λ (x : ReaderActor). x.samples.items ≡ recorded_samples capture (first_frame geometry) bindings (frames_in x.frames.runs)) (sym closed.actor) is.samples;
+  samples = subst (λ (x : ReaderActor). x.samples.items ≡ recorded_samples capture (first_frame geometry) bindings (frames_of_runs x.frames.runs)) (sym closed.actor) is.samples;
 }
 
 -- ---- one that met a note
@@ -114,8 +114,8 @@ HasRoom-informed card r s lines informed room =
 pub reader_in-same : (r s : LabReader) → IsSame r s → reader_in s ≡ reader_in r
 reader_in-same r s same =
     ap (λ (seat : Option ReaderSeat). reader_at seat s.actor) same.seat
-    ∙ (ap (λ (own : Option CaptureStream). record { own = own; frames = frames_in s.actor.frames.runs }) (by_seat r.seat)
-    ∙ ap (λ (runs : List (ℕ × ℕ)). record { own = stream_at r.seat r.actor; frames = frames_in runs }) same.file.frames)
+    ∙ (ap (λ (own : Option CaptureStream). record { own = own; frames = frames_of_runs s.actor.frames.runs }) (by_seat r.seat)
+    ∙ ap (λ (runs : List (ℕ × ℕ)). record { own = stream_at r.seat r.actor; frames = frames_of_runs runs }) same.file.frames)
   where
     by_seat : (seat : Option ReaderSeat) → stream_at seat s.actor ≡ stream_at seat r.actor
     by_seat None = refl
@@ -140,7 +140,7 @@ pub IsRecorded-same : (capture : Option Sound) (geometry : Geometry) (bindings :
 IsRecorded-same capture geometry bindings r s same is = record {
   on_card = is.on_card;
   bound = subst (λ (seat : Option ReaderSeat). OnSeat seat (λ at. s.actor.reader.setup.bindings ≡ bindings)) (sym same.seat) (by_seat r.seat is.bound);
-  samples = same.file.samples ∙ (is.samples ∙ ap (λ (runs : List (ℕ × ℕ)). recorded_samples capture (first_frame geometry) bindings (frames_in runs)) (sym same.file.frames));
+  samples = same.file.samples ∙ (is.samples ∙ ap (λ (runs : List (ℕ × ℕ)). recorded_samples capture (first_frame geometry) bindings (frames_of_runs runs)) (sym same.file.frames));
 }
   where
     by_seat : (seat : Option ReaderSeat) → OnSeat seat (λ at. r.actor.reader.setup.bindings ≡ bindings) → OnSeat seat (λ at. s.actor.reader.setup.bindings ≡ bindings)

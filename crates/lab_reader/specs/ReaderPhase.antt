@@ -23,7 +23,7 @@ use Rattle.lab_run.specs.Rules.{AtPort, Rules}
 use Rattle.lab_run.specs.Stage.{new_port}
 use Rattle.lab_actor.specs.declared.reader.ReaderActor.{ReaderActor}
 use Rattle.lab_actor.specs.ClientPart.{left_in, stops_in}
-use Rattle.lab_actor.specs.FrameRuns.{frames_in}
+use Rattle.lab_actor.specs.FrameRuns.{frames_of_runs}
 use Rattle.lab_actor.specs.Raised.{ActorPart-lowered, with_more_stops, reader_is_blind}
 use Rattle.lab_actor.specs.ReaderPart.{reader_of}
 use Rattle.lab_actor.specs.Refused.{refused_rows}
@@ -101,7 +101,7 @@ module _ (ring : TableId) (geometry : Geometry) (c d : Card) (over : IsOver ring
   part-closed ops x y at ran =
       let reader : Reader = reader_at None x in
       let rows : List Row = refused_rows phase (actor.Reader x.number) ops in
-      let same : reader ≡ reader_at None y = ap (λ (runs : List (ℕ × ℕ)). record { own = None; frames = frames_in runs }) (sym ran.file.frames) in
+      let same : reader ≡ reader_at None y = ap (λ (runs : List (ℕ × ℕ)). record { own = None; frames = frames_of_runs runs }) (sym ran.file.frames) in
       record {
         end = before;
         rows = rows;

@@ -16,7 +16,7 @@ use Rattle.lab_run.specs.Reader.{Reader}
 use Rattle.lab_run.specs.Rules.{AtPort}
 use Rattle.lab_run.specs.Stage.{new_port}
 use Rattle.lab_actor.specs.declared.reader.ReaderActor.{ReaderActor}
-use Rattle.lab_actor.specs.FrameRuns.{frames_in}
+use Rattle.lab_actor.specs.FrameRuns.{frames_of_runs}
 use Rattle.lab_actor.specs.ReaderPart as actors
 use Rattle.lab_actor.specs.Room.{HasSpace}
 use Rattle.lab_card.specs.Meets.{IsReaderOf}
@@ -47,7 +47,7 @@ stream_at (Some seat) actor = Some actor.reader
 
 -- the reader as a run has it
 abbrev pub reader_at : Option ReaderSeat → ReaderActor → Reader
-reader_at seat actor = record { own = stream_at seat actor; frames = frames_in actor.frames.runs }
+reader_at seat actor = record { own = stream_at seat actor; frames = frames_of_runs actor.frames.runs }
 
 abbrev pub reader_in : LabReader → Reader
 reader_in r = reader_at r.seat r.actor

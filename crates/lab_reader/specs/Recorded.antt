@@ -13,7 +13,7 @@ use Rattle.lab_script.specs.Script as scripts
 use Rattle.lab_run.specs.LabRun.{bindings_of, captured_sample, recorded_by}
 use Rattle.lab_run.specs.Stage.{Session}
 use Rattle.lab_actor.specs.declared.reader.ReaderActor.{ReaderActor}
-use Rattle.lab_actor.specs.FrameRuns.{frames_in}
+use Rattle.lab_actor.specs.FrameRuns.{frames_of_runs}
 use Rattle.lab_card.specs.Captures.{captured_at, captured_frames}
 use Rattle.lab_card.specs.Moves.{frames_since_first, geometry_of_card}
 use Rattle.lab_reader.specs.declared.reader.LabReader.{LabReader}
@@ -35,7 +35,7 @@ pub record IsRecordedAt (capture : Option Sound) (geometry : Geometry)
   pub on_card : All (λ channel. channel < geometry.channels) bindings
   pub bound : OnSeat seat (λ at. actor.reader.setup.bindings ≡ bindings)
   pub samples : actor.samples.items
-      ≡ recorded_samples capture (first_frame geometry) bindings (frames_in actor.frames.runs)
+      ≡ recorded_samples capture (first_frame geometry) bindings (frames_of_runs actor.frames.runs)
 
 abbrev pub IsRecorded : Option Sound → Geometry → List ℕ → LabReader → Type 0
 IsRecorded capture geometry bindings r = IsRecordedAt capture geometry bindings r.actor r.seat
@@ -68,6 +68,6 @@ pub recorded-by : (session : Session) (capture : Option Sound) (number : ℕ) (g
 recorded-by session capture number geometry r first is =
     let bindings = bindings_of (slice_index_or session.readers number None) in
     is.samples
-    ∙ sym (flat_map-same (λ frame. map (captured_sample session capture frame) bindings) (λ frame. map (captured_from capture (first_frame geometry) frame) bindings) (frames_in r.actor.frames.runs)
+    ∙ sym (flat_map-same (λ frame. map (captured_sample session capture frame) bindings) (λ frame. map (captured_from capture (first_frame geometry) frame) bindings) (frames_of_runs r.actor.frames.runs)
     (λ frame. map-same (captured_sample session capture frame) (captured_from capture (first_frame geometry) frame) bindings
     (λ channel. captured-from session capture frame channel ∙ ap (λ (n : ℕ). captured_from capture n frame channel) first)))

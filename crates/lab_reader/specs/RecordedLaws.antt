@@ -17,7 +17,7 @@ use Rattle.snoop_core.specs.Stored.{IsCaptured, sample_at}
 use Rattle.snoop_table.specs.declared.seats.reader.ReaderSeat.{ReaderSeat}
 use Rattle.snoop_table.specs.declared.view.Track.{Track}
 use Rattle.snoop_table.specs.declared.view.View.{View}
-use Rattle.snoop_table.specs.Captured.{next_of}
+use Rattle.snoop_table.specs.Captured.{next_to_store}
 use Rattle.snoop_table.specs.Readers.{SeatGot, view_of}
 use Rattle.snoop_table.specs.Writers.{writer_geometry, writer_track}
 use Rattle.pcm_stream.specs.declared.setup.Setup as streams
@@ -30,7 +30,7 @@ use Rattle.lab_script.specs.declared.line.Op.{Op}
 use Rattle.lab_script.specs.Script.{is_of_card}
 use Rattle.lab_run.specs.Phases.{is_reader, ops_by, played_in}
 use Rattle.lab_actor.specs.declared.reader.ReaderActor.{ReaderActor}
-use Rattle.lab_actor.specs.FrameRuns.{frames_in}
+use Rattle.lab_actor.specs.FrameRuns.{frames_of_runs}
 use Rattle.lab_card.specs.declared.card.CardActor.{CardActor}
 use Rattle.lab_card.specs.Captures.{captured_at, captured_frame, captured_frames}
 use Rattle.lab_card.specs.CardLines.{CardPart, frames_by}
@@ -138,8 +138,8 @@ through-captured capture c bindings frame records up_to captured_it on_card =
     let xs : List ℤ = (writer_track (writer_of c)).stored in
     let same : writer_geometry (writer_of c) ≡ g = sym c.in_step.geometry in
     let is : IsCaptured g xs frame = subst (λ (h : Geometry). IsCaptured h xs frame) same captured_it in
-    let next : (next_of g (writer_track (writer_of c))).frame ≡ frame_of_card c =
-    ap (λ (h : Geometry). (next_of h (writer_track (writer_of c))).frame) (sym same) ∙ ap (λ (at : Cursor). at.frame) (writer-next c records) in
+    let next : (next_to_store g (writer_track (writer_of c))).frame ≡ frame_of_card c =
+    ap (λ (h : Geometry). (next_to_store h (writer_track (writer_of c))).frame) (sym same) ∙ ap (λ (at : Cursor). at.frame) (writer-next c records) in
     let whole = is.whole in
     let least = is.least in
     let within : frame.number - first_frame g < frames_since_first c = omega (arith, whole, least, next) in
@@ -208,8 +208,8 @@ module _ (capture : Option Sound) (ring : TableId) (geometry : Geometry) (d : Ca
         bound = ap (λ (z : streams.Setup). z.bindings) ran.part.same.setup.same_setup ∙ before.bound;
         samples = appends.more_are
             ∙ (ap (λ (zs : List ℤ). zs ++ appends.more) before.samples
-            ∙ (ap (λ (zs : List ℤ). recorded_samples capture first bindings (frames_in x.frames.runs) ++ zs) more
-            ∙ (sym (recorded-append capture first bindings (frames_in x.frames.runs) appends.numbers) ∙ ap (recorded_samples capture first bindings) (sym appends.numbers_are))));
+            ∙ (ap (λ (zs : List ℤ). recorded_samples capture first bindings (frames_of_runs x.frames.runs) ++ zs) more
+            ∙ (sym (recorded-append capture first bindings (frames_of_runs x.frames.runs) appends.numbers) ∙ ap (recorded_samples capture first bindings) (sym appends.numbers_are))));
       }
 
   recorded-closed : (x y : ReaderActor) (phase stops after : ℕ) (ops : List Op) → IsRecordedAt capture geometry bindings x None → HasRefused phase stops after ops x y
@@ -217,7 +217,7 @@ module _ (capture : Option Sound) (ring : TableId) (geometry : Geometry) (d : Ca
   recorded-closed x y phase stops after ops before ran = record {
     on_card = before.on_card;
     bound = tt;
-    samples = ran.file.samples ∙ (before.samples ∙ ap (λ (runs : List (ℕ × ℕ)). recorded_samples capture (first_frame geometry) bindings (frames_in runs)) (sym ran.file.frames));
+    samples = ran.file.samples ∙ (before.samples ∙ ap (λ (runs : List (ℕ × ℕ)). recorded_samples capture (first_frame geometry) bindings (frames_of_runs runs)) (sym ran.file.frames));
   }
 
   recorded-seats : (c : Card) (x y : ReaderActor) (p q l m : Option ReaderSeat) (phase stops after played : ℕ) (ops : List Op) → IsRecordedAt capture geometry bindings x p

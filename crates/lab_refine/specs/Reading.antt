@@ -3,7 +3,7 @@ use Rattle.std.specs.Prelude.{◌≡◌, ℕ, List, [], ◌∷◌, length, nat_l
 use Rattle.lab_script.specs.declared.error.ScriptError.{ScriptError}
 use Rattle.lab_script.specs.declared.error.ScriptWhy.{ScriptWhy}
 use Rattle.lab_script.specs.declared.error.ScriptWhy.TheVariants as why
-use Rattle.lab_script.specs.Lexing.{lines_of}
+use Rattle.lab_script.specs.Lexing.{word_lines}
 use Rattle.lab_refine.specs.declared.request.Ask.{Ask}
 use Rattle.lab_refine.specs.declared.request.Request.{Request}
 use Rattle.lab_refine.specs.Grammar.{slave_of, ask_of}
@@ -36,7 +36,7 @@ asked_in (line ∷ lines) = do
 
 -- what a text asks, or why it is refused: for its length, or for its first line that isn't allowed
 unfoldable pub request_of : List ℕ → Result Request ScriptError
-request_of text = if nat_lt 1048576 (length text) then Err (record { line = 0; why = why.TooLong }) else asked_in (lines_of text)
+request_of text = if nat_lt 1048576 (length text) then Err (record { line = 0; why = why.TooLong }) else asked_in (word_lines text)
 
 -- an error of a call is the one that is given, unless memory ran out
 abbrev pub Refuses : {X : Type 0} → ScriptWhy → ScriptError → Result X ScriptError → Type 0

@@ -13,7 +13,7 @@ use Rattle.pcm_states.specs.declared.calls.Facts.{Facts}
 use Rattle.pcm_states.specs.declared.calls.Outcome.{Outcome}
 use Rattle.pcm_states.specs.declared.states.State.{State}
 use Rattle.pcm_states.specs.declared.states.State.TheVariants as state
-use Rattle.pcm_states.specs.Table.{Cell, already, done_in, draining, ebadfd, eio, enodev, filling, first_of, if_empty, if_gone, if_late, if_none_left, if_over, if_played, moving, next_of, outcome_of, resuming, row_of, starting, still_draining, stopped_by, to}
+use Rattle.pcm_states.specs.Table.{Cell, already, done_in, draining, ebadfd, eio, enodev, filling, first_outcome, if_empty, if_gone, if_late, if_none_left, if_over, if_played, moving, next_of, outcome_of, resuming, call_row, starting, still_draining, stopped_by, to}
 use Rattle.pcm_stream.specs.Status.{is_refusal, nothing_found, refusal_in, refusal_of}
 use Rattle.pcm_stream.specs.declared.direction.Direction.{Direction}
 use Rattle.pcm_stream.specs.declared.status.Status.{Status}
@@ -46,8 +46,8 @@ reported-reports other reports = tt
 abbrev pub IsOutcome : Outcome → Type 0
 IsOutcome o = CanReportIn o.answer × HasStateText o.state
 
-first-case : (o : Option Outcome) (rest : List (Option Outcome)) (d : Outcome) → IfSome o IsOutcome → IsOutcome (first_of rest d)
-    → IsOutcome (first_of (o ∷ rest) d)
+first-case : (o : Option Outcome) (rest : List (Option Outcome)) (d : Outcome) → IfSome o IsOutcome → IsOutcome (first_outcome rest d)
+    → IsOutcome (first_outcome (o ∷ rest) d)
 first-case None rest d here there = there
 first-case (Some x) rest d here there = here
 
@@ -74,7 +74,7 @@ LeadsTo (to s) = HasStateText s
 LeadsTo other = ⊤
 
 -- each call under each state
-leads : (capture : Bool) (c : Call) (s : State) → HasStateText s → LeadsTo (row_of capture c s)
+leads : (capture : Bool) (c : Call) (s : State) → HasStateText s → LeadsTo (call_row capture c s)
 leads true call.HwParams state.Open is = tt
 leads false call.HwParams state.Open is = tt
 leads capture c state.Suspended is = absurd is
@@ -91,7 +91,7 @@ cell-reports starting s c f leads is =
     (first-case (if_gone f) _ _ (test-case f.gone _ (tt, tt)) (first-case (if_late f) _ _ (late-case f.late) (tt, tt)))
 cell-reports filling s c f leads is = by_start f.starts
   where
-    by_start : (b : Bool) → IsOutcome (if b then first_of (if_gone f ∷ if_late f ∷ []) (done_in state.Running) else done_in state.Prepared)
+    by_start : (b : Bool) → IsOutcome (if b then first_outcome (if_gone f ∷ if_late f ∷ []) (done_in state.Running) else done_in state.Prepared)
     by_start true = first-case (if_gone f) (if_late f ∷ []) (done_in state.Running) (test-case f.gone _ (tt, tt))
         (first-case (if_late f) [] (done_in state.Running) (late-case f.late) (tt, tt))
     by_start false = (tt, tt)
@@ -106,7 +106,7 @@ cell-reports resuming s c f leads is =
     (first-case (if_gone f) _ _ (test-case f.gone _ (tt, tt)) (first-case (if_late f) _ _ (late-case f.late) (tt, tt)))
 
 pub next-reports : (s : State) (c : Call) (f : Facts) → HasStateText s → IsOutcome (next_of s c f)
-next-reports s c f is = cell-reports (row_of f.capture c s) s c f (leads f.capture c s is) is
+next-reports s c f is = cell-reports (call_row f.capture c s) s c f (leads f.capture c s is) is
 
 -- ---- what a call is refused by before it does anything
 

@@ -17,7 +17,7 @@ use Rattle.pcm_states.specs.declared.calls.Facts.{Facts}
 use Rattle.pcm_states.specs.declared.calls.Outcome.{Outcome}
 use Rattle.pcm_states.specs.declared.states.State.{State}
 use Rattle.pcm_states.specs.declared.states.State.TheVariants.{Draining, Prepared, Running, Setup}
-use Rattle.pcm_states.specs.Table.{Cell, already, done_in, draining, ebadfd, eio, enodev, filling, first_of, if_empty, if_gone, if_late, if_none_left, if_over, if_played, moving, next_of, outcome_of, resuming, row_of, starting, still_draining, stopped_by, to}
+use Rattle.pcm_states.specs.Table.{Cell, already, done_in, draining, ebadfd, eio, enodev, filling, first_outcome, if_empty, if_gone, if_late, if_none_left, if_over, if_played, moving, next_of, outcome_of, resuming, call_row, starting, still_draining, stopped_by, to}
 use Rattle.course.specs.Course.{◌>>=◌, Course, ends}
 use Rattle.wav_io.specs.Sound.{Sound}
 use Rattle.dmix_client.specs.declared.commit.Commit.{Commit}
@@ -67,8 +67,8 @@ module _ (Q : ℕ → ℕ → Type 0) where
   reported-late other late = tt
 
   -- what the table says
-  first-case : (o : Option Outcome) (rest : List (Option Outcome)) (d : Outcome) → IfSome o (λ x. LateIn Q x.answer) → LateIn Q (first_of rest d).answer
-      → LateIn Q (first_of (o ∷ rest) d).answer
+  first-case : (o : Option Outcome) (rest : List (Option Outcome)) (d : Outcome) → IfSome o (λ x. LateIn Q x.answer) → LateIn Q (first_outcome rest d).answer
+      → LateIn Q (first_outcome (o ∷ rest) d).answer
   first-case None rest d here there = there
   first-case (Some x) rest d here there = here
 
@@ -120,7 +120,7 @@ module _ (Q : ℕ → ℕ → Type 0) where
   cell-late starting s c f late = first-case (if_empty f) _ _ (empty-case f) (first-case (if_gone f) _ _ (gone-case f) (first-case (if_late f) _ _ (late-case f late) tt))
   cell-late filling s c f late = by_start f.starts
     where
-      by_start : (b : Bool) → LateIn Q (if b then first_of (if_gone f ∷ if_late f ∷ []) (done_in Running) else done_in Prepared).answer
+      by_start : (b : Bool) → LateIn Q (if b then first_outcome (if_gone f ∷ if_late f ∷ []) (done_in Running) else done_in Prepared).answer
       by_start true = first-case (if_gone f) (if_late f ∷ []) (done_in Running) (gone-case f) (first-case (if_late f) [] (done_in Running) (late-case f late) tt)
       by_start false = tt
   cell-late moving s c f late = first-case (if_gone f) _ _ (gone-case f) (first-case (if_over f) _ _ (over-case f) (first-case (if_late f) _ _ (late-case f late) tt))
@@ -130,7 +130,7 @@ module _ (Q : ℕ → ℕ → Type 0) where
       first-case (if_none_left f) _ _ (zero-case f.queued Prepared) (first-case (if_gone f) _ _ (gone-case f) (first-case (if_late f) _ _ (late-case f late) tt))
 
   pub next-late : (s : State) (c : Call) (f : Facts) → IfSome f.late (LateWhy Q) → LateIn Q (next_of s c f).answer
-  next-late s c f late = cell-late (row_of f.capture c s) s c f late
+  next-late s c f late = cell-late (call_row f.capture c s) s c f late
 
 -- ---- a call's parts
 

@@ -13,7 +13,7 @@ use Rattle.pcm_states.specs.declared.calls.Call.{Call}
 use Rattle.pcm_states.specs.declared.calls.Call.TheVariants as call
 use Rattle.pcm_states.specs.declared.calls.Facts.{Facts}
 use Rattle.pcm_states.specs.declared.calls.Outcome.{Outcome}
-use Rattle.pcm_states.specs.Table.{Cell, already, done_in, draining, ebadfd, eio, enodev, filling, first_of, if_empty, if_gone, if_none_left, if_over, moving, next_of, outcome_of, resuming, row_of, starting, stopped_by, to}
+use Rattle.pcm_states.specs.Table.{Cell, already, done_in, draining, ebadfd, eio, enodev, filling, first_outcome, if_empty, if_gone, if_none_left, if_over, moving, next_of, outcome_of, resuming, call_row, starting, stopped_by, to}
 use Rattle.dmix_client.specs.declared.commit.Commit.{Commit}
 use Rattle.dmix_client.specs.declared.stream.PlaybackStream.{PlaybackStream}
 use Rattle.dmix_client.specs.Calls.{Answered, with_accepted, accepted_if, committed_by, end_channel, end_of_commit, facts_of, found_at, going_on, going_on_by, over_of, with_new_base, after_resume, seen_at, with_outcome, after_start, after_sync, taken_of, with_number, written_after}
@@ -32,8 +32,8 @@ record SameOutcome (o u : Outcome) : Type 0 where
 same : (o : Outcome) → SameOutcome o o
 same o = record { state = refl; answer = refl }
 
-first-more : (o : Option Outcome) (xs ys : List (Option Outcome)) (d e : Outcome) → SameOutcome (first_of xs d) (first_of ys e)
-    → SameOutcome (first_of (o ∷ xs) d) (first_of (o ∷ ys) e)
+first-more : (o : Option Outcome) (xs ys : List (Option Outcome)) (d e : Outcome) → SameOutcome (first_outcome xs d) (first_outcome ys e)
+    → SameOutcome (first_outcome (o ∷ xs) d) (first_outcome (o ∷ ys) e)
 first-more None xs ys d e rest = rest
 first-more (Some o) xs ys d e rest = same o
 
@@ -54,8 +54,8 @@ cell-word already s c f frame channel word = same _
 cell-word starting s c f frame channel word = first-more (if_empty f) _ _ _ _ (first-more (if_gone f) _ _ _ _ (late-word frame channel word))
 cell-word filling s c f frame channel word = by_start f.starts
   where
-    by_start : (b : Bool) → SameOutcome (if b then first_of (if_gone f ∷ Some (stopped_by (why.Late frame channel word)) ∷ []) (done_in Running) else done_in Prepared)
-        (if b then first_of (if_gone f ∷ Some (stopped_by (why.Late frame channel 0)) ∷ []) (done_in Running) else done_in Prepared)
+    by_start : (b : Bool) → SameOutcome (if b then first_outcome (if_gone f ∷ Some (stopped_by (why.Late frame channel word)) ∷ []) (done_in Running) else done_in Prepared)
+        (if b then first_outcome (if_gone f ∷ Some (stopped_by (why.Late frame channel 0)) ∷ []) (done_in Running) else done_in Prepared)
     by_start true = first-more (if_gone f) (Some (stopped_by (why.Late frame channel word)) ∷ []) (Some (stopped_by (why.Late frame channel 0)) ∷ []) (done_in Running) (done_in Running)
         (late-word frame channel word)
     by_start false = same (done_in Prepared)
@@ -64,7 +64,7 @@ cell-word draining s c f frame channel word = first-more (if_gone f) _ _ _ _ (la
 cell-word resuming s c f frame channel word = first-more (if_none_left f) _ _ _ _ (first-more (if_gone f) _ _ _ _ (late-word frame channel word))
 
 next-word : (s : State) (c : Call) (f : Facts) (frame channel word : ℕ) → SameOutcome (next_of s c (with_late f frame channel word)) (next_of s c (with_late f frame channel 0))
-next-word s c f frame channel word = cell-word (row_of f.capture c s) s c f frame channel word
+next-word s c f frame channel word = cell-word (call_row f.capture c s) s c f frame channel word
 
 -- a commit without its word
 abbrev pub commit_without_word : Commit → Commit

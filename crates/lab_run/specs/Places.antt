@@ -44,9 +44,9 @@ abbrev pub least_last : List Place → Option ℕ
 least_last [] = None
 least_last (place ∷ places) = least (last_if_free place) (least_last places)
 
-abbrev pub next_of : Option ℕ → Option ℕ
-next_of None = None
-next_of (Some last) = Some (last + 1)
+abbrev pub place_after : Option ℕ → Option ℕ
+place_after None = None
+place_after (Some last) = Some (last + 1)
 
 -- a client holds the place of a number, counted from 0
 abbrev pub held_by : ℕ → ℕ → List Place → List Place
@@ -59,7 +59,7 @@ abbrev pub attached_by : Option ℕ → ℕ → ℕ → Lobby → Lobby × Resul
 attached_by (Some place) client position lobby =
     (record { places = held_by client place lobby.places; seen = position }, Ok tt)
 attached_by None client position lobby =
-    (record lobby { seen = position }, Err (Busy (next_of (least_last lobby.places)) position))
+    (record lobby { seen = position }, Err (Busy (place_after (least_last lobby.places)) position))
 
 abbrev pub after_attach : ℕ → ℕ → Lobby → Lobby × Result (Unit {0}) PcmError
 after_attach client at lobby =

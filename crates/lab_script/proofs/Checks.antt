@@ -5,7 +5,7 @@ use Rattle.lab_script.specs.declared.error.ScriptWhy.TheVariants as why
 use Rattle.lab_script.specs.declared.keys.Kind.TheVariants as kind
 use Rattle.lab_script.specs.declared.line.Actor.{Actor}
 use Rattle.lab_script.specs.declared.line.Op.{Op}
-use Rattle.lab_script.specs.Causes.{◌>>=◌, refuse_if, first_of}
+use Rattle.lab_script.specs.Causes.{◌>>=◌, refuse_if, word_and_rest}
 use Rattle.lab_script.specs.Draft.{State, client_of, client_allowed, client_line, reader_of, reader_allowed, reader_line, line_allowed, with_line, actor_named, is_beside, ends_lap}
 use Rattle.lab_script.specs.Keys.{keys_from, name_of, file_of}
 use Rattle.lab_script.specs.Ops.{op_of, played_by}
@@ -32,23 +32,23 @@ after_four (Err w) b c d g = refl
 -- a client's line is its name and file, what is allowed, and its keys
 pub client_of_steps : (s : State) (number : ℕ) (words : List (List ℕ))
     → client_of s number words
-    ≡ (first_of words >>= (λ first. name_of first.0 >>= (λ name. first_of first.1 >>= (λ second. file_of second.0 >>= (λ file.
+    ≡ (word_and_rest words >>= (λ first. name_of first.0 >>= (λ name. word_and_rest first.1 >>= (λ second. file_of second.0 >>= (λ file.
     client_allowed s first.0 second.1 >>= (λ u. client_line s.card number name file second.1))))))
 unfolding client_of client_allowed client_line
 client_of_steps s number words =
-    same_after (first_of words) _ _ (λ first. same_after (name_of first.0) _ _ (λ name.
-    same_after (first_of first.1) _ _ (λ second. same_after (file_of second.0) _ _ (λ file.
+    same_after (word_and_rest words) _ _ (λ first. same_after (name_of first.0) _ _ (λ name.
+    same_after (word_and_rest first.1) _ _ (λ second. same_after (file_of second.0) _ _ (λ file.
     after_three (keys_from kind.Client [] second.1) (refuse_if (is_some (actor_named s first.0)) why.NameTwice)
     (refuse_if (nat_le 64 (length s.clients)) why.TooMany) (λ u. client_line s.card number name file second.1)))))
 
 -- a reader's line is its name, what is allowed, and its keys
 pub reader_of_steps : (s : State) (number : ℕ) (words : List (List ℕ))
     → reader_of s number words
-    ≡ (first_of words >>= (λ first. name_of first.0 >>= (λ name.
+    ≡ (word_and_rest words >>= (λ first. name_of first.0 >>= (λ name.
     reader_allowed s first.0 first.1 >>= (λ u. reader_line s.card.channels number name first.1))))
 unfolding reader_of reader_allowed reader_line
 reader_of_steps s number words =
-    same_after (first_of words) _ _ (λ first. same_after (name_of first.0) _ _ (λ name.
+    same_after (word_and_rest words) _ _ (λ first. same_after (name_of first.0) _ _ (λ name.
     after_three (keys_from kind.Reader [] first.1) (refuse_if (is_some (actor_named s first.0)) why.NameTwice)
     (refuse_if (nat_le 64 (length s.readers)) why.TooMany) (λ u. reader_line s.card.channels number name first.1)))
 

@@ -11,7 +11,7 @@ use Rattle.lab_script.specs.declared.ops.Form.TheVariants.{Plain, Counted}
 use Rattle.lab_script.specs.declared.script.CardLine.{CardLine}
 use Rattle.lab_script.specs.declared.script.ClientLine.{ClientLine}
 use Rattle.lab_script.specs.declared.script.ReaderLine.{ReaderLine}
-use Rattle.lab_script.specs.Causes.{refuse_if, some_or, first_of, end_of}
+use Rattle.lab_script.specs.Causes.{refuse_if, some_or, word_and_rest, end_of}
 use Rattle.lab_script.specs.Draft.{State, card_of, client_of, reader_of, actor_named, divides}
 use Rattle.lab_script.specs.Keys.{row_of, number_in, keys_from, word_after, number_given, small_given, byte_given, name_of, file_of, file_where, bindings_where}
 use Rattle.lab_script.specs.Limits.{IsIn, IsCardLine, IsClientLine, IsReaderLine, IsOpOf}
@@ -63,9 +63,9 @@ ok_client s x client e h = let same : x ≡ client = cc (e) in subst (IsNewClien
 pub client_of-ranges : (s : State) (number : ℕ) (ws : List (List ℕ)) (client : ClientLine) → client_of s number ws ≡ Ok client → IsNewClient s client
 unfolding client_of
 client_of-ranges s number ws client e =
-    let first = bind_ok (first_of ws) _ client e in
+    let first = bind_ok (word_and_rest ws) _ client e in
     let name = bind_ok (name_of first.0.0) _ client first.2 in
-    let second = bind_ok (first_of first.0.1) _ client name.2 in
+    let second = bind_ok (word_and_rest first.0.1) _ client name.2 in
     let file = bind_ok (file_of second.0.0) _ client second.2 in
     let ks = second.0.1 in
     let a = bind_ok (keys_from kind.Client [] ks) _ client file.2 in
@@ -102,7 +102,7 @@ ok_reader s x reader e h = let same : x ≡ reader = cc (e) in subst (IsNewReade
 pub reader_of-ranges : (s : State) (number : ℕ) (ws : List (List ℕ)) (reader : ReaderLine) → reader_of s number ws ≡ Ok reader → IsNewReader s reader
 unfolding reader_of
 reader_of-ranges s number ws reader e =
-    let first = bind_ok (first_of ws) _ reader e in
+    let first = bind_ok (word_and_rest ws) _ reader e in
     let name = bind_ok (name_of first.0.0) _ reader first.2 in
     let ks = first.0.1 in
     let a = bind_ok (keys_from kind.Reader [] ks) _ reader name.2 in
@@ -155,7 +155,7 @@ op_with-is actor (Plain x) ws o h e =
     let a = bind_ok (end_of ws) (λ u. Ok x) o e in
     ok_op actor x o a.2 h
 op_with-is actor (Counted x most) ws o h e =
-    let number = bind_ok (first_of ws) _ o e in
+    let number = bind_ok (word_and_rest ws) _ o e in
     let n = bind_ok (number_in 0 most number.0.0) _ o number.2 in
     let end = bind_ok (end_of number.0.1) _ o n.2 in
     let r = number_in-range 0 most number.0.0 n.0 n.1 in
@@ -165,7 +165,7 @@ op_with-is actor (Counted x most) ws o h e =
 pub op_of-is : (actor : Actor) (ws : List (List ℕ)) (o : Op) → op_of actor ws ≡ Ok o → IsOpOf actor o
 unfolding op_of
 op_of-is actor ws o e =
-    let word = bind_ok (first_of ws) _ o e in
+    let word = bind_ok (word_and_rest ws) _ o e in
     let form = bind_ok (some_or why.Word (row_of (ops_of actor) word.0.0)) _ o word.2 in
     op_with-is actor form.0 word.0.1 o
     (row_of-has (IsFormOf actor) (ops_of actor) word.0.0 form.0 (ops_of-have actor) (some_is why.Word _ form.0 form.1)) form.2

@@ -8,7 +8,7 @@ use Rattle.lab_script.specs.declared.error.ScriptWhy.TheVariants as why
 use Rattle.lab_script.specs.declared.keys.Kind.{Kind}
 use Rattle.lab_script.specs.declared.keys.Takes.{Takes}
 use Rattle.lab_script.specs.Causes.{◌>>=◌, Refuses}
-use Rattle.lab_script.specs.Keys.{keys_from, key_of, value_of}
+use Rattle.lab_script.specs.Keys.{keys_from, key_value, value_of}
 use Rattle.lab_script.specs.Lexing.{first_and_rest}
 use Rattle.lab_script.specs.Reading.{refusal_at, on_line, card_line, script_of_lines, RefusesAt}
 
@@ -49,14 +49,14 @@ refuses_line e n r f h = rw h refl
 
 -- the word after a key is refused
 pub keys_wrong : (line : Kind) (earlier : List (List ℕ)) (k word : List ℕ) (ws mid more : List (List ℕ)) (value : Takes) (e : ScriptWhy)
-    → Some (k, mid) ≡ first_and_rest ws → Some (word, more) ≡ first_and_rest mid → Ok value ≡ key_of line earlier k → Refuses e (value_of value word)
+    → Some (k, mid) ≡ first_and_rest ws → Some (word, more) ≡ first_and_rest mid → Ok value ≡ key_value line earlier k → Refuses e (value_of value word)
     → Refuses e (keys_from line earlier ws)
 keys_wrong line earlier k word ws mid more value e a b c r =
     rw (pair-is k word ws mid more a b, ← c) (refuses_bind e (value_of value word) (λ u. keys_from line (earlier ++ k ∷ []) more) r)
 
 -- a key and the word after it more
 pub keys_next : (line : Kind) (earlier : List (List ℕ)) (k word : List ℕ) (ws mid more : List (List ℕ)) (value : Takes)
-    → Some (k, mid) ≡ first_and_rest ws → Some (word, more) ≡ first_and_rest mid → Ok value ≡ key_of line earlier k → value_of value word ≡ Ok tt
+    → Some (k, mid) ≡ first_and_rest ws → Some (word, more) ≡ first_and_rest mid → Ok value ≡ key_value line earlier k → value_of value word ≡ Ok tt
     → keys_from line (earlier ++ k ∷ []) more ≡ keys_from line earlier ws
 keys_next line earlier k word ws mid more value a b c d = rw (pair-is k word ws mid more a b, ← c, d) refl
 

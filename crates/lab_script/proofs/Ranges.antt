@@ -12,7 +12,7 @@ use Rattle.lab_script.specs.declared.keys.Takes.{Takes}
 use Rattle.lab_script.specs.declared.keys.Takes.TheVariants as takes
 use Rattle.lab_script.specs.Causes.{◌>>=◌, refuse_if, some_or}
 use Rattle.lab_script.specs.Draft.{divides}
-use Rattle.lab_script.specs.Keys.{row_of, keys_of, key_of, keys_from, value_of, check_of, number_in, word_after, number_or_zero, number_given, number_within, small_where, stop_of, stop_given, name_of, file_of, file_where, bindings_where, bound, numbers_of}
+use Rattle.lab_script.specs.Keys.{row_of, keys_of, key_value, keys_from, value_of, check_of, number_in, word_after, number_or_zero, number_given, number_within, small_where, stop_of, stop_given, name_of, file_of, file_where, bindings_where, bound, numbers_of}
 use Rattle.lab_script.specs.Limits.{IsIn, IsInWhere, IsStopWhere, IsFileWhere, IsBoundWhere}
 use Rattle.lab_script.specs.Word.{number_of, is_name, is_file}
 
@@ -54,9 +54,9 @@ checked-ok (Ok x) u e = (x, refl)
 checked-ok (Err w) u e = absurd (cc)
 
 -- a key that is taken has a row
-pub key_of-row : (line : Kind) (earlier : List (List ℕ)) (k : List ℕ) (t : Takes) → key_of line earlier k ≡ Ok t → row_of (keys_of line) k ≡ Some t
-unfolding key_of
-key_of-row line earlier k t e =
+pub key_value-row : (line : Kind) (earlier : List (List ℕ)) (k : List ℕ) (t : Takes) → key_value line earlier k ≡ Ok t → row_of (keys_of line) k ≡ Some t
+unfolding key_value
+key_value-row line earlier k t e =
     let a = bind_ok (some_or why.Word (row_of (keys_of line) k)) _ t e in
     let b = bind_ok _ (λ u. Ok a.0) t a.2 in
     let same : a.0 ≡ t = cc (b.2) in
@@ -80,9 +80,9 @@ pub given_in : (line : Kind) (earlier : List (List ℕ)) (key w : List ℕ) (ws 
 given_in line earlier key w [] e g = absurd (cc)
 given_in line earlier key w (k ∷ []) e g = absurd (cc)
 given_in line earlier key w (k ∷ v ∷ more) e g =
-    let a = bind_ok (key_of line earlier k) (λ value. (value_of value v) >>= (λ u. keys_from line (earlier ++ k ∷ []) more)) tt e in
+    let a = bind_ok (key_value line earlier k) (λ value. (value_of value v) >>= (λ u. keys_from line (earlier ++ k ∷ []) more)) tt e in
     let b = bind_ok (value_of a.0 v) (λ u. keys_from line (earlier ++ k ∷ []) more) tt a.2 in
-    given_by line key k v w a.0 more (bytes_eq k key) refl (key_of-row line earlier k a.0 a.1) b.1 (given_in line (earlier ++ k ∷ []) key w more b.2) g
+    given_by line key k v w a.0 more (bytes_eq k key) refl (key_value-row line earlier k a.0 a.1) b.1 (given_in line (earlier ++ k ∷ []) key w more b.2) g
 
 -- a word that is given is right for its key
 pub value-given : (line : Kind) (key w : List ℕ) (t : Takes) (ws : List (List ℕ)) → keys_from line [] ws ≡ Ok tt

@@ -23,7 +23,7 @@ use Rattle.lab_script.specs.declared.script.CardLine.{CardLine}
 use Rattle.lab_script.specs.declared.script.ClientLine.{ClientLine}
 use Rattle.lab_script.specs.declared.script.ReaderLine.{ReaderLine}
 use Rattle.lab_script.specs.declared.script.Script.{Script}
-use Rattle.lab_script.specs.Causes.{refuse_if, some_or, first_of, end_of}
+use Rattle.lab_script.specs.Causes.{refuse_if, some_or, word_and_rest, end_of}
 use Rattle.lab_script.specs.Draft.{State, card_alone, client_of, reader_of, border_of, actor_named, is_client, is_reader, or_else, is_beside, ends_lap, keywords, with_client, with_reader, with_open, with_close, with_phase, with_end, with_line, with_words, outside, inside, unknown_outside, unknown_inside, line_at}
 use Rattle.lab_script.specs.Keys.{row_of}
 use Rattle.lab_script.specs.Limits.{IsCardLine, IsClientLine, IsReaderLine, IsBorder, IsActor, IsLine, IsAlone, IsItem, IsGoneAfter, IsScript}
@@ -280,7 +280,7 @@ border-kept s i none it st =
 border_of-is : (s : State) (ws : List (List ℕ)) (actor : Actor) → border_of s ws ≡ Ok actor → IsBorder (length s.clients) (length s.readers) actor
 unfolding border_of
 border_of-is s ws actor e =
-    let first = bind_ok (first_of ws) _ actor e in
+    let first = bind_ok (word_and_rest ws) _ actor e in
     let who = bind_ok (some_or why.Word (actor_named s first.0.0)) _ actor first.2 in
     let end = bind_ok (end_of first.0.1) _ actor who.2 in
     let same : who.0 ≡ actor = cc (end.2) in

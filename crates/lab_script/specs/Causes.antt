@@ -19,9 +19,9 @@ some_or cause None = Err cause
 some_or cause (Some x) = Ok x
 
 -- the first of some words and the rest, where a word must follow
-abbrev pub first_of : List (List ℕ) → Result (List ℕ × List (List ℕ)) ScriptWhy
-first_of [] = Err why.Missing
-first_of (word ∷ words) = Ok (word, words)
+abbrev pub word_and_rest : List (List ℕ) → Result (List ℕ × List (List ℕ)) ScriptWhy
+word_and_rest [] = Err why.Missing
+word_and_rest (word ∷ words) = Ok (word, words)
 
 -- the end of a line, where no further word may follow
 abbrev pub end_of : List (List ℕ) → Result (Unit {0}) ScriptWhy

@@ -16,7 +16,7 @@ use Rattle.lab_script.specs.declared.line.Op.{Op}
 use Rattle.lab_script.specs.declared.script.CardLine.{CardLine}
 use Rattle.lab_script.specs.declared.script.ClientLine.{ClientLine}
 use Rattle.lab_script.specs.declared.script.ReaderLine.{ReaderLine}
-use Rattle.lab_script.specs.Causes.{◌>>=◌, refuse_if, some_or, first_of, end_of}
+use Rattle.lab_script.specs.Causes.{◌>>=◌, refuse_if, some_or, word_and_rest, end_of}
 use Rattle.lab_script.specs.Keys.{row_of, keys_from, word_after, number_given, byte_given, small_given, small_where, stop_given, share_given, name_of, file_of, file_where, bindings_where}
 use Rattle.lab_script.specs.Ops.{op_of, played_by}
 use Rattle.lab_script.specs.Script.{is_of_card, is_unplug}
@@ -107,9 +107,9 @@ card_of number words = do
 -- the client of the words after `client`, on the line of this number
 unfoldable pub client_of : State → ℕ → List (List ℕ) → Result ClientLine ScriptWhy
 client_of s number words = do
-  first ← first_of words
+  first ← word_and_rest words
   name ← name_of first.0
-  second ← first_of first.1
+  second ← word_and_rest first.1
   file ← file_of second.0
   keys ← keys_from kind.Client [] second.1
   once ← refuse_if (is_some (actor_named s first.0)) why.NameTwice
@@ -133,7 +133,7 @@ client_of s number words = do
 -- the reader of the words after `reader`, on the line of this number
 unfoldable pub reader_of : State → ℕ → List (List ℕ) → Result ReaderLine ScriptWhy
 reader_of s number words = do
-  first ← first_of words
+  first ← word_and_rest words
   name ← name_of first.0
   keys ← keys_from kind.Reader [] first.1
   once ← refuse_if (is_some (actor_named s first.0)) why.NameTwice
@@ -213,7 +213,7 @@ with_reader s number words = do
 -- the actor of a line `open NAME` or `close NAME`
 unfoldable pub border_of : State → List (List ℕ) → Result Actor ScriptWhy
 border_of s words = do
-  first ← first_of words
+  first ← word_and_rest words
   actor ← some_or why.Word (actor_named s first.0)
   end ← end_of first.1
   Ok actor

@@ -101,8 +101,8 @@ value_of takes.Share word = if bytes_eq word (codes "dmix") then Ok tt else refu
 value_of takes.Plug word = refuse_if (not (bytes_eq word (codes "linear"))) why.Word
 
 -- a word that must be a key of this kind of line, after the keys that are earlier on it
-unfoldable pub key_of : Kind → List (List ℕ) → List ℕ → Result Takes ScriptWhy
-key_of line earlier word = do
+unfoldable pub key_value : Kind → List (List ℕ) → List ℕ → Result Takes ScriptWhy
+key_value line earlier word = do
   value ← some_or why.Word (row_of (keys_of line) word)
   once ← refuse_if (list_any (bytes_eq word) earlier) why.KeyTwice
   Ok value
@@ -110,9 +110,9 @@ key_of line earlier word = do
 -- keys and what follows each, in any order, each once
 abbrev pub keys_from : Kind → List (List ℕ) → List (List ℕ) → Result (Unit {0}) ScriptWhy
 keys_from line earlier [] = Ok tt
-keys_from line earlier (key ∷ []) = (key_of line earlier key) >>= (λ value. Err why.Missing)
+keys_from line earlier (key ∷ []) = (key_value line earlier key) >>= (λ value. Err why.Missing)
 keys_from line earlier (key ∷ word ∷ words) =
-    (key_of line earlier key) >>= (λ value. (value_of value word) >>= (λ u. keys_from line (earlier ++ key ∷ []) words))
+    (key_value line earlier key) >>= (λ value. (value_of value word) >>= (λ u. keys_from line (earlier ++ key ∷ []) words))
 
 -- the word after a key, where the key is given
 abbrev pub word_after : List ℕ → List (List ℕ) → Option (List ℕ)
@@ -153,12 +153,12 @@ abbrev pub stop_given : List (List ℕ) → Option Stop
 stop_given words = option_map stop_of (word_after (codes "stop") words)
 
 -- the word after `share`
-abbrev pub share_of : List ℕ → Share
-share_of word = if bytes_eq word (codes "dshare") then share.Dshare else share.Dmix
+abbrev pub share_named : List ℕ → Share
+share_named word = if bytes_eq word (codes "dshare") then share.Dshare else share.Dmix
 
 -- how clients share the card
 abbrev pub share_given : List (List ℕ) → Share
-share_given words = option_map_or share_of (word_after (codes "share") words) share.Dmix
+share_given words = option_map_or share_named (word_after (codes "share") words) share.Dmix
 
 -- a file, where there is one
 abbrev pub file_where : Option (List ℕ) → Result (Option (List ℕ)) ScriptWhy

@@ -48,8 +48,8 @@ abbrev pub lines_from : ℕ → List ℕ → List (ℕ × List (List ℕ))
 lines_from number text = numbered_lines number (slice_split is_feed text)
 
 -- the lines of a text that have words, each with its number, counted from 1, and its words
-abbrev pub lines_of : List ℕ → List (ℕ × List (List ℕ))
-lines_of text = lines_from 1 text
+abbrev pub word_lines : List ℕ → List (ℕ × List (List ℕ))
+word_lines text = lines_from 1 text
 
 -- the first of a list and the rest, where there is one
 abbrev pub first_and_rest : {X : Type 0} → List X → Option (X × List X)

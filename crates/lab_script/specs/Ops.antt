@@ -9,7 +9,7 @@ use Rattle.lab_script.specs.declared.line.Op.{Op}
 use Rattle.lab_script.specs.declared.line.Op.TheVariants as op
 use Rattle.lab_script.specs.declared.ops.Form.{Form}
 use Rattle.lab_script.specs.declared.ops.Form.TheVariants.{Plain, Counted}
-use Rattle.lab_script.specs.Causes.{◌>>=◌, some_or, first_of, end_of}
+use Rattle.lab_script.specs.Causes.{◌>>=◌, some_or, word_and_rest, end_of}
 use Rattle.lab_script.specs.Keys.{row_of, number_in}
 
 -- what the card can be asked for
@@ -66,7 +66,7 @@ with_count other n = other
 abbrev pub op_with : Form → List (List ℕ) → Result Op ScriptWhy
 op_with (Plain o) words = (end_of words) >>= (λ u. Ok o)
 op_with (Counted o most) words = do
-  number ← first_of words
+  number ← word_and_rest words
   n ← number_in 0 most number.0
   end ← end_of number.1
   Ok (with_count o n)
@@ -74,7 +74,7 @@ op_with (Counted o most) words = do
 -- what the words after an actor ask for
 unfoldable pub op_of : Actor → List (List ℕ) → Result Op ScriptWhy
 op_of actor words = do
-  word ← first_of words
+  word ← word_and_rest words
   form ← some_or why.Word (row_of (ops_of actor) word.0)
   op_with form word.1
 

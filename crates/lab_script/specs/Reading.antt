@@ -9,7 +9,7 @@ use Rattle.lab_script.specs.declared.script.CardLine.{CardLine}
 use Rattle.lab_script.specs.declared.script.Script.{Script}
 use Rattle.lab_script.specs.Draft.{State, card_alone, card_of, keywords, with_words}
 use Rattle.lab_script.specs.Keys.{row_of}
-use Rattle.lab_script.specs.Lexing.{lines_of}
+use Rattle.lab_script.specs.Lexing.{word_lines}
 
 -- the refusal of a line
 abbrev pub refusal_at : ℕ → ScriptWhy → ScriptError
@@ -53,7 +53,7 @@ script_of_lines (line ∷ lines) = on_line line.0 (card_line line.0 line.1) (λ 
 
 -- the script that a text spells, or its first refusal
 abbrev pub script_of : List ℕ → Result Script ScriptError
-script_of text = if nat_lt 1048576 (length text) then Err (refusal_at 0 why.TooLong) else script_of_lines (lines_of text)
+script_of text = if nat_lt 1048576 (length text) then Err (refusal_at 0 why.TooLong) else script_of_lines (word_lines text)
 
 -- an error of a call is the one that is said, unless memory ran out
 abbrev pub RefusesAt : {X : Type 0} → ScriptWhy → ScriptError → Result X ScriptError → Type 0

@@ -1,6 +1,6 @@
 //! What a word-by-word reading of a line asks for: a word, no word, or that something doesn't hold.
 ghost use Rattle.std.specs.Prelude.{◌≡◌, ◌<◌, Bool, true, false, length, IfOk};
-ghost use Rattle.lab_script.specs.Causes.{refuse_if, some_or, first_of, end_of, Gives};
+ghost use Rattle.lab_script.specs.Causes.{refuse_if, some_or, word_and_rest, end_of, Gives};
 ghost use Rattle.lab_script.specs.Lexing.{words_between};
 
 use crate::error::ScriptWhy;
@@ -16,7 +16,7 @@ pub fn refuse_if(test: bool, cause: ScriptWhy) -> Result<(), ScriptWhy>
 /// The first word of a line, which must be there, and what follows it.
 pub fn first_of(words: &[u8]) -> Result<(&[u8], &[u8]), ScriptWhy>
     ensures { Gives (λ w. (w.0.now, words_between w.1.now)) result
-        (first_of (words_between words.now)) }
+        (word_and_rest (words_between words.now)) }
 {
     match next_word(words) {
         Some(found) => Ok(found),

@@ -3,7 +3,7 @@ ghost use Rattle.std.specs.Prelude.{◌≡◌, ◌<◌, ◌≤◌, [], map, opti
 ghost use Rattle.std.specs.List.{list_any};
 ghost use Rattle.std.specs.Prelude.{bytes_eq};
 ghost use Rattle.lab_script.specs.Causes.{Gives};
-ghost use Rattle.lab_script.specs.Keys.{row_of, keys_of, key_of, keys_from, word_after};
+ghost use Rattle.lab_script.specs.Keys.{row_of, keys_of, key_value, keys_from, word_after};
 ghost use Rattle.lab_script.specs.Lexing.{words_between};
 
 use crate::causes::refuse_if;
@@ -87,9 +87,9 @@ fn is_in(earlier: &[&[u8]], key: &[u8]) -> bool
 }
 
 /// A word that must be a key that isn't earlier on its line.
-#[tactic(auto, using(crate::proofs::Pairs::list_any_map), unfolding(crate::specs::Keys::key_of))]
+#[tactic(auto, using(crate::proofs::Pairs::list_any_map), unfolding(crate::specs::Keys::key_value))]
 fn read_key(kind: Kind, earlier: &[&[u8]], key: &[u8]) -> Result<Takes, ScriptWhy>
-    ensures { result ≡ key_of kind (map (λ k. k.now) earlier.now) key.now }
+    ensures { result ≡ key_value kind (map (λ k. k.now) earlier.now) key.now }
 {
     match value_taken(kind, key) {
         None => Err(ScriptWhy::Word),

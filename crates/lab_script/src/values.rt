@@ -2,7 +2,7 @@
 ghost use Rattle.std.specs.Prelude.{◌≡◌, ◌≤◌, ◌<◌, [], IfOk, IsAscii, length, option_map, string_bytes};
 ghost use Rattle.std.specs.Option.{option_map_or};
 ghost use Rattle.lab_script.specs.Causes.{Gives};
-ghost use Rattle.lab_script.specs.Keys.{number_in, numbers_of, name_of, file_of, value_of, word_after, number_or_zero, number_given, number_within, byte_given, small_given, small_where, stop_of, stop_given, share_of, share_given, file_where, bindings_where, why_of};
+ghost use Rattle.lab_script.specs.Keys.{number_in, numbers_of, name_of, file_of, value_of, word_after, number_or_zero, number_given, number_within, byte_given, small_given, small_where, stop_of, stop_given, share_named, share_given, file_where, bindings_where, why_of};
 ghost use Rattle.lab_script.specs.declared.keys.Takes.TheVariants as takes;
 ghost use Rattle.lab_script.specs.Lexing.{words_between};
 ghost use Rattle.lab_script.specs.Word.{parts_of};

@@ -18,7 +18,7 @@ use Rattle.hw_space.specs.declared.quantity.Quantity.{Quantity}
 use Rattle.hw_space.specs.declared.quantity.Quantity.TheVariants as quantity
 use Rattle.hw_space.specs.Boxes.{IsBoxWithin, part}
 use Rattle.hw_space.specs.BoxLaws.{IsBoxWithin-part, IsBoxWithin-refl, IsBoxWithin-trans, with_part-IsBoxWithin}
-use Rattle.hw_space.specs.Choices.{Chooses, IsChoice, Makes, choices, done, goes}
+use Rattle.hw_space.specs.Choices.{Chooses, IsChoice, ChoiceLeaves, choices, done, goes}
 use Rattle.hw_space.specs.Narrowings.{LeavesOf, at_least, at_most, greatest_end, least_end, with_refined, nearest, point, with_access, with_format, with_kind_value, with_value}
 use Rattle.hw_space.specs.Params.{kind_of}
 use Rattle.hw_space.specs.Settled.{Leaves}
@@ -90,13 +90,13 @@ with_kind_value-IsBoxWithin b kind.Access n = with_access-IsBoxWithin b n
 with_kind_value-IsBoxWithin b kind.Format n = with_format-IsBoxWithin b n
 
 -- a step of a choice leaves a space within
-Makes-IsBoxWithin : (c : Choice) (b d : ParamBox) → Makes c b (Some d) → IsBoxWithin d b
-Makes-IsBoxWithin Settle b d made = made.greatest.within
-Makes-IsBoxWithin FirstAccess b d made = Leaves-IsBoxWithin (with_access b made.0) d b made.2 (with_access-IsBoxWithin b made.0)
-Makes-IsBoxWithin FirstFormat b d made = Leaves-IsBoxWithin (with_format b made.0) d b made.2 (with_format-IsBoxWithin b made.0)
-Makes-IsBoxWithin (First q) b d made = Leaves-IsBoxWithin (with_refined b q (least_end (part b q))) d b made (narrowed-IsBoxWithin b q (least_end (part b q)))
-Makes-IsBoxWithin (Last q) b d made = Leaves-IsBoxWithin (with_refined b q (greatest_end (part b q))) d b made (narrowed-IsBoxWithin b q (greatest_end (part b q)))
-Makes-IsBoxWithin (Near q n) b d made =
+ChoiceLeaves-IsBoxWithin : (c : Choice) (b d : ParamBox) → ChoiceLeaves c b (Some d) → IsBoxWithin d b
+ChoiceLeaves-IsBoxWithin Settle b d made = made.greatest.within
+ChoiceLeaves-IsBoxWithin FirstAccess b d made = Leaves-IsBoxWithin (with_access b made.0) d b made.2 (with_access-IsBoxWithin b made.0)
+ChoiceLeaves-IsBoxWithin FirstFormat b d made = Leaves-IsBoxWithin (with_format b made.0) d b made.2 (with_format-IsBoxWithin b made.0)
+ChoiceLeaves-IsBoxWithin (First q) b d made = Leaves-IsBoxWithin (with_refined b q (least_end (part b q))) d b made (narrowed-IsBoxWithin b q (least_end (part b q)))
+ChoiceLeaves-IsBoxWithin (Last q) b d made = Leaves-IsBoxWithin (with_refined b q (greatest_end (part b q))) d b made (narrowed-IsBoxWithin b q (greatest_end (part b q)))
+ChoiceLeaves-IsBoxWithin (Near q n) b d made =
     nearest-IsBoxWithin q n made.low made.high b d
     (λ x is. Leaves-IsBoxWithin (with_refined b q (at_most n)) x b (subst (Leaves (with_refined b q (at_most n))) is made.below) (narrowed-IsBoxWithin b q (at_most n)))
     (λ x is. Leaves-IsBoxWithin (with_refined b q (at_least n)) x b (subst (Leaves (with_refined b q (at_least n))) is made.above) (narrowed-IsBoxWithin b q (at_least n)))
@@ -105,7 +105,7 @@ Makes-IsBoxWithin (Near q n) b d made =
 -- and so do all steps, and all values
 Chooses-IsBoxWithin : (cs : List Choice) (b d : ParamBox) → Chooses cs b (Some d) → IsBoxWithin d b
 Chooses-IsBoxWithin [] b d done = IsBoxWithin-refl b
-Chooses-IsBoxWithin (c ∷ cs) b d (goes {d = x} made later) = IsBoxWithin-trans d x b (Chooses-IsBoxWithin cs x d later) (Makes-IsBoxWithin c b x made)
+Chooses-IsBoxWithin (c ∷ cs) b d (goes {d = x} made later) = IsBoxWithin-trans d x b (Chooses-IsBoxWithin cs x d later) (ChoiceLeaves-IsBoxWithin c b x made)
 
 IsNarrowed-IsBoxWithin : (values : Values) (b d : ParamBox) → IsNarrowed b values (Some d) → IsBoxWithin d b
 IsNarrowed-IsBoxWithin [] b d same = let is : b ≡ d = cc in subst (λ (x : ParamBox). IsBoxWithin d x) (sym is) (IsBoxWithin-refl d)

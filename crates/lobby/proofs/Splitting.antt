@@ -7,14 +7,14 @@ use Rattle.std.proofs.lemmas.Option.{none-some, same_Some}
 use Rattle.sum_table.specs.declared.seats.mix.MixSeat.{MixSeat}
 use Rattle.sum_table.specs.declared.view.View.{View}
 use Rattle.sum_table.specs.Cuts.{part_of, with_places, without_places}
-use Rattle.sum_table.specs.Joins.{HasSplit, Stays}
+use Rattle.sum_table.specs.Joins.{HasSplit, KeepsSeat}
 use Rattle.sum_table.specs.Seats.{key_of, places_of_seat, ring_of, view_of}
 use Rattle.lobby.specs.Lobbies.{IsPart}
 use Rattle.lobby.specs.Seats.{ArePlaces, IsPlace, seat_at}
 
 -- so many seats of one place were split off
 pub record IsSplitting (whole rest : MixSeat) (seats : List (Option MixSeat)) (n : ℕ) : Type 0 where
-  pub stays : Stays whole rest
+  pub stays : KeepsSeat whole rest
   pub view : view_of rest ≡ without_places (view_of whole) n
   pub laid : (view_of rest).laid ≡ []
   pub part : part_of (view_of rest) 1 ≡ part_of (view_of whole) 1
@@ -28,8 +28,8 @@ without-none v = let same : v.places - 0 ≡ v.places = omega arith in ap (λ (n
 without-more : (v : View) (n : ℕ) → without_places (without_places v n) 1 ≡ without_places v (n + 1)
 without-more v n = let same : v.places - n - 1 ≡ v.places - (n + 1) = omega arith in ap (λ (k : ℕ). with_places v k) same
 
-Stays-joined : (s t u : MixSeat) → Stays s t → Stays t u → Stays s u
-Stays-joined s t u first then = record {
+KeepsSeat-joined : (s t u : MixSeat) → KeepsSeat s t → KeepsSeat t u → KeepsSeat s u
+KeepsSeat-joined s t u first then = record {
   ring = then.ring ∙ first.ring;
   key = then.key ∙ first.key;
   member = then.member ∙ first.member;
@@ -54,7 +54,7 @@ IsSplitting-none whole nothing = record {
 pub IsSplitting-more : (whole rest after one : MixSeat) (seats : List (Option MixSeat)) (n : ℕ) → IsSplitting whole rest seats n → HasSplit rest after one 1 n
     → IsSplitting whole after (seats ++ Some one ∷ []) (n + 1)
 IsSplitting-more whole rest after one seats n is split = record {
-  stays = Stays-joined whole rest after is.stays split.stays;
+  stays = KeepsSeat-joined whole rest after is.stays split.stays;
   view = split.view ∙ (ap (λ (v : View). without_places v 1) is.view ∙ without-more (view_of whole) n);
   laid = ap (λ (v : View). v.laid) split.view ∙ is.laid;
   part = ap (λ v. part_of v 1) split.view ∙ is.part;

@@ -8,7 +8,7 @@ use Rattle.mix_core.specs.declared.port.Position.{Position}
 use Rattle.sum_table.specs.declared.seats.mix.MixSeat.{MixSeat}
 use Rattle.sum_table.specs.declared.view.Key.{Key}
 use Rattle.sum_table.specs.Cuts.{part_of, without_places}
-use Rattle.sum_table.specs.Joins.{HasJoined, OneRing, Stays}
+use Rattle.sum_table.specs.Joins.{HasJoined, OneRing, KeepsSeat}
 use Rattle.sum_table.specs.Seats.{TableId, key_of, member_of, places_of_seat, ring_of, seen_of, view_of}
 use Rattle.lobby.specs.declared.lobby.Lobby.{Lobby}
 use Rattle.lobby.specs.Seats.{IsBusy, IsOut, IsPlace, last_of, lowest_silent, seat_at}
@@ -57,7 +57,7 @@ pub record IsPart (whole : MixSeat) (place : ℕ) (s : MixSeat) : Type 0 where
 
 -- a new lobby: each place of the whole seat is free, and the whole seat gave them away and did nothing else
 pub record IsNewLobby (whole : MixSeat) (l : Lobby) : Type 0 where
-  pub base : Stays whole (base_of l)
+  pub base : KeepsSeat whole (base_of l)
   pub base_view : view_of (base_of l) ≡ without_places (view_of whole) (places_of_seat whole)
   pub ring : ring_of_lobby l ≡ ring_of whole
   pub key : key_of_lobby l ≡ key_of whole

@@ -14,7 +14,7 @@ use Rattle.lap_word.specs.Clamp.{clamp_of}
 use Rattle.lap_word.specs.Word.{StandsFor, StandsFor-fields, count_of, lap_of, sum_of}
 use Rattle.mix_core.specs.declared.port.Entry.{Entry}
 use Rattle.mix_core.specs.declared.event.Taken.{Taken}
-use Rattle.mix_core.specs.History.{AreInOrder, is_taken, place_of}
+use Rattle.mix_core.specs.History.{AreInOrder, is_taken, taken_place}
 use Rattle.mix_core.specs.Laid.{at, marks_after, marks_of, total, value_of}
 use Rattle.mix_core.specs.declared.marks.Marks.{Marks}
 use Rattle.mix_core.specs.OwnLaws.{marks_of-other, marks_of-own}
@@ -69,13 +69,13 @@ IsNow-next v s = record {
 }
 
 -- one more was taken, in order
-pub AreInOrder-more : (g : Geometry) (ts : List Taken) (t : Taken) → AreInOrder g ts → place_of t ≡ next_word g (length ts) → AreInOrder g (ts ++ t ∷ [])
+pub AreInOrder-more : (g : Geometry) (ts : List Taken) (t : Taken) → AreInOrder g ts → taken_place t ≡ next_word g (length ts) → AreInOrder g (ts ++ t ∷ [])
 AreInOrder-more g ts t in_order here i d within =
     elim (cases_eq i (length ts)) [
-      | inl last ↦ subst (λ k. place_of (get_or (ts ++ t ∷ []) k d) ≡ next_word g k) (sym last) (ap place_of (get_or-append_seam ts t [] d) ∙ here)
+      | inl last ↦ subst (λ k. taken_place (get_or (ts ++ t ∷ []) k d) ≡ next_word g k) (sym last) (ap taken_place (get_or-append_seam ts t [] d) ∙ here)
       | inr before ↦
           let below : i < length ts = omega (arith, length-append ts (t ∷ [])) in
-          ap place_of (get_or_append_left ts (t ∷ []) d i below) ∙ in_order i d below
+          ap taken_place (get_or_append_left ts (t ∷ []) d i below) ∙ in_order i d below
     ]
 
 -- the next word was taken

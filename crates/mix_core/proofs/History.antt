@@ -11,7 +11,7 @@ use Rattle.mix_core.specs.declared.event.Event.TheVariants.{Publish, Take}
 use Rattle.mix_core.specs.declared.event.Reply.TheVariants.{In, LapEnd, Published, Took}
 use Rattle.mix_core.specs.declared.port.Entry.{Entry}
 use Rattle.mix_core.specs.declared.event.Taken.{Taken}
-use Rattle.mix_core.specs.History.{IsInside, IsReply, Row, entry_of, event_by, is_taken, laid_of, position_after, position_of, row_of, taken_of, taking_of}
+use Rattle.mix_core.specs.History.{IsInside, IsReply, Row, entry_of, event_by, is_taken, laid_of, position_after, position_of, entry_row, taken_words, taking_of}
 use Rattle.mix_core.specs.Laid.{total, value_of}
 use Rattle.mix_core.specs.HistoryLaws.{entry_of-row, position_after-row, taking_of-row}
 use Rattle.mix_core.specs.declared.marks.Marks.{Marks}
@@ -29,13 +29,13 @@ pub Stands-published : (v : View) (h : List Row) → v.position ≤ v.next.frame
 Stands-published v h up s =
     let r : Row = (Publish, Published v.next.frame) in
     let laid : laid_of (h ++ r ∷ []) ≡ laid_of h = filter_map-none entry_of h r refl in
-    let taken : taken_of (h ++ r ∷ []) ≡ taken_of h = filter_map-none taking_of h r refl in
+    let taken : taken_words (h ++ r ∷ []) ≡ taken_words h = filter_map-none taking_of h r refl in
     let w : View = record v { position = v.next.frame } in
-    let a : Agrees w (laid_of h) (taken_of h) = Agrees-published v (laid_of h) (taken_of h) v.next.frame up s.agrees in
+    let a : Agrees w (laid_of h) (taken_words h) = Agrees-published v (laid_of h) (taken_words h) v.next.frame up s.agrees in
     record {
       legal = IsLegal-more v.geometry (length v.marks) h r s.legal (ap (λ (x : Cursor). x.frame) s.agrees.next);
       position = sym (fold_push position_after (first_frame v.geometry) h r);
-      agrees = subst (λ ts. Agrees w (laid_of (h ++ r ∷ [])) ts) (sym taken) (subst (λ es. Agrees w es (taken_of h)) (sym laid) a);
+      agrees = subst (λ ts. Agrees w (laid_of (h ++ r ∷ [])) ts) (sym taken) (subst (λ es. Agrees w es (taken_words h)) (sym laid) a);
     }
 
 -- the card is gone
@@ -43,7 +43,7 @@ pub Stands-unplugged : (v : View) (h : List Row) (gone : Bool) → Stands v h �
 Stands-unplugged v h gone s = record {
   legal = s.legal;
   position = s.position;
-  agrees = Agrees-unplugged v (laid_of h) (taken_of h) gone s.agrees;
+  agrees = Agrees-unplugged v (laid_of h) (taken_words h) gone s.agrees;
 }
 
 -- a take that was refused
@@ -51,11 +51,11 @@ pub Stands-refused : (v : View) (h : List Row) → lap v.geometry v.next.frame �
 Stands-refused v h last s =
     let r : Row = (Take, LapEnd) in
     let laid : laid_of (h ++ r ∷ []) ≡ laid_of h = filter_map-none entry_of h r refl in
-    let taken : taken_of (h ++ r ∷ []) ≡ taken_of h = filter_map-none taking_of h r refl in
+    let taken : taken_words (h ++ r ∷ []) ≡ taken_words h = filter_map-none taking_of h r refl in
     record {
       legal = IsLegal-more v.geometry (length v.marks) h r s.legal (subst (λ (x : Cursor). lap v.geometry x.frame ≡ 4294967295) s.agrees.next last);
       position = s.position ∙ sym (fold_push position_after (first_frame v.geometry) h r);
-      agrees = subst (λ ts. Agrees v (laid_of (h ++ r ∷ [])) ts) (sym taken) (subst (λ es. Agrees v es (taken_of h)) (sym laid) s.agrees);
+      agrees = subst (λ ts. Agrees v (laid_of (h ++ r ∷ [])) ts) (sym taken) (subst (λ es. Agrees v es (taken_words h)) (sym laid) s.agrees);
     }
 
 -- a take, of the value that the samples placed there have in total
@@ -67,38 +67,38 @@ Stands-taken v h word value sound more stands value_is s =
     let r : Row = (Take, Took v.next.frame v.next.channel value) in
     let t : Taken = record { frame = v.next.frame; channel = v.next.channel; value = value } in
     let laid : laid_of (h ++ r ∷ []) ≡ laid_of h = filter_map-none entry_of h r refl in
-    let taken : taken_of (h ++ r ∷ []) ≡ taken_of h ++ t ∷ [] = filter_map-some taking_of h r t refl in
+    let taken : taken_words (h ++ r ∷ []) ≡ taken_words h ++ t ∷ [] = filter_map-some taking_of h r t refl in
     let w : View = taken_view v word in
-    let a : Agrees w (laid_of h) (taken_of h ++ t ∷ []) =
-    subst (λ x. Agrees w (laid_of h) (taken_of h ++ record { frame = v.next.frame; channel = v.next.channel; value = x } ∷ [])) (sym value_is)
-    (Agrees-taken v (laid_of h) (taken_of h) word sound stands s.agrees) in
+    let a : Agrees w (laid_of h) (taken_words h ++ t ∷ []) =
+    subst (λ x. Agrees w (laid_of h) (taken_words h ++ record { frame = v.next.frame; channel = v.next.channel; value = x } ∷ [])) (sym value_is)
+    (Agrees-taken v (laid_of h) (taken_words h) word sound stands s.agrees) in
     record {
       legal = IsLegal-more v.geometry (length v.marks) h r s.legal
           (subst (λ (x : Cursor). lap v.geometry x.frame ≢ 4294967295) s.agrees.next more, ap (λ (x : Cursor). x.frame) s.agrees.next, ap (λ (x : Cursor). x.channel) s.agrees.next, value_is);
       position = s.position ∙ sym (fold_push position_after (first_frame v.geometry) h r);
-      agrees = subst (λ ts. Agrees w (laid_of (h ++ r ∷ [])) ts) (sym taken) (subst (λ es. Agrees w es (taken_of h ++ t ∷ [])) (sym laid) a);
+      agrees = subst (λ ts. Agrees w (laid_of (h ++ r ∷ [])) ts) (sym taken) (subst (λ es. Agrees w es (taken_words h ++ t ∷ [])) (sym laid) a);
     }
 
 -- an add or a withdrawal that was in time
 pub Stands-laid : (v : View) (h : List Row) (e : Entry) (word : ℕ) → IsSound v
     → e.member < length v.marks → IsNow v.geometry v.next e.frame e.channel → e.frame < v.position + v.geometry.frames
     → StandsFor word (lap_of (word_at v e.frame e.channel)) (count_of (word_at v e.frame e.channel) + 1) (sum_of (word_at v e.frame e.channel) +ℤ value_of e)
-    → Stands v h → IsReply v.geometry (length v.marks) h (row_of e) → Stands (laid_view v e word) (h ++ row_of e ∷ [])
+    → Stands v h → IsReply v.geometry (length v.marks) h (entry_row e) → Stands (laid_view v e word) (h ++ entry_row e ∷ [])
 Stands-laid v h e word sound member now ahead stands s reply =
-    let r : Row = row_of e in
+    let r : Row = entry_row e in
     let laid : laid_of (h ++ r ∷ []) ≡ laid_of h ++ e ∷ [] = filter_map-some entry_of h r e (entry_of-row e) in
-    let taken : taken_of (h ++ r ∷ []) ≡ taken_of h = filter_map-none taking_of h r (taking_of-row e In) in
+    let taken : taken_words (h ++ r ∷ []) ≡ taken_words h = filter_map-none taking_of h r (taking_of-row e In) in
     let w : View = laid_view v e word in
-    let a : Agrees w (laid_of h ++ e ∷ []) (taken_of h) = Agrees-laid v e (laid_of h) (taken_of h) word sound member now ahead stands s.agrees in
+    let a : Agrees w (laid_of h ++ e ∷ []) (taken_words h) = Agrees-laid v e (laid_of h) (taken_words h) word sound member now ahead stands s.agrees in
     let same_members : length w.marks ≡ length v.marks = length-set v.marks e.member _ in
     record {
       legal = rw same_members (IsLegal-more v.geometry (length v.marks) h r s.legal reply);
       position = s.position ∙ sym (fold_push position_after (first_frame v.geometry) h r ∙ position_after-row (position_of v.geometry h) e In);
-      agrees = subst (λ ts. Agrees w (laid_of (h ++ r ∷ [])) ts) (sym taken) (subst (λ es. Agrees w es (taken_of h)) (sym laid) a);
+      agrees = subst (λ ts. Agrees w (laid_of (h ++ r ∷ [])) ts) (sym taken) (subst (λ es. Agrees w es (taken_words h)) (sym laid) a);
     }
 
 -- nothing was taken at a frame and channel that the ring has now
-pub untaken-now : (v : View) (h : List Row) (f c : ℕ) → IsSound v → IsNow v.geometry v.next f c → Stands v h → is_taken (taken_of h) f c ≡ false
+pub untaken-now : (v : View) (h : List Row) (f c : ℕ) → IsSound v → IsNow v.geometry v.next f c → Stands v h → is_taken (taken_words h) f c ≡ false
 untaken-now v h f c sound now s =
     let least : first_frame v.geometry ≤ f = grind (arith, nat_tests, now.low, sound.next_least) in
     let untaken : nat_lt f (first_free v.next c) ≡ false = grind (arith, nat_tests, now.low) in
@@ -108,7 +108,7 @@ untaken-now v h f c sound now s =
 pub reply-added : (v : View) (h : List Row) (e : Entry) → IsSound v → e.kind ≡ Added
     → e.member < length v.marks → IsFrom (cursor_at v e.member) e.frame e.channel → IsNow v.geometry v.next e.frame e.channel
     → e.frame < v.position + v.geometry.frames → lap v.geometry e.frame < 4294967295
-    → Stands v h → IsReply v.geometry (length v.marks) h (row_of e)
+    → Stands v h → IsReply v.geometry (length v.marks) h (entry_row e)
 reply-added v h e sound kind member from now ahead fits s =
     let inside : IsInside v.geometry (length v.marks) h e.member e.frame e.channel = record {
       member_in_range = member;

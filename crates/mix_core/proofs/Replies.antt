@@ -11,7 +11,7 @@ use Rattle.mix_core.specs.declared.event.Reply.TheVariants.{In, Late, Outside, P
 use Rattle.mix_core.specs.declared.event.Taken.{Taken}
 use Rattle.mix_core.specs.declared.port.Entry.{Entry}
 use Rattle.mix_core.specs.Calls.{IsLaidBy, IsPublished, IsTaken}
-use Rattle.mix_core.specs.History.{IsInside, IsReply, Row, event_by, row_of}
+use Rattle.mix_core.specs.History.{IsInside, IsReply, Row, event_by, entry_row}
 use Rattle.mix_core.specs.declared.marks.Marks.{Marks}
 use Rattle.mix_core.specs.declared.port.Kind.TheVariants.{Added}
 use Rattle.mix_core.specs.KeptLaws.{kept_rows-kept}
@@ -76,7 +76,7 @@ pub IsReplied-added : (v w : View) (e : Entry) → e.kind ≡ Added → MayAdd v
 IsReplied-added v w e kind may laid =
     IsReplied-kept v w _ In refl laid.geometry laid.members laid.gone
     (λ h s.
-    let row : row_of e ≡ (Add e.member e.frame e.channel e.sample, In) = ap (λ k. (event_by k e.member e.frame e.channel e.sample, In)) kind in
+    let row : entry_row e ≡ (Add e.member e.frame e.channel e.sample, In) = ap (λ k. (event_by k e.member e.frame e.channel e.sample, In)) kind in
     let inside : IsInside v.geometry (length v.marks) h e.member e.frame e.channel = record {
       member_in_range = may.member_in_range;
       channel_in_range = may.channel_in_range;

@@ -7,7 +7,7 @@ use Rattle.mix_core.specs.declared.port.Entry.{Entry}
 use Rattle.mix_core.specs.declared.event.Event.TheVariants.{Publish, Take}
 use Rattle.mix_core.specs.declared.event.Reply.TheVariants.{LapEnd, Published, Took}
 use Rattle.mix_core.specs.declared.event.Taken.{Taken}
-use Rattle.mix_core.specs.History.{IsReply, Row, is_taken, laid_of, row_of, taken_of}
+use Rattle.mix_core.specs.History.{IsReply, Row, is_taken, laid_of, entry_row, taken_words}
 use Rattle.mix_core.specs.Laid.{marks_after, total}
 use Rattle.mix_core.specs.Marks.{start_marks}
 use Rattle.mix_core.specs.Port.{IsNotBefore}
@@ -37,8 +37,8 @@ pub record IsLaidBy (v w : View) (e : Entry) : Type 0 where
   pub next : w.next ≡ v.next
   pub position : w.position ≡ v.position
   pub gone : w.gone ≡ v.gone
-  pub untaken : (h : List Row) → Stands v h → is_taken (taken_of h) e.frame e.channel ≡ false
-  pub stands : (h : List Row) → Stands v h → IsReply v.geometry (length v.marks) h (row_of e) → Stands w (h ++ row_of e ∷ [])
+  pub untaken : (h : List Row) → Stands v h → is_taken (taken_words h) e.frame e.channel ≡ false
+  pub stands : (h : List Row) → Stands v h → IsReply v.geometry (length v.marks) h (entry_row e) → Stands w (h ++ entry_row e ∷ [])
 
 -- the next word was taken: its value is the total there, saturated to a sample, and each history has the take at its end
 pub record IsTaken (v w : View) (t : Taken) : Type 0 where

@@ -14,7 +14,7 @@ use Rattle.mix_core.specs.declared.port.Kind.{Kind}
 use Rattle.mix_core.specs.declared.port.Kind.TheVariants.{Added, Withdrawn}
 use Rattle.mix_core.specs.declared.turn.Turn.{Turn}
 use Rattle.mix_core.specs.Calls.{IsLaidBy}
-use Rattle.mix_core.specs.History.{IsHeld, IsInside, IsLegal, IsReply, IsSample, Row, entry_of, event_by, is_taken, laid_of, row_of, taken_of}
+use Rattle.mix_core.specs.History.{IsHeld, IsInside, IsLegal, IsReply, IsSample, Row, entry_of, event_by, is_taken, laid_of, entry_row, taken_words}
 use Rattle.mix_core.specs.HistoryLaws.{laid_of-append_rows}
 use Rattle.mix_core.specs.Laid.{EndsIn, a_withdrawal, an_add, count, last_entry, marks_with, marks_after, marks_of, own_entries, stand_after, standing_of, standing_with, without_last}
 use Rattle.mix_core.specs.LegalLaws.{AreLeast, AreReplies-keep, entry_of-cases, marks_of-least, may_lay}
@@ -36,13 +36,13 @@ last_is st f c s is = elim (last_cases st) [
 ]
 
 -- a member's standing adds are in the order of its marks
-pub record Holds (g : Geometry) (m : Marks) (held : List Entry) : Type 0 where
+pub record HoldsAdds (g : Geometry) (m : Marks) (held : List Entry) : Type 0 where
   pub cursor_high : (c : ℕ) → first_free m.cursor c ≤ first_free m.high c
   pub holding : (free : List Entry) × IsHolding g m held free
 
 holds-laid : (g : Geometry) (members : ℕ) (h : List Row) (e : Entry) → may_lay e.kind g members h e.member e.frame e.channel e.sample
-    → Holds g (marks_of g e.member (laid_of h)) (standing_of e.member (laid_of h))
-    → Holds g (marks_after g (marks_of g e.member (laid_of h)) e) (stand_after (standing_of e.member (laid_of h)) e)
+    → HoldsAdds g (marks_of g e.member (laid_of h)) (standing_of e.member (laid_of h))
+    → HoldsAdds g (marks_after g (marks_of g e.member (laid_of h)) e) (stand_after (standing_of e.member (laid_of h)) e)
 holds-laid g members h e may x = by_kind e.kind may where
   m : Marks
   m = marks_of g e.member (laid_of h)
@@ -50,7 +50,7 @@ holds-laid g members h e may x = by_kind e.kind may where
   held : List Entry
   held = standing_of e.member (laid_of h)
 
-  by_kind : (k : Kind) → may_lay k g members h e.member e.frame e.channel e.sample → Holds g (marks_with k g (marks_of g e.member (laid_of h)) e.frame e.channel) (standing_with k (standing_of e.member (laid_of h)) e)
+  by_kind : (k : Kind) → may_lay k g members h e.member e.frame e.channel e.sample → HoldsAdds g (marks_with k g (marks_of g e.member (laid_of h)) e.frame e.channel) (standing_with k (standing_of e.member (laid_of h)) e)
   by_kind Added may = record {
     cursor_high = λ d. later_up_to (marks_of g e.member (laid_of h)).high _ d;
     holding = (_, IsHolding-add g (marks_of g e.member (laid_of h)) (standing_of e.member (laid_of h)) x.holding.0 e x.holding.1 x.cursor_high may.channel_in_range may.from_cursor);
@@ -75,9 +75,9 @@ holds-laid g members h e may x = by_kind e.kind may where
         );
       }
 
-pub legal-holds : (g : Geometry) (members : ℕ) (h : List Row) (m : ℕ) → IsLegal g members h → Holds g (marks_of g m (laid_of h)) (standing_of m (laid_of h))
+pub legal-holds : (g : Geometry) (members : ℕ) (h : List Row) (m : ℕ) → IsLegal g members h → HoldsAdds g (marks_of g m (laid_of h)) (standing_of m (laid_of h))
 legal-holds g members h m legal =
-    let P : List Row → Type 0 = λ x. (k : ℕ) → Holds g (marks_of g k (laid_of x)) (standing_of k (laid_of x)) in
+    let P : List Row → Type 0 = λ x. (k : ℕ) → HoldsAdds g (marks_of g k (laid_of x)) (standing_of k (laid_of x)) in
     AreReplies-keep g members P (
     λ x r is holds k. elim (entry_of-cases g members x r is) [
       | inl none ↦ rw (filter_map-append entry_of x (r ∷ []), none, append-nil (laid_of x)) (holds k)
@@ -86,13 +86,13 @@ legal-holds g members h m legal =
           rw (filter_map-append entry_of x (r ∷ []), one.1.0)
           (elim (cases_eq e.member k) [
             | inl same ↦
-                subst (λ n. Holds g (marks_of g n (laid_of x ++ e ∷ [])) (standing_of n (laid_of x ++ e ∷ []))) same
-                (subst (λ zs. Holds g (marks_of g e.member (laid_of x ++ e ∷ [])) zs) (sym (standing_of-own e.member (laid_of x) e refl))
-                (subst (λ y. Holds g y (stand_after (standing_of e.member (laid_of x)) e)) (sym (marks_of-own g e.member (laid_of x) e refl))
+                subst (λ n. HoldsAdds g (marks_of g n (laid_of x ++ e ∷ [])) (standing_of n (laid_of x ++ e ∷ []))) same
+                (subst (λ zs. HoldsAdds g (marks_of g e.member (laid_of x ++ e ∷ [])) zs) (sym (standing_of-own e.member (laid_of x) e refl))
+                (subst (λ y. HoldsAdds g y (stand_after (standing_of e.member (laid_of x)) e)) (sym (marks_of-own g e.member (laid_of x) e refl))
                 (holds-laid g members x e one.1.1 (holds e.member))))
             | inr other ↦
-                subst (λ zs. Holds g (marks_of g k (laid_of x ++ e ∷ [])) zs) (sym (standing_of-other k (laid_of x) e other))
-                (subst (λ y. Holds g y (standing_of k (laid_of x))) (sym (marks_of-other g k (laid_of x) e other)) (holds k))
+                subst (λ zs. HoldsAdds g (marks_of g k (laid_of x ++ e ∷ [])) zs) (sym (standing_of-other k (laid_of x) e other))
+                (subst (λ y. HoldsAdds g y (standing_of k (laid_of x))) (sym (marks_of-other g k (laid_of x) e other)) (holds k))
           ])
     ]
     ) [] h (λ k. record { cursor_high = λ c. omega arith; holding = ([], record { before = tt; rising = tt; ends = ([], refl, tt) }) }) legal m
@@ -107,7 +107,7 @@ pub held-entry : (v : View) (h : List Row) (m : ℕ) (early : List Entry) (x : E
 held-entry v h m early x st inside is =
     let g : Geometry = v.geometry in
     let marks_is : marks_at v m ≡ marks_of g m (laid_of h) = st.agrees.marks m _ inside in
-    let holds : Holds g (marks_of g m (laid_of h)) (standing_of m (laid_of h)) = legal-holds g (length v.marks) h m st.legal in
+    let holds : HoldsAdds g (marks_of g m (laid_of h)) (standing_of m (laid_of h)) = legal-holds g (length v.marks) h m st.legal in
     let b : Each (IsBehind g (marks_of g m (laid_of h)).cursor) (x ∷ []) =
     Each-right (IsBehind g (marks_of g m (laid_of h)).cursor) early (x ∷ []) (subst (Each (IsBehind g (marks_of g m (laid_of h)).cursor)) is holds.holding.1.before) in
     let Counted : Entry → Type 0 = λ e. 1 ≤ count (laid_of h) e.frame e.channel in
@@ -151,8 +151,8 @@ missed-back v h m f c s held taken st =
 -- an entry that goes on a history legally, at a frame and channel that weren't taken, has the reply In
 abbrev pub MayIn : View → Entry → Type 0
 MayIn v e =
-    (h : List Row) → Stands v h → Continues v.geometry (length v.marks) h e → is_taken (taken_of h) e.frame e.channel ≡ false
-    → IsReply v.geometry (length v.marks) h (row_of e)
+    (h : List Row) → Stands v h → Continues v.geometry (length v.marks) h e → is_taken (taken_words h) e.frame e.channel ≡ false
+    → IsReply v.geometry (length v.marks) h (entry_row e)
 
 pub may_in-add : (v : View) (m f c : ℕ) (s : ℤ) → m < length v.marks → c < v.geometry.channels → IsFrom (cursor_at v m) f c
     → f < v.position + v.geometry.frames → lap v.geometry f < 4294967295 → MayIn v (an_add m f c s)
@@ -200,7 +200,7 @@ TurnEndsIn-back t u xs f c s from laid ends =
     let early : List Entry = ends.1.1.0 in
     let is : standing_of m (laid_of h) ≡ (early ++ xs) ++ an_add m f c s ∷ [] = ends.1.1.1 ∙ sym (append_assoc early xs (an_add m f c s ∷ [])) in
     let held : IsHeld (core_of t).geometry (length (core_of t).marks) h m f c s = held-in (core_of t) h m f c s st t.in_range from (early ++ xs, is) in
-    let r : Row = row_of (a_withdrawal m f c s) in
+    let r : Row = entry_row (a_withdrawal m f c s) in
     let more : standing_of m (laid_of (h ++ r ∷ [])) ≡ early ++ xs =
     ap (standing_of m) (laid_of-append_rows h (a_withdrawal m f c s ∷ [])) ∙ (standing_of-own m (laid_of h) (a_withdrawal m f c s) refl ∙ (ap without_last is ∙ without_last-more (early ++ xs) (an_add m f c s))) in
     (h ++ r ∷ [], (laid.stands h st (held, tt), (early, subst (λ n. standing_of n (laid_of (h ++ r ∷ [])) ≡ early ++ xs) (sym laid.same_member) more)))

@@ -28,8 +28,8 @@ abbrev pub event_of : Entry → Event
 event_of e = event_by e.kind e.member e.frame e.channel e.sample
 
 -- the row of an entry: an add or a withdrawal that was in time
-abbrev pub row_of : Entry → Row
-row_of e = (event_of e, In)
+abbrev pub entry_row : Entry → Row
+entry_row e = (event_of e, In)
 
 -- the row of an entry that was late: its frame and channel were taken before
 abbrev pub late_row : Entry → Row
@@ -51,16 +51,16 @@ taking_of (Take, Took f c v) = Some (record { frame = f; channel = c; value = v 
 taking_of (e, r) = None
 
 -- what a history took, in order
-abbrev pub taken_of : List Row → List Taken
-taken_of h = filter_map taking_of h
+abbrev pub taken_words : List Row → List Taken
+taken_words h = filter_map taking_of h
 
 -- whether what was taken has the word of a frame and channel
 abbrev pub is_taken : List Taken → ℕ → ℕ → Bool
 is_taken ts f c = list_any (λ (t : Taken). (t.frame == f) && (t.channel == c)) ts
 
 -- the next word to be taken: as many words were taken before it
-abbrev pub next_of : Geometry → List Row → Cursor
-next_of g h = next_word g (length (taken_of h))
+abbrev pub next_to_take : Geometry → List Row → Cursor
+next_to_take g h = next_word g (length (taken_words h))
 
 -- the position after one more row: that of a publication is in its reply
 abbrev pub position_after : ℕ → Row → ℕ
@@ -100,16 +100,16 @@ pub record IsHeld (g : Geometry) (members : ℕ) (h : List Row) (m f c : ℕ) (s
 -- publishes the frame of the next word
 abbrev pub IsReply : Geometry → ℕ → List Row → Row → Type 0
 IsReply g members h (Add m f c s, Outside) = ¬ (IsInside g members h m f c)
-IsReply g members h (Add m f c s, Late) = IsInside g members h m f c × (is_taken (taken_of h) f c ≡ true)
-IsReply g members h (Add m f c s, In) = IsInside g members h m f c × (is_taken (taken_of h) f c ≡ false)
+IsReply g members h (Add m f c s, Late) = IsInside g members h m f c × (is_taken (taken_words h) f c ≡ true)
+IsReply g members h (Add m f c s, In) = IsInside g members h m f c × (is_taken (taken_words h) f c ≡ false)
 IsReply g members h (Withdraw m f c s, Outside) = ¬ (IsHeld g members h m f c s)
-IsReply g members h (Withdraw m f c s, Late) = IsHeld g members h m f c s × (is_taken (taken_of h) f c ≡ true)
-IsReply g members h (Withdraw m f c s, In) = IsHeld g members h m f c s × (is_taken (taken_of h) f c ≡ false)
-IsReply g members h (Take, LapEnd) = lap g (next_of g h).frame ≡ 4294967295
+IsReply g members h (Withdraw m f c s, Late) = IsHeld g members h m f c s × (is_taken (taken_words h) f c ≡ true)
+IsReply g members h (Withdraw m f c s, In) = IsHeld g members h m f c s × (is_taken (taken_words h) f c ≡ false)
+IsReply g members h (Take, LapEnd) = lap g (next_to_take g h).frame ≡ 4294967295
 IsReply g members h (Take, Took f c v) =
-    (lap g (next_of g h).frame ≢ 4294967295) × (f ≡ (next_of g h).frame) × (c ≡ (next_of g h).channel)
+    (lap g (next_to_take g h).frame ≢ 4294967295) × (f ≡ (next_to_take g h).frame) × (c ≡ (next_to_take g h).channel)
     × (v ≡ clamp_of (total (laid_of h) f c))
-IsReply g members h (Publish, Published frame) = frame ≡ (next_of g h).frame
+IsReply g members h (Publish, Published frame) = frame ≡ (next_to_take g h).frame
 IsReply g members h (e, r) = ⊥
 
 -- each of the rows that follow a history has the reply that the rows before it determine
@@ -122,12 +122,12 @@ abbrev pub IsLegal : Geometry → ℕ → List Row → Type 0
 IsLegal g members h = AreReplies g members [] h
 
 -- where a taken word was
-abbrev pub place_of : Taken → Cursor
-place_of t = record { frame = t.frame; channel = t.channel }
+abbrev pub taken_place : Taken → Cursor
+taken_place t = record { frame = t.frame; channel = t.channel }
 
 -- the list of everything that was taken is in order: its i-th is at the next word after i taken words
 abbrev pub AreInOrder : Geometry → List Taken → Type 0
-AreInOrder g ts = (i : ℕ) (d : Taken) → i < length ts → place_of (slice_index_or ts i d) ≡ next_word g i
+AreInOrder g ts = (i : ℕ) (d : Taken) → i < length ts → taken_place (slice_index_or ts i d) ≡ next_word g i
 
 -- each taken value is the total of what was placed there, saturated once to a sample
 abbrev pub AreExact : List Entry → List Taken → Type 0

@@ -10,11 +10,11 @@ use Rattle.mix_core.specs.declared.event.Reply.{Reply}
 use Rattle.mix_core.specs.declared.port.Kind.{Kind}
 use Rattle.mix_core.specs.declared.port.Kind.TheVariants.{Added, Withdrawn}
 use Rattle.mix_core.specs.declared.port.Entry.{Entry}
-use Rattle.mix_core.specs.History.{Row, entry_of, event_by, event_of, laid_of, late_row, position_after, row_of, taken_of, taking_of}
+use Rattle.mix_core.specs.History.{Row, entry_of, event_by, event_of, laid_of, late_row, position_after, entry_row, taken_words, taking_of}
 use Rattle.mix_core.specs.Laid.{at, is_at, sum_of_samples, total, value_of}
 
 -- the row of an entry placed it, and took nothing
-pub entry_of-row : (e : Entry) → entry_of (row_of e) ≡ Some e
+pub entry_of-row : (e : Entry) → entry_of (entry_row e) ≡ Some e
 entry_of-row e = by_kind e.kind e.member e.frame e.channel e.sample where
   by_kind : (k : Kind) (m f c : ℕ) (s : ℤ) → entry_of (event_by k m f c s, In) ≡ Some (record { member = m; frame = f; channel = c; sample = s; kind = k })
   by_kind Added m f c s = refl
@@ -39,41 +39,41 @@ position_after-row p e r = by_kind e.kind e.member e.frame e.channel e.sample wh
   by_kind Withdrawn m f c s = refl
 
 -- the rows of entries placed these, and took nothing
-pub laid_of-rows : (es : List Entry) → laid_of (map row_of es) ≡ es
+pub laid_of-rows : (es : List Entry) → laid_of (map entry_row es) ≡ es
 laid_of-rows [] = refl
 laid_of-rows (e ∷ es) = rw (entry_of-row e) (ap (λ xs. e ∷ xs) (laid_of-rows es))
 
-pub taken_of-rows : (es : List Entry) → taken_of (map row_of es) ≡ []
-taken_of-rows [] = refl
-taken_of-rows (e ∷ es) = rw (taking_of-row e In) (taken_of-rows es)
+pub taken_words-rows : (es : List Entry) → taken_words (map entry_row es) ≡ []
+taken_words-rows [] = refl
+taken_words-rows (e ∷ es) = rw (taking_of-row e In) (taken_words-rows es)
 
 -- a history that goes on with the rows of entries
-pub laid_of-append_rows : (h : List Row) (es : List Entry) → laid_of (h ++ map row_of es) ≡ laid_of h ++ es
-laid_of-append_rows h es = filter_map-append entry_of h (map row_of es) ∙ ap (λ xs. laid_of h ++ xs) (laid_of-rows es)
+pub laid_of-append_rows : (h : List Row) (es : List Entry) → laid_of (h ++ map entry_row es) ≡ laid_of h ++ es
+laid_of-append_rows h es = filter_map-append entry_of h (map entry_row es) ∙ ap (λ xs. laid_of h ++ xs) (laid_of-rows es)
 
-pub taken_of-append_rows : (h : List Row) (es : List Entry) → taken_of (h ++ map row_of es) ≡ taken_of h
-taken_of-append_rows h es = filter_map-append taking_of h (map row_of es) ∙ (ap (λ xs. taken_of h ++ xs) (taken_of-rows es) ∙ append-nil (taken_of h))
+pub taken_words-append_rows : (h : List Row) (es : List Entry) → taken_words (h ++ map entry_row es) ≡ taken_words h
+taken_words-append_rows h es = filter_map-append taking_of h (map entry_row es) ∙ (ap (λ xs. taken_words h ++ xs) (taken_words-rows es) ∙ append-nil (taken_words h))
 
 -- one that goes on with a take
 pub laid_of-append_took : (h : List Row) (f c : ℕ) (v : ℤ) → laid_of (h ++ (Take, Took f c v) ∷ []) ≡ laid_of h
 laid_of-append_took h f c v = filter_map-append entry_of h ((Take, Took f c v) ∷ []) ∙ append-nil (laid_of h)
 
-pub taken_of-append_took : (h : List Row) (f c : ℕ) (v : ℤ) → taken_of (h ++ (Take, Took f c v) ∷ []) ≡ taken_of h ++ record { frame = f; channel = c; value = v } ∷ []
-taken_of-append_took h f c v = filter_map-append taking_of h ((Take, Took f c v) ∷ [])
+pub taken_words-append_took : (h : List Row) (f c : ℕ) (v : ℤ) → taken_words (h ++ (Take, Took f c v) ∷ []) ≡ taken_words h ++ record { frame = f; channel = c; value = v } ∷ []
+taken_words-append_took h f c v = filter_map-append taking_of h ((Take, Took f c v) ∷ [])
 
 -- with a take that was refused
 pub laid_of-append_refused : (h : List Row) → laid_of (h ++ (Take, LapEnd) ∷ []) ≡ laid_of h
 laid_of-append_refused h = filter_map-append entry_of h ((Take, LapEnd) ∷ []) ∙ append-nil (laid_of h)
 
-pub taken_of-append_refused : (h : List Row) → taken_of (h ++ (Take, LapEnd) ∷ []) ≡ taken_of h
-taken_of-append_refused h = filter_map-append taking_of h ((Take, LapEnd) ∷ []) ∙ append-nil (taken_of h)
+pub taken_words-append_refused : (h : List Row) → taken_words (h ++ (Take, LapEnd) ∷ []) ≡ taken_words h
+taken_words-append_refused h = filter_map-append taking_of h ((Take, LapEnd) ∷ []) ∙ append-nil (taken_words h)
 
 -- and with a publication
 pub laid_of-append_published : (h : List Row) (frame : ℕ) → laid_of (h ++ (Publish, Published frame) ∷ []) ≡ laid_of h
 laid_of-append_published h frame = filter_map-append entry_of h ((Publish, Published frame) ∷ []) ∙ append-nil (laid_of h)
 
-pub taken_of-append_published : (h : List Row) (frame : ℕ) → taken_of (h ++ (Publish, Published frame) ∷ []) ≡ taken_of h
-taken_of-append_published h frame = filter_map-append taking_of h ((Publish, Published frame) ∷ []) ∙ append-nil (taken_of h)
+pub taken_words-append_published : (h : List Row) (frame : ℕ) → taken_words (h ++ (Publish, Published frame) ∷ []) ≡ taken_words h
+taken_words-append_published h frame = filter_map-append taking_of h ((Publish, Published frame) ∷ []) ∙ append-nil (taken_words h)
 
 -- the samples at a frame and channel, and their sum, of joined lists
 pub at-append : (xs ys : List Entry) (f c : ℕ) → at (xs ++ ys) f c ≡ at xs f c ++ at ys f c

@@ -12,7 +12,7 @@ use Rattle.snd_base.specs.Places.{IsFrom, first_frame, lap, next_word}
 use Rattle.lap_word.specs.Clamp.{clamp_of}
 use Rattle.mix_core.specs.declared.event.Event.TheVariants.{Add, Withdraw, Take, Publish}
 use Rattle.mix_core.specs.declared.event.Reply.TheVariants.{In, Late, Outside, Took, Published, LapEnd}
-use Rattle.mix_core.specs.History.{AreReplies, IsHeld, IsInside, IsSample, IsLegal, IsReply, Row, entry_of, is_taken, laid_of, position_after, position_of, taken_of, taking_of}
+use Rattle.mix_core.specs.History.{AreReplies, IsHeld, IsInside, IsSample, IsLegal, IsReply, Row, entry_of, is_taken, laid_of, position_after, position_of, taken_words, taking_of}
 use Rattle.mix_core.specs.Laid.{cursor_of, last_entry, marks_of, standing_of, total}
 use Rattle.mix_core.specs.Run.{is_kept, kept_rows}
 
@@ -52,8 +52,8 @@ position_after-outside position (e, r) out = refl
 pub laid_of-kept : (h : List Row) → laid_of (kept_rows h) ≡ laid_of h
 laid_of-kept h = filter_map-filter entry_of is_kept entry_of-outside h
 
-pub taken_of-kept : (h : List Row) → taken_of (kept_rows h) ≡ taken_of h
-taken_of-kept h = filter_map-filter taking_of is_kept taking_of-outside h
+pub taken_words-kept : (h : List Row) → taken_words (kept_rows h) ≡ taken_words h
+taken_words-kept h = filter_map-filter taking_of is_kept taking_of-outside h
 
 pub position_of-kept : (g : Geometry) (h : List Row) → position_of g (kept_rows h) ≡ position_of g h
 position_of-kept g h = fold-filter position_after is_kept position_after-outside (first_frame g) h
@@ -61,7 +61,7 @@ position_of-kept g h = fold-filter position_after is_kept position_after-outside
 -- two histories that placed and took the same, with one position
 pub record AreAlike (g : Geometry) (h k : List Row) : Type 0 where
   pub laid : laid_of h ≡ laid_of k
-  pub taken : taken_of h ≡ taken_of k
+  pub taken : taken_words h ≡ taken_words k
   pub position : position_of g h ≡ position_of g k
 
 pub AreAlike-sym : (g : Geometry) (h k : List Row) → AreAlike g h k → AreAlike g k h
@@ -71,7 +71,7 @@ AreAlike-sym g h k alike = record { laid = sym alike.laid; taken = sym alike.tak
 pub AreAlike-append : (g : Geometry) (h k rs : List Row) → AreAlike g h k → AreAlike g (h ++ rs) (k ++ rs)
 AreAlike-append g h k rs alike = record {
   laid = rw (filter_map-append entry_of h rs, filter_map-append entry_of k rs) (ap (λ es. es ++ laid_of rs) alike.laid);
-  taken = rw (filter_map-append taking_of h rs, filter_map-append taking_of k rs) (ap (λ ts. ts ++ taken_of rs) alike.taken);
+  taken = rw (filter_map-append taking_of h rs, filter_map-append taking_of k rs) (ap (λ ts. ts ++ taken_words rs) alike.taken);
   position = rw (fold-append position_after (first_frame g) h rs, fold-append position_after (first_frame g) k rs) (ap (λ p. fold position_after p rs) alike.position);
 }
 
@@ -79,7 +79,7 @@ AreAlike-append g h k rs alike = record {
 pub AreAlike-kept : (g : Geometry) (h rs : List Row) → AreAlike g (h ++ kept_rows rs) (h ++ rs)
 AreAlike-kept g h rs = record {
   laid = rw (filter_map-append entry_of h (kept_rows rs), filter_map-append entry_of h rs, laid_of-kept rs) refl;
-  taken = rw (filter_map-append taking_of h (kept_rows rs), filter_map-append taking_of h rs, taken_of-kept rs) refl;
+  taken = rw (filter_map-append taking_of h (kept_rows rs), filter_map-append taking_of h rs, taken_words-kept rs) refl;
   position = rw (fold-append position_after (first_frame g) h (kept_rows rs), fold-append position_after (first_frame g) h rs)
       (fold-filter position_after is_kept position_after-outside (position_of g h) rs);
 }

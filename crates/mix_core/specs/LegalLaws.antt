@@ -14,7 +14,7 @@ use Rattle.mix_core.specs.declared.port.Entry.{Entry}
 use Rattle.mix_core.specs.declared.event.Event.TheVariants.{Add, Withdraw, Take, Publish}
 use Rattle.mix_core.specs.declared.event.Reply.TheVariants.{In, Late, Outside, Took, Published, LapEnd}
 use Rattle.mix_core.specs.declared.event.Taken.{Taken}
-use Rattle.mix_core.specs.History.{AreReplies, IsHeld, IsInside, IsLegal, IsReply, Row, entry_of, laid_of, next_of, taken_of, taking_of}
+use Rattle.mix_core.specs.History.{AreReplies, IsHeld, IsInside, IsLegal, IsReply, Row, entry_of, laid_of, next_to_take, taken_words, taking_of}
 use Rattle.mix_core.specs.declared.marks.Marks.{Marks}
 use Rattle.mix_core.specs.declared.port.Kind.{Kind}
 use Rattle.mix_core.specs.declared.port.Kind.TheVariants.{Added, Withdrawn}
@@ -73,7 +73,7 @@ entry_of-cases g members h (Publish, r) is = inl refl
 
 -- a row takes nothing, or one word whose frame has a lap that fits
 pub taking_of-cases : (g : Geometry) (members : ℕ) (h : List Row) (r : Row) → IsReply g members h r
-    → (taking_of r ≡ None) ⊎ ((t : Taken) × ((taking_of r ≡ Some t) × (lap g (next_of g h).frame ≢ 4294967295)))
+    → (taking_of r ≡ None) ⊎ ((t : Taken) × ((taking_of r ≡ Some t) × (lap g (next_to_take g h).frame ≢ 4294967295)))
 taking_of-cases g members h (Add m f c s, r) is = inl refl
 taking_of-cases g members h (Withdraw m f c s, r) is = inl refl
 taking_of-cases g members h (Publish, r) is = inl refl
@@ -141,31 +141,31 @@ behind-within : (g : Geometry) (at : Cursor) (c : ℕ) → at.frame < end_frame 
 behind-within g at c before = grind (arith, nat_tests)
 
 -- after one more take the next word is the one right after it, and after any other row it is the same
-pub next_of-took : (g : Geometry) (h : List Row) (r : Row) (t : Taken) → taking_of r ≡ Some t → next_of g (h ++ r ∷ []) ≡ cursor_after g (next_of g h).frame (next_of g h).channel
-next_of-took g h r t one =
-    let more : taken_of (h ++ r ∷ []) ≡ taken_of h ++ t ∷ [] = rw (filter_map-append taking_of h (r ∷ []), one) refl in
-    ap (λ ts. next_word g (length ts)) more ∙ (ap (next_word g) (length-append (taken_of h) (t ∷ [])) ∙ next_word-suc g (length (taken_of h)))
+pub next_to_take-took : (g : Geometry) (h : List Row) (r : Row) (t : Taken) → taking_of r ≡ Some t → next_to_take g (h ++ r ∷ []) ≡ cursor_after g (next_to_take g h).frame (next_to_take g h).channel
+next_to_take-took g h r t one =
+    let more : taken_words (h ++ r ∷ []) ≡ taken_words h ++ t ∷ [] = rw (filter_map-append taking_of h (r ∷ []), one) refl in
+    ap (λ ts. next_word g (length ts)) more ∙ (ap (next_word g) (length-append (taken_words h) (t ∷ [])) ∙ next_word-suc g (length (taken_words h)))
 
-pub next_of-kept : (g : Geometry) (h : List Row) (r : Row) → taking_of r ≡ None → next_of g (h ++ r ∷ []) ≡ next_of g h
-next_of-kept g h r none = rw (filter_map-append taking_of h (r ∷ []), none, append-nil (taken_of h)) refl
+pub next_to_take-kept : (g : Geometry) (h : List Row) (r : Row) → taking_of r ≡ None → next_to_take g (h ++ r ∷ []) ≡ next_to_take g h
+next_to_take-kept g h r none = rw (filter_map-append taking_of h (r ∷ []), none, append-nil (taken_words h)) refl
 
 -- no frame from the end on is taken
-pub next_of-most : (g : Geometry) (members : ℕ) (h : List Row) (c : ℕ) → IsLegal g members h → first_free (next_of g h) c ≤ end_frame g
-next_of-most g members h c legal =
-    let P : List Row → Type 0 = λ x. (d : ℕ) → first_free (next_of g x) d ≤ end_frame g in
+pub next_to_take-most : (g : Geometry) (members : ℕ) (h : List Row) (c : ℕ) → IsLegal g members h → first_free (next_to_take g h) c ≤ end_frame g
+next_to_take-most g members h c legal =
+    let P : List Row → Type 0 = λ x. (d : ℕ) → first_free (next_to_take g x) d ≤ end_frame g in
     let start_is : next_word g 0 ≡ record { frame = first_frame g; channel = 0 } = grind arith in
     AreReplies-keep g members P (
     λ x r is holds d. elim (taking_of-cases g members x r is) [
-      | inl none ↦ subst (λ (y : Cursor). first_free y d ≤ end_frame g) (sym (next_of-kept g x r none)) (holds d)
+      | inl none ↦ subst (λ (y : Cursor). first_free y d ≤ end_frame g) (sym (next_to_take-kept g x r none)) (holds d)
       | inr one ↦
-          let at : Cursor = next_of g x in
+          let at : Cursor = next_to_take g x in
           let own : at.frame ≤ end_frame g = grind (arith, nat_tests, holds at.channel) in
-          subst (λ (y : Cursor). first_free y d ≤ end_frame g) (sym (next_of-took g x r one.0 one.1.0)) (behind-within g at d (frame-before_end g at.frame own one.1.1))
+          subst (λ (y : Cursor). first_free y d ≤ end_frame g) (sym (next_to_take-took g x r one.0 one.1.0)) (behind-within g at d (frame-before_end g at.frame own one.1.1))
     ]
     ) [] h (λ d. subst (λ (x : Cursor). first_free x d ≤ end_frame g) (sym start_is) (grind (arith, nat_tests, first_frame-le g))) legal c
 
 -- the lap of a frame and channel that were taken fits a word
-pub lap-taken : (g : Geometry) (members : ℕ) (h : List Row) (f c : ℕ) → IsLegal g members h → f < first_free (next_of g h) c → lap g f < 4294967295
+pub lap-taken : (g : Geometry) (members : ℕ) (h : List Row) (f c : ℕ) → IsLegal g members h → f < first_free (next_to_take g h) c → lap g f < 4294967295
 lap-taken g members h f c legal before =
     let some : 0 < g.frames = omega (arith, g.frames_least) in
-    (div-lt_iff_lt-mul some).1 (omega (arith, next_of-most g members h c legal, before))
+    (div-lt_iff_lt-mul some).1 (omega (arith, next_to_take-most g members h c legal, before))

@@ -12,7 +12,7 @@ use Rattle.mix_core.specs.declared.event.Event.{Event}
 use Rattle.mix_core.specs.declared.event.Event.TheVariants.{Add, Withdraw, Take, Publish}
 use Rattle.mix_core.specs.declared.event.Reply.{Reply}
 use Rattle.mix_core.specs.declared.event.Reply.TheVariants.{In, Late, Outside, Took, Published, LapEnd}
-use Rattle.mix_core.specs.History.{AreReplies, IsHeld, IsInside, IsReply, IsSample, Row, is_taken, laid_of, next_of, position_of, taken_of}
+use Rattle.mix_core.specs.History.{AreReplies, IsHeld, IsInside, IsReply, IsSample, Row, is_taken, laid_of, next_to_take, position_of, taken_words}
 use Rattle.mix_core.specs.Laid.{cursor_of, last_entry, marks_of, standing_of, total}
 
 -- a member may add at a frame and channel after a history, or not
@@ -75,20 +75,20 @@ pub IsReply-some : (g : Geometry) (members : ℕ) (h : List Row) (e : Event) →
 IsReply-some g members h (Add m f c s) =
     elim (IsInside-decided g members h m f c) [
       | inr outside ↦ (Outside, outside)
-      | inl inside ↦ elim (cases_Bool (is_taken (taken_of h) f c)) [ inl taken ↦ (Late, (inside, taken)) | inr untaken ↦ (In, (inside, untaken)) ]
+      | inl inside ↦ elim (cases_Bool (is_taken (taken_words h) f c)) [ inl taken ↦ (Late, (inside, taken)) | inr untaken ↦ (In, (inside, untaken)) ]
     ]
 IsReply-some g members h (Withdraw m f c s) =
     elim (IsHeld-decided g members h m f c s) [
       | inr outside ↦ (Outside, outside)
-      | inl held ↦ elim (cases_Bool (is_taken (taken_of h) f c)) [ inl taken ↦ (Late, (held, taken)) | inr untaken ↦ (In, (held, untaken)) ]
+      | inl held ↦ elim (cases_Bool (is_taken (taken_words h) f c)) [ inl taken ↦ (Late, (held, taken)) | inr untaken ↦ (In, (held, untaken)) ]
     ]
 IsReply-some g members h Take =
-    elim (cases_eq (lap g (next_of g h).frame) 4294967295) [
+    elim (cases_eq (lap g (next_to_take g h).frame) 4294967295) [
       | inl last ↦ (LapEnd, last)
       | inr other ↦
-          (Took (next_of g h).frame (next_of g h).channel (clamp_of (total (laid_of h) (next_of g h).frame (next_of g h).channel)), (other, refl, refl, refl))
+          (Took (next_to_take g h).frame (next_to_take g h).channel (clamp_of (total (laid_of h) (next_to_take g h).frame (next_to_take g h).channel)), (other, refl, refl, refl))
     ]
-IsReply-some g members h Publish = (Published (next_of g h).frame, refl)
+IsReply-some g members h Publish = (Published (next_to_take g h).frame, refl)
 
 -- and no other
 pub IsReply-one : (g : Geometry) (members : ℕ) (h : List Row) (e : Event) (r q : Reply) → IsReply g members h (e, r) → IsReply g members h (e, q) → r ≡ q

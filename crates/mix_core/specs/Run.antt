@@ -9,7 +9,7 @@ use Rattle.mix_core.specs.declared.event.Event.TheVariants.{Withdraw}
 use Rattle.mix_core.specs.declared.event.Reply.{Reply}
 use Rattle.mix_core.specs.declared.event.Reply.TheVariants.{In, Late, Outside}
 use Rattle.mix_core.specs.declared.port.Entry.{Entry}
-use Rattle.mix_core.specs.History.{IsReply, IsSample, Row, is_taken, laid_of, taken_of}
+use Rattle.mix_core.specs.History.{IsReply, IsSample, Row, is_taken, laid_of, taken_words}
 use Rattle.mix_core.specs.Laid.{last_entry, marks_of, own_entries, stand_after, standing_of}
 use Rattle.mix_core.specs.Stands.{Stands}
 use Rattle.mix_core.specs.View.{View, cursor_at, marks_at}
@@ -34,8 +34,8 @@ pub record IsHeldSince (g : Geometry) (members : ℕ) (h rows : List Row) (m f c
 -- withdrawals, which take back what this run added
 abbrev pub IsReplySince : Geometry → ℕ → List Row → List Row → Row → Type 0
 IsReplySince g members h rows (Withdraw m f c s, Outside) = ¬ (IsHeldSince g members h rows m f c s)
-IsReplySince g members h rows (Withdraw m f c s, Late) = IsHeldSince g members h rows m f c s × (is_taken (taken_of (h ++ rows)) f c ≡ true)
-IsReplySince g members h rows (Withdraw m f c s, In) = IsHeldSince g members h rows m f c s × (is_taken (taken_of (h ++ rows)) f c ≡ false)
+IsReplySince g members h rows (Withdraw m f c s, Late) = IsHeldSince g members h rows m f c s × (is_taken (taken_words (h ++ rows)) f c ≡ true)
+IsReplySince g members h rows (Withdraw m f c s, In) = IsHeldSince g members h rows m f c s × (is_taken (taken_words (h ++ rows)) f c ≡ false)
 IsReplySince g members h rows (e, r) = IsReply g members (h ++ rows) (e, r)
 
 abbrev pub AreRepliesSince : Geometry → ℕ → List Row → List Row → List Row → Type 0

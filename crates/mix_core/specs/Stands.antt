@@ -6,7 +6,7 @@ use Rattle.snd_base.specs.Places.{first_frame, first_free, lap, next_word}
 use Rattle.lap_word.specs.Word.{StandsFor}
 use Rattle.mix_core.specs.declared.port.Entry.{Entry}
 use Rattle.mix_core.specs.declared.event.Taken.{Taken}
-use Rattle.mix_core.specs.History.{AreExact, AreInOrder, IsLegal, Row, is_taken, laid_of, position_of, taken_of}
+use Rattle.mix_core.specs.History.{AreExact, AreInOrder, IsLegal, Row, is_taken, laid_of, position_of, taken_words}
 use Rattle.mix_core.specs.Laid.{at, marks_of, total}
 use Rattle.mix_core.specs.Sound.{IsNow}
 use Rattle.mix_core.specs.View.{View, word_at}
@@ -28,4 +28,4 @@ pub record Agrees (v : View) (es : List Entry) (ts : List Taken) : Type 0 where
 pub record Stands (v : View) (h : List Row) : Type 0 where
   pub legal : IsLegal v.geometry (length v.marks) h
   pub position : v.position ≡ position_of v.geometry h
-  pub agrees : Agrees v (laid_of h) (taken_of h)
+  pub agrees : Agrees v (laid_of h) (taken_words h)

@@ -11,8 +11,8 @@ use Rattle.lap_word.specs.Word.{StandsFor-fields, lap_of}
 use Rattle.mix_core.specs.declared.event.Event.TheVariants.{Add, Withdraw, Take, Publish}
 use Rattle.mix_core.specs.declared.event.Reply.TheVariants.{In, Late, Outside, Took, Published, LapEnd}
 use Rattle.mix_core.specs.declared.turn.Turn.{Turn}
-use Rattle.mix_core.specs.History.{IsLegal, IsReply, Row, next_of, position_after, position_of}
-use Rattle.mix_core.specs.LegalLaws.{AreReplies-keep, next_of-kept, next_of-took, taking_of-cases}
+use Rattle.mix_core.specs.History.{IsLegal, IsReply, Row, next_to_take, position_after, position_of}
+use Rattle.mix_core.specs.LegalLaws.{AreReplies-keep, next_to_take-kept, next_to_take-took, taking_of-cases}
 use Rattle.mix_core.specs.Port.{IsPast}
 use Rattle.mix_core.specs.Sound.{IsNow}
 use Rattle.mix_core.specs.Stands.{Stands}
@@ -24,17 +24,17 @@ behind-frame : (g : Geometry) (f c : ℕ) → f ≤ (cursor_after g f c).frame
 behind-frame g f c = grind (arith, nat_tests)
 
 -- the next word's frame never falls
-pub next_of-grows : (g : Geometry) (members : ℕ) (h : List Row) (r : Row) → IsReply g members h r → (next_of g h).frame ≤ (next_of g (h ++ r ∷ [])).frame
-next_of-grows g members h r is =
-    let at : Cursor = next_of g h in
+pub next_to_take-grows : (g : Geometry) (members : ℕ) (h : List Row) (r : Row) → IsReply g members h r → (next_to_take g h).frame ≤ (next_to_take g (h ++ r ∷ [])).frame
+next_to_take-grows g members h r is =
+    let at : Cursor = next_to_take g h in
     elim (taking_of-cases g members h r is) [
-      | inl none ↦ subst (λ (y : Cursor). at.frame ≤ y.frame) (sym (next_of-kept g h r none)) (omega arith)
-      | inr one ↦ subst (λ (y : Cursor). at.frame ≤ y.frame) (sym (next_of-took g h r one.0 one.1.0)) (behind-frame g at.frame at.channel)
+      | inl none ↦ subst (λ (y : Cursor). at.frame ≤ y.frame) (sym (next_to_take-kept g h r none)) (omega arith)
+      | inr one ↦ subst (λ (y : Cursor). at.frame ≤ y.frame) (sym (next_to_take-took g h r one.0 one.1.0)) (behind-frame g at.frame at.channel)
     ]
 
 -- after one more row the position is the same, or the frame of the next word
 pub position_after-cases : (g : Geometry) (members : ℕ) (h : List Row) (p : ℕ) (r : Row) → IsReply g members h r
-    → (position_after p r ≡ p) ⊎ (position_after p r ≡ (next_of g h).frame)
+    → (position_after p r ≡ p) ⊎ (position_after p r ≡ (next_to_take g h).frame)
 position_after-cases g members h p (Add m f c s, r) is = inl refl
 position_after-cases g members h p (Withdraw m f c s, r) is = inl refl
 position_after-cases g members h p (Take, r) is = inl refl
@@ -46,13 +46,13 @@ position_after-cases g members h p (Publish, Published frame) is = inr is
 position_after-cases g members h p (Publish, LapEnd) is = inl refl
 
 -- the position is not past the next word
-pub position_of-most : (g : Geometry) (members : ℕ) (h : List Row) → IsLegal g members h → position_of g h ≤ (next_of g h).frame
+pub position_of-most : (g : Geometry) (members : ℕ) (h : List Row) → IsLegal g members h → position_of g h ≤ (next_to_take g h).frame
 position_of-most g members h legal =
-    let P : List Row → Type 0 = λ x. position_of g x ≤ (next_of g x).frame in
+    let P : List Row → Type 0 = λ x. position_of g x ≤ (next_to_take g x).frame in
     let start : (next_word g 0).frame ≡ first_frame g = grind arith in
     AreReplies-keep g members P (
     λ x r is holds.
-    let grows : (next_of g x).frame ≤ (next_of g (x ++ r ∷ [])).frame = next_of-grows g members x r is in
+    let grows : (next_to_take g x).frame ≤ (next_to_take g (x ++ r ∷ [])).frame = next_to_take-grows g members x r is in
     let more : position_of g (x ++ r ∷ []) ≡ position_after (position_of g x) r = fold_push position_after (first_frame g) x r in
     elim (position_after-cases g members x (position_of g x) r is) [
       | inl kept ↦ omega (arith, more, kept, grows, holds)
@@ -64,7 +64,7 @@ position_of-most g members h legal =
 pub taken-published : (v : View) (h : List Row) (f c : ℕ) → Stands v h → f < v.position → f < first_free v.next c
 taken-published v h f c s before =
     let most : v.position ≤ v.next.frame = subst (λ (x : Cursor). v.position ≤ x.frame) (sym s.agrees.next)
-    (subst (λ p. p ≤ (next_of v.geometry h).frame) (sym s.position) (position_of-most v.geometry (length v.marks) h s.legal)) in
+    (subst (λ p. p ≤ (next_to_take v.geometry h).frame) (sym s.position) (position_of-most v.geometry (length v.marks) h s.legal)) in
     grind (arith, nat_tests)
 
 -- and so is a frame and channel where it shows a word of a later lap
@@ -75,7 +75,7 @@ taken-shown v h f c word s in_range ahead shown later =
       | inl before ↦ before
       | inr from ↦
           let most : v.position ≤ v.next.frame = subst (λ (x : Cursor). v.position ≤ x.frame) (sym s.agrees.next)
-          (subst (λ p. p ≤ (next_of v.geometry h).frame) (sym s.position) (position_of-most v.geometry (length v.marks) h s.legal)) in
+          (subst (λ p. p ≤ (next_to_take v.geometry h).frame) (sym s.position) (position_of-most v.geometry (length v.marks) h s.legal)) in
           let now : IsNow v.geometry v.next f c = record { channel = in_range; low = from; high = grind (arith, nat_tests) } in
           let same : lap_of (word_at v f c) ≡ lap v.geometry f = (StandsFor-fields _ _ _ _ (s.agrees.words f c now)).0 in
           absurd (omega (arith, later, same, ap lap_of shown))

@@ -8,7 +8,7 @@ use Rattle.mix_core.specs.declared.port.Ended.{Ended}
 use Rattle.mix_core.specs.declared.port.Entry.{Entry}
 use Rattle.mix_core.specs.declared.port.Position.{Position}
 use Rattle.mix_core.specs.declared.turn.Turn.{Turn}
-use Rattle.mix_core.specs.History.{IsHeld, Row, laid_of, late_row, row_of}
+use Rattle.mix_core.specs.History.{IsHeld, Row, laid_of, late_row, entry_row}
 use Rattle.mix_core.specs.declared.marks.Marks.{Marks}
 use Rattle.mix_core.specs.declared.port.Kind.{Kind}
 use Rattle.mix_core.specs.declared.port.Kind.TheVariants.{Added, Withdrawn}
@@ -57,7 +57,7 @@ Continues g members h e = continues e.kind g members h e.member e.frame e.channe
 -- entries do, one after the other
 abbrev pub AllContinue : Geometry → ℕ → List Row → List Entry → Type 0
 AllContinue g members h [] = ⊤
-AllContinue g members h (e ∷ es) = Continues g members h e × AllContinue g members (h ++ row_of e ∷ []) es
+AllContinue g members h (e ∷ es) = Continues g members h e × AllContinue g members (h ++ entry_row e ∷ []) es
 
 -- the turn holds the core that a reference borrows
 abbrev pub HoldsCore : Turn → MutBor View → Type 0
@@ -83,7 +83,7 @@ pub record TurnLaid (t u : Turn) (es : List Entry) : Type 0 where
   -- no word falls, by its lap and then its count
   pub words : (i : ℕ) → IsNotBefore (slice_index (core_of t).words i) (slice_index (core_of u).words i)
   pub others : (m : ℕ) (d : Marks) → m ≢ t.member → slice_index_or (core_of u).marks m d ≡ slice_index_or (core_of t).marks m d
-  pub stands : (h : List Row) → Stands (core_of t) h → AllContinue (core_of t).geometry (length (core_of t).marks) h es → Stands (core_of u) (h ++ map row_of es)
+  pub stands : (h : List Row) → Stands (core_of t) h → AllContinue (core_of t).geometry (length (core_of t).marks) h es → Stands (core_of u) (h ++ map entry_row es)
 
 -- a turn's add of an entry was late: each history that the core represented has this add at its end
 abbrev pub TurnMissed : Turn → Turn → Entry → Type 0

@@ -11,7 +11,7 @@ use Rattle.snd_base.specs.Places.{IsFrom, first_frame, first_free, word_index}
 use Rattle.mix_core.specs.declared.port.Entry.{Entry}
 use Rattle.mix_core.specs.declared.port.Position.{Position}
 use Rattle.mix_core.specs.declared.turn.Turn.{Turn}
-use Rattle.mix_core.specs.History.{IsInside, IsReply, Row, entry_of, event_by, is_taken, laid_of, late_row, position_after, position_of, row_of, taken_of, taking_of}
+use Rattle.mix_core.specs.History.{IsInside, IsReply, Row, entry_of, event_by, is_taken, laid_of, late_row, position_after, position_of, entry_row, taken_words, taking_of}
 use Rattle.mix_core.specs.HistoryLaws.{entry_of-late, laid_of-append_rows, position_after-row, taking_of-row}
 use Rattle.mix_core.specs.declared.event.Reply.TheVariants.{Late}
 use Rattle.mix_core.specs.declared.marks.Marks.{Marks}
@@ -36,17 +36,17 @@ KeepsRest-joined u v w first then = record {
 }
 
 -- the rows of joined lists are one after the other
-pub rows-joined : (h : List Row) (xs ys : List Entry) → (h ++ map row_of xs) ++ map row_of ys ≡ h ++ map row_of (xs ++ ys)
-rows-joined h xs ys = append_assoc h (map row_of xs) (map row_of ys) ∙ ap (λ rs. h ++ rs) (sym (map-append row_of xs ys))
+pub rows-joined : (h : List Row) (xs ys : List Entry) → (h ++ map entry_row xs) ++ map entry_row ys ≡ h ++ map entry_row (xs ++ ys)
+rows-joined h xs ys = append_assoc h (map entry_row xs) (map entry_row ys) ∙ ap (λ rs. h ++ rs) (sym (map-append entry_row xs ys))
 
 -- entries of joined lists
 pub AllContinue-left : (g : Geometry) (members : ℕ) (h : List Row) (xs ys : List Entry) → AllContinue g members h (xs ++ ys) → AllContinue g members h xs
 AllContinue-left g members h [] ys all = tt
-AllContinue-left g members h (x ∷ xs) ys all = (all.0, AllContinue-left g members (h ++ row_of x ∷ []) xs ys all.1)
+AllContinue-left g members h (x ∷ xs) ys all = (all.0, AllContinue-left g members (h ++ entry_row x ∷ []) xs ys all.1)
 
-pub AllContinue-right : (g : Geometry) (members : ℕ) (h : List Row) (xs ys : List Entry) → AllContinue g members h (xs ++ ys) → AllContinue g members (h ++ map row_of xs) ys
+pub AllContinue-right : (g : Geometry) (members : ℕ) (h : List Row) (xs ys : List Entry) → AllContinue g members h (xs ++ ys) → AllContinue g members (h ++ map entry_row xs) ys
 AllContinue-right g members h [] ys all = subst (λ x. AllContinue g members x ys) (sym (append-nil h)) all
-AllContinue-right g members h (x ∷ xs) ys all = subst (λ z. AllContinue g members z ys) (append_assoc h (row_of x ∷ []) (map row_of xs)) (AllContinue-right g members (h ++ row_of x ∷ []) xs ys all.1)
+AllContinue-right g members h (x ∷ xs) ys all = subst (λ z. AllContinue g members z ys) (append_assoc h (entry_row x ∷ []) (map entry_row xs)) (AllContinue-right g members (h ++ entry_row x ∷ []) xs ys all.1)
 
 pub TurnLaid-joined : (p q r : Turn) (xs ys : List Entry) → TurnLaid p q xs → TurnLaid q r ys → TurnLaid p r (xs ++ ys)
 TurnLaid-joined p q r xs ys first then = record {
@@ -63,11 +63,11 @@ TurnLaid-joined p q r xs ys first then = record {
   words = λ i. IsNotBefore-trans (slice_index (core_of p).words i) (slice_index (core_of q).words i) (slice_index (core_of r).words i) (first.words i) (then.words i);
   others = λ m d other. then.others m d (λ same. other (same ∙ first.same_member)) ∙ first.others m d other;
   stands = λ h s all.
-      let right : AllContinue (core_of q).geometry (length (core_of q).marks) (h ++ map row_of xs) ys =
-      subst (λ n. AllContinue (core_of q).geometry n (h ++ map row_of xs) ys) (sym first.rest.members)
-      (subst (λ g. AllContinue g (length (core_of p).marks) (h ++ map row_of xs) ys) (sym first.rest.geometry) (AllContinue-right (core_of p).geometry (length (core_of p).marks) h xs ys all)) in
+      let right : AllContinue (core_of q).geometry (length (core_of q).marks) (h ++ map entry_row xs) ys =
+      subst (λ n. AllContinue (core_of q).geometry n (h ++ map entry_row xs) ys) (sym first.rest.members)
+      (subst (λ g. AllContinue g (length (core_of p).marks) (h ++ map entry_row xs) ys) (sym first.rest.geometry) (AllContinue-right (core_of p).geometry (length (core_of p).marks) h xs ys all)) in
       subst (Stands (core_of r)) (rows-joined h xs ys)
-      (then.stands (h ++ map row_of xs) (first.stands h s (AllContinue-left (core_of p).geometry (length (core_of p).marks) h xs ys all)) right);
+      (then.stands (h ++ map entry_row xs) (first.stands h s (AllContinue-left (core_of p).geometry (length (core_of p).marks) h xs ys all)) right);
 }
 
 pub TurnLaid-composes : Composes TurnLaid
@@ -107,19 +107,19 @@ Stands-late v h e may channel least taken_before s =
     let r : Row = late_row e in
     let g = v.geometry in
     let laid : laid_of (h ++ r ∷ []) ≡ laid_of h = filter_map-append entry_of h (r ∷ []) ∙ rw (entry_of-late e) (append-nil (laid_of h)) in
-    let taken : taken_of (h ++ r ∷ []) ≡ taken_of h = filter_map-append taking_of h (r ∷ []) ∙ rw (taking_of-row e Late) (append-nil (taken_of h)) in
+    let taken : taken_words (h ++ r ∷ []) ≡ taken_words h = filter_map-append taking_of h (r ∷ []) ∙ rw (taking_of-row e Late) (append-nil (taken_words h)) in
     let before : nat_lt e.frame (first_free v.next e.channel) ≡ true = grind (arith, nat_tests, taken_before) in
-    let is : is_taken (taken_of h) e.frame e.channel ≡ true = s.agrees.taken e.frame e.channel channel least ∙ before in
+    let is : is_taken (taken_words h) e.frame e.channel ≡ true = s.agrees.taken e.frame e.channel channel least ∙ before in
     record {
       legal = IsLegal-more g (length v.marks) h r s.legal (late-reply g (length v.marks) h e may is);
       position = s.position ∙ sym (fold_push position_after (first_frame g) h r ∙ position_after-row (position_of g h) e Late);
-      agrees = subst (λ ts. Agrees v (laid_of (h ++ r ∷ [])) ts) (sym taken) (subst (λ es. Agrees v es (taken_of h)) (sym laid) s.agrees);
+      agrees = subst (λ ts. Agrees v (laid_of (h ++ r ∷ [])) ts) (sym taken) (subst (λ es. Agrees v es (taken_words h)) (sym laid) s.agrees);
     } where
-      by_kind : (k : Kind) (g : Geometry) (members : ℕ) (h : List Row) (m f c : ℕ) (x : ℤ) → may_lay k g members h m f c x → is_taken (taken_of h) f c ≡ true → IsReply g members h (event_by k m f c x, Late)
+      by_kind : (k : Kind) (g : Geometry) (members : ℕ) (h : List Row) (m f c : ℕ) (x : ℤ) → may_lay k g members h m f c x → is_taken (taken_words h) f c ≡ true → IsReply g members h (event_by k m f c x, Late)
       by_kind Added g members h m f c x may is = (may, is)
       by_kind Withdrawn g members h m f c x may is = (may, is)
 
-      late-reply : (g : Geometry) (members : ℕ) (h : List Row) (e : Entry) → MayLay g members h e → is_taken (taken_of h) e.frame e.channel ≡ true → IsReply g members h (late_row e)
+      late-reply : (g : Geometry) (members : ℕ) (h : List Row) (e : Entry) → MayLay g members h e → is_taken (taken_words h) e.frame e.channel ≡ true → IsReply g members h (late_row e)
       late-reply g members h e may is = by_kind e.kind g members h e.member e.frame e.channel e.sample may is
 
 -- a member may add at a frame and channel, and they were taken
@@ -204,7 +204,7 @@ TurnLoaded-last t u ps loaded = loaded.same_frame ∙ sym (loaded-each (core_of 
 all_continue : (g : Geometry) (members : ℕ) (h : List Row) (es : List Entry) → AreAdds es → AllContinue g members h es
 all_continue g members h [] adds = tt
 all_continue g members h (e ∷ es) adds =
-    (subst (λ k. continues k g members h e.member e.frame e.channel e.sample) (sym adds.0) tt, all_continue g members (h ++ row_of e ∷ []) es adds.1)
+    (subst (λ k. continues k g members h e.member e.frame e.channel e.sample) (sym adds.0) tt, all_continue g members (h ++ entry_row e ∷ []) es adds.1)
 
 -- entries that are all of a member are its own
 own-all : (m : ℕ) (es : List Entry) → All (λ (e : Entry). e.member ≡ m) es → own_entries m es ≡ es
@@ -223,12 +223,12 @@ pub TurnEndsIn-laid : (t u : Turn) (xs es : List Entry) → AreAdds es → TurnL
 TurnEndsIn-laid t u xs es adds laid ends =
     let h : List Row = ends.0 in
     let early : List Entry = ends.1.1.0 in
-    let st : Stands (core_of u) (h ++ map row_of es) = laid.stands h ends.1.0 (all_continue (core_of t).geometry (length (core_of t).marks) h es adds) in
-    let is : standing_of t.member (laid_of (h ++ map row_of es)) ≡ early ++ (xs ++ es) =
+    let st : Stands (core_of u) (h ++ map entry_row es) = laid.stands h ends.1.0 (all_continue (core_of t).geometry (length (core_of t).marks) h es adds) in
+    let is : standing_of t.member (laid_of (h ++ map entry_row es)) ≡ early ++ (xs ++ es) =
     ap (standing_of t.member) (laid_of-append_rows h es)
     ∙ (standing_of-append_adds t.member (laid_of h) es adds laid.own
     ∙ (ap (λ ys. ys ++ es) ends.1.1.1 ∙ append_assoc early xs es)) in
-    (h ++ map row_of es, (st, (early, subst (λ m. standing_of m (laid_of (h ++ map row_of es)) ≡ early ++ (xs ++ es)) (sym laid.same_member) is)))
+    (h ++ map entry_row es, (st, (early, subst (λ m. standing_of m (laid_of (h ++ map entry_row es)) ≡ early ++ (xs ++ es)) (sym laid.same_member) is)))
 
 pub TurnEndsIn-nothing : (t u : Turn) (xs : List Entry) → TurnLaid t u [] → TurnEndsIn t xs → TurnEndsIn u xs
 TurnEndsIn-nothing t u xs laid ends = subst (TurnEndsIn u) (append-nil xs) (TurnEndsIn-laid t u xs [] tt laid ends)

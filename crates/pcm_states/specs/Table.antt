@@ -40,21 +40,21 @@ row o s p r x d h z g Suspended = z
 row o s p r x d h z g Disconnected = g
 
 -- the table: the row of each call, for capture (true) or playback (false)
-abbrev pub row_of : Bool → Call → State → Cell
-row_of _ HwParams = row (to Prepared) (to Prepared) (to Prepared) ebadfd ebadfd ebadfd ebadfd ebadfd enodev
-row_of _ HwFree = row ebadfd (to Open) (to Open) ebadfd ebadfd ebadfd ebadfd ebadfd enodev
-row_of _ SwParams = row ebadfd (to Setup) (to Prepared) (to Running) (to Xrun) (to Draining) (to Paused) ebadfd enodev
-row_of _ Prepare = row ebadfd (to Prepared) (to Prepared) ebadfd (to Prepared) ebadfd ebadfd ebadfd enodev
-row_of _ Start = row ebadfd ebadfd starting ebadfd ebadfd ebadfd ebadfd ebadfd enodev
-row_of _ Transfer = row ebadfd ebadfd filling moving already ebadfd ebadfd ebadfd enodev
-row_of _ Sync = row ebadfd ebadfd (to Prepared) moving already draining (to Paused) ebadfd enodev
-row_of _ Drop = row ebadfd (to Setup) (to Setup) (to Setup) (to Setup) (to Setup) (to Setup) ebadfd enodev
-row_of false Drain = row ebadfd (to Setup) draining draining (to Setup) draining ebadfd ebadfd enodev
-row_of true Drain = row ebadfd ebadfd ebadfd ebadfd ebadfd ebadfd ebadfd ebadfd enodev
-row_of false Pause = row ebadfd ebadfd ebadfd (to Paused) ebadfd ebadfd ebadfd ebadfd enodev
-row_of true Pause = row eio eio eio eio eio eio eio eio eio
-row_of false Resume = row ebadfd ebadfd ebadfd ebadfd ebadfd ebadfd resuming ebadfd enodev
-row_of true Resume = row eio eio eio eio eio eio eio eio eio
+abbrev pub call_row : Bool → Call → State → Cell
+call_row _ HwParams = row (to Prepared) (to Prepared) (to Prepared) ebadfd ebadfd ebadfd ebadfd ebadfd enodev
+call_row _ HwFree = row ebadfd (to Open) (to Open) ebadfd ebadfd ebadfd ebadfd ebadfd enodev
+call_row _ SwParams = row ebadfd (to Setup) (to Prepared) (to Running) (to Xrun) (to Draining) (to Paused) ebadfd enodev
+call_row _ Prepare = row ebadfd (to Prepared) (to Prepared) ebadfd (to Prepared) ebadfd ebadfd ebadfd enodev
+call_row _ Start = row ebadfd ebadfd starting ebadfd ebadfd ebadfd ebadfd ebadfd enodev
+call_row _ Transfer = row ebadfd ebadfd filling moving already ebadfd ebadfd ebadfd enodev
+call_row _ Sync = row ebadfd ebadfd (to Prepared) moving already draining (to Paused) ebadfd enodev
+call_row _ Drop = row ebadfd (to Setup) (to Setup) (to Setup) (to Setup) (to Setup) (to Setup) ebadfd enodev
+call_row false Drain = row ebadfd (to Setup) draining draining (to Setup) draining ebadfd ebadfd enodev
+call_row true Drain = row ebadfd ebadfd ebadfd ebadfd ebadfd ebadfd ebadfd ebadfd enodev
+call_row false Pause = row ebadfd ebadfd ebadfd (to Paused) ebadfd ebadfd ebadfd ebadfd enodev
+call_row true Pause = row eio eio eio eio eio eio eio eio eio
+call_row false Resume = row ebadfd ebadfd ebadfd ebadfd ebadfd ebadfd resuming ebadfd enodev
+call_row true Resume = row eio eio eio eio eio eio eio eio eio
 
 -- the call is done, and leaves this state
 abbrev pub done_in : State → Outcome
@@ -93,10 +93,10 @@ abbrev pub if_played : Facts → Option Outcome
 if_played f = if nat_eq f.queued 0 then Some (done_in Setup) else None
 
 -- the first of the cases that holds, or else the last outcome
-abbrev pub first_of : List (Option Outcome) → Outcome → Outcome
-first_of [] otherwise = otherwise
-first_of (Some outcome ∷ cases) otherwise = outcome
-first_of (None ∷ cases) otherwise = first_of cases otherwise
+abbrev pub first_outcome : List (Option Outcome) → Outcome → Outcome
+first_outcome [] otherwise = otherwise
+first_outcome (Some outcome ∷ cases) otherwise = outcome
+first_outcome (None ∷ cases) otherwise = first_outcome cases otherwise
 
 -- what a drain answers while frames are queued: the call for it is to be made again
 abbrev pub still_draining : Call → Outcome
@@ -110,12 +110,12 @@ outcome_of ebadfd s _ _ = refused_in s BadState
 outcome_of enodev s _ _ = refused_in s NoDevice
 outcome_of eio s _ _ = refused_in s NotSupported
 outcome_of already s _ _ = refused_in s (error.Xrun Already)
-outcome_of starting _ _ f = first_of (if_empty f ∷ if_gone f ∷ if_late f ∷ []) (done_in Running)
-outcome_of filling _ _ f = if f.starts then first_of (if_gone f ∷ if_late f ∷ []) (done_in Running) else done_in Prepared
-outcome_of moving _ _ f = first_of (if_gone f ∷ if_over f ∷ if_late f ∷ []) (done_in Running)
-outcome_of draining _ call f = first_of (if_gone f ∷ if_late f ∷ if_played f ∷ []) (still_draining call)
-outcome_of resuming _ _ f = first_of (if_none_left f ∷ if_gone f ∷ if_late f ∷ []) (done_in Running)
+outcome_of starting _ _ f = first_outcome (if_empty f ∷ if_gone f ∷ if_late f ∷ []) (done_in Running)
+outcome_of filling _ _ f = if f.starts then first_outcome (if_gone f ∷ if_late f ∷ []) (done_in Running) else done_in Prepared
+outcome_of moving _ _ f = first_outcome (if_gone f ∷ if_over f ∷ if_late f ∷ []) (done_in Running)
+outcome_of draining _ call f = first_outcome (if_gone f ∷ if_late f ∷ if_played f ∷ []) (still_draining call)
+outcome_of resuming _ _ f = first_outcome (if_none_left f ∷ if_gone f ∷ if_late f ∷ []) (done_in Running)
 
 -- the state and the answer after a call
 abbrev pub next_of : State → Call → Facts → Outcome
-next_of state call facts = outcome_of (row_of facts.capture call state) state call facts
+next_of state call facts = outcome_of (call_row facts.capture call state) state call facts

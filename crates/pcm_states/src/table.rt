@@ -1,6 +1,6 @@
 //! The state table: what comes of each call in each state.
 ghost use Rattle.std.specs.Prelude.{◌≡◌, [], ◌∷◌};
-ghost use Rattle.pcm_states.specs.Table.{next_of, done_in, refused_in, first_of, if_gone, if_late, outcome_of, starting, filling, moving, draining, resuming};
+ghost use Rattle.pcm_states.specs.Table.{next_of, done_in, refused_in, first_outcome, if_gone, if_late, outcome_of, starting, filling, moving, draining, resuming};
 ghost use Rattle.pcm_states.specs.declared.states.State.TheVariants.{Prepared, Running, Draining, Paused};
 ghost use Rattle.pcm_states.specs.declared.calls.Call.TheVariants.{Start, Transfer, Resume};
 
@@ -125,7 +125,7 @@ fn resume(facts: Facts) -> Outcome
 
 /// The stream runs on, unless the card is gone or a frame was too late.
 fn run(facts: Facts) -> Outcome
-    ensures { result ≡ first_of (if_gone facts ∷ if_late facts ∷ []) (done_in Running) }
+    ensures { result ≡ first_outcome (if_gone facts ∷ if_late facts ∷ []) (done_in Running) }
 {
     if facts.gone {
         return refused(State::Disconnected, PcmError::NoDevice);

@@ -4,7 +4,7 @@ use Rattle.std.proofs.Math.Seq.{drop-nil}
 use Rattle.std.proofs.lemmas.Bool.{cases_lt}
 use Rattle.std.proofs.lemmas.List.{take-append-le, drop-append-le}
 use Rattle.std.proofs.lemmas.Nat.{div-add-mod', div-mul-add, mod_below}
-use Rattle.plug_chain.specs.Frames.{Conversion, frame_bytes, frame_count, frame_of, frames_in, frames_of, rest_of}
+use Rattle.plug_chain.specs.Frames.{Conversion, frame_bytes, frame_count, frame_of, first_frames, frames_of, rest_of}
 
 pub frame_count-short : (c : Conversion) (bytes : List ℕ) → length bytes < frame_bytes c → frame_count c bytes ≡ 0
 frame_count-short c bytes short = ap (λ (n : ℕ). n / frame_bytes c) (let e : length bytes ≡ 0 * frame_bytes c + length bytes = omega arith in e) ∙ div-mul-add 0 (frame_bytes c) (length bytes) short
@@ -19,7 +19,7 @@ frame_count-more c bytes some enough =
 
 pub frames_of-short : (c : Conversion) (bytes : List ℕ) → length bytes < frame_bytes c → frames_of c bytes ≡ []
 unfolding frames_of
-frames_of-short c bytes short = ap (λ (n : ℕ). frames_in c n bytes) (frame_count-short c bytes short)
+frames_of-short c bytes short = ap (λ (n : ℕ). first_frames c n bytes) (frame_count-short c bytes short)
 
 pub rest_of-short : (c : Conversion) (bytes : List ℕ) → length bytes < frame_bytes c → rest_of c bytes ≡ bytes
 unfolding rest_of
@@ -28,7 +28,7 @@ rest_of-short c bytes short = ap (λ (n : ℕ). drop (n * frame_bytes c) bytes) 
 pub frames_of-more : (c : Conversion) (bytes : List ℕ) → 1 ≤ frame_bytes c → frame_bytes c ≤ length bytes
     → frames_of c bytes ≡ frame_of c (take (frame_bytes c) bytes) ∷ frames_of c (drop (frame_bytes c) bytes)
 unfolding frames_of
-frames_of-more c bytes some enough = ap (λ (n : ℕ). frames_in c n bytes) (frame_count-more c bytes some enough)
+frames_of-more c bytes some enough = ap (λ (n : ℕ). first_frames c n bytes) (frame_count-more c bytes some enough)
 
 -- more bytes dropped at once
 pub drop-add : {X : Type 0} (m n : ℕ) (xs : List X) → drop (m + n) xs ≡ drop n (drop m xs)

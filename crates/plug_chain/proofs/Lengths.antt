@@ -5,7 +5,7 @@ use Rattle.std.proofs.lemmas.List.{nil_from_length}
 use Rattle.std.proofs.lemmas.Nat.{le-div}
 use Rattle.std.specs.List.{flat_map, range_with_len}
 use Rattle.std.specs.Prelude.{min}
-use Rattle.plug_chain.specs.Frames.{Conversion, frame_bytes, frame_count, frame_of, frames_in, frames_of, samples_in}
+use Rattle.plug_chain.specs.Frames.{Conversion, frame_bytes, frame_count, frame_of, first_frames, frames_of, samples_in}
 use Rattle.plug_chain.specs.Plugs.{known_of, plug_of}
 use Rattle.plug_chain.specs.Rates.{AreRates, RatePair, frame_between, frame_at, known_samples, output_count, output_frame, output_frames}
 use Rattle.plug_chain.specs.Tables.{IsTable}
@@ -19,24 +19,24 @@ length-between part parts [] ys = refl
 length-between part parts (x ∷ xs) [] = ap (λ (n : ℕ). suc n) (length-between part parts xs [])
 length-between part parts (x ∷ xs) (y ∷ ys) = ap (λ (n : ℕ). suc n) (length-between part parts xs ys)
 
-length-frames_in : (c : Conversion) (n : ℕ) (bytes : List ℕ) → length (frames_in c n bytes) ≡ n
-length-frames_in c zero bytes = refl
-length-frames_in c (suc n) bytes = ap (λ (m : ℕ). suc m) (length-frames_in c n (drop (frame_bytes c) bytes))
+length-first_frames : (c : Conversion) (n : ℕ) (bytes : List ℕ) → length (first_frames c n bytes) ≡ n
+length-first_frames c zero bytes = refl
+length-first_frames c (suc n) bytes = ap (λ (m : ℕ). suc m) (length-first_frames c n (drop (frame_bytes c) bytes))
 
 length-frames_of : (c : Conversion) (bytes : List ℕ) → length (frames_of c bytes) ≡ frame_count c bytes
 unfolding frames_of
-length-frames_of c bytes = length-frames_in c (frame_count c bytes) bytes
+length-frames_of c bytes = length-first_frames c (frame_count c bytes) bytes
 
 -- each frame has the table's outputs
-length-get_or-frames_in : (c : Conversion) (n i : ℕ) (bytes : List ℕ) → i < n → length (get_or (frames_in c n bytes) i []) ≡ c.table.outputs
-length-get_or-frames_in c zero i bytes low = absurd (omega arith)
-length-get_or-frames_in c (suc n) zero bytes low = length-output_samples c.table (samples_in c.from c.table.inputs (take (frame_bytes c) bytes))
-length-get_or-frames_in c (suc n) (suc i) bytes low = length-get_or-frames_in c n i (drop (frame_bytes c) bytes) (omega arith)
+length-get_or-first_frames : (c : Conversion) (n i : ℕ) (bytes : List ℕ) → i < n → length (get_or (first_frames c n bytes) i []) ≡ c.table.outputs
+length-get_or-first_frames c zero i bytes low = absurd (omega arith)
+length-get_or-first_frames c (suc n) zero bytes low = length-output_samples c.table (samples_in c.from c.table.inputs (take (frame_bytes c) bytes))
+length-get_or-first_frames c (suc n) (suc i) bytes low = length-get_or-first_frames c n i (drop (frame_bytes c) bytes) (omega arith)
 
 length-frame_at : (c : Conversion) (bytes : List ℕ) (i : ℕ) → 0 < frame_count c bytes → length (frame_at (frames_of c bytes) i) ≡ c.table.outputs
 unfolding frames_of
 length-frame_at c bytes i some =
-    length-get_or-frames_in c (frame_count c bytes) (min i (length (frames_of c bytes) - 1)) bytes (omega (arith, some, length-frames_of c bytes))
+    length-get_or-first_frames c (frame_count c bytes) (min i (length (frames_of c bytes) - 1)) bytes (omega (arith, some, length-frames_of c bytes))
 
 length-output_frame : (c : Conversion) (bytes : List ℕ) (j : ℕ) → 0 < frame_count c bytes → length (output_frame c.rates (frames_of c bytes) j) ≡ c.table.outputs
 unfolding output_frame
@@ -92,7 +92,7 @@ frame_count-nil c = let none : 0 / frame_bytes c ≤ 0 = div-le_self 0 (frame_by
 
 frames_of-nil : (c : Conversion) → frames_of c [] ≡ []
 unfolding frames_of
-frames_of-nil c = ap (λ (n : ℕ). frames_in c n []) (frame_count-nil c)
+frames_of-nil c = ap (λ (n : ℕ). first_frames c n []) (frame_count-nil c)
 
 pub known_of-nil : (c : Conversion) → known_of c [] ≡ []
 unfolding output_frames

@@ -26,10 +26,10 @@ abbrev pub frame_of : Conversion → List ℕ → List ℤ
 frame_of c bytes = output_samples c.table (samples_in c.from c.table.inputs bytes)
 
 -- the first n frames
-abbrev pub frames_in : Conversion → ℕ → List ℕ → List (List ℤ)
-frames_in c zero bytes = []
-frames_in c (suc n) bytes =
-    frame_of c (take (frame_bytes c) bytes) ∷ frames_in c n (drop (frame_bytes c) bytes)
+abbrev pub first_frames : Conversion → ℕ → List ℕ → List (List ℤ)
+first_frames c zero bytes = []
+first_frames c (suc n) bytes =
+    frame_of c (take (frame_bytes c) bytes) ∷ first_frames c n (drop (frame_bytes c) bytes)
 
 -- how many whole frames there are
 abbrev pub frame_count : Conversion → List ℕ → ℕ
@@ -37,7 +37,7 @@ frame_count c bytes = length bytes / frame_bytes c
 
 -- all whole frames
 unfoldable pub frames_of : Conversion → List ℕ → List (List ℤ)
-frames_of c bytes = frames_in c (frame_count c bytes) bytes
+frames_of c bytes = first_frames c (frame_count c bytes) bytes
 
 -- the bytes after the last whole frame
 unfoldable pub rest_of : Conversion → List ℕ → List ℕ

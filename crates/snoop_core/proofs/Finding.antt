@@ -6,7 +6,7 @@ use Rattle.snd_base.specs.declared.places.Cursor.{Cursor}
 use Rattle.snd_base.specs.Places.{first_frame, first_free}
 use Rattle.snoop_core.specs.Ring.{word_in}
 use Rattle.snoop_core.specs.StoredLaws.{BySlots, IsByLaps, by_laps, own_sample}
-use Rattle.snoop_core.specs.View.{IsFoundWord, IsSound, View, geometry_of, word_at}
+use Rattle.snoop_core.specs.View.{IsFoundWord, IsSoundSnoop, SnoopCoreView, geometry_of, word_at}
 use Rattle.snoop_core.specs.Word.{laps_of, sample_of}
 
 -- the words of a list go by slots
@@ -17,7 +17,7 @@ by_slots g words f k c same = ap (λ s. Rattle.std.proofs.Common.get_or words (s
 pub stored-first_free : (next : Cursor) (f c : ℕ) → f < next.frame → f < first_free next c
 stored-first_free next f c before = grind (arith, nat_tests, before)
 
-pub IsFoundWord-of : (v : View) (f c word : ℕ) → IsSound v → c < (geometry_of v).channels → first_frame (geometry_of v) ≤ f → f < v.position
+pub IsFoundWord-of : (v : SnoopCoreView) (f c word : ℕ) → IsSoundSnoop v → c < (geometry_of v).channels → first_frame (geometry_of v) ≤ f → f < v.position
     → word ≡ word_at v f c → IsFoundWord v f c word
 IsFoundWord-of v f c word s in_range least before is =
     let g : Geometry = geometry_of v in

@@ -13,12 +13,12 @@ use Rattle.snoop_core.specs.declared.turn.SnoopTurn.{SnoopTurn}
 use Rattle.snoop_core.specs.Port.{Gets, frame_of}
 use Rattle.snoop_core.specs.Stored.{IsCaptured, sample_at}
 use Rattle.snoop_core.specs.Turn.{IsSame, TurnFinds, TurnGot, TurnLoaded, core_of, word_of_turn, view_of_turn}
-use Rattle.snoop_core.specs.View.{IsFoundWord, Represents, View, geometry_of, next_frame, word_at}
+use Rattle.snoop_core.specs.View.{IsFoundWord, Represents, SnoopCoreView, geometry_of, next_frame, word_at}
 use Rattle.snoop_core.specs.Word.{laps_of, sample_of}
 use Rattle.std.proofs.lemmas.Bool.{cases_eq}
 
 -- a published frame is not stored over
-pub record IsKept (v : View) (f : ℕ) : Type 0 where
+pub record IsKept (v : SnoopCoreView) (f : ℕ) : Type 0 where
   pub published : v.position ≤ next_frame v
   pub not_over : next_frame v ≤ f + (geometry_of v).frames
 
@@ -51,7 +51,7 @@ loading-more t u f c word out x in_range l found own is = record {
     | inr other ↦ get_or-set_other out c d x (pos 0) other ∙ l.samples d (omega (arith, other, before)) xs r
   ];
 } where
-  kept_by : (v : View) (f c word : ℕ) → IsFoundWord v f c word → laps_of word ≡ lap (geometry_of v) f + 1 → IsKept v f
+  kept_by : (v : SnoopCoreView) (f c word : ℕ) → IsFoundWord v f c word → laps_of word ≡ lap (geometry_of v) f + 1 → IsKept v f
   kept_by v f c word found own = elim (Rattle.std.proofs.lemmas.Bool.cases_lt (f + (geometry_of v).frames) (next_frame v)) [
     | inl far ↦
         absurd (omega (arith, own, found.by_laps.past (Rattle.snoop_core.proofs.Finding.stored-first_free v.ring.next (f + (geometry_of v).frames) c far)))
@@ -70,7 +70,7 @@ all-one P f p zero d within = p
 all-one P f p (suc k) d within = absurd (omega arith)
 
 view-same : (t u : SnoopTurn) → IsSame t u → view_of_turn u ≡ view_of_turn t
-view-same t u same = ap (λ (v : View). record { geometry = v.ring.geometry; seen = v.position }) same.core
+view-same t u same = ap (λ (v : SnoopCoreView). record { geometry = v.ring.geometry; seen = v.position }) same.core
 
 -- all channels were loaded
 pub gets-whole : {T : Type 0} (stops : T → ℕ) (asked : T → T → List StepKind → Pass → Type 0) (t u : SnoopTurn) (g h : T) (f : ℕ) (out : List ℤ)
@@ -79,7 +79,7 @@ pub gets-whole : {T : Type 0} (stops : T → ℕ) (asked : T → T → List Step
     → asked g h (replicate (geometry_of (core_of t)).channels Look) Go → stops h ≡ stops g
     → Gets view_of_turn word_of_turn TurnLoaded TurnGot TurnFinds stops asked t g (frame_of f out) Whole u h
 gets-whole stops asked t u g h f out l least before asks told =
-    let v : View = core_of t in
+    let v : SnoopCoreView = core_of t in
     let kept : IsKept v f = l.kept (omega (arith, (geometry_of v).channels_least)) in
     record {
       view_is = view-same t u l.same;
@@ -110,7 +110,7 @@ pub gets-overtaken : {T : Type 0} (stops : T → ℕ) (asked : T → T → List 
     → asked g h (replicate (c + 1) Look) Go → stops h ≡ stops g
     → Gets view_of_turn word_of_turn TurnLoaded TurnGot TurnFinds stops asked t g (frame_of f out) (Overtaken c word) u h
 gets-overtaken stops asked t u g h f c word out l in_range found other asks told =
-    let v : View = core_of t in
+    let v : SnoopCoreView = core_of t in
     let past : lap (geometry_of v) f + 1 < laps_of word = omega (arith, found.by_laps.not_before, other) in
     let far : f + (geometry_of v).frames < next_frame v = whole_frame v.ring.next (f + (geometry_of v).frames) c found.whole (found.by_laps.overtaken past) in
     let first : c ≡ 0 = at_first c (λ some. omega (arith, far, (l.kept some).not_over)) in
@@ -120,9 +120,9 @@ gets-overtaken stops asked t u g h f c word out l in_range found other asks told
       loaded_nothing = loaded-none t u l.same;
       size = l.size;
       overtaken = record {
-        channel = subst (λ (w : View). c < (geometry_of w).channels) (sym l.same.core) in_range;
-        shown = ap (λ (w : View). Some (word_at w f c)) l.same.core ∙ ap Some found.shown;
-        past = subst (λ (w : View). lap (geometry_of w) f + 1 < laps_of word) (sym l.same.core) past;
+        channel = subst (λ (w : SnoopCoreView). c < (geometry_of w).channels) (sym l.same.core) in_range;
+        shown = ap (λ (w : SnoopCoreView). Some (word_at w f c)) l.same.core ∙ ap Some found.shown;
+        past = subst (λ (w : SnoopCoreView). lap (geometry_of w) f + 1 < laps_of word) (sym l.same.core) past;
       };
       found = record { in_time = tt; late = far; first = first };
       asks = c + 1;
@@ -143,7 +143,7 @@ pub gets-stopped : {T : Type 0} (stops : T → ℕ) (asked : T → T → List St
     → asked g h (replicate (c + 1) Look) Stop → stops h ≡ stops g + 1
     → Gets view_of_turn word_of_turn TurnLoaded TurnGot TurnFinds stops asked t g (frame_of f out) Stopped u h
 gets-stopped stops asked t u g h f c out l in_range asks told =
-    let v : View = core_of t in
+    let v : SnoopCoreView = core_of t in
     let first : f + (geometry_of v).frames < v.position → c ≡ 0 = λ early. at_first c (λ some. omega (arith, early, (l.kept some).published, (l.kept some).not_over)) in
     record {
       view_is = view-same t u l.same;

@@ -9,12 +9,12 @@ use Rattle.snoop_core.specs.declared.port.Frame.{Frame}
 use Rattle.snoop_core.specs.Word.{HoldsSample, laps_of}
 
 -- the place of a frame and channel among all samples
-abbrev pub place_of : Geometry → ℕ → ℕ → ℕ
-place_of g f c = (f - first_frame g) * g.channels + c
+abbrev pub stored_place : Geometry → ℕ → ℕ → ℕ
+stored_place g f c = (f - first_frame g) * g.channels + c
 
 -- the sample that was stored at a frame and channel
 abbrev pub sample_at : Geometry → List ℤ → ℕ → ℕ → ℤ
-sample_at g xs f c = slice_index_or xs (place_of g f c) (pos 0)
+sample_at g xs f c = slice_index_or xs (stored_place g f c) (pos 0)
 
 -- the frame and channel that are stored next
 abbrev pub next_at : Geometry → List ℤ → Cursor

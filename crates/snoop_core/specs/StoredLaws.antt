@@ -10,7 +10,7 @@ use Rattle.snd_base.specs.declared.geometry.Geometry.{Geometry}
 use Rattle.snd_base.specs.declared.places.Cursor.{Cursor}
 use Rattle.snd_base.specs.PlaceLaws.{div-lt_same, first_free-behind_low, mod-same, mod-window, next_word-suc}
 use Rattle.snd_base.specs.Places.{cursor_after, first_frame, first_free, lap, next_word, slot}
-use Rattle.snoop_core.specs.Stored.{HaveLaps, HoldLast, IsCaptured, IsLast, IsUnused, next_at, place_of, sample_at}
+use Rattle.snoop_core.specs.Stored.{HaveLaps, HoldLast, IsCaptured, IsLast, IsUnused, next_at, stored_place, sample_at}
 use Rattle.snoop_core.specs.Word.{HoldsSample, HoldsSample-fields, laps_of, sample_of}
 use Rattle.snoop_core.specs.declared.port.Frame.{Frame}
 
@@ -172,14 +172,14 @@ HaveLaps-written g next new x before after in_range written holds laps =
 pub next_at-channel : (g : Geometry) (xs : List ℤ) → (next_at g xs).channel < g.channels
 next_at-channel g xs = mod-lt (length xs) (omega (arith, g.channels_least))
 
-pub place_of-next : (g : Geometry) (xs : List ℤ) → place_of g (next_at g xs).frame (next_at g xs).channel ≡ length xs
-place_of-next g xs =
+pub stored_place-next : (g : Geometry) (xs : List ℤ) → stored_place g (next_at g xs).frame (next_at g xs).channel ≡ length xs
+stored_place-next g xs =
     let n : ℕ = length xs in
     let up : first_frame g + n / g.channels - first_frame g ≡ n / g.channels = omega arith in
     ap (λ q. q * g.channels + n % g.channels) up ∙ div-add-mod' n g.channels
 
-pub place_of-stored : (g : Geometry) (xs : List ℤ) (f c : ℕ) → c < g.channels → first_frame g ≤ f → f < first_free (next_at g xs) c → place_of g f c < length xs
-place_of-stored g xs f c in_range least stored =
+pub stored_place-stored : (g : Geometry) (xs : List ℤ) (f c : ℕ) → c < g.channels → first_frame g ≤ f → f < first_free (next_at g xs) c → stored_place g f c < length xs
+stored_place-stored g xs f c in_range least stored =
     let n : ℕ = length xs in
     let q : ℕ = n / g.channels in
     let r : ℕ = n % g.channels in
@@ -202,10 +202,10 @@ next_at-more g xs x =
 
 pub sample_at-more : (g : Geometry) (xs ys : List ℤ) (f c : ℕ) → c < g.channels → first_frame g ≤ f → f < first_free (next_at g xs) c
     → sample_at g (xs ++ ys) f c ≡ sample_at g xs f c
-sample_at-more g xs ys f c in_range least stored = get_or_append_left xs ys (pos 0) (place_of g f c) (place_of-stored g xs f c in_range least stored)
+sample_at-more g xs ys f c in_range least stored = get_or_append_left xs ys (pos 0) (stored_place g f c) (stored_place-stored g xs f c in_range least stored)
 
 pub sample_at-last : (g : Geometry) (xs : List ℤ) (x : ℤ) → sample_at g (xs ++ x ∷ []) (next_at g xs).frame (next_at g xs).channel ≡ x
-sample_at-last g xs x = get_or_at xs x [] (pos 0) (place_of g (next_at g xs).frame (next_at g xs).channel) (sym (place_of-next g xs))
+sample_at-last g xs x = get_or_at xs x [] (pos 0) (stored_place g (next_at g xs).frame (next_at g xs).channel) (sym (stored_place-next g xs))
 
 -- what the words hold goes on
 pub HoldLast-written : (g : Geometry) (new : ℕ) (x : ℤ) (before after : ℕ → ℕ → ℕ) (xs : List ℤ)

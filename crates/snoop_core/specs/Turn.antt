@@ -7,14 +7,14 @@ use Rattle.snoop_core.specs.declared.port.Got.{Got}
 use Rattle.snoop_core.specs.declared.turn.SnoopTurn.{SnoopTurn}
 use Rattle.snoop_core.specs.Port.{OnGot, OnOvertaken, SnoopView}
 use Rattle.snoop_core.specs.Stored.{IsCaptured}
-use Rattle.snoop_core.specs.View.{Represents, View, geometry_of, next_frame, word_at}
+use Rattle.snoop_core.specs.View.{Represents, SnoopCoreView, geometry_of, next_frame, word_at}
 
 -- the core of a turn, as it is now
-abbrev pub core_of : SnoopTurn → View
+abbrev pub core_of : SnoopTurn → SnoopCoreView
 core_of t = t.core.now
 
 -- the turn holds the core that a reference borrows
-abbrev pub HoldsCore : SnoopTurn → MutBor View → Type 0
+abbrev pub HoldsCore : SnoopTurn → MutBor SnoopCoreView → Type 0
 HoldsCore t core = t.core.ghost_name ≡ core.ghost_name
 
 -- what is plain of a turn: the position that it has seen is the core's

@@ -10,7 +10,7 @@ use Rattle.snoop_core.specs.declared.turn.SnoopTurn.{SnoopTurn}
 use Rattle.snoop_core.specs.Port.{ShowsFrom}
 use Rattle.snoop_core.specs.Stored.{IsCaptured}
 use Rattle.snoop_core.specs.Turn.{IsSame, TurnGot, TurnLoaded, core_of, word_of_turn}
-use Rattle.snoop_core.specs.View.{Represents, View, geometry_of, word_at}
+use Rattle.snoop_core.specs.View.{Represents, SnoopCoreView, geometry_of, word_at}
 
 pub IsSame-joined : (p q r : SnoopTurn) → IsSame p q → IsSame q r → IsSame p r
 IsSame-joined p q r first then = record { same_core = then.same_core ∙ first.same_core; core = then.core ∙ first.core }
@@ -22,7 +22,7 @@ TurnLoaded-composes = record {
     same = IsSame-joined p q r first.same then.same;
     each = All-append (λ (x : Position). (x.frame ≡ (core_of p).position) × (x.gone ≡ (core_of p).gone)) xs ys first.each
         (λ k d within.
-        ((then.each k d within).0 ∙ ap (λ (v : View). v.position) first.same.core, (then.each k d within).1 ∙ ap (λ (v : View). v.gone) first.same.core));
+        ((then.each k d within).0 ∙ ap (λ (v : SnoopCoreView). v.position) first.same.core, (then.each k d within).1 ∙ ap (λ (v : SnoopCoreView). v.gone) first.same.core));
   };
 }
 
@@ -33,7 +33,7 @@ TurnGot-composes = record {
     same = IsSame-joined p q r first.same then.same;
     each = All-append (λ (f : Frame). (zs : List ℤ) → Represents (core_of p) zs → IsCaptured (geometry_of (core_of p)) zs f) xs ys first.each
         (λ k d within.
-        subst (λ (v : View). (zs : List ℤ) → Represents v zs → IsCaptured (geometry_of v) zs (get_or ys k d)) first.same.core (then.each k d within));
+        subst (λ (v : SnoopCoreView). (zs : List ℤ) → Represents v zs → IsCaptured (geometry_of v) zs (get_or ys k d)) first.same.core (then.each k d within));
   };
 }
 
@@ -50,12 +50,12 @@ TurnLoaded-rising t u ps loaded = (loaded-each (core_of t).position ps (λ k d w
 
 pub TurnLoaded-last : (t u : SnoopTurn) (ps : List Position) → TurnLoaded t u ps → (core_of u).position ≡ last_frame (core_of t).position ps
 TurnLoaded-last t u ps loaded =
-    ap (λ (v : View). v.position) loaded.same.core ∙ sym (loaded-each (core_of t).position ps (λ k d within. (loaded.each k d within).0)).1
+    ap (λ (v : SnoopCoreView). v.position) loaded.same.core ∙ sym (loaded-each (core_of t).position ps (λ k d within. (loaded.each k d within).0)).1
 
 -- the words that a turn shows stay
 pub TurnGot-shown : (t u : SnoopTurn) (fs : List Frame) (f c word : ℕ) → TurnGot t u fs → word_of_turn t f c ≡ Some word → ShowsFrom word_of_turn u f c word
 TurnGot-shown t u fs f c word got is = record {
   now = word;
-  shown = ap (λ (v : View). Some (word_at v f c)) got.same.core ∙ is;
+  shown = ap (λ (v : SnoopCoreView). Some (word_at v f c)) got.same.core ∙ is;
   not_before = omega arith;
 }

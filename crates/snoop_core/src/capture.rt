@@ -24,13 +24,13 @@ pub struct SnoopCore {
 }
 
 impl Model for SnoopCore {
-    ghost use Rattle.snoop_core.specs.View.{IsSound, View};
+    ghost use Rattle.snoop_core.specs.View.{IsSoundSnoop, SnoopCoreView};
 
-    ghost Value = { View };
+    ghost Value = { SnoopCoreView };
 
     ghost view = { λ a. record { ring = a.ring; position = a.position; gone = a.gone } };
 
-    ghost invariant = { λ a. IsSound (record {
+    ghost invariant = { λ a. IsSoundSnoop (record {
       ring = a.ring;
       position = a.position;
       gone = a.gone;

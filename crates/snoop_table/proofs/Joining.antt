@@ -17,7 +17,7 @@ use Rattle.snoop_table.specs.declared.seats.desk.Desk.{Desk}
 use Rattle.snoop_table.specs.declared.seats.reader.ReaderSeat.{ReaderSeat}
 use Rattle.snoop_table.specs.declared.view.Track.{Track}
 use Rattle.snoop_table.specs.declared.view.View.{View}
-use Rattle.snoop_table.specs.Captured.{Holds, is_tracked, next_of, position_of, the_track}
+use Rattle.snoop_table.specs.Captured.{Holds, is_tracked, next_to_store, position_of, the_track}
 use Rattle.snoop_table.specs.Cuts.{both_of, either_track, part_of}
 use Rattle.snoop_table.specs.Joins.{DeskGave, DeskHeard, IsBorneOut}
 use Rattle.snoop_table.specs.Known.{IsReader, IsWriter}
@@ -121,7 +121,7 @@ known_heard g next position gone other v w slots found x r is met both told =
       next_channel = is.next_channel;
       next_within = is.next_within;
       position_within = is.position_within;
-      next_is = is.next_is ∙ ap (next_of g) (sym track);
+      next_is = is.next_is ∙ ap (next_to_store g) (sym track);
       position_is = is.position_is ∙ ap (position_of g) (sym track);
       gone_is = is.gone_is ∙ ap (λ (u : Track). u.gone) (sym track);
       saw_all = ap (λ (u : Track). has_all (v.positions ++ w.positions) u.published) track ∙ has_all-more v.positions w.positions t.published is.saw_all;

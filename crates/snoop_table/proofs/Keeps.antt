@@ -20,7 +20,7 @@ use Rattle.snoop_core.specs.StoredLaws.{BySlots, HaveLaps-holding, IsByLaps, IsC
 use Rattle.snoop_core.specs.Word.{laps_of, sample_of}
 use Rattle.snoop_table.specs.declared.view.Track.{Track}
 use Rattle.snoop_table.specs.declared.view.View.{View}
-use Rattle.snoop_table.specs.Captured.{AreViews, Holds, IsPart, IsRing, IsSample, IsView, next_of, position_of, word_in}
+use Rattle.snoop_table.specs.Captured.{AreViews, Holds, IsPart, IsRing, IsSample, IsView, next_to_store, position_of, word_in}
 use Rattle.snoop_table.specs.Steps.{Finds, IsNext, position_load, word_load, samples_before, with_note, with_position, with_sample}
 use Rattle.std.proofs.lemmas.Bool.{cases_eq}
 
@@ -141,9 +141,9 @@ pub by_slots : (g : Geometry) (words : List ℕ) → BySlots g (word_in words g)
 by_slots g words f k c same = ap (λ s. get_or words (s * g.channels + c + 1) 0) same
 
 -- a frame before the position is stored in each channel
-pub stored-before : (g : Geometry) (words : List ℕ) (t : Track) (f c : ℕ) → IsRing g words t → f < position_of g t → f < first_free (next_of g t) c
+pub stored-before : (g : Geometry) (words : List ℕ) (t : Track) (f c : ℕ) → IsRing g words t → f < position_of g t → f < first_free (next_to_store g t) c
 stored-before g words t f c r before =
-    let earlier : f < (next_of g t).frame = omega (arith, before, r.not_ahead) in
+    let earlier : f < (next_to_store g t).frame = omega (arith, before, r.not_ahead) in
     grind (arith, nat_tests, earlier)
 
 -- what a seat is shown by a word
@@ -152,8 +152,8 @@ finds : (words : List ℕ) (t : Track) (v : View) (f c : ℕ) → IsRing v.geome
 finds words t v f c r own in_range least seen =
     let g : Geometry = v.geometry in
     let stored = stored-before g words t f c r (omega (arith, seen, own.seen_high)) in
-    let told : IsByLaps g (next_of g t) (word_in words g f c) f c =
-    by_laps g (next_of g t) (word_in words g) f c (HaveLaps-holding g (word_in words g) t.stored r.holds) (by_slots g words) in_range least stored in
+    let told : IsByLaps g (next_to_store g t) (word_in words g f c) f c =
+    by_laps g (next_to_store g t) (word_in words g) f c (HaveLaps-holding g (word_in words g) t.stored r.holds) (by_slots g words) in_range least stored in
     record {
       noted = λ o is. own.noted (index_of g f c) o (omega arith) is;
       not_before = told.not_before;

@@ -17,7 +17,7 @@ use Rattle.ring_rule.specs.Words.{index_of, words_of}
 use Rattle.snoop_core.specs.Stored.{HoldLast, IsLast}
 use Rattle.snoop_core.specs.Word.{HoldsSample}
 use Rattle.snoop_table.specs.declared.view.View.{View}
-use Rattle.snoop_table.specs.Captured.{Holds, IsRing, IsView, first_track, first_view, next_of, word_in}
+use Rattle.snoop_table.specs.Captured.{Holds, IsRing, IsView, first_track, first_view, next_to_store, word_in}
 use Rattle.snoop_table.proofs.Stores.{track_or}
 
 -- the words of a new ring
@@ -27,7 +27,7 @@ new_words g silent = set (replicate (words_of g) silent) 0 (word_of (first_frame
 abbrev start_of : Geometry → Cursor
 start_of g = record { frame = first_frame g; channel = 0 }
 
-next_first : (g : Geometry) → next_of g first_track ≡ start_of g
+next_first : (g : Geometry) → next_to_store g first_track ≡ start_of g
 next_first g = grind arith
 
 start-first_free : (g : Geometry) (c : ℕ) → first_free (start_of g) c ≡ first_frame g

@@ -23,7 +23,7 @@ use Rattle.snoop_core.specs.StoredLaws.{HoldLast-written, IsWritten, next_at-cha
 use Rattle.snoop_core.specs.Word.{HoldsSample, HoldsSample-fields, laps_of, sample_of}
 use Rattle.snoop_table.specs.declared.view.Track.{Track}
 use Rattle.snoop_table.specs.declared.view.View.{View}
-use Rattle.snoop_table.specs.Captured.{Holds, IsRing, IsView, is_tracked, next_of, position_of, word_in}
+use Rattle.snoop_table.specs.Captured.{Holds, IsRing, IsView, is_tracked, next_to_store, position_of, word_in}
 use Rattle.snoop_table.specs.Steps.{position_store, sample_store, track_gone, track_published, track_stored, unplug_store, with_gone, with_published, with_stored}
 use Rattle.snoop_table.proofs.Keeps.{IsSo, Later, view_later, views_set}
 
@@ -51,9 +51,9 @@ written g words next word in_range inside =
 
 -- the laps of the next frame's word are not past its lap
 old_laps : (g : Geometry) (words : List ℕ) (t : Track) → IsRing g words t
-    → laps_of (word_in words g (next_of g t).frame (next_of g t).channel) ≤ lap g (next_of g t).frame
+    → laps_of (word_in words g (next_to_store g t).frame (next_to_store g t).channel) ≤ lap g (next_to_store g t).frame
 old_laps g words t r =
-    let next : Cursor = next_of g t in
+    let next : Cursor = next_to_store g t in
     let c : ℕ = next.channel in
     let in_range : c < g.channels = next_at-channel g t.stored in
     let start : first_free next c ≡ next.frame = grind (arith, nat_tests) in
@@ -77,15 +77,15 @@ rank-up : (old new : ℕ) → laps_of old < laps_of new → rank old < rank new
 rank-up old new up = grind (arith, up)
 
 -- the ring after the next sample was stored
-ring_stored : (g : Geometry) (words : List ℕ) (t : Track) (word : ℕ) (x : ℤ) → IsRing g words t → lap g (next_of g t).frame < 4294967295
-    → HoldsSample word (lap g (next_of g t).frame + 1) x
-    → IsRing g (set words (index_of g (next_of g t).frame (next_of g t).channel) word) (track_stored t x)
+ring_stored : (g : Geometry) (words : List ℕ) (t : Track) (word : ℕ) (x : ℤ) → IsRing g words t → lap g (next_to_store g t).frame < 4294967295
+    → HoldsSample word (lap g (next_to_store g t).frame + 1) x
+    → IsRing g (set words (index_of g (next_to_store g t).frame (next_to_store g t).channel) word) (track_stored t x)
 ring_stored g words t word x r fits holds =
-    let next : Cursor = next_of g t in
+    let next : Cursor = next_to_store g t in
     let at : ℕ = index_of g next.frame next.channel in
     let in_range = next_at-channel g t.stored in
     let inside : at < length words = omega (arith, index_of-lt g next.frame next.channel in_range, r.room) in
-    let moved : next_of g (track_stored t x) ≡ cursor_after g next.frame next.channel = next_at-more g t.stored x in
+    let moved : next_to_store g (track_stored t x) ≡ cursor_after g next.frame next.channel = next_at-more g t.stored x in
     let end : next.frame + 1 ≤ end_frame g = suc-le-end_frame g next.frame fits in
     record {
       room = length-set words at word ∙ r.room;
@@ -99,15 +99,15 @@ ring_stored g words t word x r fits holds =
 -- the store of the next sample, as the rule has it
 stores_at : (s : State (Unit {0}) View) (slots id : ℕ) (m : Me (Unit {0}) View) (at : ℕ) (t : Track) (word : ℕ)
     → m.0.track ≡ Some t → id ≡ at → IsSo m.0.geometry s.words s.views at t → get_elem? s.views id ≡ some m.0
-    → lap m.0.geometry (next_of m.0.geometry t).frame < 4294967295
-    → HoldsSample word (lap m.0.geometry (next_of m.0.geometry t).frame + 1) (sample_of word)
-    → let i : ℕ = index_of m.0.geometry (next_of m.0.geometry t).frame (next_of m.0.geometry t).channel in
+    → lap m.0.geometry (next_to_store m.0.geometry t).frame < 4294967295
+    → HoldsSample word (lap m.0.geometry (next_to_store m.0.geometry t).frame + 1) (sample_of word)
+    → let i : ℕ = index_of m.0.geometry (next_to_store m.0.geometry t).frame (next_to_store m.0.geometry t).channel in
     (w : View) × (a : Act (Unit {0})) × Valid s.homes m.1 a × Holds m.0.geometry (stepped s i word id m.1 w a)
     × sample_store (step slots i word 0 none) m word (w, carried_after m.1 a)
 stores_at s slots id m at t word tracks writer x here fits holds =
     let v : View = m.0 in
     let g : Geometry = v.geometry in
-    let next : Cursor = next_of g t in
+    let next : Cursor = next_to_store g t in
     let i : ℕ = index_of g next.frame next.channel in
     let y : ℤ = sample_of word in
     let u : Track = track_stored t y in
@@ -145,7 +145,7 @@ stores_at s slots id m at t word tracks writer x here fits holds =
 
 -- the writer's store of the next sample
 pub stores : (slots id : ℕ) (m : Me (Unit {0}) View) (next : Cursor) (word : ℕ)
-    → is_tracked m.0.track ≡ true → ((t : Track) → m.0.track ≡ Some t → next ≡ next_of m.0.geometry t)
+    → is_tracked m.0.track ≡ true → ((t : Track) → m.0.track ≡ Some t → next ≡ next_to_store m.0.geometry t)
     → lap m.0.geometry next.frame < 4294967295
     → HoldsSample word (lap m.0.geometry next.frame + 1) (sample_of word)
     → Allows (Holds m.0.geometry) slots id m (index_of m.0.geometry next.frame next.channel) (λ n. word) (λ n. sample_store (step slots (index_of m.0.geometry next.frame next.channel) word 0 none) m word)
@@ -155,7 +155,7 @@ stores slots id m next word is next_is fits holds s x homes here small =
     let found : (u : Track) × (m.0.track ≡ Some u) = tracked m.0.track is in
     let mine : (id ≡ x.0) × (found.0 ≡ t) = x.3.writer id m.0 found.0 here found.1 in
     let tracks : m.0.track ≡ Some t = found.1 ∙ ap (λ u. Some u) mine.1 in
-    let at_next : next ≡ next_of g t = next_is t tracks in
+    let at_next : next ≡ next_to_store g t = next_is t tracks in
     let Goes : Cursor → Type 0 = λ (y : Cursor).
     let i : ℕ = index_of g y.frame y.channel in
     (w : View) × (a : Act (Unit {0})) × Valid s.homes m.1 a × Holds g (stepped s i word id m.1 w a)
@@ -175,9 +175,9 @@ HoldLast-position g words word xs h = record {
   same f c = get_or-set_other words 0 (index_of g f c) word 0 (λ e. omega arith)
 
 ring_published : (g : Geometry) (words : List ℕ) (t : Track) → IsRing g words t
-    → IsRing g (set words 0 (word_of (next_of g t).frame t.gone)) (track_published t (next_of g t).frame)
+    → IsRing g (set words 0 (word_of (next_to_store g t).frame t.gone)) (track_published t (next_to_store g t).frame)
 ring_published g words t r =
-    let p : ℕ = (next_of g t).frame in
+    let p : ℕ = (next_to_store g t).frame in
     let last : position_of g (track_published t p) ≡ p = last_of-more (first_frame g) t.published p in
     record {
       room = length-set words 0 (word_of p t.gone) ∙ r.room;
@@ -201,7 +201,7 @@ ring_gone g words t r = record {
 -- the writer's store of its position
 pub publishes : (slots id : ℕ) (m : Me (Unit {0}) View) (next : Cursor) (gone : Bool)
     → is_tracked m.0.track ≡ true
-    → ((t : Track) → m.0.track ≡ Some t → next ≡ next_of m.0.geometry t) → ((t : Track) → m.0.track ≡ Some t → gone ≡ t.gone)
+    → ((t : Track) → m.0.track ≡ Some t → next ≡ next_to_store m.0.geometry t) → ((t : Track) → m.0.track ≡ Some t → gone ≡ t.gone)
     → Allows (Holds m.0.geometry) slots id m 0 (λ n. word_of next.frame gone) (λ n. position_store (step slots 0 (word_of next.frame gone) 0 none) m (word_of next.frame gone))
 publishes slots id m next gone is next_is gone_is s x homes here small =
     let v : View = m.0 in
@@ -210,7 +210,7 @@ publishes slots id m next gone is next_is gone_is s x homes here small =
     let found : (u : Track) × (v.track ≡ Some u) = tracked v.track is in
     let mine : (id ≡ x.0) × (found.0 ≡ t) = x.3.writer id v found.0 here found.1 in
     let tracks : v.track ≡ Some t = found.1 ∙ ap (λ u. Some u) mine.1 in
-    let p : ℕ = (next_of g t).frame in
+    let p : ℕ = (next_to_store g t).frame in
     let word_is : word_of next.frame gone ≡ word_of p t.gone =
     ap (λ (y : Cursor). word_of y.frame gone) (next_is t tracks) ∙ ap (λ b. word_of p b) (gone_is t tracks) in
     let words : List ℕ = set s.words 0 (word_of p t.gone) in

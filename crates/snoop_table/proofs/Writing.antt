@@ -21,7 +21,7 @@ use Rattle.snoop_table.specs.declared.seats.desk.Desk.{Desk}
 use Rattle.snoop_table.specs.declared.seats.place.WritePlace.{WritePlace}
 use Rattle.snoop_table.specs.declared.view.Track.{Track}
 use Rattle.snoop_table.specs.declared.view.View.{View}
-use Rattle.snoop_table.specs.Captured.{Holds, next_of, position_of, the_track}
+use Rattle.snoop_table.specs.Captured.{Holds, next_to_store, position_of, the_track}
 use Rattle.snoop_table.specs.Known.{IsPlace, IsWriter}
 use Rattle.snoop_table.specs.Steps.{position_store, sample_store, unplug_store, with_gone, with_published, with_stored}
 use Rattle.snoop_table.specs.Writers.{HasPublished, HasStored, HasStoredPart, HasStoredSample, HasUnplugged, desk_track, desk_view, track_more}
@@ -73,7 +73,7 @@ may_store d slots word x fits holds =
     let read : HoldsSample word (lap d.geometry d.place.next.frame + 1) (sample_of word) =
     subst (HoldsSample word (lap d.geometry d.place.next.frame + 1)) (sym (HoldsSample-fields _ _ _ holds).1) holds in
     let at_own : Goes v.geometry (index_of v.geometry d.place.next.frame d.place.next.channel) = stores slots d.seat.id d.seat.me d.place.next word d.known.tracked
-    (λ t is. d.known.next_is ∙ (ap (next_of d.geometry) (track_is v t is) ∙ ap (λ (g : Geometry). next_of g t) own))
+    (λ t is. d.known.next_is ∙ (ap (next_to_store d.geometry) (track_is v t is) ∙ ap (λ (g : Geometry). next_to_store g t) own))
     (subst (λ (g : Geometry). lap g d.place.next.frame < 4294967295) own fits)
     (subst (λ (g : Geometry). HoldsSample word (lap g d.place.next.frame + 1) (sample_of word)) own read) in
     let at_key : Goes d.geometry (index_of d.geometry d.place.next.frame d.place.next.channel) =
@@ -87,7 +87,7 @@ may_publish d slots word is =
     let own : d.geometry ≡ v.geometry = sym d.known.same_geometry in
     let Goes : Geometry → ℕ → Type 0 = λ g w. Allows (Holds g) slots d.seat.id d.seat.me 0 (λ n. w) (λ n. position_store (step slots 0 w 0 none) d.seat.me w) in
     let at_own : Goes v.geometry (word_of d.place.next.frame d.gone) = publishes slots d.seat.id d.seat.me d.place.next d.gone d.known.tracked
-    (λ t is. d.known.next_is ∙ (ap (next_of d.geometry) (track_is v t is) ∙ ap (λ (g : Geometry). next_of g t) own))
+    (λ t is. d.known.next_is ∙ (ap (next_to_store d.geometry) (track_is v t is) ∙ ap (λ (g : Geometry). next_to_store g t) own))
     (λ t is. d.known.gone_is ∙ ap (λ (x : Track). x.gone) (track_is v t is)) in
     subst (λ g. Goes g word) (d.known.same_geometry ∙ d.same_ring.1) (subst (Goes v.geometry) (sym is) at_own)
 
@@ -111,7 +111,7 @@ known_stored g next position gone slots i word n m r is fits told =
     let w : View = with_stored m.0 t x in
     let same : the_track m.0.track ≡ t = track_is m.0 t told.1 in
     let end : next.frame + 1 ≤ end_frame g = suc-le-end_frame g next.frame fits in
-    let next_t : next ≡ next_of g t = is.next_is ∙ ap (next_of g) same in
+    let next_t : next ≡ next_to_store g t = is.next_is ∙ ap (next_to_store g) same in
     let known : IsWriter w g (cursor_after g next.frame next.channel) position gone = record {
       same_geometry = is.same_geometry;
       same_seen = is.same_seen;
@@ -133,11 +133,11 @@ pub known_published : (g : Geometry) (next : Cursor) (position : ℕ) (gone : Bo
     → IsWriter m.0 g next position gone → position_store (step slots 0 word 0 none) m n r → IsWriter r.0 g next next.frame gone
 known_published g next position gone slots word n m r is told =
     let t : Track = told.0 in
-    let p : ℕ = (next_of m.0.geometry t).frame in
+    let p : ℕ = (next_to_store m.0.geometry t).frame in
     let w : View = with_published m.0 t p in
     let same : the_track m.0.track ≡ t = track_is m.0 t told.1 in
-    let next_t : next ≡ next_of g t = is.next_is ∙ ap (next_of g) same in
-    let frame : next.frame ≡ p = ap (λ (y : Cursor). y.frame) next_t ∙ ap (λ (y : Geometry). (next_of y t).frame) (sym is.same_geometry) in
+    let next_t : next ≡ next_to_store g t = is.next_is ∙ ap (next_to_store g) same in
+    let frame : next.frame ≡ p = ap (λ (y : Cursor). y.frame) next_t ∙ ap (λ (y : Geometry). (next_to_store y t).frame) (sym is.same_geometry) in
     let known : IsWriter w g next next.frame gone = record {
       same_geometry = is.same_geometry;
       same_seen = sym frame;
@@ -170,7 +170,7 @@ known_unplugged g next position gone slots word n m r is told =
       next_channel = is.next_channel;
       next_within = is.next_within;
       position_within = is.position_within;
-      next_is = is.next_is ∙ ap (next_of g) same;
+      next_is = is.next_is ∙ ap (next_to_store g) same;
       position_is = is.position_is ∙ ap (position_of g) same;
       gone_is = refl;
       saw_all = ap (λ (y : Track). has_all m.0.positions y.published) (sym same) ∙ is.saw_all;
@@ -204,8 +204,8 @@ has_published d e slots word n ring geometry next position gone told =
     let v : View = desk_view d in
     let t : Track = told.0 in
     let same : t ≡ desk_track d = sym (track_is v t told.1) in
-    let frame : (next_of v.geometry t).frame ≡ d.place.next.frame =
-    ap (λ (g : Geometry). (next_of g t).frame) d.known.same_geometry ∙ (ap (λ (u : Track). (next_of d.geometry u).frame) same ∙ sym (ap (λ (y : Cursor). y.frame) d.known.next_is)) in
+    let frame : (next_to_store v.geometry t).frame ≡ d.place.next.frame =
+    ap (λ (g : Geometry). (next_to_store g t).frame) d.known.same_geometry ∙ (ap (λ (u : Track). (next_to_store d.geometry u).frame) same ∙ sym (ap (λ (y : Cursor). y.frame) d.known.next_is)) in
     let view : desk_view e ≡ with_published v (desk_track d) d.place.next.frame =
     ap (λ (y : Me (Unit {0}) View). y.0) told.2 ∙ (ap (with_published v t) frame ∙ ap (λ (u : Track). with_published v u d.place.next.frame) same) in
     record {

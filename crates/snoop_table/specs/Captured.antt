@@ -18,8 +18,8 @@ use Rattle.snoop_table.specs.declared.view.Track.{Track}
 use Rattle.snoop_table.specs.declared.view.View.{View}
 
 -- the frame and channel that the writer stores next
-abbrev pub next_of : Geometry → Track → Cursor
-next_of g t = next_at g t.stored
+abbrev pub next_to_store : Geometry → Track → Cursor
+next_to_store g t = next_at g t.stored
 
 -- the position that was published last, or the first frame
 abbrev pub position_of : Geometry → Track → ℕ
@@ -36,8 +36,8 @@ pub record IsRing (g : Geometry) (words : List ℕ) (t : Track) : Type 0 where
   pub room : length words ≡ words_of g
   pub position : slice_index words 0 ≡ word_of (position_of g t) t.gone
   pub rising : Rising (first_frame g) t.published
-  pub not_ahead : position_of g t ≤ (next_of g t).frame
-  pub within : (next_of g t).frame ≤ end_frame g
+  pub not_ahead : position_of g t ≤ (next_to_store g t).frame
+  pub within : (next_to_store g t).frame ≤ end_frame g
   pub holds : HoldLast g (word_in words g) t.stored
 
 -- a sample is the stored one of a frame and channel

@@ -17,7 +17,7 @@ use Rattle.snoop_table.specs.declared.seats.reader.ReaderSeat.{ReaderSeat}
 use Rattle.snoop_table.specs.declared.seats.writer.WriterSeat.{WriterSeat}
 use Rattle.snoop_table.specs.declared.view.Track.{Track}
 use Rattle.snoop_table.specs.declared.view.View.{View}
-use Rattle.snoop_table.specs.Captured.{next_of, position_of}
+use Rattle.snoop_table.specs.Captured.{next_to_store, position_of}
 use Rattle.snoop_table.specs.Cuts.{both_of, part_of}
 use Rattle.snoop_table.specs.Readers.{ring_of, view_of}
 use Rattle.snoop_table.specs.Writers.{desk_of, desk_ring, desk_track, desk_view, writer_geometry, writer_track}
@@ -88,8 +88,8 @@ pub record DeskGave (d e : Desk) (new : ReaderSeat) : Type 0 where
 -- none, it has seen the card gone only where the writer is gone, and each frame that it got is the one that the writer stored under its number
 pub record IsBorneOut (g : Geometry) (t : Track) (v : View) : Type 0 where
   pub positions : (i x : ℕ) → get_elem? v.positions i ≡ some x → IsPosition g t.published x
-  pub noted : (f c x : ℕ) → IsLast g (next_of g t) f c → slice_index_or v.noted (index_of g f c) None ≡ Some x → laps_of x ≤ lap g f + 1
-  pub unused : (f c x : ℕ) → IsUnused g (next_of g t) f c → slice_index_or v.noted (index_of g f c) None ≡ Some x → laps_of x ≤ g.first_lap
+  pub noted : (f c x : ℕ) → IsLast g (next_to_store g t) f c → slice_index_or v.noted (index_of g f c) None ≡ Some x → laps_of x ≤ lap g f + 1
+  pub unused : (f c x : ℕ) → IsUnused g (next_to_store g t) f c → slice_index_or v.noted (index_of g f c) None ≡ Some x → laps_of x ≤ g.first_lap
   pub gone : v.seen_gone ≡ true → t.gone ≡ true
   pub got : (i : ℕ) (f : Frame) → get_elem? v.got i ≡ some f → IsCaptured g t.stored f
 

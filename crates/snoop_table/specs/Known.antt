@@ -8,7 +8,7 @@ use Rattle.ring_rule.specs.Positions.{has_all}
 use Rattle.ring_rule.specs.Words.{index_of, words_of}
 use Rattle.snoop_table.specs.declared.seats.place.WritePlace.{WritePlace}
 use Rattle.snoop_table.specs.declared.view.View.{View}
-use Rattle.snoop_table.specs.Captured.{is_tracked, next_of, position_of, the_track}
+use Rattle.snoop_table.specs.Captured.{is_tracked, next_to_store, position_of, the_track}
 
 -- a seat's table and geometry are those of the ring that it borrows, and it holds no slot
 abbrev pub SitsAt : TableId → TableId → Geometry → Geometry → List (ℕ × Unit {0}) → Type 0
@@ -32,7 +32,7 @@ pub record IsWriter (v : View) (g : Geometry) (next : Cursor) (position : ℕ) (
   pub next_channel : next.channel < g.channels
   pub next_within : IsWithin g next.frame
   pub position_within : IsWithin g position
-  pub next_is : next ≡ next_of g (the_track v.track)
+  pub next_is : next ≡ next_to_store g (the_track v.track)
   pub position_is : position ≡ position_of g (the_track v.track)
   pub gone_is : gone ≡ (the_track v.track).gone
   pub saw_all : has_all v.positions (the_track v.track).published ≡ true

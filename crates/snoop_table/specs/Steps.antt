@@ -14,7 +14,7 @@ use Rattle.snoop_core.specs.Stored.{IsCaptured, IsLast, IsUnused}
 use Rattle.snoop_core.specs.Word.{laps_of, sample_of}
 use Rattle.snoop_table.specs.declared.view.Track.{Track}
 use Rattle.snoop_table.specs.declared.view.View.{View}
-use Rattle.snoop_table.specs.Captured.{next_of, position_of}
+use Rattle.snoop_table.specs.Captured.{next_to_store, position_of}
 
 -- it found a word at an index, and noted it
 abbrev pub with_note : View → ℕ → ℕ → View
@@ -95,7 +95,7 @@ sample_store s m n r = (t : Track) × (m.0.track ≡ Some t) × (r ≡ (with_sto
 -- its store of the position
 abbrev pub position_store : Step (Unit {0}) → Me (Unit {0}) View → ℕ → Me (Unit {0}) View → Type 0
 position_store s m n r =
-    (t : Track) × (m.0.track ≡ Some t) × (r ≡ (with_published m.0 t (next_of m.0.geometry t).frame, m.1))
+    (t : Track) × (m.0.track ≡ Some t) × (r ≡ (with_published m.0 t (next_to_store m.0.geometry t).frame, m.1))
 
 abbrev pub unplug_store : Step (Unit {0}) → Me (Unit {0}) View → ℕ → Me (Unit {0}) View → Type 0
 unplug_store s m n r = (t : Track) × (m.0.track ≡ Some t) × (r ≡ (with_gone m.0 t, m.1))
@@ -107,9 +107,9 @@ pub record Knows (v : View) (t : Track) : Type 0 where
   pub seen : v.seen ≤ position_of v.geometry t
   pub positions : (i p : ℕ) → get_elem? v.positions i ≡ some p → IsPosition v.geometry t.published p
   pub gone : v.seen_gone ≡ true → t.gone ≡ true
-  pub noted : (n f c : ℕ) → IsLast v.geometry (next_of v.geometry t) f c → slice_index_or v.noted (index_of v.geometry f c) None ≡ Some n
+  pub noted : (n f c : ℕ) → IsLast v.geometry (next_to_store v.geometry t) f c → slice_index_or v.noted (index_of v.geometry f c) None ≡ Some n
       → laps_of n ≤ lap v.geometry f + 1
-  pub unused : (n f c : ℕ) → IsUnused v.geometry (next_of v.geometry t) f c → slice_index_or v.noted (index_of v.geometry f c) None ≡ Some n
+  pub unused : (n f c : ℕ) → IsUnused v.geometry (next_to_store v.geometry t) f c → slice_index_or v.noted (index_of v.geometry f c) None ≡ Some n
       → laps_of n ≤ v.geometry.first_lap
   pub got : (i : ℕ) (f : Frame) → get_elem? v.got i ≡ some f → IsCaptured v.geometry t.stored f
 

@@ -17,7 +17,7 @@ use Rattle.mix_core.specs.declared.port.Entry.{Entry}
 use Rattle.mix_core.specs.declared.event.Event.TheVariants.{Add, Withdraw}
 use Rattle.mix_core.specs.declared.event.Reply.TheVariants.{In, Late}
 use Rattle.mix_core.specs.declared.event.Taken.{Taken}
-use Rattle.mix_core.specs.History.{IsReply, Row, event_by, is_taken, laid_of, next_of}
+use Rattle.mix_core.specs.History.{IsReply, Row, event_by, is_taken, laid_of, next_to_take}
 use Rattle.mix_core.specs.Laid.{cursor_of, marks_after, total, value_of}
 use Rattle.mix_core.specs.declared.marks.Marks.{Marks}
 use Rattle.mix_core.specs.declared.port.Kind.{Kind}
@@ -134,7 +134,7 @@ late_reply words views at t h id v i f c sample x here lasts late =
     let laps : ByLap g (next_at g t) (get_or words (index_of g f c) 0) f c = by_lap g words (all_laid views) t f c x.ring late.channel ahead in
     let past : lap g f < lap_of (get_or words (index_of g f c) 0) = subst (λ j. lap g f < lap_of (get_or words j 0)) (sym late.index) late.past in
     let before : f < first_free (next_at g t) c = laps.taken past in
-    let next_is : next_of g h ≡ next_at g t = ap (λ (ts : List Taken). next_at g (record t { taken = ts })) x.history.taken in
+    let next_is : next_to_take g h ≡ next_at g t = ap (λ (ts : List Taken). next_at g (record t { taken = ts })) x.history.taken in
     let legal = x.history.legal (length views) (omega arith) in
     let fits : lap g f < 4294967295 = lap-taken g (length views) h f c legal (subst (λ (y : Cursor). f < first_free y c) (sym next_is) before) in
     let first : first_frame g ≤ (cursor_of g id (laid_of h)).frame = cursor_of-least g (length views) h id legal in

@@ -9,14 +9,14 @@ use Rattle.lap_word.specs.Clamp.{clamp_of}
 use Rattle.mix_core.specs.declared.port.Entry.{Entry}
 use Rattle.mix_core.specs.declared.event.Event.TheVariants.{Add, Withdraw, Take, Publish}
 use Rattle.mix_core.specs.declared.event.Reply.TheVariants.{In, Late, Outside, Took, Published, LapEnd}
-use Rattle.mix_core.specs.History.{AreReplies, IsHeld, IsInside, IsSample, IsLegal, IsReply, Row, entry_of, is_taken, laid_of, late_row, position_after, position_of, taken_of, taking_of}
+use Rattle.mix_core.specs.History.{AreReplies, IsHeld, IsInside, IsSample, IsLegal, IsReply, Row, entry_of, is_taken, laid_of, late_row, position_after, position_of, taken_words, taking_of}
 use Rattle.mix_core.specs.HistoryLaws.{entry_of-late, position_after-row, taking_of-row}
 use Rattle.mix_core.specs.Laid.{cursor_of, last_entry, marks_of, standing_of, total}
 
 -- two histories that placed, took and published the same
 record SameSoFar (g : Geometry) (h j : List Row) : Type 0 where
   laid : laid_of h ≡ laid_of j
-  taken : taken_of h ≡ taken_of j
+  taken : taken_words h ≡ taken_words j
   position : position_of g h ≡ position_of g j
 
 turned : (g : Geometry) (h j : List Row) → SameSoFar g h j → SameSoFar g j h
@@ -73,7 +73,7 @@ reply_same g members h j (Publish, LapEnd) same is = is
 same_more : (g : Geometry) (h j : List Row) (r : Row) → SameSoFar g h j → SameSoFar g (h ++ r ∷ []) (j ++ r ∷ [])
 same_more g h j r same = record {
   laid = filter_map-append entry_of h (r ∷ []) ∙ (ap (λ es. es ++ laid_of (r ∷ [])) same.laid ∙ sym (filter_map-append entry_of j (r ∷ [])));
-  taken = filter_map-append taking_of h (r ∷ []) ∙ (ap (λ ts. ts ++ taken_of (r ∷ [])) same.taken ∙ sym (filter_map-append taking_of j (r ∷ [])));
+  taken = filter_map-append taking_of h (r ∷ []) ∙ (ap (λ ts. ts ++ taken_words (r ∷ [])) same.taken ∙ sym (filter_map-append taking_of j (r ∷ [])));
   position = fold_push position_after (first_frame g) h r ∙ (ap (λ p. position_after p r) same.position ∙ sym (fold_push position_after (first_frame g) j r));
 }
 
@@ -84,7 +84,7 @@ replies_same g members h j (r ∷ rs) same are = (reply_same g members h j r sam
 late_same : (g : Geometry) (h : List Row) (e : Entry) → SameSoFar g h (h ++ late_row e ∷ [])
 late_same g h e = record {
   laid = sym (filter_map-append entry_of h (late_row e ∷ []) ∙ rw (entry_of-late e) (append-nil (laid_of h)));
-  taken = sym (filter_map-append taking_of h (late_row e ∷ []) ∙ rw (taking_of-row e Late) (append-nil (taken_of h)));
+  taken = sym (filter_map-append taking_of h (late_row e ∷ []) ∙ rw (taking_of-row e Late) (append-nil (taken_words h)));
   position = sym (fold_push position_after (first_frame g) h (late_row e) ∙ position_after-row (position_of g h) e Late);
 }
 

@@ -17,7 +17,7 @@ use Rattle.lap_word.specs.Position.{word_of}
 use Rattle.lap_word.specs.Word.{StandsFor}
 use Rattle.mix_core.specs.declared.port.Entry.{Entry}
 use Rattle.mix_core.specs.declared.event.Taken.{Taken}
-use Rattle.mix_core.specs.History.{AreInOrder, is_taken, place_of}
+use Rattle.mix_core.specs.History.{AreInOrder, is_taken, taken_place}
 use Rattle.mix_core.specs.Laid.{at, total, value_of}
 use Rattle.mix_core.specs.Sound.{IsNow}
 use Rattle.sum_table.specs.declared.view.Track.{Track}
@@ -108,13 +108,13 @@ IsRing-put g words es t e word r now low high stands =
     }
 
 -- one more was taken, in order
-AreInOrder-more : (g : Geometry) (ts : List Taken) (x : Taken) → AreInOrder g ts → place_of x ≡ next_word g (length ts) → AreInOrder g (ts ++ x ∷ [])
+AreInOrder-more : (g : Geometry) (ts : List Taken) (x : Taken) → AreInOrder g ts → taken_place x ≡ next_word g (length ts) → AreInOrder g (ts ++ x ∷ [])
 AreInOrder-more g ts x in_order here i d inside =
     elim (cases_eq i (length ts)) [
-      | inl last ↦ subst (λ k. place_of (get_or (ts ++ x ∷ []) k d) ≡ next_word g k) (sym last) (ap place_of (get_or-append_seam ts x [] d) ∙ here)
+      | inl last ↦ subst (λ k. taken_place (get_or (ts ++ x ∷ []) k d) ≡ next_word g k) (sym last) (ap taken_place (get_or-append_seam ts x [] d) ∙ here)
       | inr before ↦
           let below : i < length ts = omega (arith, length-append ts (x ∷ [])) in
-          ap place_of (get_or_append_left ts (x ∷ []) d i below) ∙ in_order i d below
+          ap taken_place (get_or_append_left ts (x ∷ []) d i below) ∙ in_order i d below
     ]
 
 -- the next word is after the one that is taken

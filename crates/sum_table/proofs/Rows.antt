@@ -15,8 +15,8 @@ use Rattle.mix_core.specs.declared.port.Entry.{Entry}
 use Rattle.mix_core.specs.declared.event.Taken.{Taken}
 use Rattle.mix_core.specs.declared.event.Event.TheVariants.{Take, Publish}
 use Rattle.mix_core.specs.declared.event.Reply.TheVariants.{In, Took, Published}
-use Rattle.mix_core.specs.History.{IsHeld, IsInside, IsLegal, IsReply, IsSample, Row, laid_of, next_of, position_after, position_of}
-use Rattle.mix_core.specs.HistoryLaws.{position_after-row, laid_of-append_rows, laid_of-append_published, laid_of-append_took, taken_of-append_published, taken_of-append_rows, taken_of-append_took}
+use Rattle.mix_core.specs.History.{IsHeld, IsInside, IsLegal, IsReply, IsSample, Row, laid_of, next_to_take, position_after, position_of}
+use Rattle.mix_core.specs.HistoryLaws.{position_after-row, laid_of-append_rows, laid_of-append_published, laid_of-append_took, taken_words-append_published, taken_words-append_rows, taken_words-append_took}
 use Rattle.mix_core.specs.declared.marks.Marks.{Marks}
 use Rattle.mix_core.specs.Laid.{last_entry, marks_by, marks_of, standing, standing_of, total, without_last}
 use Rattle.mix_core.specs.MarkLaws.{IsHolding, IsHolding-last}
@@ -93,7 +93,7 @@ history_take g views t h z y fits value =
     let f : ℕ = (next_at g t).frame in
     let c : ℕ = (next_at g t).channel in
     let r : Row = (Take, Took f c z) in
-    let next_is : next_of g h ≡ next_at g t = ap (λ (ts : List Taken). next_at g (record t { taken = ts })) y.taken in
+    let next_is : next_to_take g h ≡ next_at g t = ap (λ (ts : List Taken). next_at g (record t { taken = ts })) y.taken in
     let laid : laid_of (h ++ r ∷ []) ≡ laid_of h = laid_of-append_took h f c z in
     record {
       legal = λ members up. IsLegal-more g members h r (y.legal members up) (
@@ -102,7 +102,7 @@ history_take g views t h z y fits value =
         ap (λ (x : Cursor). x.channel) (sym next_is),
         value ∙ ap clamp_of (sym (y.sums.totals f c)),
       );
-      taken = taken_of-append_took h f c z ∙ ap (λ ts. ts ++ next_taken g t z ∷ []) y.taken;
+      taken = taken_words-append_took h f c z ∙ ap (λ ts. ts ++ next_taken g t z ∷ []) y.taken;
       position = fold_push position_after (first_frame g) h r ∙ y.position;
       sums = subst (λ es. SameSums es (all_laid views)) (sym laid) y.sums;
       owns = λ i u there lasts. ap (own_entries i) laid ∙ y.owns i u there lasts;
@@ -116,11 +116,11 @@ pub history_publish : (g : Geometry) (views : List View) (t : Track) (h : List R
 history_publish g views t h y =
     let f : ℕ = (next_at g t).frame in
     let r : Row = (Publish, Published f) in
-    let next_is : next_of g h ≡ next_at g t = ap (λ (ts : List Taken). next_at g (record t { taken = ts })) y.taken in
+    let next_is : next_to_take g h ≡ next_at g t = ap (λ (ts : List Taken). next_at g (record t { taken = ts })) y.taken in
     let laid : laid_of (h ++ r ∷ []) ≡ laid_of h = laid_of-append_published h f in
     record {
       legal = λ members up. IsLegal-more g members h r (y.legal members up) (ap (λ (x : Cursor). x.frame) (sym next_is));
-      taken = taken_of-append_published h f ∙ y.taken;
+      taken = taken_words-append_published h f ∙ y.taken;
       position = fold_push position_after (first_frame g) h r ∙ sym (last_of-more (first_frame g) t.published f);
       sums = subst (λ es. SameSums es (all_laid views)) (sym laid) y.sums;
       owns = λ i u there lasts. ap (own_entries i) laid ∙ y.owns i u there lasts;
@@ -193,7 +193,7 @@ history_put g views t h id v w e y here lasts laid mine reply =
     (SameSums-put views id v w e here laid) in
     record {
       legal = λ members up. IsLegal-more g members h r (y.legal members (omega (arith, same_count))) (reply members (omega (arith, same_count)));
-      taken = taken_of-append_rows h (m ∷ []) ∙ y.taken;
+      taken = taken_words-append_rows h (m ∷ []) ∙ y.taken;
       position = fold_push position_after (first_frame g) h r ∙ (position_after-row (position_of g h) m In ∙ y.position);
       sums = subst (λ es. SameSums es (all_laid (set views id w))) (sym more) sums_more;
       owns = λ i u there stays. ap (own_entries i) more ∙ elim (at_set views id i w u there) [

@@ -12,7 +12,7 @@ use Rattle.snd_base.specs.Places.{end_frame, first_frame, first_free, lap, next_
 use Rattle.lap_word.specs.Position.{word_of}
 use Rattle.lap_word.specs.Word.{StandsFor}
 use Rattle.mix_core.specs.declared.port.Entry.{Entry}
-use Rattle.mix_core.specs.History.{AreExact, AreInOrder, IsLegal, Row, is_taken, laid_of, position_of, taken_of}
+use Rattle.mix_core.specs.History.{AreExact, AreInOrder, IsLegal, Row, is_taken, laid_of, position_of, taken_words}
 use Rattle.mix_core.specs.declared.marks.Marks.{Marks}
 use Rattle.mix_core.specs.Laid.{EndsIn, marks_by, stand_after, standing, total}
 use Rattle.mix_core.specs.MarkLaws.{IsHolding, IsMarked}
@@ -123,7 +123,7 @@ pub record AreViews (k : Key) (words : List ℕ) (views : List View) (at : ℕ) 
 -- seat of this number made itself, and its cursor is not past the seat's
 pub record IsHistory (g : Geometry) (views : List View) (t : Track) (h : List Row) : Type 0 where
   pub legal : (members : ℕ) → length views ≤ members → IsLegal g members h
-  pub taken : taken_of h ≡ t.taken
+  pub taken : taken_words h ≡ t.taken
   pub position : position_of g h ≡ position_at g t
   pub sums : SameSums (laid_of h) (all_laid views)
   pub owns : (i : ℕ) (v : View) → get_elem? views i ≡ some v → v.ended ≡ false → own_entries i (laid_of h) ≡ map (by_member i) v.mine

@@ -6,7 +6,7 @@ use lib.ListN.{get_elem?}
 use Rattle.atomic_table.specs.Seated.{TableId}
 use Rattle.snd_base.specs.Places.{lap}
 use Rattle.lap_word.specs.Word.{lap_of}
-use Rattle.mix_core.specs.History.{AreExact, AreInOrder, IsLegal, Row, laid_of, taken_of}
+use Rattle.mix_core.specs.History.{AreExact, AreInOrder, IsLegal, Row, laid_of, taken_words}
 use Rattle.mix_core.specs.Sound.{IsNow}
 use Rattle.sum_table.specs.declared.seats.join.Closed.{Closed}
 use Rattle.sum_table.specs.declared.seats.mix.MixSeat.{MixSeat}
@@ -41,7 +41,7 @@ abbrev pub note_seen : SeatNote → ℕ
 note_seen n = n.seat.seen
 
 -- a seat with the same fields but for its view and its places
-pub record Stays (s t : MixSeat) : Type 0 where
+pub record KeepsSeat (s t : MixSeat) : Type 0 where
   pub ring : ring_of t ≡ ring_of s
   pub key : t.key ≡ s.key
   pub member : t.member ≡ s.member
@@ -51,7 +51,7 @@ pub record Stays (s t : MixSeat) : Type 0 where
 
 -- some places moved to a new seat, which has seen as much and placed nothing
 pub record HasSplit (s t new : MixSeat) (n m : ℕ) : Type 0 where
-  pub stays : Stays s t
+  pub stays : KeepsSeat s t
   pub view : view_of t ≡ without_places (view_of s) n
   pub places : t.places + n ≡ s.places
   pub new_ring : ring_of new ≡ ring_of s
@@ -80,7 +80,7 @@ pub record HasJoined (s t other : MixSeat) : Type 0 where
 
 -- a mix seat gave a note of all that it has seen; nothing else changed
 pub record HasNote (s t : MixSeat) (n : SeatNote) : Type 0 where
-  pub stays : Stays s t
+  pub stays : KeepsSeat s t
   pub same_view : view_of t ≡ view_of s
   pub same_places : t.places ≡ s.places
   pub ring : note_ring n ≡ ring_of s
@@ -152,5 +152,5 @@ pub record HasClosed (s : MixSeat) (p : PlayerSeat) (c : Closed) : Type 0 where
       × IsLegal (key_of s).geometry members h
       × BeginsWith h (view_of s).history
       × BeginsWith h (player_view p).history
-      × (taken_of h ≡ (track_of p).taken)
+      × (taken_words h ≡ (track_of p).taken)
       × SameSums (laid_of h) (view_of s).laid

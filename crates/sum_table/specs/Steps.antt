@@ -18,7 +18,7 @@ use Rattle.mix_core.specs.declared.port.Kind.{Kind}
 use Rattle.mix_core.specs.declared.port.Kind.TheVariants.{Added, Withdrawn}
 use Rattle.mix_core.specs.MarkLaws.{free_after}
 use Rattle.mix_core.specs.Marks.{is_before}
-use Rattle.mix_core.specs.History.{AreExact, AreInOrder, IsLegal, IsReply, Row, laid_of, row_of, taken_of}
+use Rattle.mix_core.specs.History.{AreExact, AreInOrder, IsLegal, IsReply, Row, laid_of, entry_row, taken_words}
 use Rattle.mix_core.specs.Laid.{marks_after, standing, total, without_last}
 use Rattle.mix_core.specs.Sound.{IsNow}
 use Rattle.sum_table.specs.declared.view.Sighting.{Sighting}
@@ -86,7 +86,7 @@ with_gone v h t = record v { history = h; seen_gone = true; track = Some (track_
 
 -- the row of an entry that a member placed: an add that was in time
 abbrev pub in_row : ℕ → Entry → Row
-in_row m e = row_of (by_member m e)
+in_row m e = entry_row (by_member m e)
 
 -- a step of a seat in the ring's history: the history goes on from what the seat had seen of it, by the steps of others and
 -- then by this one's rows; it is legal, and in it the adds of the seat's number are exactly those that the seat made
@@ -232,7 +232,7 @@ pub record Knows (v : View) (t : Track) : Type 0 where
   pub noted : (n f c : ℕ) → IsNow v.key.geometry (next_at v.key.geometry t) f c → slice_index_or v.noted (index_of v.key.geometry f c) None ≡ Some n
       → lap_of n ≤ lap v.key.geometry f
   pub in_order : AreInOrder v.key.geometry t.taken
-  pub history : taken_of v.history ≡ t.taken
+  pub history : taken_words v.history ≡ t.taken
   pub exact : v.places ≡ v.key.places → AreExact v.laid t.taken
   pub laid : v.places ≡ v.key.places → SameSums (laid_of v.history) v.laid
 

@@ -4,7 +4,7 @@ ghost use Rattle.std.specs.Bool.{OnTrue};
 ghost use Rattle.std.specs.Option.{ForSome, option_map};
 ghost use Rattle.lab_shelf.specs.Files.{with_file};
 ghost use Rattle.wav_io.specs.Canonical.{canonical};
-ghost use Rattle.wav_copy.specs.Copy.{Holds, IsCopied};
+ghost use Rattle.wav_copy.specs.Copy.{HoldsSound, IsCopied};
 
 use lab_shelf::Shelf;
 use std::alloc::Global;
@@ -14,7 +14,7 @@ use wav_io::{Wav, read_wav, write_wav};
 /// memory runs out.
 pub(crate) fn read<S: Shelf>(shelf: &mut S, alloc: Global, from: &[u8]) -> Option<Wav>
     ensures held { IfSome result (λ wav. ForSome (S.files shelf.old)
-        (λ files. Holds files from.now wav)) }
+        (λ files. HoldsSound files from.now wav)) }
     ensures files { S.files shelf.new ≡ S.files shelf.old }
 {
     match shelf.fetch(alloc, from, 0, 67_108_865) {

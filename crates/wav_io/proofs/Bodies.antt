@@ -12,7 +12,7 @@ use Rattle.std.proofs.lemmas.Int.{to_z-of_z, of_z-to_z}
 use Rattle.std.proofs.lemmas.List.{append-nil, take_more_set, drop_more, length-drop, length-take, length-take-le}
 use Rattle.std.proofs.lemmas.Nat.{le_bytes_2, from_le_bytes-to_le_bytes_2}
 use Rattle.wav_io.specs.declared.format.Format.{Format}
-use Rattle.wav_io.specs.Sound.{IsSound}
+use Rattle.wav_io.specs.Sound.{IsWholeSound}
 use Rattle.wav_io.specs.Canonical.{sample_bytes}
 use Rattle.wav_io.specs.Formats.{IsFormat}
 use Rattle.wav_io.specs.Fields.{samples_of, whole_frames}
@@ -101,7 +101,7 @@ whole_frames-whole channels body =
     let even : length (whole_frames channels body) ≡ 2 * (frames * channels) = omega (arith, length-take-le (frames * (2 * channels)) body inside) in
     ap (λ (n : ℕ). n % channels) (length-samples_of (frames * channels) (whole_frames channels body) even) ∙ mul-mod_left frames channels
 
-pub is_sound : (f : Format) (body : List ℕ) (zs : List ℤ) → IsFormat f → zs ≡ samples_of (whole_frames f.channels body) → IsSound (record { channels = f.channels; rate = f.rate; samples = zs })
+pub is_sound : (f : Format) (body : List ℕ) (zs : List ℤ) → IsFormat f → zs ≡ samples_of (whole_frames f.channels body) → IsWholeSound (record { channels = f.channels; rate = f.rate; samples = zs })
 is_sound f body zs in_order e = record {
   some_channel = in_order.some_channel;
   few_channels = in_order.few_channels;

@@ -13,7 +13,7 @@ use Rattle.wav_io.specs.declared.error.WavError.{WavError}
 use Rattle.wav_io.specs.declared.error.WavError.TheVariants.{Channels, RateZero, Bits}
 use Rattle.wav_io.specs.declared.format.Depths.TheVariants.{Sixteen}
 use Rattle.wav_io.specs.declared.format.Format.{Format}
-use Rattle.wav_io.specs.Sound.{Sound, IsSound}
+use Rattle.wav_io.specs.Sound.{Sound, IsWholeSound}
 use Rattle.wav_io.specs.Canonical.{sample_bytes, canonical, open_head, HasFile}
 use Rattle.wav_io.specs.Fields.{number_at, samples_of, whole_frames}
 use Rattle.wav_io.specs.Chunks.{Chunk, chunks}
@@ -161,7 +161,7 @@ wav_file-open channels rate s file same_channels same_rate short =
 pub wav_file-written : (s : Sound) (bytes : List ℕ) → HasFile s → bytes ≡ canonical s → length bytes ≤ most_bytes → wav_file bytes ≡ Ok s
 wav_file-written s bytes file same short = ap wav_file same ∙ wav_file-canonical s file (omega (arith, ap length same))
 
-pub file_from : (s : Sound) (samples : List ℤ) → IsSound s → s.rate < 2 ^ 28 → length s.samples * 2 + 36 < 2 ^ 32 → samples ≡ s.samples → All (FitsSigned w16) samples → HasFile s
+pub file_from : (s : Sound) (samples : List ℤ) → IsWholeSound s → s.rate < 2 ^ 28 → length s.samples * 2 + 36 < 2 ^ 32 → samples ≡ s.samples → All (FitsSigned w16) samples → HasFile s
 file_from s samples sound low size same fit = record { sound = sound; low_rate = low; size = size; fits = subst (All (FitsSigned w16)) same fit }
 
 -- ---- what is written

@@ -2,7 +2,7 @@
 use Rattle.std.specs.Prelude.{ℕ, ◌+◌, ◌*◌, ◌/◌, ◌^◌, ◌<◌, ◌≤◌, List, ◌++◌, length, All, FitsSigned, codes, ℤ}
 use Rattle.std.specs.List.{flat_map}
 use Rattle.std.specs.Int.{w16, w32, to_le_bytes, cast_unsigned}
-use Rattle.wav_io.specs.Sound.{Sound, IsSound}
+use Rattle.wav_io.specs.Sound.{Sound, IsWholeSound}
 
 -- the 44 bytes with these two sizes, of what follows `RIFF` and its size, and of the samples
 abbrev pub head_with : ℕ → ℕ → ℕ → ℕ → List ℕ
@@ -41,7 +41,7 @@ canonical s = head s.channels s.rate (length s.samples / s.channels) ++ flat_map
 
 -- what has a canonical file: samples of 16 bits, and numbers that the head's fields hold
 pub record HasFile (s : Sound) : Type 0 where
-  pub sound : IsSound s
+  pub sound : IsWholeSound s
   pub low_rate : s.rate < 2 ^ 28
   pub size : length s.samples * 2 + 36 < 2 ^ 32
   pub fits : All (FitsSigned w16) s.samples

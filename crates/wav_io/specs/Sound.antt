@@ -8,7 +8,7 @@ pub record Sound : Type 0 where
   pub samples : List ℤ
 
 -- 1 to 8 channels, a rate, and whole frames
-pub record IsSound (s : Sound) : Type 0 where
+pub record IsWholeSound (s : Sound) : Type 0 where
   pub some_channel : 1 ≤ s.channels
   pub few_channels : s.channels ≤ 8
   pub some_rate : 1 ≤ s.rate

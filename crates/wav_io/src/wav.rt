@@ -18,13 +18,13 @@ pub struct Wav {
 }
 
 impl Model for Wav {
-    ghost use Rattle.wav_io.specs.Sound.{Sound, IsSound};
+    ghost use Rattle.wav_io.specs.Sound.{Sound, IsWholeSound};
 
     ghost Value = { Sound };
 
     ghost view = { λ w. record { channels = w.channels; rate = w.rate; samples = w.samples } };
 
-    ghost invariant = { λ w. IsSound (record {
+    ghost invariant = { λ w. IsWholeSound (record {
       channels = w.channels;
       rate = w.rate;
       samples = w.samples;

@@ -17,7 +17,7 @@ pub struct WriterSeat<'a> {
 impl WriterSeat<'_> {
     ghost use Rattle.std.specs.Prelude.{◌≡◌, ◌↔◌, length, IfErr, IsErrOf, OnErr, OnOk};
     ghost use Rattle.snd_base.specs.Places.{lap};
-    ghost use Rattle.snoop_table.specs.Captured.{next_of};
+    ghost use Rattle.snoop_table.specs.Captured.{next_to_store};
     ghost use Rattle.snoop_table.specs.Writers.{HasPublished, HasStored, HasUnplugged, desk_of, next_frame, writer_geometry, writer_track};
 
     /// The geometry of the ring.
@@ -31,7 +31,7 @@ impl WriterSeat<'_> {
     pub fn next(&self) -> u64
         ensures value { result ≡ next_frame self.now }
         ensures behind_stored { result
-            ≡ (next_of (writer_geometry self.now) (writer_track self.now)).frame }
+            ≡ (next_to_store (writer_geometry self.now) (writer_track self.now)).frame }
     {
         self.desk.place.next.frame
     }

@@ -1,7 +1,7 @@
 use Rattle.std.proofs.Common.{ℕ, List, None, sym, ◌∙◌, subst}
 use Rattle.asound_conf.specs.Rows.{IsAbsent, IsNode}
 use Rattle.asound_conf.specs.Table.{name_in}
-use Rattle.asound_conf.proofs.Puts.{group-Kind, group-same, push-Alters, push-Leads, IsStep-push, IsStep-IsNode}
+use Rattle.asound_conf.proofs.Puts.{group-Kind, group-same, push-Alters, push-Leads, IsKeyStep-push, IsKeyStep-IsNode}
 use Rattle.asound_conf.proofs.group.put_group.Goals as goal
 
 pub returns-in_default-clause-value : goal.returns-in_default-clause-value
@@ -14,7 +14,7 @@ returns-in_default-clause-value c =
 pub returns-in_default-clause-step : goal.returns-in_default-clause-step
 returns-in_default-clause-step c =
     let old = c.args.table.now in
-    IsStep-push c.push.result c.args.group (name_in old.text c.args.name) old c.push.new.self c.requires c.push.ensures.rows c.push.ensures.number
+    IsKeyStep-push c.push.result c.args.group (name_in old.text c.args.name) old c.push.new.self c.requires c.push.ensures.rows c.push.ensures.number
 
 pub returns-in_default-clause-alters : goal.returns-in_default-clause-alters
 returns-in_default-clause-alters c =
@@ -35,7 +35,7 @@ returns-then-is_group-clause-step c =
     let name = name_in c.args.table.now.text c.args.name in
     let n = c.in-Some.number in
     let is : IsNode rows c.args.group name n = subst (λ (b : List ℕ). IsNode rows c.args.group b n) c.key.ensures c.in-Some.ensures.some in
-    IsStep-IsNode rows c.args.group name n is (sym c.is_group.ensures ∙ c.if-is_group.true)
+    IsKeyStep-IsNode rows c.args.group name n is (sym c.is_group.ensures ∙ c.if-is_group.true)
 
 pub returns-else-is_group-clause-value : goal.returns-else-is_group-clause-value
 returns-else-is_group-clause-value c =

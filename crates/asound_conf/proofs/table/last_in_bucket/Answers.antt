@@ -1,6 +1,6 @@
 use Rattle.std.proofs.Common.{◌≡◌, ℕ, ◌<◌, true, false, length, get_or, sym, ap, subst, ◌∙◌, arith}
 use Rattle.asound_conf.specs.declared.cell.Cell.{Cell}
-use Rattle.asound_conf.specs.Table.{bucket_of, cell_at, fits, key_bytes, no_cell, row_of}
+use Rattle.asound_conf.specs.Table.{bucket_of, cell_at, fits, key_bytes, no_cell, cell_row}
 use Rattle.asound_conf.proofs.Changes.{cell-any, zero_cell}
 use Rattle.asound_conf.proofs.Tables.{IsAbsent-sought, IsNode-sought, IsSought, IsSought-first, IsSought-next}
 use Rattle.asound_conf.proofs.table.last_in_bucket.Goals as goal
@@ -25,7 +25,7 @@ returns-then-fits-clause-some c =
     let at = c.loop-at.at in
     let some : 0 < at = omega arith in
     let same : get_or cells at zero_cell ≡ cell_at cells at = cell-any cells at zero_cell no_cell c.loop-at.invariant.inside in
-    let found : fits group name (row_of text (cell_at cells at)) ≡ true = sym (ap (λ (d : Cell). fits group name (row_of text d)) same) ∙ sym c.fits.ensures ∙ c.if-fits.true in
+    let found : fits group name (cell_row text (cell_at cells at)) ≡ true = sym (ap (λ (d : Cell). fits group name (cell_row text d)) same) ∙ sym c.fits.ensures ∙ c.if-fits.true in
     IsNode-sought text cells c.args.heads.now group name at c.requires.indexed c.loop-at.invariant some found
 
 pub loop-at-preserved : goal.loop-at-preserved
@@ -38,7 +38,7 @@ loop-at-preserved c =
     let at = c.loop-at.at in
     let some : 0 < at = omega arith in
     let same : get_or cells at zero_cell ≡ cell_at cells at = cell-any cells at zero_cell no_cell c.loop-at.invariant.inside in
-    let other : fits group name (row_of text (cell_at cells at)) ≡ false = sym (ap (λ (d : Cell). fits group name (row_of text d)) same) ∙ sym c.fits.ensures ∙ c.if-fits.false in
+    let other : fits group name (cell_row text (cell_at cells at)) ≡ false = sym (ap (λ (d : Cell). fits group name (cell_row text d)) same) ∙ sym c.fits.ensures ∙ c.if-fits.false in
     subst (λ (d : Cell). IsSought text cells (length heads) group name d.earlier) (sym same) (IsSought-next text cells heads group name at c.requires.indexed c.loop-at.invariant some other)
 
 pub returns-clause-none : goal.returns-clause-none

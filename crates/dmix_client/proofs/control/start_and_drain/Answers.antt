@@ -10,7 +10,7 @@ use Rattle.dmix_client.proofs.Looking.{drains-by}
 use Rattle.dmix_client.proofs.Sound.{configured-moving, configured-prepared}
 use Rattle.dmix_client.proofs.control.start_and_drain.Goals as goal
 use Rattle.dmix_client.specs.Growth.{AnySamples, Keeps}
-use Rattle.dmix_client.specs.Port.{IsStep}
+use Rattle.dmix_client.specs.Port.{IsFrameStep}
 
 pub returns-in-Err : goal.returns-in-Err
 returns-in-Err g c =
@@ -34,7 +34,7 @@ sync_call-requires g c =
       sound = c.start_all-begun.ensures.keeps.sound;
       moving = subst (λ (s : State). is_moving s ≡ true) (sym well.0) refl;
       unstopped = well.1 ∙ c.requires.unstopped;
-      step = subst (λ (s : State). IsStep s call.Drain) (sym well.0) tt;
+      step = subst (λ (s : State). IsFrameStep s call.Drain) (sym well.0) tt;
       port = c.start_all-begun.ensures.keeps.port;
     }
 

@@ -4,7 +4,7 @@ use Rattle.snd_base.specs.declared.places.Cursor.{Cursor}
 use Rattle.course.specs.AtPort.{TakesAt}
 use Rattle.dmix_client.specs.Course.{course_with_number}
 use Rattle.dmix_client.specs.Rewind.{checks, rewindable_of}
-use Rattle.dmix_client.specs.View.{IsSound}
+use Rattle.dmix_client.specs.View.{IsSoundClient}
 use Rattle.dmix_client.proofs.Rewinding.{numbered-by, numbered-kept}
 use Rattle.dmix_client.proofs.Withdrawing.{HoldsBy}
 use Rattle.dmix_client.proofs.rewind.rewindable_running.Goals as goal
@@ -15,5 +15,5 @@ returns g c =
     let holds : HoldsBy port = record { laid_composes = g.met.P.MixPort.laid_composes; loaded_composes = g.met.P.MixPort.loaded_composes; part = g.met.P.MixPort.ends_in_part; nothing = g.met.P.MixPort.held_nothing; back = g.met.P.MixPort.held_back } in
     let takes = subst (λ (x : Cursor). TakesAt port g.G.Gate (c.args.port.now, c.args.gate.now) (course_with_number (rewindable_of x) (checks c.args.stream.now)) (c.check-checked.new.port, c.check-checked.new.gate) (c.check-checked.new.stream, c.with_rewindable.result)) c.floor-floor.ensures.value
     (numbered-by port g.G.Gate holds (c.args.port.now, c.args.gate.now) (c.check-checked.new.port, c.check-checked.new.gate) c.args.stream.now (rewindable_of c.floor-floor.result) (c.check-checked.new.stream, c.check-checked.result) _ c.check-checked.ensures c.with_rewindable.ensures) in
-    let kept = λ (ring : List ℤ) (sound : IsSound c.args.stream.now ring). numbered-kept port g.G.Gate holds (c.args.port.now, c.args.gate.now) (c.check-checked.new.port, c.check-checked.new.gate) c.args.stream.now ring (rewindable_of (port.view c.args.port.now).marks.floor) (c.check-checked.new.stream, c.with_rewindable.result) sound c.requires.running c.requires.unstopped c.requires.port takes in
+    let kept = λ (ring : List ℤ) (sound : IsSoundClient c.args.stream.now ring). numbered-kept port g.G.Gate holds (c.args.port.now, c.args.gate.now) (c.check-checked.new.port, c.check-checked.new.gate) c.args.stream.now ring (rewindable_of (port.view c.args.port.now).marks.floor) (c.check-checked.new.stream, c.with_rewindable.result) sound c.requires.running c.requires.unstopped c.requires.port takes in
     record { takes = takes; keeps = λ ring sound. (kept ring sound).keeps; explains = (kept c.requires.sound.0 c.requires.sound.1).explains }

@@ -1,6 +1,6 @@
 use Rattle.std.proofs.Common.{sym, subst}
 use Rattle.dsnoop_client.specs.Calls.{Answered}
-use Rattle.dsnoop_client.specs.Reads.{Reads}
+use Rattle.dsnoop_client.specs.Reads.{GivesFrames}
 use Rattle.std.proofs.Common.{ℕ}
 use Rattle.dsnoop_client.proofs.Loading.{transfers-by}
 use Rattle.dsnoop_client.proofs.Reading.{reads-of}
@@ -12,5 +12,5 @@ returns-clause-takes g c =
 
 pub returns-clause-reads : goal.returns-clause-reads
 returns-clause-reads g c =
-    subst (λ (x : Answered ℕ). Reads g.P.SnoopPort c.args.port.now c.load_frames-loads.new.port c.args.stream.now x.0 c.args.out.now c.load_frames-loads.new.out x.1) (sym c.read_after-after.ensures)
+    subst (λ (x : Answered ℕ). GivesFrames g.P.SnoopPort c.args.port.now c.load_frames-loads.new.port c.args.stream.now x.0 c.args.out.now c.load_frames-loads.new.out x.1) (sym c.read_after-after.ensures)
     (reads-of g.P.SnoopPort c.args.port.now c.load_frames-loads.new.port c.args.stream.now c.args.out.now c.load_frames-loads.new.out c.requires.going.same_geometry c.args.frames c.load_frames-loads.result.frames c.load_frames-loads.result.ended c.load_frames-loads.ensures.fills)

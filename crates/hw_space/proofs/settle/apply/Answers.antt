@@ -1,6 +1,6 @@
 -- A rule that is applied is a step, and where it leaves nothing, nothing was there.
 use Rattle.hw_space.proofs.Results.{OnErr-always}
-use Rattle.hw_space.proofs.RuleLaws.{apply-IsStep, apply-IsVoid}
+use Rattle.hw_space.proofs.RuleLaws.{apply-IsBoxStep, apply-IsVoid}
 use Rattle.hw_space.proofs.settle.apply.Goals as goal
 
 pub returns-in_err-changed-clause-empty : goal.returns-in_err-changed-clause-empty
@@ -12,5 +12,5 @@ returns-in_err-changed-clause-empty c =
 pub returns-clause-step : goal.returns-clause-step
 returns-clause-step c =
     let equal = rw (c.part-first.ensures, c.part-second.ensures) at c.compute-computed.ensures in
-    apply-IsStep c.args.ranges.now c.narrow_part.new.ranges c.args.rule.now c.compute-computed.result c.in_ok-changed.changed
+    apply-IsBoxStep c.args.ranges.now c.narrow_part.new.ranges c.args.rule.now c.compute-computed.result c.in_ok-changed.changed
     c.requires.proper c.requires.listed equal c.in_ok-changed.ensures.filled c.in_ok-changed.ensures.unchanged c.in_ok-changed.ensures.ok

@@ -1,5 +1,5 @@
 -- A pass is a step, and where it changes nothing, the box was settled.
-use Rattle.hw_space.proofs.RuleLaws.{all-IsListed, pass-IsStep, pass-IsSettled}
+use Rattle.hw_space.proofs.RuleLaws.{all-IsListed, pass-IsBoxStep, pass-IsSettled}
 use Rattle.hw_space.proofs.settle.pass.Goals as goal
 
 pub round-requires-clause-listed : goal.round-requires-clause-listed
@@ -7,7 +7,7 @@ round-requires-clause-listed c = all-IsListed
 
 pub returns-clause-step : goal.returns-clause-step
 returns-clause-step c =
-    pass-IsStep c.args.ranges.now c.refine_whole_time.new.ranges c.refine_whole_time-2.new.ranges c.round.new.ranges c.refine_sample_bits.new.ranges c.refine_format.new.ranges
+    pass-IsBoxStep c.args.ranges.now c.refine_whole_time.new.ranges c.refine_whole_time-2.new.ranges c.round.new.ranges c.refine_sample_bits.new.ranges c.refine_format.new.ranges
     c.in_ok-period.period c.in_ok-buffer.buffer c.in_ok-by_rules.by_rules c.in_ok-sample_bits.sample_bits c.in_ok-format.format
     c.in_ok-period.ensures.step c.in_ok-buffer.ensures.step c.in_ok-by_rules.ensures.step c.in_ok-sample_bits.ensures.step c.in_ok-format.ensures.step
 

@@ -1,7 +1,7 @@
 -- One rule more is a step more.
 use Rattle.hw_space.specs.Rules.{no_rule}
 use Rattle.hw_space.proofs.RuleLaws.{kept_more}
-use Rattle.hw_space.proofs.StepLaws.{IsStep-trans, either_false}
+use Rattle.hw_space.proofs.StepLaws.{IsBoxStep-trans, either_false}
 use Rattle.hw_space.proofs.settle.round.Goals as goal
 
 pub loop-rule-preserved : goal.loop-rule-preserved
@@ -10,7 +10,7 @@ loop-rule-preserved c =
     let once = c.in_ok-moved.ensures in
     record {
       step =
-          IsStep-trans c.args.ranges.now c.loop-rule.ranges c.apply.new.ranges c.loop-rule.changed c.in_ok-moved.moved
+          IsBoxStep-trans c.args.ranges.now c.loop-rule.ranges c.apply.new.ranges c.loop-rule.changed c.in_ok-moved.moved
           so_far.step once.step;
       kept = λ none.
           let both = either_false c.loop-rule.changed c.in_ok-moved.moved none in

@@ -1,10 +1,10 @@
 -- A pass that changes something is a step that does.
-use Rattle.hw_space.specs.Steps.{IsStep}
-use Rattle.hw_space.proofs.StepLaws.{IsStep-moved}
+use Rattle.hw_space.specs.Steps.{IsBoxStep}
+use Rattle.hw_space.proofs.StepLaws.{IsBoxStep-moved}
 use Rattle.hw_space.proofs.settle.settle.Goals as goal
 
 pub loop-changed-preserved : goal.loop-changed-preserved
 loop-changed-preserved c =
-    let moved : IsStep c.loop-changed.ranges c.pass.new.ranges c.in_ok-pass.field-0 = c.in_ok-pass.ensures.step in
-    IsStep-moved c.args.ranges.now c.loop-changed.ranges c.pass.new.ranges c.loop-changed.changed c.in_ok-pass.field-0
+    let moved : IsBoxStep c.loop-changed.ranges c.pass.new.ranges c.in_ok-pass.field-0 = c.in_ok-pass.ensures.step in
+    IsBoxStep-moved c.args.ranges.now c.loop-changed.ranges c.pass.new.ranges c.loop-changed.changed c.in_ok-pass.field-0
     c.loop-changed.invariant moved c.if-branch.true

@@ -1,6 +1,6 @@
-use Rattle.lab_commands.proofs.Leaving.{Leaves-made}
+use Rattle.lab_commands.proofs.Leaving.{CommandLeaves-made}
 use Rattle.lab_commands.proofs.commands.make_command.Goals as goal
 
 pub returns-clause-leaves : goal.returns-clause-leaves
 returns-clause-leaves g c =
-    Leaves-made c.args.workload.now _ _ _ _ _ c.make_workload.result c.make_workload.ensures.only c.make_workload.ensures.done c.make_workload.ensures.part
+    CommandLeaves-made c.args.workload.now _ _ _ _ _ c.make_workload.result c.make_workload.ensures.only c.make_workload.ensures.done c.make_workload.ensures.part

@@ -4,7 +4,7 @@ use Rattle.lab_input.specs.Read.{input_of}
 use Rattle.lab_phase.specs.PhaseRuns.{Stops, stops_by}
 use Rattle.lab_play.specs.Played.{rises}
 use Rattle.lab_shelf.specs.Files.{Files}
-use Rattle.lab_commands.proofs.Leaving.{Finished-played, Leaves-stopped}
+use Rattle.lab_commands.proofs.Leaving.{Finished-played, CommandLeaves-stopped}
 use Rattle.lab_commands.proofs.commands.run_command.Goals as goal
 
 pub returns-in_err-play-clause-leaves : goal.returns-in_err-play-clause-leaves
@@ -17,7 +17,7 @@ returns-in_err-play-clause-leaves g c =
     let taken_after : Option (List ℕ) = g.K.Sink.taken c.play.new.out in
     let p = err_from_is_err_and c.from_residual-in_err-play.result c.from_residual-in_err-play.ensures.1 in
     rw (p.1, p.2)
-    (Leaves-stopped (record { exact = c.runs_are_exact.ensures; own = c.actors_do_their_own.ensures }) (input_of c.in_ok-input.input) c.args.script.now c.args.name.now gates before between
+    (CommandLeaves-stopped (record { exact = c.runs_are_exact.ensures; own = c.actors_do_their_own.ensures }) (input_of c.in_ok-input.input) c.args.script.now c.args.name.now gates before between
     after taken taken_after c.in_ok-input.ensures.input c.in_ok-input.ensures.script c.in_ok-input.ensures.files c.in_err-play.field-0.0 c.in_err-play.ensures.only c.in_err-play.ensures.part)
 
 pub returns-clause-leaves : goal.returns-clause-leaves

@@ -11,7 +11,7 @@ use Rattle.dmix_client.specs.Calls.{is_running}
 use Rattle.dmix_client.specs.declared.stream.PlaybackStream.{PlaybackStream}
 use Rattle.dmix_client.specs.Growth.{AnySamples, KeepsBack}
 use Rattle.dmix_client.specs.Port.{CanUse}
-use Rattle.dmix_client.specs.View.{ClientView, IsSound}
+use Rattle.dmix_client.specs.View.{ClientView, IsSoundClient}
 use Rattle.dmix_client.proofs.Going.{refused-go}
 use Rattle.dmix_client.proofs.Keeping.{Keeps-none, client}
 use Rattle.dmix_client.proofs.Looking.{admitted-ok, rewind-running}
@@ -31,7 +31,7 @@ returns-in_err-admit-clause-keeps g c =
     λ unstopped. subst (λ (r : Result (Unit {0}) PcmError). pass_by r ≡ Go) (sym c.admit.ensures.answer ∙ c.in_err-admit.was) (refused-go stream call.Transfer unstopped) in
     KeepsBack-none g.P.MixPort g.G.Gate holds (c.args.port.now, c.args.gate.now) c.args.self.now c.from_residual.result
     (Keeps-none g.P.MixPort g.G.Gate g.met.P.MixPort.laid_composes g.met.P.MixPort.loaded_composes (c.args.port.now, c.args.gate.now) c.args.self.now c.from_residual.result AnySamples
-    (subst (λ (v : ClientView). IsSound v.stream v.ring) c.self.view_is c.self.invariant) c.requires.port
+    (subst (λ (v : ClientView). IsSoundClient v.stream v.ring) c.self.view_is c.self.invariant) c.requires.port
     (λ unstopped. err-go c.from_residual.result c.in_err-admit.field-0.0 (went (subst (λ (v : ClientView). v.stream.status.stopped ≡ false) (sym c.self.view_is) unstopped)) c.from_residual.ensures.1))
 
 pub returns-then-eq-clause-takes : goal.returns-then-eq-clause-takes

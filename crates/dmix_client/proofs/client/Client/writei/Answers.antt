@@ -9,7 +9,7 @@ use Rattle.dmix_client.specs.Calls.{is_running}
 use Rattle.dmix_client.specs.Course.{if_admitted}
 use Rattle.mix_core.specs.declared.gate.Pass.TheVariants.{Go}
 use Rattle.course.specs.Stops.{pass_by, pass_in}
-use Rattle.dmix_client.specs.View.{ClientView, IsSound}
+use Rattle.dmix_client.specs.View.{ClientView, IsSoundClient}
 use Rattle.dmix_client.specs.Writes.{frames_in, starts_with}
 use Rattle.dmix_client.proofs.Going.{refused-go}
 use Rattle.dmix_client.proofs.Keeping.{Keeps-none}
@@ -27,7 +27,7 @@ returns-in_err-admit-clause-keeps g c =
     let went : stream.status.stopped ≡ false → pass_by (let r : Result ℕ PcmError = Err c.in_err-admit.field-0.0 in r) ≡ Go =
     λ unstopped. subst (λ (r : Result (Unit {0}) PcmError). pass_by r ≡ Go) (sym c.admit.ensures.answer ∙ c.in_err-admit.was) (refused-go stream call.Transfer unstopped) in
     Keeps-none g.P.MixPort g.G.Gate g.met.P.MixPort.laid_composes g.met.P.MixPort.loaded_composes (c.args.port.now, c.args.gate.now) c.args.self.now c.from_residual.result _
-    (subst (λ (v : ClientView). IsSound v.stream v.ring) c.self.view_is c.self.invariant) c.requires.port
+    (subst (λ (v : ClientView). IsSoundClient v.stream v.ring) c.self.view_is c.self.invariant) c.requires.port
     (λ unstopped. err-go c.from_residual.result c.in_err-admit.field-0.0 (went (subst (λ (v : ClientView). v.stream.status.stopped ≡ false) (sym c.self.view_is) unstopped)) c.from_residual.ensures.1)
 
 pub returns-clause-takes : goal.returns-clause-takes

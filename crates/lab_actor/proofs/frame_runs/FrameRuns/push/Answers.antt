@@ -2,8 +2,8 @@ use Rattle.std.proofs.Common.{◌≡◌, ◌≤◌, ◌+◌, ◌++◌, [], ◌�
 use Rattle.std.proofs.lemmas.Bool.Decides.{nat_tests}
 use Rattle.std.specs.Prelude.{◌≢◌}
 use Rattle.std.specs.List.{range_with_len}
-use Rattle.lab_actor.specs.FrameRuns.{AreApart, RunList, frames_in}
-use Rattle.lab_actor.proofs.RunLists.{apart-longer, apart-more, frames_in-longer}
+use Rattle.lab_actor.specs.FrameRuns.{AreApart, RunList, frames_of_runs}
+use Rattle.lab_actor.proofs.RunLists.{apart-longer, apart-more, frames_of_runs-longer}
 use Rattle.lab_actor.proofs.frame_runs.FrameRuns.push.Goals as goal
 
 pub invariant_of-self-then-is_next : goal.invariant_of-self-then-is_next
@@ -15,10 +15,10 @@ invariant_of-self-then-is_next c =
 pub returns-then-is_next-clause-frames : goal.returns-then-is_next-clause-frames
 returns-then-is_next-clause-frames c =
     let meets : c.in-Some.last.0 + c.in-Some.last.1 ≡ c.args.first = search rules in
-    ap frames_in c.push_run-then-is_next.ensures.items
-    ∙ frames_in-longer c.pop.new.self.items c.in-Some.last.0 c.in-Some.last.1 c.args.first c.args.count meets
+    ap frames_of_runs c.push_run-then-is_next.ensures.items
+    ∙ frames_of_runs-longer c.pop.new.self.items c.in-Some.last.0 c.in-Some.last.1 c.args.first c.args.count meets
     ∙ ap (λ (frames : List ℕ). frames ++ range_with_len c.args.first c.args.count)
-    (ap frames_in (sym c.in-Some.ensures.items) ∙ ap (λ (view : RunList). frames_in view.runs) c.self.view_is)
+    (ap frames_of_runs (sym c.in-Some.ensures.items) ∙ ap (λ (view : RunList). frames_of_runs view.runs) c.self.view_is)
 
 pub invariant_of-self-2 : goal.invariant_of-self-2
 invariant_of-self-2 c =

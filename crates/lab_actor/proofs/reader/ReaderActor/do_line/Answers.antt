@@ -6,7 +6,7 @@ use Rattle.lab_report.specs.declared.row.Row.{Row}
 use Rattle.lab_run.specs.Reader.{frames_by}
 use Rattle.lab_run.specs.ReaderAtPort.{IsReaderLine}
 use Rattle.lab_actor.specs.declared.reader.ReaderActor.{ReaderActor}
-use Rattle.lab_actor.specs.FrameRuns.{frames_in}
+use Rattle.lab_actor.specs.FrameRuns.{frames_of_runs}
 use Rattle.lab_actor.specs.ReaderPart.{reader_of}
 use Rattle.lab_actor.specs.Countdown.{by_gate_of, left_of}
 use Rattle.lab_actor.proofs.Gates.{both}
@@ -25,9 +25,9 @@ returns g c =
     let answered = c.answer_line-answer.ensures.answered in
     let has_read = answered.has_read in
     let t = both c.answer_line-answer.new.port c.answer_line-answer.new.gate in
-    let frames_are : frames_in c.push.new.self.runs ≡ frames_in a.frames.runs ++ frames_by asked answer d =
+    let frames_are : frames_of_runs c.push.new.self.runs ≡ frames_of_runs a.frames.runs ++ frames_by asked answer d =
     c.push.ensures.frames
-    ∙ ap (λ (frames : List ℕ). frames_in a.frames.runs ++ frames)
+    ∙ ap (λ (frames : List ℕ). frames_of_runs a.frames.runs ++ frames)
     ((λ i. range_with_len (c.next.ensures i - c.frames_read-count.ensures i) (c.frames_read-count.ensures i)) ∙ sym (frames_by-count asked answer d)) in
     let after : ReaderActor = record a { reader = d; samples = c.answer_line-answer.new.samples; frames = c.push.new.self; rows = c.push_row.new.rows } in
     record {
@@ -43,7 +43,7 @@ returns g c =
         } in row) ∷ []);
         line = λ fits first ring before at.
             subst (λ (frames : List ℕ). IsReaderLine P left_of by_gate first ring t c.args.phase a.number before (reader_of a) asked (record { own = Some d; frames = frames }) answer)
-            (sym frames_are) (answered.line fits c.args.phase a.number (frames_in a.frames.runs) first ring before at);
+            (sym frames_are) (answered.line fits c.args.phase a.number (frames_of_runs a.frames.runs) first ring before at);
         loaded = answered.loaded;
         appends = record {
           numbers = frames_by asked answer d;

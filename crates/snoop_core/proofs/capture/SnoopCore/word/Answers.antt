@@ -1,11 +1,11 @@
 use Rattle.snoop_core.proofs.Finding.{IsFoundWord-of}
-use Rattle.snoop_core.specs.View.{View}
+use Rattle.snoop_core.specs.View.{SnoopCoreView}
 use Rattle.snoop_core.specs.contracts.capture.SnoopCore.{the_view}
 use Rattle.snoop_core.proofs.capture.SnoopCore.word.Goals as goal
 
 pub returns : goal.returns
 returns c =
-    let v : View = the_view c.self.inside in
+    let v : SnoopCoreView = the_view c.self.inside in
     let in_range = rw (← c.self.view_is) at c.requires.channel in
     let least = rw (← c.self.view_is) at c.requires.least in
     let published = rw (← c.self.view_is) at c.requires.published in
