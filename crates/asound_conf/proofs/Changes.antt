@@ -15,7 +15,7 @@ use Rattle.asound_conf.specs.declared.cell.Name.TheVariants as names
 use Rattle.asound_conf.specs.declared.cell.Content.{Content}
 use Rattle.asound_conf.specs.declared.cell.Content.TheVariants as contents
 use Rattle.asound_conf.specs.declared.cell.Cell.{Cell}
-use Rattle.asound_conf.specs.Rows.{Contents, Row, row_at, with_row}
+use Rattle.asound_conf.specs.Rows.{Contents, ConfRow, row_at, with_row}
 use Rattle.asound_conf.specs.Table.{HasBelow, IsIndexed, IsLink, IsTable, bucket_at, bucket_of, cell_at, content_of, contents_of, fits, is_live, name_in, new_row, no_cell, no_number, content_with, parent_of, removed_row, cell_row, span_in, value_in}
 use Rattle.asound_conf.proofs.Tables.{IsLink-along, IsNew, IsNoted, IsSame, IsTable-push, IsTable-set, cell_at-push, is_live-noted, row_at-map, row_is, rows-push, rows-set}
 
@@ -54,7 +54,7 @@ IsChanged-read cells n content cell new inside was read made =
     }
 
 -- what is known of rows and their text
-abbrev pub with_rows : List ℕ → List Row → Contents
+abbrev pub with_rows : List ℕ → List ConfRow → Contents
 with_rows text rows = record { text = text; rows = rows }
 
 -- a cell that is removed, and one that gets another text
@@ -73,11 +73,11 @@ pub contents-removed : (text : List ℕ) (cells : List Cell) (now : Contents) (n
 contents-removed text cells now n new it view =
     let old = row_at-map text cells n it.inside in
     let row : cell_row text new ≡ removed_row (row_at (map (cell_row text) cells) n) =
-    row_is (ap (parent_of new.parent) it.content_is) (ap (name_in text) it.same.name ∙ ap (λ (r : Row). r.name) (sym old)) (ap (value_in text) it.content_is) in
+    row_is (ap (parent_of new.parent) it.content_is) (ap (name_in text) it.same.name ∙ ap (λ (r : ConfRow). r.name) (sym old)) (ap (value_in text) it.content_is) in
     ap (with_rows text) (rows-set text cells n new ∙ ap (set (map (cell_row text) cells) n) row) ∙ ap (λ (k : Contents). with_rows k.text (set k.rows n (removed_row (row_at k.rows n)))) view
 
 -- a row with another text
-abbrev pub with_text : List ℕ → Row → Row
+abbrev pub with_text : List ℕ → ConfRow → ConfRow
 with_text t row = record { parent = row.parent; name = row.name; value = Some t }
 
 parent-text : (text : List ℕ) (q : ℕ) (content : Content) (span : Span) → is_none (value_in text content) ≡ false → parent_of q (contents.Text span) ≡ parent_of q content
@@ -89,11 +89,11 @@ pub contents-text : (text : List ℕ) (cells : List Cell) (now : Contents) (n : 
     → contents_of text (set cells n new) ≡ with_rows now.text (set now.rows n (with_text (span_in now.text span) (row_at now.rows n)))
 contents-text text cells now n span new it view some =
     let old = row_at-map text cells n it.inside in
-    let its : is_none (value_in text (cell_at cells n).content) ≡ false = ap (λ (r : Row). is_none r.value) (sym old) ∙ ap (λ (k : Contents). is_none (row_at k.rows n).value) view ∙ some in
+    let its : is_none (value_in text (cell_at cells n).content) ≡ false = ap (λ (r : ConfRow). is_none r.value) (sym old) ∙ ap (λ (k : Contents). is_none (row_at k.rows n).value) view ∙ some in
     let row : cell_row text new ≡ with_text (span_in text span) (row_at (map (cell_row text) cells) n) =
     row_is
-    (ap (parent_of new.parent) it.content_is ∙ ap (λ (q : ℕ). parent_of q (contents.Text span)) it.same.parent ∙ parent-text text (cell_at cells n).parent (cell_at cells n).content span its ∙ ap (λ (r : Row). r.parent) (sym old))
-    (ap (name_in text) it.same.name ∙ ap (λ (r : Row). r.name) (sym old))
+    (ap (parent_of new.parent) it.content_is ∙ ap (λ (q : ℕ). parent_of q (contents.Text span)) it.same.parent ∙ parent-text text (cell_at cells n).parent (cell_at cells n).content span its ∙ ap (λ (r : ConfRow). r.parent) (sym old))
+    (ap (name_in text) it.same.name ∙ ap (λ (r : ConfRow). r.name) (sym old))
     (ap (value_in text) it.content_is) in
     ap (with_rows text) (rows-set text cells n new ∙ ap (set (map (cell_row text) cells) n) row) ∙ ap (λ (k : Contents). with_rows k.text (set k.rows n (with_text (span_in k.text span) (row_at k.rows n)))) view
 
@@ -183,7 +183,7 @@ live-text text contents.Removed some = absurd (false≢true (sym some))
 pub live-row : (text : List ℕ) (cells : List Cell) (now : Contents) (n : ℕ) → n < length cells → contents_of text cells ≡ now → is_none (row_at now.rows n).value ≡ false → is_live (cell_at cells n).content ≡ true
 live-row text cells now n inside view some =
     live-text text (cell_at cells n).content
-    (ap (λ (r : Row). is_none r.value) (sym (row_at-map text cells n inside)) ∙ ap (λ (k : Contents). is_none (row_at k.rows n).value) view ∙ some)
+    (ap (λ (r : ConfRow). is_none r.value) (sym (row_at-map text cells n inside)) ∙ ap (λ (k : Contents). is_none (row_at k.rows n).value) view ∙ some)
 
 -- the last cell of a bucket is taken off it, where it was removed
 head-forget : (text : List ℕ) (cells : List Cell) (heads : List ℕ) (n b e k : ℕ) → 0 < n → is_live (cell_at cells n).content ≡ false → b ≡ bucket_at (length heads) text cells n → b < length heads

@@ -5,8 +5,8 @@ use Rattle.std.proofs.lemmas.Bool.{cases_lt}
 use Rattle.std.proofs.lemmas.List.{drop_all}
 use Rattle.std.proofs.lemmas.List.Sums.{sum_by-cons}
 use Rattle.asound_conf.specs.declared.cell.Cell.{Cell}
-use Rattle.asound_conf.specs.Device.{count_of}
-use Rattle.asound_conf.specs.Rows.{Contents, Row, group_of, is_in, node, group_in_rows}
+use Rattle.asound_conf.specs.Device.{count_of_names}
+use Rattle.asound_conf.specs.Rows.{Contents, ConfRow, group_of, is_in, node, group_in_rows}
 use Rattle.asound_conf.specs.Table.{contents_of, parent_of, cell_row}
 use Rattle.asound_conf.specs.Tree.{entry}
 
@@ -15,12 +15,12 @@ abbrev pub counts : ℕ → Cell → Bool
 counts p c = is_in p (parent_of c.parent c.content)
 
 -- a group has as many nodes as there are such cells
-count_of-within : (text : List ℕ) (p first : ℕ) (cells : List Cell) → count_of (group_in_rows p first (map (cell_row text) cells)) ≡ count_by (counts p) cells
-count_of-within text p first [] = refl
-count_of-within text p first (c ∷ cells) = by (counts p c) (count_of-within text p (suc first) cells) ∙ sym (sum_by-cons (λ (x : Cell). cond (counts p x) 1 0) c cells)
+count_of_names-within : (text : List ℕ) (p first : ℕ) (cells : List Cell) → count_of_names (group_in_rows p first (map (cell_row text) cells)) ≡ count_by (counts p) cells
+count_of_names-within text p first [] = refl
+count_of_names-within text p first (c ∷ cells) = by (counts p c) (count_of_names-within text p (suc first) cells) ∙ sym (sum_by-cons (λ (x : Cell). cond (counts p x) 1 0) c cells)
   where
-    by : (t : Bool) → count_of (group_in_rows p (suc first) (map (cell_row text) cells)) ≡ count_by (counts p) cells
-        → count_of (if t then entry (cell_row text c).name (node (cell_row text c).value (group_in_rows first (suc first) (map (cell_row text) cells))) (group_in_rows p (suc first) (map (cell_row text) cells)) else group_in_rows p (suc first) (map (cell_row text) cells))
+    by : (t : Bool) → count_of_names (group_in_rows p (suc first) (map (cell_row text) cells)) ≡ count_by (counts p) cells
+        → count_of_names (if t then entry (cell_row text c).name (node (cell_row text c).value (group_in_rows first (suc first) (map (cell_row text) cells))) (group_in_rows p (suc first) (map (cell_row text) cells)) else group_in_rows p (suc first) (map (cell_row text) cells))
         ≡ cond t 1 0 + count_by (counts p) cells
     by true e = omega (arith, e)
     by false e = omega (arith, e)
@@ -30,11 +30,11 @@ drop-map text zero cells = refl
 drop-map text (suc n) [] = refl
 drop-map text (suc n) (c ∷ cells) = drop-map text n cells
 
-pub count_of-cells : (text : List ℕ) (p : ℕ) (cells : List Cell) (now : Contents) → contents_of text cells ≡ now → count_by (counts p) (drop (p + 1) cells) ≡ count_of (group_of p now.rows)
-count_of-cells text p cells now view =
+pub count_of_names-cells : (text : List ℕ) (p : ℕ) (cells : List Cell) (now : Contents) → contents_of text cells ≡ now → count_by (counts p) (drop (p + 1) cells) ≡ count_of_names (group_of p now.rows)
+count_of_names-cells text p cells now view =
     let next : p + 1 ≡ suc p = omega arith in
-    ap (λ (n : ℕ). count_by (counts p) (drop n cells)) next ∙ sym (count_of-within text p (suc p) (drop (suc p) cells)) ∙ ap (λ (rows : List Row). count_of (group_in_rows p (suc p) rows)) (sym (drop-map text (suc p) cells))
-    ∙ ap (λ (k : Contents). count_of (group_of p k.rows)) view
+    ap (λ (n : ℕ). count_by (counts p) (drop n cells)) next ∙ sym (count_of_names-within text p (suc p) (drop (suc p) cells)) ∙ ap (λ (rows : List ConfRow). count_of_names (group_in_rows p (suc p) rows)) (sym (drop-map text (suc p) cells))
+    ∙ ap (λ (k : Contents). count_of_names (group_of p k.rows)) view
 
 pub drop-least : (cells : List Cell) (n : ℕ) → drop (min n (length cells)) cells ≡ drop n cells
 drop-least cells n = elim (cases_lt n (length cells)) [

@@ -9,7 +9,7 @@ use Rattle.asound_conf.specs.Answer.{Leads, Refuses}
 use Rattle.asound_conf.specs.Key.{Part, part_named, without_marks}
 use Rattle.asound_conf.specs.Parts.{part_in, parts_in, text_in}
 use Rattle.asound_conf.specs.Place.{base, is_last, meets_text, node_met, put_or_clash}
-use Rattle.asound_conf.specs.Rows.{Contents, Row, Alters, IsAbsent, IsNode, group_of, node, row_at}
+use Rattle.asound_conf.specs.Rows.{Contents, ConfRow, Alters, IsAbsent, IsNode, group_of, node, row_at}
 use Rattle.asound_conf.specs.Table.{name_in}
 use Rattle.asound_conf.specs.Tree.{Tree, group, Entries, get, group_in, is_text}
 use Rattle.asound_conf.specs.Way.{IsKeyStep, IsWay}
@@ -53,11 +53,11 @@ here-way d r first mid new q (p ∷ next ∷ parts) W path some none way alters 
     let rest : length (next ∷ parts) ≡ 0 = sym (ap length (rest-cons p (next ∷ parts))) ∙ none in
     absurd (omega arith)
 
-pub step-row : (r : Result ℕ ConfWhy) (rows : List Row) (q : ℕ) (part : Part) (W : Type 0) → IfOk r (λ n. W → IsKeyStep rows q part n) → IfOk r (λ n. W → (q < n) × (n < length rows))
+pub step-row : (r : Result ℕ ConfWhy) (rows : List ConfRow) (q : ℕ) (part : Part) (W : Type 0) → IfOk r (λ n. W → IsKeyStep rows q part n) → IfOk r (λ n. W → (q < n) × (n < length rows))
 step-row (Ok n) rows q part W step = λ w. ((step w).is_node.falls, (step w).is_node.inside)
 step-row (Err cause) rows q part W step = tt
 
-pub later-row : (r : Result ℕ ConfWhy) (rows : List Row) (q inner : ℕ) (W : Type 0) → q < inner → IfOk r (λ n. W → (inner < n) × (n < length rows)) → IfOk r (λ n. W → (q < n) × (n < length rows))
+pub later-row : (r : Result ℕ ConfWhy) (rows : List ConfRow) (q inner : ℕ) (W : Type 0) → q < inner → IfOk r (λ n. W → (inner < n) × (n < length rows)) → IfOk r (λ n. W → (q < n) × (n < length rows))
 later-row (Ok n) rows q inner W low row = λ w. let later : inner < n = (row w).0 in (omega arith, (row w).1)
 later-row (Err cause) rows q inner W low row = tt
 
@@ -163,10 +163,10 @@ pub met-removes : (part : Part) (g : Entries) → part.removes ≡ true → node
 met-removes part g is = ap (λ b. cond b None (get part.name g)) is
 
 -- what a part meets that doesn't remove it
-pub met-node : (part : Part) (rows : List Row) (q n : ℕ) → part.removes ≡ false → IsNode rows q part.name n → node_met part (group_of q rows) ≡ Some (node (row_at rows n).value (group_of n rows))
+pub met-node : (part : Part) (rows : List ConfRow) (q n : ℕ) → part.removes ≡ false → IsNode rows q part.name n → node_met part (group_of q rows) ≡ Some (node (row_at rows n).value (group_of n rows))
 met-node part rows q n stays is = ap (λ b. cond b None (get part.name (group_of q rows))) stays ∙ get-IsNode rows q part.name n is
 
-pub met-absent : (part : Part) (rows : List Row) (q : ℕ) → part.removes ≡ false → IsAbsent rows q part.name → node_met part (group_of q rows) ≡ None
+pub met-absent : (part : Part) (rows : List ConfRow) (q : ℕ) → part.removes ≡ false → IsAbsent rows q part.name → node_met part (group_of q rows) ≡ None
 met-absent part rows q stays none = ap (λ b. cond b None (get part.name (group_of q rows))) stays ∙ get-IsAbsent rows q part.name none
 
 pub is_text-group : (value : Option (List ℕ)) (g : Entries) → is_none value ≡ true → Some (node value g) ≡ Some (group g)

@@ -3,38 +3,38 @@ use Rattle.std.proofs.Common.{◌≡◌, ℕ, zero, suc, ◌+◌, ◌<◌, ◌�
 use Rattle.std.proofs.Common as common
 use Rattle.std.specs.Str.{bytes_eq}
 use Rattle.std.proofs.lemmas.List.{get_or-drop, length-drop, drop-drop, drop-append-le, drop-set-add, drop_all}
-use Rattle.asound_conf.specs.Tree.{Tree, text, group, Entries, empty, has, get, without_name}
+use Rattle.asound_conf.specs.Tree.{Tree, text, group, Entries, empty, has_node, get, without_name}
 use Rattle.asound_conf.specs.Tree as tree
-use Rattle.asound_conf.specs.Rows.{Row, Alters, IsAbsent, IsNode, IsOnlyIn, group_of, is_in, no_row, node, row_at, group_in_rows}
+use Rattle.asound_conf.specs.Rows.{ConfRow, Alters, IsAbsent, IsNode, IsOnlyIn, group_of, is_in, no_row, node, row_at, group_in_rows}
 use Rattle.asound_conf.proofs.Places.{get-none}
-use Rattle.asound_conf.proofs.Rows.{IsAt, get-at, has-at, has-absent, reaches, within-child, within-push, within-set, without-removed}
+use Rattle.asound_conf.proofs.Rows.{IsAt, get-at, has_node-at, has_node-absent, reaches, within-child, within-push, within-set, without-removed}
 
 -- the rows after a row, as they are among those after an earlier row
-row-after : (rows : List Row) (p n : ℕ) → p < n → row_at (drop (suc p) rows) (n - suc p) ≡ row_at rows n
+row-after : (rows : List ConfRow) (p n : ℕ) → p < n → row_at (drop (suc p) rows) (n - suc p) ≡ row_at rows n
 row-after rows p n low =
     let sum : suc p + (n - suc p) ≡ n = omega arith in
     get_or-drop (suc p) rows (n - suc p) no_row ∙ ap (row_at rows) sum
 
-pub drop-after : (rows : List Row) (p n : ℕ) → p < n → drop (suc (n - suc p)) (drop (suc p) rows) ≡ drop (suc n) rows
+pub drop-after : (rows : List ConfRow) (p n : ℕ) → p < n → drop (suc (n - suc p)) (drop (suc p) rows) ≡ drop (suc n) rows
 drop-after rows p n low =
     let sum : suc p + suc (n - suc p) ≡ suc n = omega arith in
     drop-drop (suc (n - suc p)) (suc p) rows ∙ ap (λ m. drop m rows) sum
 
 -- a name that no row of a group has
-absent-after : (rows : List Row) (p first : ℕ) (name : List ℕ) → ((j : ℕ) → first ≤ j → (row_at rows j).parent ≡ Some p → bytes_eq (row_at rows j).name name ≡ false) → has name (group_in_rows p first (drop first rows)) ≡ false
+absent-after : (rows : List ConfRow) (p first : ℕ) (name : List ℕ) → ((j : ℕ) → first ≤ j → (row_at rows j).parent ≡ Some p → bytes_eq (row_at rows j).name name ≡ false) → has_node name (group_in_rows p first (drop first rows)) ≡ false
 absent-after rows p first name none =
-    has-absent p first name (drop first rows) (λ j there.
+    has_node-absent p first name (drop first rows) (λ j there.
     let moved : row_at (drop first rows) j ≡ row_at rows (first + j) = get_or-drop first rows j no_row in
-    ap (λ (r : Row). bytes_eq r.name name) moved ∙ none (first + j) (omega arith) (sym (ap (λ (r : Row). r.parent) moved) ∙ there))
+    ap (λ (r : ConfRow). bytes_eq r.name name) moved ∙ none (first + j) (omega arith) (sym (ap (λ (r : ConfRow). r.parent) moved) ∙ there))
 
-pub has-IsAbsent : (rows : List Row) (p : ℕ) (name : List ℕ) → IsAbsent rows p name → has name (group_of p rows) ≡ false
-has-IsAbsent rows p name none = absent-after rows p (suc p) name (λ j later there. none j there)
+pub has_node-IsAbsent : (rows : List ConfRow) (p : ℕ) (name : List ℕ) → IsAbsent rows p name → has_node name (group_of p rows) ≡ false
+has_node-IsAbsent rows p name none = absent-after rows p (suc p) name (λ j later there. none j there)
 
-pub get-IsAbsent : (rows : List Row) (p : ℕ) (name : List ℕ) → IsAbsent rows p name → get name (group_of p rows) ≡ None
-get-IsAbsent rows p name none = get-none name (group_of p rows) (has-IsAbsent rows p name none)
+pub get-IsAbsent : (rows : List ConfRow) (p : ℕ) (name : List ℕ) → IsAbsent rows p name → get name (group_of p rows) ≡ None
+get-IsAbsent rows p name none = get-none name (group_of p rows) (has_node-IsAbsent rows p name none)
 
 -- the last row of a name, among the rows after its group's row
-pub at-IsNode : (rows : List Row) (p : ℕ) (name : List ℕ) (n : ℕ) → IsNode rows p name n → IsAt p name n (suc p) (n - suc p) (drop (suc p) rows)
+pub at-IsNode : (rows : List ConfRow) (p : ℕ) (name : List ℕ) (n : ℕ) → IsNode rows p name n → IsAt p name n (suc p) (n - suc p) (drop (suc p) rows)
 at-IsNode rows p name n is =
     let low : p < n = is.falls in
     let inside : n < length rows = is.inside in
@@ -42,47 +42,47 @@ at-IsNode rows p name n is =
     record {
       number = omega arith;
       inside = omega (arith, length-drop (suc p) rows);
-      parent = ap (λ (r : Row). r.parent) row ∙ is.parent;
-      name_is = ap (λ (r : Row). r.name) row ∙ is.named;
-      last = ap (λ (rs : List Row). has name (group_in_rows p (suc n) rs)) (drop-after rows p n low) ∙ absent-after rows p (suc n) name (λ j later there. is.last j (omega arith) there);
+      parent = ap (λ (r : ConfRow). r.parent) row ∙ is.parent;
+      name_is = ap (λ (r : ConfRow). r.name) row ∙ is.named;
+      last = ap (λ (rs : List ConfRow). has_node name (group_in_rows p (suc n) rs)) (drop-after rows p n low) ∙ absent-after rows p (suc n) name (λ j later there. is.last j (omega arith) there);
     }
 
-pub has-IsNode : (rows : List Row) (p : ℕ) (name : List ℕ) (n : ℕ) → IsNode rows p name n → has name (group_of p rows) ≡ true
-has-IsNode rows p name n is = has-at p name n (suc p) (n - suc p) (drop (suc p) rows) (at-IsNode rows p name n is)
+pub has_node-IsNode : (rows : List ConfRow) (p : ℕ) (name : List ℕ) (n : ℕ) → IsNode rows p name n → has_node name (group_of p rows) ≡ true
+has_node-IsNode rows p name n is = has_node-at p name n (suc p) (n - suc p) (drop (suc p) rows) (at-IsNode rows p name n is)
 
-pub get-IsNode : (rows : List Row) (p : ℕ) (name : List ℕ) (n : ℕ) → IsNode rows p name n → get name (group_of p rows) ≡ Some (node (row_at rows n).value (group_of n rows))
+pub get-IsNode : (rows : List ConfRow) (p : ℕ) (name : List ℕ) (n : ℕ) → IsNode rows p name n → get name (group_of p rows) ≡ Some (node (row_at rows n).value (group_of n rows))
 get-IsNode rows p name n is =
     get-at p name n (suc p) (n - suc p) (drop (suc p) rows) (at-IsNode rows p name n is)
-    ∙ ap₂ (λ (r : Row) (rs : List Row). Some (node r.value (group_in_rows n (suc n) rs))) (row-after rows p n is.falls) (drop-after rows p n is.falls)
+    ∙ ap₂ (λ (r : ConfRow) (rs : List ConfRow). Some (node r.value (group_in_rows n (suc n) rs))) (row-after rows p n is.falls) (drop-after rows p n is.falls)
 
 -- a row more goes to the end of its group
-pub group-push : (rows : List Row) (q : ℕ) (row : Row) → q < length rows → row.parent ≡ Some q → has row.name (group_of q rows) ≡ false → group_of q (rows ++ row ∷ []) ≡ tree.set row.name (node row.value empty) (group_of q rows)
+pub group-push : (rows : List ConfRow) (q : ℕ) (row : ConfRow) → q < length rows → row.parent ≡ Some q → has_node row.name (group_of q rows) ≡ false → group_of q (rows ++ row ∷ []) ≡ tree.set row.name (node row.value empty) (group_of q rows)
 group-push rows q row inside parent none =
     ap (group_in_rows q (suc q)) (drop-append-le (suc q) rows (row ∷ []) (omega arith)) ∙ within-push q (suc q) row (drop (suc q) rows) parent (omega arith) none
 
 -- and has an empty group
-pub group-new : (rows : List Row) (row : Row) → group_of (length rows) (rows ++ row ∷ []) ≡ empty
+pub group-new : (rows : List ConfRow) (row : ConfRow) → group_of (length rows) (rows ++ row ∷ []) ≡ empty
 group-new rows row = ap (group_in_rows (length rows) (suc (length rows))) (drop_all (suc (length rows)) (rows ++ row ∷ []) (omega (arith, length-append rows (row ∷ []))))
 
-set-after : (rows : List Row) (q n : ℕ) (s : Row) → q < n → drop (suc q) (common.set rows n s) ≡ common.set (drop (suc q) rows) (n - suc q) s
+set-after : (rows : List ConfRow) (q n : ℕ) (s : ConfRow) → q < n → drop (suc q) (common.set rows n s) ≡ common.set (drop (suc q) rows) (n - suc q) s
 set-after rows q n s low =
     let sum : suc q + (n - suc q) ≡ n = omega arith in
     ap (λ m. drop (suc q) (common.set rows m s)) (sym sum) ∙ drop-set-add (suc q) rows (n - suc q) s
 
 -- another text in the place of one
-pub group-set : (rows : List Row) (q : ℕ) (name : List ℕ) (n : ℕ) (s : Row) (t : List ℕ) → IsNode rows q name n → s.parent ≡ Some q → s.name ≡ (row_at rows n).name → s.value ≡ Some t → group_of q (common.set rows n s) ≡ tree.set name (text t) (group_of q rows)
+pub group-set : (rows : List ConfRow) (q : ℕ) (name : List ℕ) (n : ℕ) (s : ConfRow) (t : List ℕ) → IsNode rows q name n → s.parent ≡ Some q → s.name ≡ (row_at rows n).name → s.value ≡ Some t → group_of q (common.set rows n s) ≡ tree.set name (text t) (group_of q rows)
 group-set rows q name n s t is parent same value =
     let low : q < n = is.falls in
     ap (group_in_rows q (suc q)) (set-after rows q n s low)
-    ∙ within-set q name n (suc q) (n - suc q) s t (drop (suc q) rows) (at-IsNode rows q name n is) (omega arith) parent (same ∙ sym (ap (λ (r : Row). r.name) (row-after rows q n low))) value
+    ∙ within-set q name n (suc q) (n - suc q) s t (drop (suc q) rows) (at-IsNode rows q name n is) (omega arith) parent (same ∙ sym (ap (λ (r : ConfRow). r.name) (row-after rows q n low))) value
 
 -- a row that is taken out
-pub group-removed : (rows : List Row) (q : ℕ) (name : List ℕ) (n : ℕ) (s : Row) → IsNode rows q name n → s.parent ≡ None → without_name name (group_of q (common.set rows n s)) ≡ without_name name (group_of q rows)
+pub group-removed : (rows : List ConfRow) (q : ℕ) (name : List ℕ) (n : ℕ) (s : ConfRow) → IsNode rows q name n → s.parent ≡ None → without_name name (group_of q (common.set rows n s)) ≡ without_name name (group_of q rows)
 group-removed rows q name n s is parent =
-    ap (λ (rs : List Row). without_name name (group_in_rows q (suc q) rs)) (set-after rows q n s is.falls)
+    ap (λ (rs : List ConfRow). without_name name (group_in_rows q (suc q) rs)) (set-after rows q n s is.falls)
     ∙ without-removed q name n (suc q) (n - suc q) s (drop (suc q) rows) (at-IsNode rows q name n is) (omega arith) parent
 
-alters-drop : (q n : ℕ) (old new : List Row) → Alters q old new → Alters q (drop n old) (drop n new)
+alters-drop : (q n : ℕ) (old new : List ConfRow) → Alters q old new → Alters q (drop n old) (drop n new)
 alters-drop q n old new a =
     let longer : length old ≤ length new = a.longer in
     record {
@@ -92,19 +92,19 @@ alters-drop q n old new a =
   where
     by_change : (j : ℕ) → (row_at old (n + j) ≡ row_at new (n + j)) ⊎ (IsOnlyIn q (row_at old (n + j)) × IsOnlyIn q (row_at new (n + j))) → (row_at (drop n old) j ≡ row_at (drop n new) j) ⊎ (IsOnlyIn q (row_at (drop n old) j) × IsOnlyIn q (row_at (drop n new) j))
     by_change j (inl same) = inl (get_or-drop n old j no_row ∙ same ∙ sym (get_or-drop n new j no_row))
-    by_change j (inr only) = inr (λ d differ. ap (λ (r : Row). is_in d r.parent) (get_or-drop n old j no_row) ∙ only.0 d differ, λ d differ. ap (λ (r : Row). is_in d r.parent) (get_or-drop n new j no_row) ∙ only.1 d differ)
+    by_change j (inr only) = inr (λ d differ. ap (λ (r : ConfRow). is_in d r.parent) (get_or-drop n old j no_row) ∙ only.0 d differ, λ d differ. ap (λ (r : ConfRow). is_in d r.parent) (get_or-drop n new j no_row) ∙ only.1 d differ)
 
 -- a group has the new group of a row below which the change is
-pub group-child : (q p : ℕ) (name : List ℕ) (n : ℕ) (old new : List Row) → Alters q old new → IsNode old p name n → (row_at old n).value ≡ None → (p ≡ q → ⊥) → reaches q n (suc n) (drop (suc n) old) ≡ true
+pub group-child : (q p : ℕ) (name : List ℕ) (n : ℕ) (old new : List ConfRow) → Alters q old new → IsNode old p name n → (row_at old n).value ≡ None → (p ≡ q → ⊥) → reaches q n (suc n) (drop (suc n) old) ≡ true
     → group_of p new ≡ tree.set name (group (group_of n new)) (group_of p old)
 group-child q p name n old new a is is_group differ below =
     let low : p < n = is.falls in
     within-child q p name n (suc p) (n - suc p) (drop (suc p) old) (drop (suc p) new) (alters-drop q (suc p) old new a) (at-IsNode old p name n is)
-    (ap (λ (r : Row). r.value) (row-after old p n low) ∙ is_group) differ (omega arith) (ap (reaches q n (suc n)) (drop-after old p n low) ∙ below)
-    ∙ ap (λ (rs : List Row). tree.set name (group (group_in_rows n (suc n) rs)) (group_of p old)) (drop-after new p n low)
+    (ap (λ (r : ConfRow). r.value) (row-after old p n low) ∙ is_group) differ (omega arith) (ap (reaches q n (suc n)) (drop-after old p n low) ∙ below)
+    ∙ ap (λ (rs : List ConfRow). tree.set name (group (group_in_rows n (suc n) rs)) (group_of p old)) (drop-after new p n low)
 
 -- what changes a group twice
-pub Alters-both : (q : ℕ) (old mid new : List Row) → Alters q old mid → Alters q mid new → Alters q old new
+pub Alters-both : (q : ℕ) (old mid new : List ConfRow) → Alters q old mid → Alters q mid new → Alters q old new
 Alters-both q old mid new a b =
     let first : length old ≤ length mid = a.longer in
     let second : length mid ≤ length new = b.longer in
@@ -113,17 +113,17 @@ Alters-both q old mid new a b =
     by_change : (j : ℕ) → (row_at old j ≡ row_at mid j) ⊎ (IsOnlyIn q (row_at old j) × IsOnlyIn q (row_at mid j)) → (row_at mid j ≡ row_at new j) ⊎ (IsOnlyIn q (row_at mid j) × IsOnlyIn q (row_at new j))
         → (row_at old j ≡ row_at new j) ⊎ (IsOnlyIn q (row_at old j) × IsOnlyIn q (row_at new j))
     by_change j (inl same) (inl also) = inl (same ∙ also)
-    by_change j (inl same) (inr only) = inr (subst (λ (r : Row). IsOnlyIn q r) (sym same) only.0, only.1)
-    by_change j (inr only) (inl same) = inr (only.0, subst (λ (r : Row). IsOnlyIn q r) same only.1)
+    by_change j (inl same) (inr only) = inr (subst (λ (r : ConfRow). IsOnlyIn q r) (sym same) only.0, only.1)
+    by_change j (inr only) (inl same) = inr (only.0, subst (λ (r : ConfRow). IsOnlyIn q r) same only.1)
     by_change j (inr only) (inr also) = inr (only.0, also.1)
 
 -- how many rows are in a group
-abbrev pub members : ℕ → List Row → ℕ
+abbrev pub members : ℕ → List ConfRow → ℕ
 members q [] = 0
 members q (row ∷ rows) = cond (is_in q row.parent) (suc (members q rows)) (members q rows)
 
 -- a row fewer is in a group once one is taken out
-pub members-removed : (q n : ℕ) (s : Row) (rows : List Row) → n < length rows → is_in q (row_at rows n).parent ≡ true → is_in q s.parent ≡ false → members q (common.set rows n s) < members q rows
+pub members-removed : (q n : ℕ) (s : ConfRow) (rows : List ConfRow) → n < length rows → is_in q (row_at rows n).parent ≡ true → is_in q s.parent ≡ false → members q (common.set rows n s) < members q rows
 members-removed q n s [] inside was out = absurd (omega arith)
 members-removed q zero s (r ∷ rows) inside was out = rw (was, out) (omega arith)
 members-removed q (suc n) s (r ∷ rows) inside was out = by_test (is_in q r.parent) (members-removed q n s rows (omega arith) was out)
@@ -132,5 +132,5 @@ members-removed q (suc n) s (r ∷ rows) inside was out = by_test (is_in q r.par
     by_test true fewer = omega arith
     by_test false fewer = fewer
 
-pub Alters-same : (q : ℕ) (rows : List Row) → Alters q rows rows
+pub Alters-same : (q : ℕ) (rows : List ConfRow) → Alters q rows rows
 Alters-same q rows = record { longer = omega arith; each = λ j. inl refl }

@@ -9,26 +9,26 @@ use Rattle.std.proofs.lemmas.List.{take_all, take-append-le, length-take-le}
 use Rattle.std.proofs.lemmas.List as lists
 use Rattle.bindings.specs.Answers.{answer_of}
 use Rattle.snd_base.specs.declared.errors.Why.TheVariants.{BindingsTooMany}
-use Rattle.asound_conf.specs.Device.{bindings_in, bound, number_in, one_more, values_of}
+use Rattle.asound_conf.specs.Device.{bindings_in, bound, number_of_node, value_more, numbered_values}
 use Rattle.asound_conf.specs.Tree.{Entries, get}
 
 -- the first values, of which at most nine are kept
 pub record AreFirst (g : Entries) (n : ℕ) (kept : List ℕ) : Type 0 where
   pub list : List ℕ
-  pub are : values_of g n ≡ Some list
+  pub are : numbered_values g n ≡ Some list
   pub count : length list ≡ n
   pub front : take (min n 9) kept ≡ take 9 list
 
 pub AreFirst-none : (g : Entries) (kept : List ℕ) → AreFirst g 0 kept
-unfolding values_of
+unfolding numbered_values
 AreFirst-none g kept = record { list = []; are = refl; count = refl; front = refl }
 
-more-are : (g : Entries) (n value : ℕ) (list : List ℕ) → values_of g n ≡ Some list → number_in (get (decimal n) g) ≡ Some value → values_of g (suc n) ≡ Some (list ++ value ∷ [])
-unfolding values_of
+more-are : (g : Entries) (n value : ℕ) (list : List ℕ) → numbered_values g n ≡ Some list → number_of_node (get (decimal n) g) ≡ Some value → numbered_values g (suc n) ≡ Some (list ++ value ∷ [])
+unfolding numbered_values
 more-are g n value list are is = rw (are, is) refl
 
 -- one value more, which is kept
-pub AreFirst-kept : (g : Entries) (n value : ℕ) (kept : List ℕ) → AreFirst g n kept → number_in (get (decimal n) g) ≡ Some value → n < 9 → length kept ≡ 9 → AreFirst g (n + 1) (set kept n value)
+pub AreFirst-kept : (g : Entries) (n value : ℕ) (kept : List ℕ) → AreFirst g n kept → number_of_node (get (decimal n) g) ≡ Some value → n < 9 → length kept ≡ 9 → AreFirst g (n + 1) (set kept n value)
 AreFirst-kept g n value kept first is low size =
     let next : suc n ≡ n + 1 = omega arith in
     let few : min n 9 ≡ n = omega arith in
@@ -37,38 +37,38 @@ AreFirst-kept g n value kept first is low size =
     let within : n < length kept = omega arith in
     record {
       list = first.list ++ value ∷ [];
-      are = ap (values_of g) (sym next) ∙ more-are g n value first.list first.are is;
+      are = ap (numbered_values g) (sym next) ∙ more-are g n value first.list first.are is;
       count = omega (arith, length-append first.list (value ∷ []), first.count);
       front = ap (λ k. take k (set kept n value)) fewer ∙ lists.take_more_set kept n value within ∙ ap (λ l. l ++ value ∷ []) front ∙ sym (take_all 9 (first.list ++ value ∷ []) (omega (arith, length-append first.list (value ∷ []), first.count)));
     }
 
 -- one value more, which isn't
-pub AreFirst-more : (g : Entries) (n value : ℕ) (kept : List ℕ) → AreFirst g n kept → number_in (get (decimal n) g) ≡ Some value → 9 ≤ n → AreFirst g (n + 1) kept
+pub AreFirst-more : (g : Entries) (n value : ℕ) (kept : List ℕ) → AreFirst g n kept → number_of_node (get (decimal n) g) ≡ Some value → 9 ≤ n → AreFirst g (n + 1) kept
 AreFirst-more g n value kept first is high =
     let next : suc n ≡ n + 1 = omega arith in
     let many : min n 9 ≡ min (n + 1) 9 = omega arith in
     record {
       list = first.list ++ value ∷ [];
-      are = ap (values_of g) (sym next) ∙ more-are g n value first.list first.are is;
+      are = ap (numbered_values g) (sym next) ∙ more-are g n value first.list first.are is;
       count = omega (arith, length-append first.list (value ∷ []), first.count);
       front = ap (λ k. take k kept) (sym many) ∙ first.front ∙ sym (take-append-le 9 first.list (value ∷ []) (omega (arith, first.count)));
     }
 
 -- where one value is none, there are none
-pub values_of-None : (g : Entries) (n m : ℕ) → number_in (get (decimal n) g) ≡ None → n < m → values_of g m ≡ None
-unfolding values_of
-values_of-None g n zero none below = absurd (omega arith)
-values_of-None g n (suc m) none below = elim (cases_lt n m) [
-  | inl low ↦ ap (λ o. one_more o (number_in (get (decimal m) g))) (values_of-None g n m none low)
+pub numbered_values-None : (g : Entries) (n m : ℕ) → number_of_node (get (decimal n) g) ≡ None → n < m → numbered_values g m ≡ None
+unfolding numbered_values
+numbered_values-None g n zero none below = absurd (omega arith)
+numbered_values-None g n (suc m) none below = elim (cases_lt n m) [
+  | inl low ↦ ap (λ o. value_more o (number_of_node (get (decimal m) g))) (numbered_values-None g n m none low)
   | inr high ↦
       let last : m ≡ n = omega arith in
-      let is : number_in (get (decimal m) g) ≡ None = ap (λ k. number_in (get (decimal k) g)) last ∙ none in
-      ap (one_more (values_of g m)) is ∙ one_more-None (values_of g m)
+      let is : number_of_node (get (decimal m) g) ≡ None = ap (λ k. number_of_node (get (decimal k) g)) last ∙ none in
+      ap (value_more (numbered_values g m)) is ∙ value_more-None (numbered_values g m)
 ]
   where
-    one_more-None : (o : Option (List ℕ)) → one_more o None ≡ None
-    one_more-None (Some list) = refl
-    one_more-None None = refl
+    value_more-None : (o : Option (List ℕ)) → value_more o None ≡ None
+    value_more-None (Some list) = refl
+    value_more-None None = refl
 
 -- nine entries are as good as more: too many
 pub answer_of-take : (list : List ℕ) (channels : ℕ) → answer_of (take 9 list) channels ≡ answer_of list channels

@@ -5,7 +5,7 @@ use Rattle.std.specs.List.{list_any, slice_split}
 use Rattle.std.proofs.lemmas.List.{map-append, map_more}
 use Rattle.asound_conf.specs.declared.cell.Name.TheVariants as names
 use Rattle.asound_conf.specs.declared.part.Part as code
-use Rattle.asound_conf.specs.Key.{Part, is_dot, part_of, word_parts}
+use Rattle.asound_conf.specs.Key.{Part, is_dot, key_part, word_parts}
 use Rattle.asound_conf.specs.Parts.{part_in, parts_in}
 use Rattle.asound_conf.specs.Table.{span_in}
 use Rattle.asound_conf.proofs.Starts.{span-drop, span-take}
@@ -21,24 +21,24 @@ parts_in-push text parts part = map-append (part_in text) parts (part ∷ [])
 -- one piece more was added
 pub IsPushed-next : (text : List ℕ) (old now : List code.Part) (word rest piece behind : List ℕ) (at : ℕ) (part : code.Part)
     → slice_split is_dot rest ≡ piece ∷ slice_split is_dot behind → behind ≡ drop (length piece + 1) rest → length piece + 1 + length behind ≡ length rest
-    → part_in text part ≡ part_of piece → IsPushed text old now word rest at → IsPushed text old (now ++ part ∷ []) word behind (at + (length piece + 1))
+    → part_in text part ≡ key_part piece → IsPushed text old now word rest at → IsPushed text old (now ++ part ∷ []) word behind (at + (length piece + 1))
 IsPushed-next text old now word rest piece behind at part split follows sizes is pushed =
     let within : length piece + 1 ≤ length rest = omega (arith, sizes) in
     let count : length rest - (length piece + 1) ≡ length behind = omega (arith, sizes) in
     let span = span-drop text rest at (length piece + 1) within pushed.place in
-    let parts : word_parts rest ≡ part_of piece ∷ word_parts behind = ap (map part_of) split in
+    let parts : word_parts rest ≡ key_part piece ∷ word_parts behind = ap (map key_part) split in
     record {
       place = subst (λ (k : ℕ). span_in text (record { start = at + (length piece + 1); count = k }) ≡ behind) count (span ∙ sym follows);
       parts =
           ap (λ (p : List Part). p ++ word_parts behind) (parts_in-push text now part ∙ ap (λ (p : Part). parts_in text now ++ p ∷ []) is)
-          ∙ append_assoc (parts_in text now) (part_of piece ∷ []) (word_parts behind) ∙ ap (λ (p : List Part). parts_in text now ++ p) (sym parts) ∙ pushed.parts;
+          ∙ append_assoc (parts_in text now) (key_part piece ∷ []) (word_parts behind) ∙ ap (λ (p : List Part). parts_in text now ++ p) (sym parts) ∙ pushed.parts;
     }
 
 -- the last piece was added
-pub parts_in-last : (text : List ℕ) (old now : List code.Part) (word rest : List ℕ) (at : ℕ) (part : code.Part) → slice_split is_dot rest ≡ rest ∷ [] → part_in text part ≡ part_of rest → IsPushed text old now word rest at
+pub parts_in-last : (text : List ℕ) (old now : List code.Part) (word rest : List ℕ) (at : ℕ) (part : code.Part) → slice_split is_dot rest ≡ rest ∷ [] → part_in text part ≡ key_part rest → IsPushed text old now word rest at
     → parts_in text (now ++ part ∷ []) ≡ parts_in text old ++ word_parts word
 parts_in-last text old now word rest at part split is pushed =
-    parts_in-push text now part ∙ ap (λ (p : Part). parts_in text now ++ p ∷ []) is ∙ ap (λ (p : List Part). parts_in text now ++ p) (sym (ap (map part_of) split)) ∙ pushed.parts
+    parts_in-push text now part ∙ ap (λ (p : Part). parts_in text now ++ p ∷ []) is ∙ ap (λ (p : List Part). parts_in text now ++ p) (sym (ap (map key_part) split)) ∙ pushed.parts
 
 -- the place of the piece
 pub piece-place : (text rest piece : List ℕ) (at : ℕ) → length piece ≤ length rest → piece ≡ take (length piece) rest → span_in text (record { start = at; count = length rest }) ≡ rest

@@ -6,13 +6,13 @@ use Rattle.asound_conf.specs.declared.error.ConfWhy.TheVariants as why
 use Rattle.asound_conf.specs.Answer.{Leads, Refuses, answer_view}
 use Rattle.asound_conf.specs.Key.{Part, part_named, without_marks}
 use Rattle.asound_conf.specs.Place.{base, clashes, is_last, meets_text, node_met, put_or_clash, put, put_there, node_at}
-use Rattle.asound_conf.specs.Rows.{Contents, Row, Alters, IsAbsent, IsNode, group_of, no_row, node, row_at, with_row}
+use Rattle.asound_conf.specs.Rows.{Contents, ConfRow, Alters, IsAbsent, IsNode, group_of, no_row, node, row_at, with_row}
 use Rattle.asound_conf.specs.Tree.{Tree, text, group, Entries, empty, get, group_in, is_text, without_name}
 use Rattle.asound_conf.specs.Tree as tree
 use Rattle.asound_conf.specs.Way.{IsKeyStep, IsWay}
 use Rattle.asound_conf.proofs.Below.{placed-below, placed-down, with_group}
-use Rattle.asound_conf.proofs.Groups.{Alters-both, Alters-same, get-IsAbsent, get-IsNode, group-push, group-set, has-IsAbsent}
-use Rattle.asound_conf.proofs.Places.{get-none, get-set, has-without, set-get, set-set}
+use Rattle.asound_conf.proofs.Groups.{Alters-both, Alters-same, get-IsAbsent, get-IsNode, group-push, group-set, has_node-IsAbsent}
+use Rattle.asound_conf.proofs.Places.{get-none, get-set, has_node-without, set-get, set-set}
 use Rattle.asound_conf.proofs.Rows.{Alters-push}
 use Rattle.asound_conf.proofs.Ways.{IsWay-kept, IsWay-more, group_at-IsWay, met-IsKeyStep, with_group-IsWay}
 
@@ -21,7 +21,7 @@ pub get-base : (part : Part) (g : Entries) → get part.name (base part g) ≡ n
 get-base part g = base-get part.name g part.removes
   where
     base-get : (name : List ℕ) (g : Entries) (removes : Bool) → get name (cond removes (without_name name g) g) ≡ cond removes None (get name g)
-    base-get name g true = get-none name (without_name name g) (has-without name g)
+    base-get name g true = get-none name (without_name name g) (has_node-without name g)
     base-get name g false = refl
 
 -- what is put under a name
@@ -54,13 +54,13 @@ is_none-true None is = refl
 is_none-true (Some x) is = cc
 
 -- a text where a group is
-pub text-Kind : (rows : List Row) (q : ℕ) (name : List ℕ) (n : ℕ) (t : List ℕ) → IsNode rows q name n → is_none (row_at rows n).value ≡ true → put_or_clash (Some t) (part_named name ∷ []) (group_of q rows) ≡ Err why.Kind
+pub text-Kind : (rows : List ConfRow) (q : ℕ) (name : List ℕ) (n : ℕ) (t : List ℕ) → IsNode rows q name n → is_none (row_at rows n).value ≡ true → put_or_clash (Some t) (part_named name ∷ []) (group_of q rows) ≡ Err why.Kind
 text-Kind rows q name n t is is_group =
     let there : get name (group_of q rows) ≡ Some (group (group_of n rows)) = get-IsNode rows q name n is ∙ ap (λ v. Some (node v (group_of n rows))) (is_none-true (row_at rows n).value is_group) in
     placed-old (Some t) name (group_of q rows) (group (group_of n rows)) there
 
 -- a text where a text is
-pub text-set : (rows new : List Row) (q : ℕ) (name : List ℕ) (n : ℕ) (t : List ℕ) → IsNode rows q name n → is_none (row_at rows n).value ≡ false → new ≡ set rows n (record { parent = (row_at rows n).parent; name = (row_at rows n).name; value = Some t })
+pub text-set : (rows new : List ConfRow) (q : ℕ) (name : List ℕ) (n : ℕ) (t : List ℕ) → IsNode rows q name n → is_none (row_at rows n).value ≡ false → new ≡ set rows n (record { parent = (row_at rows n).parent; name = (row_at rows n).name; value = Some t })
     → put_or_clash (Some t) (part_named name ∷ []) (group_of q rows) ≡ Ok (group_of q new)
 text-set rows new q name n t is is_text new_is = by_value (row_at rows n).value is_text (get-IsNode rows q name n is)
   where
@@ -71,13 +71,13 @@ text-set rows new q name n t is is_text new_is = by_value (row_at rows n).value 
         ∙ sym (ap (λ rs. Ok (group_of q rs)) new_is ∙ ap Ok (group-set rows q name n (record { parent = (row_at rows n).parent; name = (row_at rows n).name; value = Some t }) t is is.parent refl refl))
 
 -- a group where a group is
-pub group-same : (rows : List Row) (q : ℕ) (name : List ℕ) (n : ℕ) → IsNode rows q name n → is_none (row_at rows n).value ≡ true → put_or_clash None (part_named name ∷ []) (group_of q rows) ≡ Ok (group_of q rows)
+pub group-same : (rows : List ConfRow) (q : ℕ) (name : List ℕ) (n : ℕ) → IsNode rows q name n → is_none (row_at rows n).value ≡ true → put_or_clash None (part_named name ∷ []) (group_of q rows) ≡ Ok (group_of q rows)
 group-same rows q name n is is_group =
     let there : get name (group_of q rows) ≡ Some (group (group_of n rows)) = get-IsNode rows q name n is ∙ ap (λ v. Some (node v (group_of n rows))) (is_none-true (row_at rows n).value is_group) in
     placed-old None name (group_of q rows) (group (group_of n rows)) there ∙ ap Ok (set-get name (group (group_of n rows)) (group_of q rows) there)
 
 -- a group where a text is
-pub group-Kind : (rows : List Row) (q : ℕ) (name : List ℕ) (n : ℕ) → IsNode rows q name n → is_none (row_at rows n).value ≡ false → put_or_clash None (part_named name ∷ []) (group_of q rows) ≡ Err why.Kind
+pub group-Kind : (rows : List ConfRow) (q : ℕ) (name : List ℕ) (n : ℕ) → IsNode rows q name n → is_none (row_at rows n).value ≡ false → put_or_clash None (part_named name ∷ []) (group_of q rows) ≡ Err why.Kind
 group-Kind rows q name n is is_text = by_value (row_at rows n).value is_text (get-IsNode rows q name n is)
   where
     by_value : (v : Option (List ℕ)) → is_none v ≡ false → get name (group_of q rows) ≡ Some (node v (group_of n rows)) → put_or_clash None (part_named name ∷ []) (group_of q rows) ≡ Err why.Kind
@@ -85,7 +85,7 @@ group-Kind rows q name n is is_text = by_value (row_at rows n).value is_text (ge
     by_value (Some old) is_text there = placed-old None name (group_of q rows) (text old) there
 
 -- the row that is added for a name
-abbrev pub new_row : ℕ → List ℕ → Option (List ℕ) → Row
+abbrev pub new_row : ℕ → List ℕ → Option (List ℕ) → ConfRow
 new_row q name value = record { parent = Some q; name = name; value = value }
 
 -- what adds a row for a name that isn't there, unless memory runs out
@@ -93,7 +93,7 @@ pub push-Leads : (r : Result ℕ ConfWhy) (q : ℕ) (name : List ℕ) (value : O
     → Leads r (group_of q new.rows) (put_or_clash value (part_named name ∷ []) (group_of q old.rows))
 push-Leads (Ok n) q name value old new none inside pushed memory =
     placed-new value name (group_of q old.rows) (get-IsAbsent old.rows q name none)
-    ∙ ap Ok (sym (group-push old.rows q (new_row q name value) inside refl (has-IsAbsent old.rows q name none)))
+    ∙ ap Ok (sym (group-push old.rows q (new_row q name value) inside refl (has_node-IsAbsent old.rows q name none)))
     ∙ ap (λ (c : Contents). Ok (group_of q c.rows)) (sym pushed)
 push-Leads (Err cause) q name value old new none inside pushed memory = subst (λ w. Refuses w (put_or_clash value (part_named name ∷ []) (group_of q old.rows))) (sym memory) tt
 
@@ -106,35 +106,35 @@ push-Alters (Ok n) q name value old new pushed kept = subst (λ (c : Contents). 
 push-Alters (Err cause) q name value old new pushed kept = subst (λ (c : Contents). Alters q old.rows c.rows) (sym kept) (Alters-same q old.rows)
 
 -- the row that was added is where its name leads
-IsNode-push : (q : ℕ) (name : List ℕ) (value : Option (List ℕ)) (rows : List Row) → q < length rows → IsNode (rows ++ new_row q name value ∷ []) q name (length rows)
+IsNode-push : (q : ℕ) (name : List ℕ) (value : Option (List ℕ)) (rows : List ConfRow) → q < length rows → IsNode (rows ++ new_row q name value ∷ []) q name (length rows)
 IsNode-push q name value rows inside =
     let row : row_at (rows ++ new_row q name value ∷ []) (length rows) ≡ new_row q name value = at-length rows in
     record {
       inside = omega (arith, length-append rows (new_row q name value ∷ []));
-      parent = ap (λ (r : Row). r.parent) row;
-      named = ap (λ (r : Row). r.name) row;
+      parent = ap (λ (r : ConfRow). r.parent) row;
+      named = ap (λ (r : ConfRow). r.name) row;
       falls = inside;
-      last = λ j later there. let none : None ≡ Some q = sym (ap (λ (r : Row). r.parent) (past rows j later)) ∙ there in cc;
+      last = λ j later there. let none : None ≡ Some q = sym (ap (λ (r : ConfRow). r.parent) (past rows j later)) ∙ there in cc;
     }
   where
-    at-length : (rows : List Row) → row_at (rows ++ new_row q name value ∷ []) (length rows) ≡ new_row q name value
+    at-length : (rows : List ConfRow) → row_at (rows ++ new_row q name value ∷ []) (length rows) ≡ new_row q name value
     at-length [] = refl
     at-length (r ∷ rows) = at-length rows
 
-    past : (rows : List Row) (j : ℕ) → length rows < j → row_at (rows ++ new_row q name value ∷ []) j ≡ no_row
+    past : (rows : List ConfRow) (j : ℕ) → length rows < j → row_at (rows ++ new_row q name value ∷ []) j ≡ no_row
     past rows j later = get_or_past (rows ++ new_row q name value ∷ []) j no_row (omega (arith, length-append rows (new_row q name value ∷ [])))
 
 pub IsKeyStep-push : (r : Result ℕ ConfWhy) (q : ℕ) (name : List ℕ) (old new : Contents) → q < length old.rows → OnOk r (new ≡ with_row (new_row q name None) old) → IfOk r (λ n. n ≡ length old.rows) → IfOk r (λ n. IsKeyStep new.rows q (part_named name) n)
 IsKeyStep-push (Ok n) q name old new inside pushed number =
     subst (λ (c : Contents). IsKeyStep c.rows q (part_named name) n) (sym pushed) (subst (λ m. IsKeyStep (old.rows ++ new_row q name None ∷ []) q (part_named name) m) (sym number)
-    (record { stays = refl; is_node = IsNode-push q name None old.rows inside; is_group = ap (λ (r : Row). r.value) (at-length old.rows) }))
+    (record { stays = refl; is_node = IsNode-push q name None old.rows inside; is_group = ap (λ (r : ConfRow). r.value) (at-length old.rows) }))
   where
-    at-length : (rows : List Row) → row_at (rows ++ new_row q name None ∷ []) (length rows) ≡ new_row q name None
+    at-length : (rows : List ConfRow) → row_at (rows ++ new_row q name None ∷ []) (length rows) ≡ new_row q name None
     at-length [] = refl
     at-length (r ∷ rows) = at-length rows
 IsKeyStep-push (Err cause) q name old new inside pushed number = tt
 
-pub IsKeyStep-IsNode : (rows : List Row) (q : ℕ) (name : List ℕ) (n : ℕ) → IsNode rows q name n → is_none (row_at rows n).value ≡ true → IsKeyStep rows q (part_named name) n
+pub IsKeyStep-IsNode : (rows : List ConfRow) (q : ℕ) (name : List ℕ) (n : ℕ) → IsNode rows q name n → is_none (row_at rows n).value ≡ true → IsKeyStep rows q (part_named name) n
 IsKeyStep-IsNode rows q name n is is_group = record { stays = refl; is_node = is; is_group = is_none-true (row_at rows n).value is_group }
 
 -- an answer that was made of another one
@@ -150,7 +150,7 @@ pub Leads-along : {X S : Type 0} (r : Result X ConfWhy) (new other : S) (given w
 Leads-along r new other given wanted same is leads = subst (λ n. Leads r n wanted) same (subst (λ w. Leads r new w) is leads)
 
 -- what the last part of a key puts into the group at the end of a way
-pub put-last : (r : Result ℕ ConfWhy) (first mid new : List Row) (q : ℕ) (part : Part) (value : Option (List ℕ)) (path : List Part) → IsWay first 0 path q → Alters q first mid → Alters q mid new → group_of q mid ≡ base part (group_of q first)
+pub put-last : (r : Result ℕ ConfWhy) (first mid new : List ConfRow) (q : ℕ) (part : Part) (value : Option (List ℕ)) (path : List Part) → IsWay first 0 path q → Alters q first mid → Alters q mid new → group_of q mid ≡ base part (group_of q first)
     → Leads r (group_of q new) (put_or_clash value (part_named part.name ∷ []) (group_of q mid)) → Leads r (group_of 0 new) (put_or_clash value (path ++ part ∷ []) (group_of 0 first))
 put-last r first mid new q part value path way clears puts cleared leads =
     let root = group_of 0 first in
@@ -160,18 +160,18 @@ put-last r first mid new q part value path way clears puts cleared leads =
     (ap (λ g. answer_view f (put_or_clash value (part_named part.name ∷ []) g)) cleared ∙ ap (answer_view f) (sym (placed-base value part (group_of q first))) ∙ sym (placed-below value path (part ∷ []) root (group_of q first) (group_at-IsWay first 0 path q way) refl))
     (Leads-seen r (group_of q new) f (put_or_clash value (part_named part.name ∷ []) (group_of q mid)) leads)
 
-pub put-last-way : (r : Result ℕ ConfWhy) (first new : List Row) (q : ℕ) (part : Part) (W : Type 0) (path : List Part) → IsWay first 0 path q → Alters q first new
+pub put-last-way : (r : Result ℕ ConfWhy) (first new : List ConfRow) (q : ℕ) (part : Part) (W : Type 0) (path : List Part) → IsWay first 0 path q → Alters q first new
     → IfOk r (λ n. W → IsKeyStep new q (part_named part.name) n) → IfOk r (λ n. W → IsWay new 0 (path ++ without_marks (part ∷ [])) n)
 put-last-way (Ok n) first new q part W path way alters step = λ w. IsWay-more new 0 path q (part_named part.name) n (IsWay-kept q first new 0 path q alters (omega arith) way) (step w)
 put-last-way (Err cause) first new q part W path way alters step = tt
 
 -- what is known once a part of a key, which isn't the last, has led to a group
-pub record IsLed (first mid : List Row) (q : ℕ) (part : Part) (n : ℕ) : Type 0 where
+pub record IsLed (first mid : List ConfRow) (q : ℕ) (part : Part) (n : ℕ) : Type 0 where
   pub meets_it : group_in (node_met part (group_of q first)) ≡ group_of n mid
   pub sets : (h : Entries) → tree.set part.name (group h) (group_of q mid) ≡ tree.set part.name (group h) (base part (group_of q first))
   pub there : get part.name (group_of q mid) ≡ Some (group (group_of n mid))
 
-pub led : (first cleared mid : List Row) (q : ℕ) (part : Part) (n : ℕ) → group_of q cleared ≡ base part (group_of q first) → put_or_clash None (part_named part.name ∷ []) (group_of q cleared) ≡ Ok (group_of q mid) → IsKeyStep mid q (part_named part.name) n → IsLed first mid q part n
+pub led : (first cleared mid : List ConfRow) (q : ℕ) (part : Part) (n : ℕ) → group_of q cleared ≡ base part (group_of q first) → put_or_clash None (part_named part.name ∷ []) (group_of q cleared) ≡ Ok (group_of q mid) → IsKeyStep mid q (part_named part.name) n → IsLed first mid q part n
 led first cleared mid q part n is puts step = by_test (clashes None (get part.name (group_of q cleared))) (sym (placed-one None part.name (group_of q cleared)) ∙ puts)
   where
     by_test : (b : Bool) → cond b (Err why.Kind) (Ok (tree.set part.name (put_there None (get part.name (group_of q cleared))) (group_of q cleared))) ≡ Ok (group_of q mid) → IsLed first mid q part n
@@ -191,7 +191,7 @@ led first cleared mid q part n is puts step = by_test (clashes None (get part.na
         }
 
 -- what the parts of a key after the first put into the group at the end of a way
-pub put-down : (r : Result ℕ ConfWhy) (first mid new : List Row) (q n : ℕ) (part : Part) (parts : List Part) (value : Option (List ℕ)) (path : List Part) → IsWay first 0 path q → Alters q first mid → is_last parts ≡ false → IsLed first mid q part n
+pub put-down : (r : Result ℕ ConfWhy) (first mid new : List ConfRow) (q n : ℕ) (part : Part) (parts : List Part) (value : Option (List ℕ)) (path : List Part) → IsWay first 0 path q → Alters q first mid → is_last parts ≡ false → IsLed first mid q part n
     → Leads r (group_of 0 new) (put_or_clash value ((path ++ part_named part.name ∷ []) ++ parts) (group_of 0 mid)) → Leads r (group_of 0 new) (put_or_clash value (path ++ part ∷ parts) (group_of 0 first))
 put-down r first mid new q n part parts value path way alters some l leads =
     let root = group_of 0 first in

@@ -4,9 +4,9 @@ use Rattle.std.specs.Str.{bytes_eq}
 use Rattle.std.proofs.lemmas.Bool.Decides.{nat_tests}
 use Rattle.std.proofs.lemmas.List.{length-set}
 use Rattle.std.proofs.Common as common
-use Rattle.asound_conf.specs.Tree.{Tree, text, group, Entries, empty, entry, has, get, without_name}
+use Rattle.asound_conf.specs.Tree.{Tree, text, group, Entries, empty, entry, has_node, get, without_name}
 use Rattle.asound_conf.specs.Tree as tree
-use Rattle.asound_conf.specs.Rows.{Row, row_at, is_in, node, group_in_rows, Alters, IsOnlyIn}
+use Rattle.asound_conf.specs.Rows.{ConfRow, row_at, is_in, node, group_in_rows, Alters, IsOnlyIn}
 use Rattle.asound_conf.proofs.Places.{bytes_eq-self, or-true}
 
 -- a row that is in a group
@@ -26,56 +26,56 @@ is_in-one p q None differ is = refl
 is_in-one p q (Some r) differ is = grind (arith, nat_tests)
 
 -- a group in which no row has this name
-pub has-absent : (p first : ℕ) (name : List ℕ) (rows : List Row) → ((j : ℕ) → (row_at rows j).parent ≡ Some p → bytes_eq (row_at rows j).name name ≡ false) → has name (group_in_rows p first rows) ≡ false
-has-absent p first name [] none = refl
-has-absent p first name (row ∷ rows) none = by_test (is_in p row.parent) refl (has-absent p (suc first) name rows (λ j is. none (suc j) is))
+pub has_node-absent : (p first : ℕ) (name : List ℕ) (rows : List ConfRow) → ((j : ℕ) → (row_at rows j).parent ≡ Some p → bytes_eq (row_at rows j).name name ≡ false) → has_node name (group_in_rows p first rows) ≡ false
+has_node-absent p first name [] none = refl
+has_node-absent p first name (row ∷ rows) none = by_test (is_in p row.parent) refl (has_node-absent p (suc first) name rows (λ j is. none (suc j) is))
   where
-    by_test : (b : Bool) → is_in p row.parent ≡ b → has name (group_in_rows p (suc first) rows) ≡ false → has name (cond b (entry row.name (node row.value (group_in_rows first (suc first) rows)) (group_in_rows p (suc first) rows)) (group_in_rows p (suc first) rows)) ≡ false
+    by_test : (b : Bool) → is_in p row.parent ≡ b → has_node name (group_in_rows p (suc first) rows) ≡ false → has_node name (cond b (entry row.name (node row.value (group_in_rows first (suc first) rows)) (group_in_rows p (suc first) rows)) (group_in_rows p (suc first) rows)) ≡ false
     by_test true is rest = rw (none 0 (is_in-true p row.parent is), rest) refl
     by_test false is rest = rest
 
 -- the row of this index, which is the last of its name in a group; its number is e
-pub record IsAt (p : ℕ) (name : List ℕ) (e first k : ℕ) (rows : List Row) : Type 0 where
+pub record IsAt (p : ℕ) (name : List ℕ) (e first k : ℕ) (rows : List ConfRow) : Type 0 where
   pub number : e ≡ first + k
   pub inside : k < length rows
   pub parent : (row_at rows k).parent ≡ Some p
   pub name_is : (row_at rows k).name ≡ name
-  pub last : has name (group_in_rows p (suc e) (drop (suc k) rows)) ≡ false
+  pub last : has_node name (group_in_rows p (suc e) (drop (suc k) rows)) ≡ false
 
-at-next : (p : ℕ) (name : List ℕ) (e first k : ℕ) (row : Row) (rows : List Row) → IsAt p name e first (suc k) (row ∷ rows) → IsAt p name e (suc first) k rows
+at-next : (p : ℕ) (name : List ℕ) (e first k : ℕ) (row : ConfRow) (rows : List ConfRow) → IsAt p name e first (suc k) (row ∷ rows) → IsAt p name e (suc first) k rows
 at-next p name e first k row rows at = record { number = omega arith; inside = omega arith; parent = at.parent; name_is = at.name_is; last = at.last }
 
 -- its name is in the group
-pub has-at : (p : ℕ) (name : List ℕ) (e first k : ℕ) (rows : List Row) → IsAt p name e first k rows → has name (group_in_rows p first rows) ≡ true
-has-at p name e first k [] at = absurd (omega arith)
-has-at p name e first zero (row ∷ rows) at =
+pub has_node-at : (p : ℕ) (name : List ℕ) (e first k : ℕ) (rows : List ConfRow) → IsAt p name e first k rows → has_node name (group_in_rows p first rows) ≡ true
+has_node-at p name e first k [] at = absurd (omega arith)
+has_node-at p name e first zero (row ∷ rows) at =
     let named : bytes_eq row.name name ≡ true = rw at.name_is (bytes_eq-self name) in
     rw (is_in-Some p row.parent at.parent, named) refl
-has-at p name e first (suc k) (row ∷ rows) at = by_test (is_in p row.parent) (has-at p name e (suc first) k rows (at-next p name e first k row rows at))
+has_node-at p name e first (suc k) (row ∷ rows) at = by_test (is_in p row.parent) (has_node-at p name e (suc first) k rows (at-next p name e first k row rows at))
   where
-    by_test : (b : Bool) → has name (group_in_rows p (suc first) rows) ≡ true → has name (cond b (entry row.name (node row.value (group_in_rows first (suc first) rows)) (group_in_rows p (suc first) rows)) (group_in_rows p (suc first) rows)) ≡ true
+    by_test : (b : Bool) → has_node name (group_in_rows p (suc first) rows) ≡ true → has_node name (cond b (entry row.name (node row.value (group_in_rows first (suc first) rows)) (group_in_rows p (suc first) rows)) (group_in_rows p (suc first) rows)) ≡ true
     by_test true rest = rw rest (or-true (bytes_eq row.name name))
     by_test false rest = rest
 
 -- and has its node
-pub get-at : (p : ℕ) (name : List ℕ) (e first k : ℕ) (rows : List Row) → IsAt p name e first k rows → get name (group_in_rows p first rows) ≡ Some (node (row_at rows k).value (group_in_rows e (suc e) (drop (suc k) rows)))
+pub get-at : (p : ℕ) (name : List ℕ) (e first k : ℕ) (rows : List ConfRow) → IsAt p name e first k rows → get name (group_in_rows p first rows) ≡ Some (node (row_at rows k).value (group_in_rows e (suc e) (drop (suc k) rows)))
 get-at p name e first k [] at = absurd (omega arith)
 get-at p name e first zero (row ∷ rows) at =
     let named : bytes_eq row.name name ≡ true = rw at.name_is (bytes_eq-self name) in
     let here : first ≡ e = omega arith in
-    let last : has name (group_in_rows p (suc first) rows) ≡ false = ap (λ n. has name (group_in_rows p (suc n) rows)) here ∙ at.last in
+    let last : has_node name (group_in_rows p (suc first) rows) ≡ false = ap (λ n. has_node name (group_in_rows p (suc n) rows)) here ∙ at.last in
     rw (is_in-Some p row.parent at.parent, last, named) (ap (λ n. Some (node row.value (group_in_rows n (suc n) rows))) here)
 get-at p name e first (suc k) (row ∷ rows) at =
     let next = at-next p name e first k row rows at in
-    by_test (is_in p row.parent) (has-at p name e (suc first) k rows next) (get-at p name e (suc first) k rows next)
+    by_test (is_in p row.parent) (has_node-at p name e (suc first) k rows next) (get-at p name e (suc first) k rows next)
   where
-    by_test : (b : Bool) → has name (group_in_rows p (suc first) rows) ≡ true → get name (group_in_rows p (suc first) rows) ≡ Some (node (row_at rows k).value (group_in_rows e (suc e) (drop (suc k) rows)))
+    by_test : (b : Bool) → has_node name (group_in_rows p (suc first) rows) ≡ true → get name (group_in_rows p (suc first) rows) ≡ Some (node (row_at rows k).value (group_in_rows e (suc e) (drop (suc k) rows)))
         → get name (cond b (entry row.name (node row.value (group_in_rows first (suc first) rows)) (group_in_rows p (suc first) rows)) (group_in_rows p (suc first) rows)) ≡ Some (node (row_at rows k).value (group_in_rows e (suc e) (drop (suc k) rows)))
     by_test true there rest = rw there rest
     by_test false there rest = rest
 
 -- a number is that of a group, or that of a row in the group or in a group in it
-pub reaches : ℕ → ℕ → ℕ → List Row → Bool
+pub reaches : ℕ → ℕ → ℕ → List ConfRow → Bool
 reaches q d first [] = q == d
 reaches q d first (row ∷ rows) = cond (is_in d row.parent) (reaches q first (suc first) rows || reaches q d (suc first) rows) (reaches q d (suc first) rows)
 
@@ -84,7 +84,7 @@ cond-true true true = refl
 cond-true true false = refl
 cond-true false c = refl
 
-pub reaches-self : (q first : ℕ) (rows : List Row) → reaches q q first rows ≡ true
+pub reaches-self : (q first : ℕ) (rows : List ConfRow) → reaches q q first rows ≡ true
 unfolding reaches
 reaches-self q first [] = grind (arith, nat_tests)
 reaches-self q first (row ∷ rows) = rw (reaches-self q (suc first) rows) (cond-true (is_in q row.parent) (reaches q first (suc first) rows))
@@ -98,7 +98,7 @@ neither true c is = cc
 neither false c is = (refl, is)
 
 -- no number is below two groups of which neither is below the other
-reaches-one : (q d e first : ℕ) (rows : List Row) → (d ≡ e → ⊥) → d < first → e < first → reaches q d first rows ≡ true → reaches q e first rows ≡ false
+reaches-one : (q d e first : ℕ) (rows : List ConfRow) → (d ≡ e → ⊥) → d < first → e < first → reaches q d first rows ≡ true → reaches q e first rows ≡ false
 unfolding reaches
 reaches-one q d e first [] differ low lower is = grind (arith, nat_tests)
 reaches-one q d e first (row ∷ rows) differ low lower is = by_tests (λ x y. reaches-one q x y (suc first) rows) (is_in d row.parent) (is_in e row.parent) refl refl is
@@ -115,7 +115,7 @@ reaches-one q d e first (row ∷ rows) differ low lower is = by_tests (λ x y. r
     by_tests again false false in_d in_e is = again d e differ (omega arith) (omega arith) is
 
 -- an earlier number isn't below a later one
-reaches-later : (q d first : ℕ) (rows : List Row) → (q ≡ d → ⊥) → q < first → reaches q d first rows ≡ false
+reaches-later : (q d first : ℕ) (rows : List ConfRow) → (q ≡ d → ⊥) → q < first → reaches q d first rows ≡ false
 unfolding reaches
 reaches-later q d first [] differ low = grind (arith, nat_tests)
 reaches-later q d first (row ∷ rows) differ low =
@@ -126,7 +126,7 @@ reaches-later q d first (row ∷ rows) differ low =
     none false = refl
 
 -- what is below a row is below the group that the row is in
-pub reaches-at : (q p : ℕ) (name : List ℕ) (e first k : ℕ) (rows : List Row) → IsAt p name e first k rows → reaches q e (suc e) (drop (suc k) rows) ≡ true → reaches q p first rows ≡ true
+pub reaches-at : (q p : ℕ) (name : List ℕ) (e first k : ℕ) (rows : List ConfRow) → IsAt p name e first k rows → reaches q e (suc e) (drop (suc k) rows) ≡ true → reaches q p first rows ≡ true
 unfolding reaches
 reaches-at q p name e first k [] at below = absurd (omega arith)
 reaches-at q p name e first zero (row ∷ rows) at below =
@@ -136,25 +136,25 @@ reaches-at q p name e first zero (row ∷ rows) at below =
 reaches-at q p name e first (suc k) (row ∷ rows) at below =
     rw (reaches-at q p name e (suc first) k rows (at-next p name e first k row rows at) below) (cond-true (is_in p row.parent) (reaches q first (suc first) rows))
 
-alters-next : (q : ℕ) (r s : Row) (old new : List Row) → Alters q (r ∷ old) (s ∷ new) → Alters q old new
+alters-next : (q : ℕ) (r s : ConfRow) (old new : List ConfRow) → Alters q (r ∷ old) (s ∷ new) → Alters q old new
 alters-next q r s old new a = record { longer = let h = a.longer in omega arith; each = λ j. a.each (suc j) }
 
-alters-nil : (q : ℕ) (s : Row) (new : List Row) → Alters q [] (s ∷ new) → Alters q [] new
+alters-nil : (q : ℕ) (s : ConfRow) (new : List ConfRow) → Alters q [] (s ∷ new) → Alters q [] new
 alters-nil q s new a = record { longer = omega arith; each = λ j. a.each (suc j) }
 
-apart-differ : (q d first : ℕ) (rows : List Row) → reaches q d first rows ≡ false → d ≡ q → ⊥
+apart-differ : (q d first : ℕ) (rows : List ConfRow) → reaches q d first rows ≡ false → d ≡ q → ⊥
 apart-differ q d first rows apart same =
     let self = reaches-self q first rows in
     let other : reaches q q first rows ≡ false = subst (λ x. reaches q x first rows ≡ false) same apart in
     cc
 
 -- a group that q isn't below stays as it is
-pub within-kept : (q d first : ℕ) (old new : List Row) → Alters q old new → reaches q d first old ≡ false → group_in_rows d first new ≡ group_in_rows d first old
+pub within-kept : (q d first : ℕ) (old new : List ConfRow) → Alters q old new → reaches q d first old ≡ false → group_in_rows d first new ≡ group_in_rows d first old
 unfolding reaches
 within-kept q d first [] [] a apart = refl
 within-kept q d first [] (s ∷ new) a apart =
     let differ : d ≡ q → ⊥ = λ same. apart-differ q d first [] apart same in
-    let out : is_in d s.parent ≡ false = elim (a.each 0) [ inl same ↦ ap (λ (x : Row). is_in d x.parent) (sym same) | inr only ↦ only.1 d differ ] in
+    let out : is_in d s.parent ≡ false = elim (a.each 0) [ inl same ↦ ap (λ (x : ConfRow). is_in d x.parent) (sym same) | inr only ↦ only.1 d differ ] in
     rw out (within-kept q d (suc first) [] new (alters-nil q s new a) apart)
 within-kept q d first (r ∷ old) [] a apart = let h = a.longer in absurd (omega arith)
 within-kept q d first (r ∷ old) (s ∷ new) a apart = by_change (λ x. within-kept q x (suc first) old new (alters-next q r s old new a)) (a.each 0)
@@ -168,14 +168,14 @@ within-kept q d first (r ∷ old) (s ∷ new) a apart = by_change (λ x. within-
     by_test again false apart = again d apart
 
     by_change : ((x : ℕ) → reaches q x (suc first) old ≡ false → group_in_rows x (suc first) new ≡ group_in_rows x (suc first) old) → (r ≡ s) ⊎ (IsOnlyIn q r × IsOnlyIn q s) → group_in_rows d first (s ∷ new) ≡ group_in_rows d first (r ∷ old)
-    by_change again (inl same) = subst (λ (x : Row). group_in_rows d first (x ∷ new) ≡ group_in_rows d first (r ∷ old)) same (by_test again (is_in d r.parent) apart)
+    by_change again (inl same) = subst (λ (x : ConfRow). group_in_rows d first (x ∷ new) ≡ group_in_rows d first (r ∷ old)) same (by_test again (is_in d r.parent) apart)
     by_change again (inr only) =
         let differ : d ≡ q → ⊥ = λ same. apart-differ q d first (r ∷ old) apart same in
         let left : reaches q d (suc first) old ≡ false = rw (only.0 d differ) at apart in
         rw (only.1 d differ, only.0 d differ) (again d left)
 
 -- a group has the new group of its row, below which the change is
-pub within-child : (q d : ℕ) (name : List ℕ) (e first k : ℕ) (old new : List Row) → Alters q old new → IsAt d name e first k old → (row_at old k).value ≡ None → (d ≡ q → ⊥) → d < first → reaches q e (suc e) (drop (suc k) old) ≡ true
+pub within-child : (q d : ℕ) (name : List ℕ) (e first k : ℕ) (old new : List ConfRow) → Alters q old new → IsAt d name e first k old → (row_at old k).value ≡ None → (d ≡ q → ⊥) → d < first → reaches q e (suc e) (drop (suc k) old) ≡ true
     → group_in_rows d first new ≡ tree.set name (group (group_in_rows e (suc e) (drop (suc k) new))) (group_in_rows d first old)
 within-child q d name e first k [] new a at is_group differ low below = absurd (omega arith)
 within-child q d name e first k (r ∷ old) [] a at is_group differ low below = let h = a.longer in absurd (omega arith)
@@ -184,95 +184,95 @@ within-child q d name e first zero (r ∷ old) (s ∷ new) a at is_group differ 
     let here : first ≡ e = omega arith in
     let apart : reaches q d (suc first) old ≡ false = ap (λ n. reaches q d (suc n) old) here ∙ reaches-one q e d (suc e) old (λ same. omega arith) (omega arith) (omega arith) below in
     let rest : group_in_rows d (suc first) new ≡ group_in_rows d (suc first) old = within-kept q d (suc first) old new (alters-next q r s old new a) apart in
-    let last : has name (group_in_rows d (suc first) old) ≡ false = ap (λ n. has name (group_in_rows d (suc n) old)) here ∙ at.last in
+    let last : has_node name (group_in_rows d (suc first) old) ≡ false = ap (λ n. has_node name (group_in_rows d (suc n) old)) here ∙ at.last in
     let named : bytes_eq r.name name ≡ true = rw at.name_is (bytes_eq-self name) in
     by_change inside here rest last named (a.each 0)
   where
-    by_change : is_in d r.parent ≡ true → first ≡ e → group_in_rows d (suc first) new ≡ group_in_rows d (suc first) old → has name (group_in_rows d (suc first) old) ≡ false → bytes_eq r.name name ≡ true
+    by_change : is_in d r.parent ≡ true → first ≡ e → group_in_rows d (suc first) new ≡ group_in_rows d (suc first) old → has_node name (group_in_rows d (suc first) old) ≡ false → bytes_eq r.name name ≡ true
         → (r ≡ s) ⊎ (IsOnlyIn q r × IsOnlyIn q s) → group_in_rows d first (s ∷ new) ≡ tree.set name (group (group_in_rows e (suc e) new)) (group_in_rows d first (r ∷ old))
-    by_change inside here rest last named (inl same) = subst (λ (x : Row). group_in_rows d first (x ∷ new) ≡ tree.set name (group (group_in_rows e (suc e) new)) (group_in_rows d first (r ∷ old))) same
+    by_change inside here rest last named (inl same) = subst (λ (x : ConfRow). group_in_rows d first (x ∷ new) ≡ tree.set name (group (group_in_rows e (suc e) new)) (group_in_rows d first (r ∷ old))) same
         (rw (inside, is_group, last, named) (ap₂ (λ n more. entry r.name (group (group_in_rows n (suc n) new)) more) here rest))
     by_change inside here rest last named (inr only) = let out = only.0 d differ in cc
 within-child q d name e first (suc k) (r ∷ old) (s ∷ new) a at is_group differ low below =
     let next = at-next d name e first k r old at in
     let under : reaches q d (suc first) old ≡ true = reaches-at q d name e (suc first) k old next below in
     let apart : reaches q first (suc first) old ≡ false = reaches-one q d first (suc first) old (λ same. omega arith) (omega arith) (omega arith) under in
-    by_change (within-kept q first (suc first) old new (alters-next q r s old new a) apart) (has-at d name e (suc first) k old next) (within-child q d name e (suc first) k old new (alters-next q r s old new a) next is_group differ (omega arith) below) (a.each 0)
+    by_change (within-kept q first (suc first) old new (alters-next q r s old new a) apart) (has_node-at d name e (suc first) k old next) (within-child q d name e (suc first) k old new (alters-next q r s old new a) next is_group differ (omega arith) below) (a.each 0)
   where
-    by_test : group_in_rows first (suc first) new ≡ group_in_rows first (suc first) old → has name (group_in_rows d (suc first) old) ≡ true → (x : Tree) → group_in_rows d (suc first) new ≡ tree.set name x (group_in_rows d (suc first) old) → (b : Bool)
+    by_test : group_in_rows first (suc first) new ≡ group_in_rows first (suc first) old → has_node name (group_in_rows d (suc first) old) ≡ true → (x : Tree) → group_in_rows d (suc first) new ≡ tree.set name x (group_in_rows d (suc first) old) → (b : Bool)
         → cond b (entry r.name (node r.value (group_in_rows first (suc first) new)) (group_in_rows d (suc first) new)) (group_in_rows d (suc first) new) ≡ tree.set name x (cond b (entry r.name (node r.value (group_in_rows first (suc first) old)) (group_in_rows d (suc first) old)) (group_in_rows d (suc first) old))
     by_test inner there x rest true = rw there (ap₂ (λ i more. entry r.name (node r.value i) more) inner rest)
     by_test inner there x rest false = rest
 
-    by_change : group_in_rows first (suc first) new ≡ group_in_rows first (suc first) old → has name (group_in_rows d (suc first) old) ≡ true → group_in_rows d (suc first) new ≡ tree.set name (group (group_in_rows e (suc e) (drop (suc k) new))) (group_in_rows d (suc first) old)
+    by_change : group_in_rows first (suc first) new ≡ group_in_rows first (suc first) old → has_node name (group_in_rows d (suc first) old) ≡ true → group_in_rows d (suc first) new ≡ tree.set name (group (group_in_rows e (suc e) (drop (suc k) new))) (group_in_rows d (suc first) old)
         → (r ≡ s) ⊎ (IsOnlyIn q r × IsOnlyIn q s) → group_in_rows d first (s ∷ new) ≡ tree.set name (group (group_in_rows e (suc e) (drop (suc k) new))) (group_in_rows d first (r ∷ old))
-    by_change inner there rest (inl same) = subst (λ (x : Row). group_in_rows d first (x ∷ new) ≡ tree.set name (group (group_in_rows e (suc e) (drop (suc k) new))) (group_in_rows d first (r ∷ old))) same (by_test inner there (group (group_in_rows e (suc e) (drop (suc k) new))) rest (is_in d r.parent))
+    by_change inner there rest (inl same) = subst (λ (x : ConfRow). group_in_rows d first (x ∷ new) ≡ tree.set name (group (group_in_rows e (suc e) (drop (suc k) new))) (group_in_rows d first (r ∷ old))) same (by_test inner there (group (group_in_rows e (suc e) (drop (suc k) new))) rest (is_in d r.parent))
     by_change inner there rest (inr only) = rw (only.1 d differ, only.0 d differ) rest
 
 -- one row more changes its own group
-each-push : (q : ℕ) (row : Row) → row.parent ≡ Some q → (rows : List Row) (j : ℕ) → (row_at rows j ≡ row_at (rows ++ row ∷ []) j) ⊎ (IsOnlyIn q (row_at rows j) × IsOnlyIn q (row_at (rows ++ row ∷ []) j))
+each-push : (q : ℕ) (row : ConfRow) → row.parent ≡ Some q → (rows : List ConfRow) (j : ℕ) → (row_at rows j ≡ row_at (rows ++ row ∷ []) j) ⊎ (IsOnlyIn q (row_at rows j) × IsOnlyIn q (row_at (rows ++ row ∷ []) j))
 each-push q row parent [] zero = inr (λ d differ. refl, λ d differ. is_in-one q d row.parent (λ same. differ (sym same)) (is_in-Some q row.parent parent))
 each-push q row parent [] (suc j) = inl refl
 each-push q row parent (r ∷ rows) zero = inl refl
 each-push q row parent (r ∷ rows) (suc j) = each-push q row parent rows j
 
-pub Alters-push : (q : ℕ) (row : Row) (rows : List Row) → row.parent ≡ Some q → Alters q rows (rows ++ row ∷ [])
+pub Alters-push : (q : ℕ) (row : ConfRow) (rows : List ConfRow) → row.parent ≡ Some q → Alters q rows (rows ++ row ∷ [])
 Alters-push q row rows parent = record { longer = omega (arith, length-append rows (row ∷ [])); each = each-push q row parent rows }
 
-pub within-push : (q first : ℕ) (row : Row) (rows : List Row) → row.parent ≡ Some q → q < first → has row.name (group_in_rows q first rows) ≡ false → group_in_rows q first (rows ++ row ∷ []) ≡ tree.set row.name (node row.value empty) (group_in_rows q first rows)
+pub within-push : (q first : ℕ) (row : ConfRow) (rows : List ConfRow) → row.parent ≡ Some q → q < first → has_node row.name (group_in_rows q first rows) ≡ false → group_in_rows q first (rows ++ row ∷ []) ≡ tree.set row.name (node row.value empty) (group_in_rows q first rows)
 within-push q first row [] parent low none = rw (is_in-Some q row.parent parent) refl
 within-push q first row (r ∷ rows) parent low none =
     by_test (is_in q r.parent) (within-kept q first (suc first) rows (rows ++ row ∷ []) (Alters-push q row rows parent) (reaches-later q first (suc first) rows (λ same. omega arith) (omega arith)))
     (within-push q (suc first) row rows parent (omega arith)) none
   where
     by_test : (b : Bool) → group_in_rows first (suc first) (rows ++ row ∷ []) ≡ group_in_rows first (suc first) rows
-        → (has row.name (group_in_rows q (suc first) rows) ≡ false → group_in_rows q (suc first) (rows ++ row ∷ []) ≡ tree.set row.name (node row.value empty) (group_in_rows q (suc first) rows))
-        → has row.name (cond b (entry r.name (node r.value (group_in_rows first (suc first) rows)) (group_in_rows q (suc first) rows)) (group_in_rows q (suc first) rows)) ≡ false
+        → (has_node row.name (group_in_rows q (suc first) rows) ≡ false → group_in_rows q (suc first) (rows ++ row ∷ []) ≡ tree.set row.name (node row.value empty) (group_in_rows q (suc first) rows))
+        → has_node row.name (cond b (entry r.name (node r.value (group_in_rows first (suc first) rows)) (group_in_rows q (suc first) rows)) (group_in_rows q (suc first) rows)) ≡ false
         → cond b (entry r.name (node r.value (group_in_rows first (suc first) (rows ++ row ∷ []))) (group_in_rows q (suc first) (rows ++ row ∷ []))) (group_in_rows q (suc first) (rows ++ row ∷ []))
         ≡ tree.set row.name (node row.value empty) (cond b (entry r.name (node r.value (group_in_rows first (suc first) rows)) (group_in_rows q (suc first) rows)) (group_in_rows q (suc first) rows))
     by_test true inner later none =
-        let both = neither (bytes_eq r.name row.name) (has row.name (group_in_rows q (suc first) rows)) none in
+        let both = neither (bytes_eq r.name row.name) (has_node row.name (group_in_rows q (suc first) rows)) none in
         rw (both.1, both.0) (ap₂ (λ i more. entry r.name (node r.value i) more) inner (later both.1))
     by_test false inner later none = later none
 
 -- another row in the place of one of a group changes that group
-each-set : (q : ℕ) (s : Row) → IsOnlyIn q s → (rows : List Row) (k : ℕ) → IsOnlyIn q (row_at rows k) → (j : ℕ) → (row_at rows j ≡ row_at (common.set rows k s) j) ⊎ (IsOnlyIn q (row_at rows j) × IsOnlyIn q (row_at (common.set rows k s) j))
+each-set : (q : ℕ) (s : ConfRow) → IsOnlyIn q s → (rows : List ConfRow) (k : ℕ) → IsOnlyIn q (row_at rows k) → (j : ℕ) → (row_at rows j ≡ row_at (common.set rows k s) j) ⊎ (IsOnlyIn q (row_at rows j) × IsOnlyIn q (row_at (common.set rows k s) j))
 each-set q s only [] k was j = inl refl
 each-set q s only (r ∷ rows) zero was zero = inr (was, only)
 each-set q s only (r ∷ rows) zero was (suc j) = inl refl
 each-set q s only (r ∷ rows) (suc k) was zero = inl refl
 each-set q s only (r ∷ rows) (suc k) was (suc j) = each-set q s only rows k was j
 
-pub only-Some : (q : ℕ) (row : Row) → row.parent ≡ Some q → IsOnlyIn q row
+pub only-Some : (q : ℕ) (row : ConfRow) → row.parent ≡ Some q → IsOnlyIn q row
 only-Some q row parent = λ d differ. is_in-one q d row.parent (λ same. differ (sym same)) (is_in-Some q row.parent parent)
 
-pub only-None : (q : ℕ) (row : Row) → row.parent ≡ None → IsOnlyIn q row
+pub only-None : (q : ℕ) (row : ConfRow) → row.parent ≡ None → IsOnlyIn q row
 only-None q row parent = λ d differ. ap (is_in d) parent
 
-pub Alters-set : (q k : ℕ) (s : Row) (rows : List Row) → (row_at rows k).parent ≡ Some q → IsOnlyIn q s → Alters q rows (common.set rows k s)
+pub Alters-set : (q k : ℕ) (s : ConfRow) (rows : List ConfRow) → (row_at rows k).parent ≡ Some q → IsOnlyIn q s → Alters q rows (common.set rows k s)
 Alters-set q k s rows was only = record { longer = omega (arith, length-set rows k s); each = each-set q s only rows k (only-Some q (row_at rows k) was) }
 
-pub within-set : (q : ℕ) (name : List ℕ) (e first k : ℕ) (s : Row) (t : List ℕ) (rows : List Row) → IsAt q name e first k rows → q < first → s.parent ≡ Some q → s.name ≡ (row_at rows k).name → s.value ≡ Some t
+pub within-set : (q : ℕ) (name : List ℕ) (e first k : ℕ) (s : ConfRow) (t : List ℕ) (rows : List ConfRow) → IsAt q name e first k rows → q < first → s.parent ≡ Some q → s.name ≡ (row_at rows k).name → s.value ≡ Some t
     → group_in_rows q first (common.set rows k s) ≡ tree.set name (text t) (group_in_rows q first rows)
 within-set q name e first k s t [] at low parent same value = absurd (omega arith)
 within-set q name e first zero s t (r ∷ rows) at low parent same value =
     let here : first ≡ e = omega arith in
-    let last : has name (group_in_rows q (suc first) rows) ≡ false = ap (λ n. has name (group_in_rows q (suc n) rows)) here ∙ at.last in
+    let last : has_node name (group_in_rows q (suc first) rows) ≡ false = ap (λ n. has_node name (group_in_rows q (suc n) rows)) here ∙ at.last in
     let named : bytes_eq r.name name ≡ true = rw at.name_is (bytes_eq-self name) in
     rw (is_in-Some q s.parent parent, is_in-Some q r.parent at.parent, value, last, named) (ap (λ n. entry n (text t) (group_in_rows q (suc first) rows)) same)
 within-set q name e first (suc k) s t (r ∷ rows) at low parent same value =
     let next = at-next q name e first k r rows at in
     by_test (within-kept q first (suc first) rows (common.set rows k s) (Alters-set q k s rows at.parent (only-Some q s parent)) (reaches-later q first (suc first) rows (λ same. omega arith) (omega arith)))
-    (has-at q name e (suc first) k rows next) (within-set q name e (suc first) k s t rows next (omega arith) parent same value) (is_in q r.parent)
+    (has_node-at q name e (suc first) k rows next) (within-set q name e (suc first) k s t rows next (omega arith) parent same value) (is_in q r.parent)
   where
-    by_test : group_in_rows first (suc first) (common.set rows k s) ≡ group_in_rows first (suc first) rows → has name (group_in_rows q (suc first) rows) ≡ true → group_in_rows q (suc first) (common.set rows k s) ≡ tree.set name (text t) (group_in_rows q (suc first) rows) → (b : Bool)
+    by_test : group_in_rows first (suc first) (common.set rows k s) ≡ group_in_rows first (suc first) rows → has_node name (group_in_rows q (suc first) rows) ≡ true → group_in_rows q (suc first) (common.set rows k s) ≡ tree.set name (text t) (group_in_rows q (suc first) rows) → (b : Bool)
         → cond b (entry r.name (node r.value (group_in_rows first (suc first) (common.set rows k s))) (group_in_rows q (suc first) (common.set rows k s))) (group_in_rows q (suc first) (common.set rows k s))
         ≡ tree.set name (text t) (cond b (entry r.name (node r.value (group_in_rows first (suc first) rows)) (group_in_rows q (suc first) rows)) (group_in_rows q (suc first) rows))
     by_test inner there rest true = rw there (ap₂ (λ i more. entry r.name (node r.value i) more) inner rest)
     by_test inner there rest false = rest
 
 -- a row that is taken out of its group
-pub without-removed : (q : ℕ) (name : List ℕ) (e first k : ℕ) (s : Row) (rows : List Row) → IsAt q name e first k rows → q < first → s.parent ≡ None → without_name name (group_in_rows q first (common.set rows k s)) ≡ without_name name (group_in_rows q first rows)
+pub without-removed : (q : ℕ) (name : List ℕ) (e first k : ℕ) (s : ConfRow) (rows : List ConfRow) → IsAt q name e first k rows → q < first → s.parent ≡ None → without_name name (group_in_rows q first (common.set rows k s)) ≡ without_name name (group_in_rows q first rows)
 without-removed q name e first k s [] at low parent = absurd (omega arith)
 without-removed q name e first zero s (r ∷ rows) at low parent =
     let named : bytes_eq r.name name ≡ true = rw at.name_is (bytes_eq-self name) in

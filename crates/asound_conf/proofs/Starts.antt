@@ -11,7 +11,7 @@ use Rattle.asound_conf.specs.declared.token.Token as code
 use Rattle.asound_conf.specs.declared.token.Token.TheVariants as lent
 use Rattle.asound_conf.specs.Start.{AreAt, AreBefore, IsBefore, IsSuffix}
 use Rattle.asound_conf.specs.Table.{span_in}
-use Rattle.asound_conf.specs.Token.{word, quoted, bad, end_at, ends_word, is_control, is_quote, is_word, mark_of, mark_or, quoted_end, quoted_size, quoted_token, token_at, token_end, token_of}
+use Rattle.asound_conf.specs.Token.{word, quoted, bad, end_at, ends_word, is_control, is_quote, is_word_byte, mark_of, mark_or, quoted_end, quoted_size, quoted_token, token_at, token_end, token_of}
 
 -- a text ends with itself
 pub IsSuffix-self : (text : List ℕ) → IsSuffix text text
@@ -61,12 +61,12 @@ AreAt-before text rest after bytes start small at before = record {
 }
 
 -- what is_word says of a byte
-is_word-35 : (b : ℕ) → is_word b ≡ true → (b == 35) ≡ false
-is_word-35 b is = by (b == 35) refl
+is_word_byte-35 : (b : ℕ) → is_word_byte b ≡ true → (b == 35) ≡ false
+is_word_byte-35 b is = by (b == 35) refl
   where
     by : (t : Bool) → (b == 35) ≡ t → t ≡ false
     by false e = refl
-    by true e = let at : b ≡ 35 = grind (arith, nat_tests, e) in absurd (false≢true (sym (ap is_word at) ∙ is))
+    by true e = let at : b ≡ 35 = grind (arith, nat_tests, e) in absurd (false≢true (sym (ap is_word_byte at) ∙ is))
 
 quoted-no_word : (a b c : Bool) (w q : List ℕ) → word w ≡ (if a then bad why.Byte else if b then bad why.Escape else if c then quoted q else bad why.Unclosed) → ⊥
 quoted-no_word true b c w q e = cc
@@ -83,20 +83,20 @@ pub word-first : (text w : List ℕ) → word w ≡ token_at text → IsWordFirs
 unfolding token_at token_end
 word-first text w e = marked (mark_of (slice_index text 0)) e
   where
-    worded : (h : Bool) → is_word (slice_index text 0) ≡ h → is_quote (slice_index text 0) ≡ false → word w ≡ (if h then word (take (end_at ends_word text) text) else bad why.Byte) → IsWordFirst text w
+    worded : (h : Bool) → is_word_byte (slice_index text 0) ≡ h → is_quote (slice_index text 0) ≡ false → word w ≡ (if h then word (take (end_at ends_word text) text) else bad why.Byte) → IsWordFirst text w
     worded false is none e = cc
     worded true is none e = record {
-      end = ap (λ (t : Bool). if t then end_at (λ c. c == 10) text else if is_quote (slice_index text 0) then quoted_size (slice_index text 0) (drop 1 text) else if is_word (slice_index text 0) then end_at ends_word text else 1) (is_word-35 (slice_index text 0) is)
-          ∙ ap (λ (t : Bool). if t then quoted_size (slice_index text 0) (drop 1 text) else if is_word (slice_index text 0) then end_at ends_word text else 1) none
+      end = ap (λ (t : Bool). if t then end_at (λ c. c == 10) text else if is_quote (slice_index text 0) then quoted_size (slice_index text 0) (drop 1 text) else if is_word_byte (slice_index text 0) then end_at ends_word text else 1) (is_word_byte-35 (slice_index text 0) is)
+          ∙ ap (λ (t : Bool). if t then quoted_size (slice_index text 0) (drop 1 text) else if is_word_byte (slice_index text 0) then end_at ends_word text else 1) none
           ∙ ap (λ (t : Bool). if t then end_at ends_word text else 1) is;
       is = cc;
     }
 
-    quote : (q : Bool) → is_quote (slice_index text 0) ≡ q → word w ≡ (if q then quoted_token (slice_index text 0) (drop 1 text) else if is_word (slice_index text 0) then word (take (end_at ends_word text) text) else bad why.Byte) → IsWordFirst text w
+    quote : (q : Bool) → is_quote (slice_index text 0) ≡ q → word w ≡ (if q then quoted_token (slice_index text 0) (drop 1 text) else if is_word_byte (slice_index text 0) then word (take (end_at ends_word text) text) else bad why.Byte) → IsWordFirst text w
     quote true is e = absurd (quoted-no_word _ _ _ w _ e)
-    quote false is e = worded (is_word (slice_index text 0)) refl is e
+    quote false is e = worded (is_word_byte (slice_index text 0)) refl is e
 
-    marked : (m : Option Mark) → word w ≡ mark_or m (if is_quote (slice_index text 0) then quoted_token (slice_index text 0) (drop 1 text) else if is_word (slice_index text 0) then word (take (end_at ends_word text) text) else bad why.Byte) → IsWordFirst text w
+    marked : (m : Option Mark) → word w ≡ mark_or m (if is_quote (slice_index text 0) then quoted_token (slice_index text 0) (drop 1 text) else if is_word_byte (slice_index text 0) then word (take (end_at ends_word text) text) else bad why.Byte) → IsWordFirst text w
     marked (Some m) e = cc
     marked None e = quote (is_quote (slice_index text 0)) refl e
 
@@ -123,7 +123,7 @@ pub quoted-first : (text q : List ℕ) → quoted q ≡ token_at text → IsQuot
 unfolding token_at token_end
 quoted-first text q e = marked (mark_of (slice_index text 0)) e
   where
-    quote : (t : Bool) → is_quote (slice_index text 0) ≡ t → quoted q ≡ (if t then quoted_token (slice_index text 0) (drop 1 text) else if is_word (slice_index text 0) then word (take (end_at ends_word text) text) else bad why.Byte) → IsQuotedFirst text q
+    quote : (t : Bool) → is_quote (slice_index text 0) ≡ t → quoted q ≡ (if t then quoted_token (slice_index text 0) (drop 1 text) else if is_word_byte (slice_index text 0) then word (take (end_at ends_word text) text) else bad why.Byte) → IsQuotedFirst text q
     quote true is e =
         let it = quoted-it
         (list_any is_control (take (quoted_end (slice_index text 0) (drop 1 text)) (drop 1 text)))
@@ -131,18 +131,18 @@ quoted-first text q e = marked (mark_of (slice_index text 0)) e
         (slice_index (drop 1 text) (quoted_end (slice_index text 0) (drop 1 text)) == slice_index text 0) q
         (take (quoted_end (slice_index text 0) (drop 1 text)) (drop 1 text)) e in
         record {
-          end = ap (λ (t : Bool). if t then end_at (λ c. c == 10) text else if is_quote (slice_index text 0) then quoted_size (slice_index text 0) (drop 1 text) else if is_word (slice_index text 0) then end_at ends_word text else 1) (is_quote-35 (slice_index text 0) is)
-              ∙ ap (λ (t : Bool). if t then quoted_size (slice_index text 0) (drop 1 text) else if is_word (slice_index text 0) then end_at ends_word text else 1) is
+          end = ap (λ (t : Bool). if t then end_at (λ c. c == 10) text else if is_quote (slice_index text 0) then quoted_size (slice_index text 0) (drop 1 text) else if is_word_byte (slice_index text 0) then end_at ends_word text else 1) (is_quote-35 (slice_index text 0) is)
+              ∙ ap (λ (t : Bool). if t then quoted_size (slice_index text 0) (drop 1 text) else if is_word_byte (slice_index text 0) then end_at ends_word text else 1) is
               ∙ ap (λ (t : Bool). if t then quoted_end (slice_index text 0) (drop 1 text) + 2 else quoted_end (slice_index text 0) (drop 1 text) + 1) it.0;
           is = it.1;
         }
-    quote false is e = worded (is_word (slice_index text 0)) e
+    quote false is e = worded (is_word_byte (slice_index text 0)) e
       where
         worded : (h : Bool) → quoted q ≡ (if h then word (take (end_at ends_word text) text) else bad why.Byte) → IsQuotedFirst text q
         worded false e = cc
         worded true e = cc
 
-    marked : (m : Option Mark) → quoted q ≡ mark_or m (if is_quote (slice_index text 0) then quoted_token (slice_index text 0) (drop 1 text) else if is_word (slice_index text 0) then word (take (end_at ends_word text) text) else bad why.Byte) → IsQuotedFirst text q
+    marked : (m : Option Mark) → quoted q ≡ mark_or m (if is_quote (slice_index text 0) then quoted_token (slice_index text 0) (drop 1 text) else if is_word_byte (slice_index text 0) then word (take (end_at ends_word text) text) else bad why.Byte) → IsQuotedFirst text q
     marked (Some m) e = cc
     marked None e = quote (is_quote (slice_index text 0)) refl e
 

@@ -19,7 +19,7 @@ use Rattle.asound_conf.specs.declared.cell.Key.TheVariants as keys
 use Rattle.asound_conf.specs.declared.cell.Content.{Content}
 use Rattle.asound_conf.specs.declared.cell.Content.TheVariants as contents
 use Rattle.asound_conf.specs.declared.cell.Cell.{Cell}
-use Rattle.asound_conf.specs.Rows.{IsAbsent, IsNode, Row, is_in, no_row, row_at}
+use Rattle.asound_conf.specs.Rows.{IsAbsent, IsNode, ConfRow, is_in, no_row, row_at}
 use Rattle.asound_conf.specs.Table.{HasBelow, IsIndexed, IsLink, IsTable, bucket_at, bucket_of, cell_at, content_of, fits, is_live, key_bytes, lacks, name_in, new_row, no_cell, no_number, content_with, parent_of, number_after, cell_row, value_in}
 
 -- a conjunction's parts
@@ -70,7 +70,7 @@ fits-true text cell p name e =
     }
 
 -- a row of a group that isn't its node of this name has another name
-other_name : (row : Row) (p : ℕ) (name : List ℕ) → fits p name row ≡ false → row.parent ≡ Some p → bytes_eq row.name name ≡ false
+other_name : (row : ConfRow) (p : ℕ) (name : List ℕ) → fits p name row ≡ false → row.parent ≡ Some p → bytes_eq row.name name ≡ false
 other_name row p name none e =
     let here : is_in p row.parent ≡ true = ap (is_in p) e ∙ (grind (arith, nat_tests)) in
     subst (λ t. (t && bytes_eq row.name name) ≡ false) here none
@@ -139,7 +139,7 @@ behind-row : (text : List ℕ) (cells : List Cell) (p : ℕ) (name : List ℕ) (
     → (row_at (map (cell_row text) cells) j).parent ≡ Some p → bytes_eq (row_at (map (cell_row text) cells) j).name name ≡ false
 behind-row text cells p name at j behind after e = elim (cases_lt j (length cells)) [
   | inl inside ↦ other_name (row_at (map (cell_row text) cells) j) p name (ap (fits p name) (row_at-map text cells j inside) ∙ behind j after) e
-  | inr past ↦ absurd (let none : None ≡ Some p = sym (ap (λ (r : Row). r.parent) (no_row-past text cells j past)) ∙ e in cc)
+  | inr past ↦ absurd (let none : None ≡ Some p = sym (ap (λ (r : ConfRow). r.parent) (no_row-past text cells j past)) ∙ e in cc)
 ]
 
 pub IsAbsent-sought : (text : List ℕ) (cells : List Cell) (heads : List ℕ) (p : ℕ) (name : List ℕ) (at : ℕ) → IsIndexed text cells heads
@@ -149,7 +149,7 @@ IsAbsent-sought text cells heads p name at is sought none j e = elim (cases_lt a
   | inr not_after ↦
       let root : j ≡ 0 = omega arith in
       let parent : (row_at (map (cell_row text) cells) j).parent ≡ None =
-      ap (λ (k : ℕ). (row_at (map (cell_row text) cells) k).parent) root ∙ ap (λ (r : Row). r.parent) (row_at-map text cells 0 is.some)
+      ap (λ (k : ℕ). (row_at (map (cell_row text) cells) k).parent) root ∙ ap (λ (r : ConfRow). r.parent) (row_at-map text cells 0 is.some)
       ∙ ap (λ (q : ℕ). parent_of q (cell_at cells 0).content) is.root ∙ parent_of-root (cell_at cells 0).content in
       absurd (let bad : None ≡ Some p = sym parent ∙ e in cc)
 ]
@@ -162,8 +162,8 @@ IsNode-sought text cells heads p name at is sought some found =
     let falls = is.falls at some sought.inside in
     record {
       inside = omega (arith, length-map cells (cell_row text), sought.inside);
-      parent = ap (λ (r : Row). r.parent) row ∙ it.in_it;
-      named = ap (λ (r : Row). r.name) row ∙ it.named;
+      parent = ap (λ (r : ConfRow). r.parent) row ∙ it.in_it;
+      named = ap (λ (r : ConfRow). r.name) row ∙ it.named;
       falls = omega (arith, falls, it.parent);
       last = λ j after e. behind-row text cells p name at j sought.behind after e;
     }
@@ -175,14 +175,14 @@ IsAbsent-lacks text cells heads p key is lacking j e = by (cell_at cells p).cont
   where
     place : (cell_at cells j).parent ≡ p
     place = elim (cases_lt j (length cells)) [
-      | inl inside ↦ parent_of-Some (cell_at cells j).parent (cell_at cells j).content p (sym (ap (λ (r : Row). r.parent) (row_at-map text cells j inside)) ∙ e)
-      | inr past ↦ absurd (let none : None ≡ Some p = sym (ap (λ (r : Row). r.parent) (no_row-past text cells j past)) ∙ e in cc)
+      | inl inside ↦ parent_of-Some (cell_at cells j).parent (cell_at cells j).content p (sym (ap (λ (r : ConfRow). r.parent) (row_at-map text cells j inside)) ∙ e)
+      | inr past ↦ absurd (let none : None ≡ Some p = sym (ap (λ (r : ConfRow). r.parent) (no_row-past text cells j past)) ∙ e in cc)
     ]
 
     named : (row_at (map (cell_row text) cells) j).name ≡ name_in text (cell_at cells j).name
     named = elim (cases_lt j (length cells)) [
-      | inl inside ↦ ap (λ (r : Row). r.name) (row_at-map text cells j inside)
-      | inr past ↦ absurd (let none : None ≡ Some p = sym (ap (λ (r : Row). r.parent) (no_row-past text cells j past)) ∙ e in cc)
+      | inl inside ↦ ap (λ (r : ConfRow). r.name) (row_at-map text cells j inside)
+      | inr past ↦ absurd (let none : None ≡ Some p = sym (ap (λ (r : ConfRow). r.parent) (no_row-past text cells j past)) ∙ e in cc)
     ]
 
     told : (name : List ℕ) (t : Bool) → bytes_eq (row_at (map (cell_row text) cells) j).name name ≡ t → (name_in text (cell_at cells j).name ≡ name → ⊥) → t ≡ false
@@ -537,7 +537,7 @@ value_in-noted text (contents.Text s) name = refl
 value_in-noted text (contents.Group numbers) name = refl
 value_in-noted text contents.Removed name = refl
 
-abbrev row_with : Option ℕ → List ℕ → Option (List ℕ) → Row
+abbrev row_with : Option ℕ → List ℕ → Option (List ℕ) → ConfRow
 row_with parent name value = record { parent = parent; name = name; value = value }
 
 pub row_is : {a b : Option ℕ} {m n : List ℕ} {v w : Option (List ℕ)} → a ≡ b → m ≡ n → v ≡ w → row_with a m v ≡ row_with b n w
@@ -554,7 +554,7 @@ rows-push text cells heads c g b value new is_noted content =
     (ap (name_in text) is_noted.place.name)
     (ap (value_in text) is_noted.content ∙ value_in-noted text (cell_at cells c.parent).content c.name)
     ∙ ap (cell_row text) (sym old) in
-    map-set_same (cell_row text) (cells ++ c ∷ []) c.parent g no_cell group ∙ map-append (cell_row text) cells (c ∷ []) ∙ ap (λ (r : Row). map (cell_row text) cells ++ r ∷ []) (row_is (parent value content) refl (its value content))
+    map-set_same (cell_row text) (cells ++ c ∷ []) c.parent g no_cell group ∙ map-append (cell_row text) cells (c ∷ []) ∙ ap (λ (r : ConfRow). map (cell_row text) cells ++ r ∷ []) (row_is (parent value content) refl (its value content))
   where
     none : (c.parent == no_number) ≡ false
     none = let less = new.parent in let most = new.room in grind (arith, nat_tests, less, most)

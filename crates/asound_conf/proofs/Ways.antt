@@ -3,7 +3,7 @@ use Rattle.std.proofs.Common.{◌≡◌, ℕ, suc, ◌<◌, ◌≤◌, ◌-◌, 
 use Rattle.std.specs.Str.{bytes_eq}
 use Rattle.asound_conf.specs.Key.{Part}
 use Rattle.asound_conf.specs.Place.{node_met}
-use Rattle.asound_conf.specs.Rows.{Row, Alters, IsNode, IsOnlyIn, group_of, node, row_at}
+use Rattle.asound_conf.specs.Rows.{ConfRow, Alters, IsNode, IsOnlyIn, group_of, node, row_at}
 use Rattle.asound_conf.specs.Tree.{Tree, group, Entries, get, group_in}
 use Rattle.asound_conf.specs.Tree as tree
 use Rattle.asound_conf.specs.Way.{IsKeyStep, IsWay}
@@ -11,7 +11,7 @@ use Rattle.asound_conf.proofs.Below.{found_in, group_at, inner_group, with_group
 use Rattle.asound_conf.proofs.Groups.{at-IsNode, drop-after, get-IsNode, group-child}
 use Rattle.asound_conf.proofs.Rows.{is_in-Some, reaches, reaches-at, reaches-self}
 
-pub IsWay-le : (rows : List Row) (p : ℕ) (path : List Part) (q : ℕ) → IsWay rows p path q → p ≤ q
+pub IsWay-le : (rows : List ConfRow) (p : ℕ) (path : List Part) (q : ℕ) → IsWay rows p path q → p ≤ q
 IsWay-le rows p [] q way = omega arith
 IsWay-le rows p (part ∷ path) q way =
     let rest : way.0 ≤ q = IsWay-le rows way.0 path q way.1.1 in
@@ -19,19 +19,19 @@ IsWay-le rows p (part ∷ path) q way =
     omega arith
 
 -- a part of a key meets the group to which it leads
-pub met-IsKeyStep : (rows : List Row) (p : ℕ) (part : Part) (n : ℕ) → IsKeyStep rows p part n → node_met part (group_of p rows) ≡ Some (group (group_of n rows))
+pub met-IsKeyStep : (rows : List ConfRow) (p : ℕ) (part : Part) (n : ℕ) → IsKeyStep rows p part n → node_met part (group_of p rows) ≡ Some (group (group_of n rows))
 met-IsKeyStep rows p part n step =
     ap (λ b. cond b None (get part.name (group_of p rows))) step.stays
     ∙ get-IsNode rows p part.name n step.is_node
     ∙ ap (λ v. Some (node v (group_of n rows))) step.is_group
 
-pub group_at-IsWay : (rows : List Row) (p : ℕ) (path : List Part) (q : ℕ) → IsWay rows p path q → group_at path (group_of p rows) ≡ Some (group_of q rows)
+pub group_at-IsWay : (rows : List ConfRow) (p : ℕ) (path : List Part) (q : ℕ) → IsWay rows p path q → group_at path (group_of p rows) ≡ Some (group_of q rows)
 group_at-IsWay rows p [] q way = ap (λ n. Some (group_of n rows)) way
 group_at-IsWay rows p (part ∷ path) q way =
     ap (λ m. found_in (inner_group m) (group_at path)) (met-IsKeyStep rows p part way.0 way.1.0) ∙ group_at-IsWay rows way.0 path q way.1.1
 
 -- where a way leads is below where it begins
-reaches-IsWay : (rows : List Row) (p : ℕ) (path : List Part) (q : ℕ) → IsWay rows p path q → reaches q p (suc p) (drop (suc p) rows) ≡ true
+reaches-IsWay : (rows : List ConfRow) (p : ℕ) (path : List Part) (q : ℕ) → IsWay rows p path q → reaches q p (suc p) (drop (suc p) rows) ≡ true
 reaches-IsWay rows p [] q way = subst (λ n. reaches q n (suc n) (drop (suc n) rows) ≡ true) (sym way) (reaches-self q (suc q) (drop (suc q) rows))
 reaches-IsWay rows p (part ∷ path) q way =
     let n = way.0 in
@@ -39,7 +39,7 @@ reaches-IsWay rows p (part ∷ path) q way =
     reaches-at q p part.name n (suc p) (n - suc p) (drop (suc p) rows) (at-IsNode rows p part.name n is) (ap (reaches q n (suc n)) (drop-after rows p n is.falls) ∙ reaches-IsWay rows n path q way.1.1)
 
 -- a change of the group at the end of a way changes the groups on the way
-pub with_group-IsWay : (old new : List Row) (p : ℕ) (path : List Part) (q : ℕ) → Alters q old new → IsWay old p path q → group_of p new ≡ with_group path (group_of q new) (group_of p old)
+pub with_group-IsWay : (old new : List ConfRow) (p : ℕ) (path : List Part) (q : ℕ) → Alters q old new → IsWay old p path q → group_of p new ≡ with_group path (group_of q new) (group_of p old)
 with_group-IsWay old new p [] q a way = ap (λ n. group_of n new) way
 with_group-IsWay old new p (part ∷ path) q a way =
     let n = way.0 in
@@ -51,7 +51,7 @@ with_group-IsWay old new p (part ∷ path) q a way =
     ∙ sym (ap (λ m. tree.set part.name (group (with_group path (group_of q new) (group_in m))) (group_of p old)) (met-IsKeyStep old p part n step))
 
 -- a node of a group that doesn't change
-row-kept : (q : ℕ) (old new : List Row) (p n : ℕ) → Alters q old new → p < q → (row_at old n).parent ≡ Some p → row_at old n ≡ row_at new n
+row-kept : (q : ℕ) (old new : List ConfRow) (p n : ℕ) → Alters q old new → p < q → (row_at old n).parent ≡ Some p → row_at old n ≡ row_at new n
 row-kept q old new p n a low there = by_change (a.each n)
   where
     by_change : (row_at old n ≡ row_at new n) ⊎ (IsOnlyIn q (row_at old n) × IsOnlyIn q (row_at new n)) → row_at old n ≡ row_at new n
@@ -61,7 +61,7 @@ row-kept q old new p n a low there = by_change (a.each n)
         let inside = is_in-Some p (row_at old n).parent there in
         cc
 
-row-was : (q : ℕ) (old new : List Row) (p n : ℕ) → Alters q old new → p < q → (row_at new n).parent ≡ Some p → row_at old n ≡ row_at new n
+row-was : (q : ℕ) (old new : List ConfRow) (p n : ℕ) → Alters q old new → p < q → (row_at new n).parent ≡ Some p → row_at old n ≡ row_at new n
 row-was q old new p n a low there = by_change (a.each n)
   where
     by_change : (row_at old n ≡ row_at new n) ⊎ (IsOnlyIn q (row_at old n) × IsOnlyIn q (row_at new n)) → row_at old n ≡ row_at new n
@@ -71,21 +71,21 @@ row-was q old new p n a low there = by_change (a.each n)
         let inside = is_in-Some p (row_at new n).parent there in
         cc
 
-IsNode-kept : (q : ℕ) (old new : List Row) (p : ℕ) (name : List ℕ) (n : ℕ) → Alters q old new → p < q → IsNode old p name n → IsNode new p name n
+IsNode-kept : (q : ℕ) (old new : List ConfRow) (p : ℕ) (name : List ℕ) (n : ℕ) → Alters q old new → p < q → IsNode old p name n → IsNode new p name n
 IsNode-kept q old new p name n a low is =
     let same = row-kept q old new p n a low is.parent in
     let longer : length old ≤ length new = a.longer in
     let inside : n < length old = is.inside in
     record {
       inside = omega arith;
-      parent = ap (λ (r : Row). r.parent) (sym same) ∙ is.parent;
-      named = ap (λ (r : Row). r.name) (sym same) ∙ is.named;
+      parent = ap (λ (r : ConfRow). r.parent) (sym same) ∙ is.parent;
+      named = ap (λ (r : ConfRow). r.name) (sym same) ∙ is.named;
       falls = is.falls;
-      last = λ j later there. let was = row-was q old new p j a low there in ap (λ (r : Row). bytes_eq r.name name) (sym was) ∙ is.last j later (ap (λ (r : Row). r.parent) was ∙ there);
+      last = λ j later there. let was = row-was q old new p j a low there in ap (λ (r : ConfRow). bytes_eq r.name name) (sym was) ∙ is.last j later (ap (λ (r : ConfRow). r.parent) was ∙ there);
     }
 
 -- a way to a group that doesn't come after the one that changes
-pub IsWay-kept : (q : ℕ) (old new : List Row) (p : ℕ) (path : List Part) (last : ℕ) → Alters q old new → last ≤ q → IsWay old p path last → IsWay new p path last
+pub IsWay-kept : (q : ℕ) (old new : List ConfRow) (p : ℕ) (path : List Part) (last : ℕ) → Alters q old new → last ≤ q → IsWay old p path last → IsWay new p path last
 IsWay-kept q old new p [] last a early way = way
 IsWay-kept q old new p (part ∷ path) last a early way =
     let n = way.0 in
@@ -93,9 +93,9 @@ IsWay-kept q old new p (part ∷ path) last a early way =
     let low : p < n = step.is_node.falls in
     let high : n ≤ last = IsWay-le old n path last way.1.1 in
     let same = row-kept q old new p n a (omega arith) step.is_node.parent in
-    (n, (record { stays = step.stays; is_node = IsNode-kept q old new p part.name n a (omega arith) step.is_node; is_group = ap (λ (r : Row). r.value) (sym same) ∙ step.is_group }, IsWay-kept q old new n path last a early way.1.1))
+    (n, (record { stays = step.stays; is_node = IsNode-kept q old new p part.name n a (omega arith) step.is_node; is_group = ap (λ (r : ConfRow). r.value) (sym same) ∙ step.is_group }, IsWay-kept q old new n path last a early way.1.1))
 
 -- a way that goes on
-pub IsWay-more : (rows : List Row) (p : ℕ) (path : List Part) (q : ℕ) (part : Part) (n : ℕ) → IsWay rows p path q → IsKeyStep rows q part n → IsWay rows p (path ++ part ∷ []) n
+pub IsWay-more : (rows : List ConfRow) (p : ℕ) (path : List Part) (q : ℕ) (part : Part) (n : ℕ) → IsWay rows p path q → IsKeyStep rows q part n → IsWay rows p (path ++ part ∷ []) n
 IsWay-more rows p [] q part n way step = (n, (subst (λ m. IsKeyStep rows m part n) (sym way) step, refl))
 IsWay-more rows p (first ∷ path) q part n way step = (way.0, (way.1.0, IsWay-more rows way.0 path q part n way.1.1 step))

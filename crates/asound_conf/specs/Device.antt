@@ -35,10 +35,10 @@ definition_of kind name root = do
   as_group (get name all)
 
 -- the slave of a device: a group of its own, or the name of one among those of `pcm_slave`
-abbrev pub slave_of : Entries → Option Tree → Result Entries ConfWhy
-slave_of root (Some (group g)) = Ok g
-slave_of root (Some (text t)) = definition_of (codes "pcm_slave") t root
-slave_of root None = Err why.Missing
+abbrev pub device_slave : Entries → Option Tree → Result Entries ConfWhy
+device_slave root (Some (group g)) = Ok g
+device_slave root (Some (text t)) = definition_of (codes "pcm_slave") t root
+device_slave root None = Err why.Missing
 
 -- the kind that a device's type names
 abbrev pub kind_named : List ℕ → Result DeviceKind ConfWhy
@@ -64,19 +64,19 @@ abbrev pub is_number : List ℕ → Bool
 is_number t = nat_le 1 (length t) && nat_le (length t) 10 && all_ascii_digits t && nat_lt (digits_value 10 t) 4294967296
 
 -- the number that a text is
-abbrev pub number_of : List ℕ → Option ℕ
-number_of t = if is_number t then Some (digits_value 10 t) else None
+abbrev pub number_of_text : List ℕ → Option ℕ
+number_of_text t = if is_number t then Some (digits_value 10 t) else None
 
 -- the number that a node is
-abbrev pub number_in : Option Tree → Option ℕ
-number_in (Some (text t)) = number_of t
-number_in (Some (group g)) = None
-number_in None = None
+abbrev pub number_of_node : Option Tree → Option ℕ
+number_of_node (Some (text t)) = number_of_text t
+number_of_node (Some (group g)) = None
+number_of_node None = None
 
 -- a number field: 0 where it isn't given
 abbrev pub field_in : Option Tree → Option ℕ
 field_in None = Some 0
-field_in (Some node) = number_in (Some node)
+field_in (Some node) = number_of_node (Some node)
 
 -- what is refused with this cause where it isn't there
 abbrev pub or_refuse : {X : Type 0} → ConfWhy → Option X → Result X ConfWhy
@@ -88,8 +88,8 @@ abbrev pub field : List ℕ → Entries → Result ℕ ConfWhy
 field name slave = or_refuse why.Number (field_in (get name slave))
 
 -- the number fields of a slave, in this order
-unfoldable pub numbers_of : Entries → Result Numbers ConfWhy
-numbers_of slave = do
+unfoldable pub slave_numbers : Entries → Result Numbers ConfWhy
+slave_numbers slave = do
   channels ← field (codes "channels") slave
   rate ← field (codes "rate") slave
   period_size ← field (codes "period_size") slave
@@ -108,12 +108,12 @@ abbrev pub frames_in_time : ℕ → ℕ → ℕ
 frames_in_time rate time = rate * time / 1000000
 
 -- the period in frames: its size, else its time, else 1024
-abbrev pub period_of : Numbers → ℕ → ℕ
-period_of n rate = or_default n.period_size (if n.period_time == 0 then 1024 else frames_in_time rate n.period_time)
+abbrev pub slave_period : Numbers → ℕ → ℕ
+slave_period n rate = or_default n.period_size (if n.period_time == 0 then 1024 else frames_in_time rate n.period_time)
 
 -- the ring in frames: the buffer's size, else its periods, else its time, else eight periods
-abbrev pub ring_of : Numbers → ℕ → ℕ → ℕ
-ring_of n rate period =
+abbrev pub slave_ring : Numbers → ℕ → ℕ → ℕ
+slave_ring n rate period =
     or_default n.buffer_size (
     if n.periods == 0 then (if n.buffer_time == 0 then 8 * period else frames_in_time rate n.buffer_time) else period * n.periods)
 
@@ -154,27 +154,27 @@ card_with n channels rate period ring =
     if not (is_fit period ring) then Err why.Fit else Ok (record { channels = channels; rate = rate; period = period; ring = ring })
 
 -- the card of a slave's numbers
-abbrev pub card_of : Numbers → Result Card ConfWhy
-card_of n =
+abbrev pub card_of_slave : Numbers → Result Card ConfWhy
+card_of_slave n =
     let rate = or_default n.rate 48000 in
-    let period = period_of n rate in
-    card_with n (or_default n.channels 2) rate period (ring_of n rate period)
+    let period = slave_period n rate in
+    card_with n (or_default n.channels 2) rate period (slave_ring n rate period)
 
 -- how many names a group has
-abbrev pub count_of : Entries → ℕ
-count_of empty = 0
-count_of (entry name node rest) = count_of rest + 1
+abbrev pub count_of_names : Entries → ℕ
+count_of_names empty = 0
+count_of_names (entry name node rest) = count_of_names rest + 1
 
 -- a list with one value more, where there are both
-abbrev pub one_more : Option (List ℕ) → Option ℕ → Option (List ℕ)
-one_more (Some values) (Some value) = Some (values ++ value ∷ [])
-one_more (Some values) None = None
-one_more None value = None
+abbrev pub value_more : Option (List ℕ) → Option ℕ → Option (List ℕ)
+value_more (Some values) (Some value) = Some (values ++ value ∷ [])
+value_more (Some values) None = None
+value_more None value = None
 
 -- the values of the names 0, 1 and so on, so many
-unfoldable pub values_of : Entries → ℕ → Option (List ℕ)
-values_of g zero = Some []
-values_of g (suc n) = one_more (values_of g n) (number_in (get (decimal n) g))
+unfoldable pub numbered_values : Entries → ℕ → Option (List ℕ)
+numbered_values g zero = Some []
+numbered_values g (suc n) = value_more (numbered_values g n) (number_of_node (get (decimal n) g))
 
 -- why a list of channels is refused
 abbrev pub bindings_cause : Why → ConfWhy
@@ -195,7 +195,7 @@ bindings_in None channels = Err why.BindingKey
 
 -- the bindings of a device on a card of so many channels
 abbrev pub device_bindings : Option Tree → ℕ → Result (Option (List ℕ)) ConfWhy
-device_bindings (Some (group g)) channels = bindings_in (values_of g (count_of g)) channels
+device_bindings (Some (group g)) channels = bindings_in (numbered_values g (count_of_names g)) channels
 device_bindings (Some (text t)) channels = Err why.BindingKey
 device_bindings None channels = Ok None
 
@@ -203,11 +203,11 @@ device_bindings None channels = Ok None
 unfoldable pub device_by : Entries → List ℕ → Result Device ConfWhy
 device_by root name = do
   definition ← definition_of (codes "pcm") name root
-  slave ← slave_of root (get (codes "slave") definition)
+  slave ← device_slave root (get (codes "slave") definition)
   kind ← device_kind (get (codes "type") definition)
   fits ← format_of (get (codes "format") slave)
-  numbers ← numbers_of slave
-  card ← card_of numbers
+  numbers ← slave_numbers slave
+  card ← card_of_slave numbers
   bindings ← device_bindings (get (codes "bindings") definition) card.channels
   Ok (record { kind = kind; channels = card.channels; rate = card.rate; period = card.period; ring = card.ring; bindings = bindings })
 

@@ -93,9 +93,9 @@ open_group s line array =
     if nat_le 16 (length s.path) then Err why.Deep else answer_view (in_group s line array) (put_or_clash None s.path s.root)
 
 -- a `{` or `[` where a value can come, or where a key must
-abbrev pub open_at : Option State → ℕ → Bool → Result State ConfWhy
-open_at (Some place) line array = open_group place line array
-open_at None line array = Err why.Key
+abbrev pub open_group_at : Option State → ℕ → Bool → Result State ConfWhy
+open_group_at (Some place) line array = open_group place line array
+open_group_at None line array = Err why.Key
 
 -- after what was open, which is a value of what is around it
 abbrev pub close_to : State → List Bracket → Result State ConfWhy
@@ -126,8 +126,8 @@ separator_at s (Item false) = Err (why_misplaced s)
 
 -- a mark on this line
 abbrev pub take_mark : State → ℕ → Mark → Result State ConfWhy
-take_mark s line marks.OpenBrace = open_at (value_place s s.awaits s.here.array) line false
-take_mark s line marks.OpenBracket = open_at (value_place s s.awaits s.here.array) line true
+take_mark s line marks.OpenBrace = open_group_at (value_place s s.awaits s.here.array) line false
+take_mark s line marks.OpenBracket = open_group_at (value_place s s.awaits s.here.array) line true
 take_mark s line marks.CloseBrace = close_group s s.awaits (not s.here.array)
 take_mark s line marks.CloseBracket = close_group s s.awaits s.here.array
 take_mark s line marks.Equals = equals_at s s.awaits

@@ -22,12 +22,12 @@ abbrev pub part_named : List ℕ → Part
 part_named name = record { removes = false; name = name }
 
 -- the part of a word's piece: `!` before the name is a mark
-abbrev pub part_of : List ℕ → Part
-part_of piece = if begins 33 piece then record { removes = true; name = drop 1 piece } else part_named piece
+abbrev pub key_part : List ℕ → Part
+key_part piece = if begins 33 piece then record { removes = true; name = drop 1 piece } else part_named piece
 
 -- the parts of a word are its pieces between dots
 abbrev pub word_parts : List ℕ → List Part
-word_parts word = map part_of (slice_split is_dot word)
+word_parts word = map key_part (slice_split is_dot word)
 
 -- a name of a function
 abbrev pub is_function : Part → Bool

@@ -3,7 +3,7 @@ use Rattle.std.specs.Prelude.{ℕ, List}
 use Rattle.asound_conf.specs.declared.node.Group.{Group}
 use Rattle.asound_conf.specs.declared.node.Node.{Node}
 use Rattle.asound_conf.specs.declared.node.Node.TheVariants as lent
-use Rattle.asound_conf.specs.Rows.{Row, group_of, node, row_at}
+use Rattle.asound_conf.specs.Rows.{ConfRow, group_of, node, row_at}
 use Rattle.asound_conf.specs.Tree.{Entries, Tree, group, text}
 
 -- the group that is borrowed
@@ -16,5 +16,5 @@ tree_of (lent.Text t) = text t.now
 tree_of (lent.Group g) = group (entries_in g)
 
 -- the node that a row is
-abbrev pub node_of : List Row → ℕ → Tree
+abbrev pub node_of : List ConfRow → ℕ → Tree
 node_of rows n = node (row_at rows n).value (group_of n rows)

@@ -3,7 +3,7 @@ use Rattle.std.specs.Prelude.{◌≡◌, ℕ, suc, ◌<◌, ◌≤◌, ◌==◌,
 use Rattle.asound_conf.specs.Tree.{Tree, text, group, Entries, empty, entry}
 
 -- A row: the number of the row whose group it is in, where it is in one, its name, and its text, where it is no group.
-pub record Row : Type 0 where
+pub record ConfRow : Type 0 where
   pub parent : Option ℕ
   pub name : List ℕ
   pub value : Option (List ℕ)
@@ -11,7 +11,7 @@ pub record Row : Type 0 where
 -- What a table has: the text that was read, and the rows, of which row 0 is the text's own group.
 pub record Contents : Type 0 where
   pub text : List ℕ
-  pub rows : List Row
+  pub rows : List ConfRow
 
 -- a row is in the group of this number
 abbrev pub is_in : ℕ → Option ℕ → Bool
@@ -24,29 +24,29 @@ node (Some t) g = text t
 node None g = group g
 
 -- the group of a number, by rows of which the first has the number `first`
-abbrev pub group_in_rows : ℕ → ℕ → List Row → Entries
+abbrev pub group_in_rows : ℕ → ℕ → List ConfRow → Entries
 group_in_rows p first [] = empty
 group_in_rows p first (row ∷ rows) =
     if is_in p row.parent then entry row.name (node row.value (group_in_rows first (suc first) rows)) (group_in_rows p (suc first) rows) else group_in_rows p (suc first) rows
 
 -- the group of the row of this number: those that are in it come after it
-abbrev pub group_of : ℕ → List Row → Entries
+abbrev pub group_of : ℕ → List ConfRow → Entries
 group_of p rows = group_in_rows p (suc p) (drop (suc p) rows)
 
 -- what is beside the rows: it is in no group
-abbrev pub no_row : Row
+abbrev pub no_row : ConfRow
 no_row = record { parent = None; name = []; value = None }
 
 -- the row of this number
-abbrev pub row_at : List Row → ℕ → Row
+abbrev pub row_at : List ConfRow → ℕ → ConfRow
 row_at rows n = get_or rows n no_row
 
 -- no row of a group has this name
-abbrev pub IsAbsent : List Row → ℕ → List ℕ → Type 0
+abbrev pub IsAbsent : List ConfRow → ℕ → List ℕ → Type 0
 IsAbsent rows p name = (j : ℕ) → (row_at rows j).parent ≡ Some p → bytes_eq (row_at rows j).name name ≡ false
 
 -- a row is the last one of its group that has this name
-pub record IsNode (rows : List Row) (p : ℕ) (name : List ℕ) (n : ℕ) : Type 0 where
+pub record IsNode (rows : List ConfRow) (p : ℕ) (name : List ℕ) (n : ℕ) : Type 0 where
   pub inside : n < length rows
   pub parent : (row_at rows n).parent ≡ Some p
   pub named : (row_at rows n).name ≡ name
@@ -54,14 +54,14 @@ pub record IsNode (rows : List Row) (p : ℕ) (name : List ℕ) (n : ℕ) : Type
   pub last : (j : ℕ) → n < j → (row_at rows j).parent ≡ Some p → bytes_eq (row_at rows j).name name ≡ false
 
 -- a row is in no other group than this one
-abbrev pub IsOnlyIn : ℕ → Row → Type 0
+abbrev pub IsOnlyIn : ℕ → ConfRow → Type 0
 IsOnlyIn q row = (d : ℕ) → (d ≡ q → ⊥) → is_in d row.parent ≡ false
 
 -- the rows that changed, and those that were added, are and were in the group of q or in none
-pub record Alters (q : ℕ) (old new : List Row) : Type 0 where
+pub record Alters (q : ℕ) (old new : List ConfRow) : Type 0 where
   pub longer : length old ≤ length new
   pub each : (j : ℕ) → (row_at old j ≡ row_at new j) ⊎ (IsOnlyIn q (row_at old j) × IsOnlyIn q (row_at new j))
 
 -- the contents with one row more
-abbrev pub with_row : Row → Contents → Contents
+abbrev pub with_row : ConfRow → Contents → Contents
 with_row row c = record { text = c.text; rows = c.rows ++ row ∷ [] }

@@ -10,11 +10,11 @@ pub record AreAt (text : List ℕ) (start : ℕ) (bytes : List ℕ) : Type 0 whe
   pub small : start + length bytes < 2 ^ 32
 
 -- the bytes of a token are at this place of a text
-abbrev pub IsAt : List ℕ → ℕ → Token → Type 0
-IsAt text start (lent.Word w) = AreAt text start w.now
-IsAt text start (lent.Quoted q) = AreAt text start q.now
-IsAt text start (lent.Mark m) = Unit {0}
-IsAt text start (lent.Bad w) = Unit {0}
+abbrev pub IsTokenAt : List ℕ → ℕ → Token → Type 0
+IsTokenAt text start (lent.Word w) = AreAt text start w.now
+IsTokenAt text start (lent.Quoted q) = AreAt text start q.now
+IsTokenAt text start (lent.Mark m) = Unit {0}
+IsTokenAt text start (lent.Bad w) = Unit {0}
 
 -- a text ends with this one
 pub record IsSuffix (text rest : List ℕ) : Type 0 where

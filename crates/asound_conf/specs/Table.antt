@@ -10,7 +10,7 @@ use Rattle.asound_conf.specs.declared.cell.Content.{Content}
 use Rattle.asound_conf.specs.declared.cell.Content.TheVariants as contents
 use Rattle.asound_conf.specs.declared.cell.Cell.{Cell}
 use Rattle.asound_conf.specs.Number.{number_named}
-use Rattle.asound_conf.specs.Rows.{Row, Contents, is_in}
+use Rattle.asound_conf.specs.Rows.{ConfRow, Contents, is_in}
 
 -- the greatest number of a cell's kind
 abbrev pub no_number : ℕ
@@ -43,7 +43,7 @@ parent_of p (contents.Group numbers) = if p == no_number then None else Some p
 parent_of p contents.Removed = None
 
 -- the row that a cell is
-abbrev pub cell_row : List ℕ → Cell → Row
+abbrev pub cell_row : List ℕ → Cell → ConfRow
 cell_row text c = record { parent = parent_of c.parent c.content; name = name_in text c.name; value = value_in text c.content }
 
 -- what a table has
@@ -51,7 +51,7 @@ abbrev pub contents_of : List ℕ → List Cell → Contents
 contents_of text cells = record { text = text; rows = map (cell_row text) cells }
 
 -- a row is a node of a group, under a name
-abbrev pub fits : ℕ → List ℕ → Row → Bool
+abbrev pub fits : ℕ → List ℕ → ConfRow → Bool
 fits p name row = is_in p row.parent && bytes_eq row.name name
 
 -- the content of a new cell
@@ -60,11 +60,11 @@ content_of (Some s) = contents.Text s
 content_of None = contents.Group 0
 
 -- the row of a new cell
-abbrev pub new_row : List ℕ → ℕ → Name → Option Span → Row
+abbrev pub new_row : List ℕ → ℕ → Name → Option Span → ConfRow
 new_row text p name value = record { parent = Some p; name = name_in text name; value = option_map (span_in text) value }
 
 -- a row that isn't in its group any more
-abbrev pub removed_row : Row → Row
+abbrev pub removed_row : ConfRow → ConfRow
 removed_row row = record { parent = None; name = row.name; value = None }
 
 -- the number that is past a group's names, where it gets this one

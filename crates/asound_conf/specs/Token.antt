@@ -44,12 +44,12 @@ mark_of b =
     if b == 59 then Some marks.Semicolon else None
 
 -- a byte that can be in a word: a visible one that is no mark, no quote and no `#`
-abbrev pub is_word : ℕ → Bool
-is_word b = nat_le 33 b && nat_le b 126 && not (b == 35) && not (is_quote b) && is_none (mark_of b)
+abbrev pub is_word_byte : ℕ → Bool
+is_word_byte b = nat_le 33 b && nat_le b 126 && not (b == 35) && not (is_quote b) && is_none (mark_of b)
 
 -- a byte at which a word ends
 abbrev pub ends_word : ℕ → Bool
-ends_word b = not (is_word b)
+ends_word b = not (is_word_byte b)
 
 -- a control byte other than a tab
 abbrev pub is_control : ℕ → Bool
@@ -80,7 +80,7 @@ mark_or None other = other
 abbrev pub token_by : ℕ → List ℕ → Token
 token_by b text = mark_or (mark_of b) (
     if is_quote b then quoted_token b (drop 1 text) else
-    if is_word b then word (take (end_at ends_word text) text) else bad why.Byte)
+    if is_word_byte b then word (take (end_at ends_word text) text) else bad why.Byte)
 
 -- the token at the front of a text that begins neither with a blank nor with a comment
 unfoldable pub token_at : List ℕ → Token
@@ -95,7 +95,7 @@ abbrev pub end_by : ℕ → List ℕ → ℕ
 end_by b text =
     if b == 35 then end_at (λ c. c == 10) text else
     if is_quote b then quoted_size b (drop 1 text) else
-    if is_word b then end_at ends_word text else 1
+    if is_word_byte b then end_at ends_word text else 1
 
 -- where a blank, a comment or a token at the front of a text ends
 unfoldable pub token_end : List ℕ → ℕ

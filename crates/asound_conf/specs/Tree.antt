@@ -13,19 +13,19 @@ mutual
     entry : List ℕ → Tree → Entries → Entries
 
 -- a group has a node of this name
-abbrev pub has : List ℕ → Entries → Bool
-has name empty = false
-has name (entry other tree rest) = bytes_eq other name || has name rest
+abbrev pub has_node : List ℕ → Entries → Bool
+has_node name empty = false
+has_node name (entry other tree rest) = bytes_eq other name || has_node name rest
 
 -- the node of this name, the last one where there were several
 abbrev pub get : List ℕ → Entries → Option Tree
 get name empty = None
-get name (entry other tree rest) = if has name rest then get name rest else (if bytes_eq other name then Some tree else None)
+get name (entry other tree rest) = if has_node name rest then get name rest else (if bytes_eq other name then Some tree else None)
 
 -- a group in which this name has this node: in the place of the earlier node, or at the end
 abbrev pub set : List ℕ → Tree → Entries → Entries
 set name tree empty = entry name tree empty
-set name tree (entry other old rest) = if has name rest then entry other old (set name tree rest) else (if bytes_eq other name then entry other tree rest else entry other old (set name tree rest))
+set name tree (entry other old rest) = if has_node name rest then entry other old (set name tree rest) else (if bytes_eq other name then entry other tree rest else entry other old (set name tree rest))
 
 -- a group without the nodes of this name
 abbrev pub without_name : List ℕ → Entries → Entries

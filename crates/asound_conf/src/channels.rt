@@ -1,6 +1,6 @@
 //! Bindings in a configuration: a group whose names are 0, 1 and so on.
 ghost use Rattle.std.specs.Prelude.{◌≡◌, ◌≤◌, option_map, take, IfSome};
-ghost use Rattle.asound_conf.specs.Device.{bindings_in, device_bindings, bound, bindings_cause, count_of, values_of};
+ghost use Rattle.asound_conf.specs.Device.{bindings_in, device_bindings, bound, bindings_cause, count_of_names, numbered_values};
 ghost use Rattle.asound_conf.specs.Node.{entries_in, tree_of};
 ghost use Rattle.bindings.specs.Answers.{answer_of};
 
@@ -14,7 +14,7 @@ use snd_base::Why;
 fn values_of(group: Group<'_>) -> Option<([u32; 9], usize)>
     ensures values { option_map (λ v. take v.1 v.0) result
         ≡ option_map (λ list. take 9 list)
-        (values_of (entries_in group.entry) (count_of (entries_in group.entry))) }
+        (numbered_values (entries_in group.entry) (count_of_names (entries_in group.entry))) }
     ensures most { IfSome result (λ v. v.1 ≤ 9) }
 {
     let count = count_of(group);
@@ -53,7 +53,7 @@ fn bind(list: &[u32], channels: u8) -> Result<Option<Bindings>, ConfWhy>
 /// The bindings of a group of channels.
 fn group_bindings(group: Group<'_>, channels: u8) -> Result<Option<Bindings>, ConfWhy>
     ensures { result ≡ bindings_in
-        (values_of (entries_in group.entry) (count_of (entries_in group.entry))) channels }
+        (numbered_values (entries_in group.entry) (count_of_names (entries_in group.entry))) channels }
 {
     let (list, count) = values_of(group).ok_or(ConfWhy::BindingKey)?;
     bind(&list[..count], channels)

@@ -1,7 +1,7 @@
 //! Nodes that are borrowed from a table.
 ghost use Rattle.std.specs.Prelude.{◌≡◌, ◌<◌, ◌≤◌, ◌^◌, length, option_map};
 ghost use Rattle.std.specs.Fmt.{decimal};
-ghost use Rattle.asound_conf.specs.Device.{count_of};
+ghost use Rattle.asound_conf.specs.Device.{count_of_names};
 ghost use Rattle.asound_conf.specs.Node.{entries_in, node_of, tree_of};
 ghost use Rattle.asound_conf.specs.Table.{key_bytes};
 ghost use Rattle.asound_conf.specs.Tree.{get};
@@ -64,7 +64,7 @@ pub fn get_number<'a>(group: Group<'a>, number: u32) -> Option<Node<'a>>
 
 /// How many names a group has.
 pub fn count_of(group: Group<'_>) -> u32
-    ensures { result ≡ count_of (entries_in group.entry) }
+    ensures { result ≡ count_of_names (entries_in group.entry) }
 {
     group.table.count(group.number)
 }

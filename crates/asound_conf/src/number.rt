@@ -3,7 +3,7 @@ ghost use Rattle.std.specs.Prelude.{◌≡◌, ◌<◌, ◌≤◌, ◌+◌, ◌^
 ghost use Rattle.std.specs.Str.{all_ascii_digits};
 ghost use Rattle.std.specs.Str.Parse.{digits_value};
 ghost use Rattle.std.specs.Fmt.{decimal};
-ghost use Rattle.asound_conf.specs.Device.{number_in, number_of};
+ghost use Rattle.asound_conf.specs.Device.{number_of_node, number_of_text};
 ghost use Rattle.asound_conf.specs.Number.{is_canonical, number_named};
 ghost use Rattle.asound_conf.specs.Node.{tree_of};
 
@@ -31,7 +31,7 @@ fn digits_value(text: &[u8]) -> u64
 
 /// The number that a text is: 1 to 10 decimal digits, below 4294967296.
 pub fn number_of(text: &[u8]) -> Option<u32>
-    ensures { result ≡ number_of text.now }
+    ensures { result ≡ number_of_text text.now }
 {
     if text.is_empty() || text.len() > 10 || !are_digits(text) {
         return None;
@@ -45,7 +45,7 @@ pub fn number_of(text: &[u8]) -> Option<u32>
 
 /// The number that a node is.
 pub fn number_in(node: Option<Node<'_>>) -> Option<u32>
-    ensures { result ≡ number_in (option_map tree_of node.entry) }
+    ensures { result ≡ number_of_node (option_map tree_of node.entry) }
 {
     match node {
         Some(Node::Text(text)) => number_of(text),

@@ -2,7 +2,7 @@
 ghost use Rattle.std.specs.Prelude.{◌≡◌, ◌++◌, ◌≤◌, ◌<◌, ◌+◌, ◌^◌, ◌∷◌, [], List, ℕ, OnOk, IfNone, IfSome, position, take, drop, length};
 ghost use Rattle.std.specs.Fmt.{decimal};
 ghost use Rattle.std.specs.List.{list_any, slice_split};
-ghost use Rattle.asound_conf.specs.Key.{begins, has_prefix, is_dot, is_function, is_nameless, key_defect, part_named, part_of, word_parts};
+ghost use Rattle.asound_conf.specs.Key.{begins, has_prefix, is_dot, is_function, is_nameless, key_defect, part_named, key_part, word_parts};
 ghost use Rattle.asound_conf.specs.Parts.{part_in, parts_in};
 ghost use Rattle.asound_conf.specs.Table.{name_in, span_in};
 
@@ -33,7 +33,7 @@ fn part_of(piece: &[u8], start: u32) -> Part
     requires { start + length piece.now < 2 ^ 32 }
     ensures { (text : List ℕ)
         → span_in text (record { start = start; count = length piece.now }) ≡ piece.now
-        → part_in text result ≡ part_of piece.now }
+        → part_in text result ≡ key_part piece.now }
 {
     if begins(piece, b'!') {
         return Part {

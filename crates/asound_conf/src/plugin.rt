@@ -1,6 +1,6 @@
 //! The dmix, dsnoop and dshare devices that a configuration defines.
 ghost use Rattle.std.specs.Prelude.{◌≡◌, ◌<◌, ◌≤◌, ◌+◌, ◌^◌, option_map, IfOk};
-ghost use Rattle.asound_conf.specs.Device.{IsCard, as_group, card_of, definition_of, device_by, field, field_in, format_of, frames_in_time, is_fit, is_period, is_ring, is_stream, kind_named, device_kind, number_in, numbers_of, or_default, period_of, ring_of, slave_of, device_bindings};
+ghost use Rattle.asound_conf.specs.Device.{IsCard, as_group, card_of_slave, definition_of, device_by, field, field_in, format_of, frames_in_time, is_fit, is_period, is_ring, is_stream, kind_named, device_kind, number_of_node, slave_numbers, or_default, slave_period, slave_ring, device_slave, device_bindings};
 ghost use Rattle.asound_conf.specs.Answer.{answer_view};
 ghost use Rattle.asound_conf.specs.Tree.{get};
 ghost use Rattle.asound_conf.specs.Node.{entries_in, tree_of};
@@ -88,7 +88,7 @@ fn defined<'a>(kind: &[u8], name: &[u8], root: Group<'a>) -> Result<Group<'a>, C
 /// The slave of a device's definition.
 fn slave_of<'a>(root: Group<'a>, node: Option<Node<'a>>) -> Result<Group<'a>, ConfWhy>
     ensures { answer_view entries_in result
-        ≡ slave_of (entries_in root.entry) (option_map tree_of node.entry) }
+        ≡ device_slave (entries_in root.entry) (option_map tree_of node.entry) }
 {
     match node {
         Some(Node::Group(group)) => Ok(group),
@@ -152,9 +152,9 @@ fn field(name: &[u8], slave: Group<'_>) -> Result<u32, ConfWhy>
 }
 
 /// The number fields of a slave.
-#[tactic(auto, unfolding(crate::specs::Device::numbers_of))]
+#[tactic(auto, unfolding(crate::specs::Device::slave_numbers))]
 fn numbers_of(slave: Group<'_>) -> Result<Numbers, ConfWhy>
-    ensures { result ≡ numbers_of (entries_in slave.entry) }
+    ensures { result ≡ slave_numbers (entries_in slave.entry) }
 {
     Ok(Numbers {
         channels: field(b"channels", slave)?,
@@ -186,7 +186,7 @@ fn frames_in(rate: u64, time: u32) -> u64
 /// The period in frames.
 fn period_of(numbers: &Numbers, rate: u64) -> u64
     requires { rate < 2 ^ 32 }
-    ensures value { result ≡ period_of numbers.now rate }
+    ensures value { result ≡ slave_period numbers.now rate }
     ensures given { 0 < numbers.now.period_size → result < 2 ^ 32 }
 {
     let computed = if numbers.period_time == 0 {
@@ -201,7 +201,7 @@ fn period_of(numbers: &Numbers, rate: u64) -> u64
 fn ring_of(numbers: &Numbers, rate: u64, period: u64) -> u64
     requires rate { rate < 2 ^ 32 }
     requires period { period < 2 ^ 32 }
-    ensures { result ≡ ring_of numbers.now rate period }
+    ensures { result ≡ slave_ring numbers.now rate period }
 {
     let computed = if numbers.periods != 0 {
         period * u64::from(numbers.periods)
@@ -244,7 +244,7 @@ fn is_fit(period: u64, ring: u64) -> bool
 
 /// The card of a slave's numbers.
 fn card_of(numbers: &Numbers) -> Result<Card, ConfWhy>
-    ensures value { result ≡ card_of numbers.now }
+    ensures value { result ≡ card_of_slave numbers.now }
     ensures ranges { IfOk result (λ c. IsCard c.channels c.rate c.period c.ring) }
 {
     let channels = or_default(u64::from(numbers.channels), 2);

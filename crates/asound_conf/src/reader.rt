@@ -2,7 +2,7 @@
 ghost use Rattle.std.specs.Prelude.{◌≡◌, ◌<◌, ◌+◌, ◌^◌, length, ◌≤◌};
 ghost use Rattle.asound_conf.specs.Grammar.{conf_of, last_line, meaning, start};
 ghost use Rattle.asound_conf.specs.Reading.{Reads};
-ghost use Rattle.asound_conf.specs.Start.{AreAt, AreBefore, IsAt, IsBefore};
+ghost use Rattle.asound_conf.specs.Start.{AreAt, AreBefore, IsTokenAt, IsBefore};
 ghost use Rattle.asound_conf.specs.Token.{tokens};
 
 use crate::conf::Conf;
@@ -24,7 +24,7 @@ fn start_before(text: &[u8], rest: &[u8], after: usize, bytes: &[u8]) -> u32
 fn start_of(text: &[u8], lexeme: Lexeme<'_>) -> u32
     requires small { length text.now < 2 ^ 32 }
     requires before { IsBefore text.now lexeme.rest.now lexeme.token }
-    ensures { IsAt text.now result lexeme.entry.token }
+    ensures { IsTokenAt text.now result lexeme.entry.token }
 {
     match lexeme.token {
         Token::Word(word) => start_before(text, lexeme.rest, 0, word),

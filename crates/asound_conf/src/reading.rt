@@ -62,10 +62,10 @@ fn key_cause(table: &Table, here: Bracket, key: &[Part]) -> Option<ConfWhy>
 impl Reading {
     ghost use Rattle.std.specs.Prelude.{◌∷◌, [], IfOk, OnOk, IsTrue, IsFalse, Some, None, Ok, ℕ, not, if◌then◌else◌};
     ghost use Rattle.asound_conf.specs.Answer.{Leads};
-    ghost use Rattle.asound_conf.specs.Grammar.{at_number, close_group, close_to, equals_at, end_of_text, last_line, why_misplaced, open_at, open_group, put_key, put_text, separator_at, start, step, take_mark, take_text, value_place};
+    ghost use Rattle.asound_conf.specs.Grammar.{at_number, close_group, close_to, equals_at, end_of_text, last_line, why_misplaced, open_group_at, open_group, put_key, put_text, separator_at, start, step, take_mark, take_text, value_place};
     ghost use Rattle.asound_conf.specs.Key.{key_defect, part_named, word_parts};
     ghost use Rattle.asound_conf.specs.Reading.{IsBeforeKey, IsReading, Places, Reads, before_key, rest_of_key, state_of};
-    ghost use Rattle.asound_conf.specs.Start.{AreAt, IsAt};
+    ghost use Rattle.asound_conf.specs.Start.{AreAt, IsTokenAt};
     ghost use Rattle.asound_conf.specs.Table.{span_in};
     ghost use Rattle.asound_conf.specs.Token.{token_of};
 
@@ -270,7 +270,7 @@ impl Reading {
     fn open(&mut self, line: u32, array: bool) -> Result<(), ConfWhy>
         requires valid { IsReading self.old }
         ensures leads { Leads result (state_of self.new)
-            (open_at (value_place (state_of self.old) self.old.awaits self.old.here.array)
+            (open_group_at (value_place (state_of self.old) self.old.awaits self.old.here.array)
             line array) }
         ensures valid { OnOk result (IsReading self.new) }
         ensures text { self.new.table.text ≡ self.old.table.text }
@@ -385,7 +385,7 @@ impl Reading {
     /// Takes a token of this line, whose bytes are at this place of the text. After an `Err` the reader is of no more use.
     pub fn take(&mut self, line: u32, token: Token<'_>, start: u32) -> Result<(), ConfWhy>
         requires valid { IsReading self.old }
-        requires given { IsAt self.old.table.text start token }
+        requires given { IsTokenAt self.old.table.text start token }
         ensures leads { Leads result (state_of self.new)
             (step (state_of self.old) line (token_of token.entry)) }
         ensures valid { OnOk result (IsReading self.new) }

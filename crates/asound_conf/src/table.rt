@@ -1,7 +1,7 @@
 //! The table of the nodes of a configuration: the cells, and the buckets in which they are sought.
 ghost use Rattle.std.specs.Prelude.{◌≡◌, ◌<◌, ◌≤◌, ◌+◌, ◌-◌, ◌∷◌, [], bit_and, count_by, drop, fold, is_none, length, map, option_map, bytes_eq, set, false, IfOk, OnOk, IfErr, OnErr, IfSome, IfNone, vec_len};
 ghost use Rattle.std.specs.Fmt.{decimal};
-ghost use Rattle.asound_conf.specs.Device.{count_of};
+ghost use Rattle.asound_conf.specs.Device.{count_of_names};
 ghost use Rattle.asound_conf.specs.Rows.{group_of, is_in, no_row, row_at, with_row, IsAbsent, IsNode};
 ghost use Rattle.asound_conf.specs.Table.{IsTable, bucket_of, cell_at, content_of, contents_of, fits, hash_by, is_live, key_bytes, lacks, hash_with_byte, name_in, new_row, no_number, content_with, parent_of, number_after, removed_row, cell_row, span_in, value_in};
 
@@ -426,7 +426,7 @@ impl Table {
 
     /// How many nodes a group has.
     pub fn count(&self, group: u32) -> u32
-        ensures { result ≡ count_of (group_of group self.now.rows) }
+        ensures { result ≡ count_of_names (group_of group self.now.rows) }
     {
         count_in(self.cells.as_slice(), group)
     }

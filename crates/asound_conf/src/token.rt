@@ -2,7 +2,7 @@
 ghost use Rattle.std.specs.Prelude.{◌≡◌, ℕ, ◌+◌, ◌<◌, ◌≤◌, ◌^◌, ◌==◌, ◌∷◌, [], length, option_map, IfNone, IfSome, drop, IsTrue, position, slice_index, true, false, ◌||◌};
 ghost use Rattle.std.specs.List.{list_any};
 ghost use Rattle.asound_conf.specs.Start.{IsBefore, IsSuffix};
-ghost use Rattle.asound_conf.specs.Token.{end_at, ends_word, is_blank, is_control, is_quote, is_skipped, is_word, line_after, mark_of, quoted_end, quoted_size, quoted_token, token_at, token_end, token_of, tokens};
+ghost use Rattle.asound_conf.specs.Token.{end_at, ends_word, is_blank, is_control, is_quote, is_skipped, is_word_byte, line_after, mark_of, quoted_end, quoted_size, quoted_token, token_at, token_end, token_of, tokens};
 
 use crate::error::ConfWhy;
 
@@ -70,7 +70,7 @@ fn mark_of(b: u8) -> Option<Mark>
 
 /// Whether a byte can be in a word: a visible one that is no mark, no quote and no `#`.
 fn is_word(b: u8) -> bool
-    ensures { result ≡ is_word b }
+    ensures { result ≡ is_word_byte b }
 {
     33 <= b && b <= 126 && b != b'#' && !is_quote(b) && mark_of(b).is_none()
 }
@@ -99,7 +99,7 @@ fn first_quote(quote: u8, text: &[u8]) -> Option<usize>
 /// Where a word at the front of a text ends.
 fn word_end(text: &[u8]) -> usize
     requires some { 0 < length text.now }
-    requires word { is_word (slice_index text.now 0) ≡ true }
+    requires word { is_word_byte (slice_index text.now 0) ≡ true }
     ensures value { result ≡ end_at ends_word text.now }
     ensures within { result ≤ length text.now }
 {

@@ -43,7 +43,7 @@ abbrev pub list_of : Inside → List ℕ
 list_of b = take b.len b.channels
 
 -- what the fields keep: the list, its order, and nothing after them
-pub record IsHeld (b : Inside) : Type 0 where
+pub record HoldsList (b : Inside) : Type 0 where
   pub length_is : length (list_of b) ≡ b.len
   pub channels_are : b.channels ≡ in_eight_places (list_of b)
   pub order_is : b.order ≡ in_eight_places (rising (list_of b))

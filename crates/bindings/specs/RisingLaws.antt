@@ -8,13 +8,13 @@ use Rattle.std.proofs.lemmas.List.FromFn.{get_or-range_with_len, length-range_wi
 use Rattle.std.proofs.lemmas.List.Quantifiers.{position-Some}
 use Rattle.std.proofs.lemmas.List.Sums.{position_or_len_is, sum_by-cons}
 use Rattle.bindings.specs.declared.channels.Bindings.TheInside.{Inside}
-use Rattle.bindings.specs.Bound.{AreBindings, IsHeld, bound_to, count_below, identity, list_of, in_eight_places, rising, rising_from}
+use Rattle.bindings.specs.Bound.{AreBindings, HoldsList, bound_to, count_below, identity, list_of, in_eight_places, rising, rising_from}
 
 fields_are : (c d o p : List ℕ) (m n : ℕ) → c ≡ d → o ≡ p → m ≡ n → (let b : Inside = record { channels = c; order = o; len = m } in b) ≡ record { channels = d; order = p; len = n }
 fields_are c d o p m n same_channels same_order same_length = cc
 
 -- the fields are those that their list gives back
-pub inverse_is : (b : Inside) → IsHeld b → record { channels = in_eight_places (list_of b); order = in_eight_places (rising (list_of b)); len = length (list_of b) } ≡ b
+pub inverse_is : (b : Inside) → HoldsList b → record { channels = in_eight_places (list_of b); order = in_eight_places (rising (list_of b)); len = length (list_of b) } ≡ b
 inverse_is b held = fields_are (in_eight_places (list_of b)) b.channels (in_eight_places (rising (list_of b))) b.order (length (list_of b)) b.len (sym held.channels_are) (sym held.order_is) held.length_is
 
 -- a client channel that is bound to a card channel of some row

@@ -17,14 +17,14 @@ pub struct Bindings {
 
 impl Model for Bindings {
     ghost use Rattle.std.specs.Prelude.{ℕ, List, length};
-    ghost use Rattle.bindings.specs.Bound.{IsHeld, list_of, in_eight_places, rising};
+    ghost use Rattle.bindings.specs.Bound.{HoldsList, list_of, in_eight_places, rising};
     ghost use Rattle.bindings.specs.RisingLaws.{inverse_is};
 
     ghost Value = { List ℕ };
 
     ghost view = { list_of };
 
-    ghost invariant = { IsHeld };
+    ghost invariant = { HoldsList };
 
     ghost inverse = { λ list. record {
       channels = in_eight_places list;

@@ -10,14 +10,14 @@ use Rattle.mix_core.specs.declared.event.Taken.{Taken}
 use Rattle.sum_table.specs.declared.seats.player.PlayerSeat.{PlayerSeat}
 use Rattle.sum_table.specs.declared.view.Key.{Key}
 use Rattle.sum_table.specs.declared.view.Track.{Track}
-use Rattle.ring_rule.specs.Positions.{last_of}
+use Rattle.ring_rule.specs.Positions.{last_number}
 use Rattle.sum_table.specs.Players.{HasPublished, HasTaken, PlayerGoes, next_of_player, player_geometry, player_view, track_of}
 use Rattle.sum_table.specs.Seats.{BeginsWith-trans}
 use Rattle.card_player.specs.Plays.{HasPlayed, IsSumThen, behind_words, ends_period, is_multiple, period_at, periods_to, positions_of, words_at}
 
-pub last_of-append : (d : ℕ) (xs ys : List ℕ) → last_of d (xs ++ ys) ≡ last_of (last_of d xs) ys
-last_of-append d [] ys = refl
-last_of-append d (x ∷ xs) ys = last_of-append x xs ys
+pub last_number-append : (d : ℕ) (xs ys : List ℕ) → last_number d (xs ++ ys) ≡ last_number (last_number d xs) ys
+last_number-append d [] ys = refl
+last_number-append d (x ∷ xs) ys = last_number-append x xs ys
 
 pub behind_words-append : (g : Geometry) (at : Cursor) (xs ys : List ℤ) → behind_words g at (xs ++ ys) ≡ behind_words g (behind_words g at xs) ys
 behind_words-append g at [] ys = refl
@@ -113,24 +113,24 @@ HasPlayed-joined p q r xs ys early late first then_ =
       next = then_.next
           ∙ (ap (λ h. behind_words h (next_of_player q) ys) same
           ∙ (ap (λ at. behind_words g at ys) first.next ∙ sym (behind_words-append g (next_of_player p) xs ys)));
-      position = then_.position ∙ (ap (λ d. last_of d late) first.position ∙ sym (last_of-append p.position early late));
+      position = then_.position ∙ (ap (λ d. last_number d late) first.position ∙ sym (last_number-append p.position early late));
       gone = then_.gone ∙ first.gone;
       unplugged = then_.unplugged ∙ first.unplugged;
     }
 
 -- the last position that is published where so many frames are played is the end
-pub last_of-positions_of : (d period first n : ℕ) → last_of d (positions_of period first n) ≡ first + n
-last_of-positions_of d period first zero = omega arith
-last_of-positions_of d period first (suc n) =
-    ap (λ (b : Bool). last_of d (periods_to period first (suc n) ++ (if b then [] else (first + suc n) ∷ [])))
+pub last_number-positions_of : (d period first n : ℕ) → last_number d (positions_of period first n) ≡ first + n
+last_number-positions_of d period first zero = omega arith
+last_number-positions_of d period first (suc n) =
+    ap (λ (b : Bool). last_number d (periods_to period first (suc n) ++ (if b then [] else (first + suc n) ∷ [])))
     (ap (λ (b : Bool). b && is_multiple period (first + suc n)) (lt-ltb 0 (suc n) (omega arith)))
     ∙ choose (is_multiple period (first + suc n)) where
       choose : (b : Bool)
-          → last_of d ((periods_to period first n ++ (if b then (first + suc n) ∷ [] else [])) ++ (if b then [] else (first + suc n) ∷ [])) ≡ first + suc n
+          → last_number d ((periods_to period first n ++ (if b then (first + suc n) ∷ [] else [])) ++ (if b then [] else (first + suc n) ∷ [])) ≡ first + suc n
       choose true =
-          ap (last_of d) (append-nil (periods_to period first n ++ (first + suc n) ∷ []))
-          ∙ last_of-append d (periods_to period first n) ((first + suc n) ∷ [])
-      choose false = last_of-append d (periods_to period first n ++ []) ((first + suc n) ∷ [])
+          ap (last_number d) (append-nil (periods_to period first n ++ (first + suc n) ∷ []))
+          ∙ last_number-append d (periods_to period first n) ((first + suc n) ∷ [])
+      choose false = last_number-append d (periods_to period first n ++ []) ((first + suc n) ∷ [])
 
 -- the periods among so many frames, and one frame more
 pub periods_to-more : (period first n last : ℕ) → last ≡ first + n + 1 → periods_to period first n ++ period_at period last ≡ periods_to period first (n + 1)

@@ -8,7 +8,7 @@ use Rattle.mix_core.specs.declared.event.Taken.{Taken}
 use Rattle.mix_core.specs.History.{laid_of}
 use Rattle.mix_core.specs.Laid.{total}
 use Rattle.sum_table.specs.declared.seats.player.PlayerSeat.{PlayerSeat}
-use Rattle.ring_rule.specs.Positions.{last_of}
+use Rattle.ring_rule.specs.Positions.{last_number}
 use Rattle.sum_table.specs.Players.{PlayerGoes, gone_of_player, next_of_player, player_geometry, player_view, position_of_player, track_of}
 use Rattle.card_player.specs.declared.player.CardPlayer.{CardPlayer}
 
@@ -42,8 +42,8 @@ abbrev pub frames_left : CardPlayer → List ℤ → ℕ
 frames_left p out = min (end_frame (geometry_of p) - frame_of p) (frames_in p out)
 
 -- the samples of so many frames at the beginning of a buffer, and what is after them
-abbrev pub samples_of : CardPlayer → ℕ → List ℤ → List ℤ
-samples_of p frames out = take (frames * (geometry_of p).channels) out
+abbrev pub first_samples : CardPlayer → ℕ → List ℤ → List ℤ
+first_samples p frames out = take (frames * (geometry_of p).channels) out
 
 abbrev pub rest_of : CardPlayer → ℕ → List ℤ → List ℤ
 rest_of p frames out = drop (frames * (geometry_of p).channels) out
@@ -99,13 +99,13 @@ pub record HasPlayed (p q : PlayerSeat) (values : List ℤ) (positions : List �
   pub sums : All (λ (x : Taken). IsSumThen p q x) (words_at (player_geometry p) (next_of_player p) values)
   pub published : (track_of q).published ≡ (track_of p).published ++ positions
   pub next : next_of_player q ≡ behind_words (player_geometry p) (next_of_player p) values
-  pub position : position_of_player q ≡ last_of (position_of_player p) positions
+  pub position : position_of_player q ≡ last_number (position_of_player p) positions
   pub gone : gone_of_player q ≡ gone_of_player p
   pub unplugged : (track_of q).gone ≡ (track_of p).gone
 
 -- so many whole frames were played into the beginning of a buffer, and these positions published
 pub record PlaysFrames (p q : CardPlayer) (frames : ℕ) (old new : List ℤ) (positions : List ℕ) : Type 0 where
-  pub played : HasPlayed (seat_of p) (seat_of q) (samples_of p frames new) positions
+  pub played : HasPlayed (seat_of p) (seat_of q) (first_samples p frames new) positions
   pub next : next_of_player (seat_of q) ≡ at_frame (frame_of p + frames)
   pub rest : rest_of p frames new ≡ rest_of p frames old
   pub period : period_of q ≡ period_of p

@@ -4,10 +4,10 @@ use Rattle.std.proofs.Math.Numerals.{suc-eq-add-one}
 use Rattle.snd_base.specs.declared.geometry.Geometry.{Geometry}
 use Rattle.snd_base.specs.declared.places.Cursor.{Cursor}
 use Rattle.snd_base.specs.Places.{first_frame}
-use Rattle.ring_rule.specs.Positions.{last_of, last_position}
+use Rattle.ring_rule.specs.Positions.{last_number, last_position}
 use Rattle.sum_table.specs.Players.{next_of_player, position_of_player}
 use Rattle.card_player.specs.declared.player.CardPlayer.{CardPlayer}
-use Rattle.card_player.specs.PlayLaws.{last_of-append}
+use Rattle.card_player.specs.PlayLaws.{last_number-append}
 use Rattle.card_player.specs.Plays.{at_frame, ends_period, seat_of}
 use Rattle.snoop_table.specs.declared.seats.writer.WriterSeat.{WriterSeat}
 use Rattle.snoop_table.specs.Writers.{next_frame, writer_geometry, writer_track}
@@ -16,11 +16,11 @@ use Rattle.card_sim.specs.Runs.{HasCaptured}
 
 -- the writer's last position after it published some more
 pub position_of_writer-captured : (w v : WriterSeat) (samples : List ℤ) (positions : List ℕ) → HasCaptured w v samples positions
-    → position_of_writer v ≡ last_of (position_of_writer w) positions
+    → position_of_writer v ≡ last_number (position_of_writer w) positions
 position_of_writer-captured w v samples positions did =
     ap (λ (g : Geometry). last_position g (writer_track v).published) did.geometry
     ∙ (ap (λ (ps : List ℕ). last_position (writer_geometry w) ps) did.published
-    ∙ last_of-append (first_frame (writer_geometry w)) (writer_track w).published positions)
+    ∙ last_number-append (first_frame (writer_geometry w)) (writer_track w).published positions)
 
 -- what two seats are at, by the frames and positions that they have
 pub moment_of-at : (p : CardPlayer) (w : WriterSeat) (stores takes played captured : ℕ)

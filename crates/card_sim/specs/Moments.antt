@@ -1,7 +1,7 @@
 -- What is seen of a card between the steps of a run.
 use Rattle.std.specs.Prelude.{ℕ, zero, suc, ◌+◌, List, [], ◌∷◌, ◌++◌, if◌then◌else◌}
 use Rattle.snd_base.specs.declared.places.Cursor.{Cursor}
-use Rattle.ring_rule.specs.Positions.{last_of}
+use Rattle.ring_rule.specs.Positions.{last_number}
 use Rattle.sum_table.specs.Players.{next_of_player, position_of_player}
 use Rattle.card_player.specs.declared.player.CardPlayer.{CardPlayer}
 use Rattle.card_player.specs.Plays.{at_frame, ends_period, is_multiple, periods_to, seat_of}
@@ -57,7 +57,7 @@ period_moments period frame captured =
 
 -- the last multiple of the period past the first frame, among so many frame numbers, or what was published before where there is none
 abbrev pub last_period : ℕ → ℕ → ℕ → ℕ → ℕ
-last_period period first before n = last_of before (periods_to period first n)
+last_period period first before n = last_number before (periods_to period first n)
 
 -- what is seen of so many frames, from the first one on, which was the last position of the sum ring: each is stored and then taken,
 -- and each multiple of the period is published on the sum ring and then on the snoop ring

@@ -8,7 +8,7 @@ use Rattle.sum_table.specs.Players.{next_of_player}
 use Rattle.card_player.specs.declared.player.CardPlayer.{CardPlayer}
 use Rattle.card_player.specs.FillLaws.{HasFilled, take-split}
 use Rattle.card_player.specs.PlayLaws.{HasPlayed-joined, periods_to-ended, periods_to-more, periods_to-open}
-use Rattle.card_player.specs.Plays.{HasPlayed, PlaysFrames, at_frame, ends_period, frame_of, geometry_of, period_at, periods_to, positions_of, samples_of, seat_of}
+use Rattle.card_player.specs.Plays.{HasPlayed, PlaysFrames, at_frame, ends_period, frame_of, geometry_of, period_at, periods_to, positions_of, first_samples, seat_of}
 use Rattle.snoop_table.specs.declared.seats.writer.WriterSeat.{WriterSeat}
 use Rattle.snoop_table.specs.declared.view.Track.{Track}
 use Rattle.snoop_table.specs.Writers.{HasPublished, HasStored, desk_of, next_frame, writer_geometry, writer_track}
@@ -88,7 +88,7 @@ HasCaptured-more w v u t captured period first n at c last was at_is stored last
 -- all frames are run: the end is published where it isn't a multiple of the period
 pub RunsFrames-published : (p q r : CardPlayer) (w v u : WriterSeat) (period n : ℕ) (captured old new : List ℤ)
     → HasFilled (seat_of p) (seat_of q) period n old new
-    → HasCaptured w v (samples_of p n captured) (periods_to period (frame_of p) n)
+    → HasCaptured w v (first_samples p n captured) (periods_to period (frame_of p) n)
     → ends_period period (frame_of p) n ≡ false
     → HasPlayed (seat_of q) (seat_of r) [] (frame_of q ∷ []) → HasCaptured v u [] (frame_of q ∷ [])
     → next_of_player (seat_of r) ≡ next_of_player (seat_of q) → AreInStep r u
@@ -98,12 +98,12 @@ RunsFrames-published p q r w v u period n captured old new filled caught not_end
     let positions : periods_to period (frame_of p) n ++ frame_of q ∷ [] ≡ positions_of period (frame_of p) n =
     periods_to-open period (frame_of p) n (frame_of q) not_ended end_is in
     record {
-      played = subst (λ (xs : List ℤ). HasPlayed (seat_of p) (seat_of r) xs (positions_of period (frame_of p) n)) (append-nil (samples_of p n new))
-          (subst (λ (ps : List ℕ). HasPlayed (seat_of p) (seat_of r) (samples_of p n new ++ []) ps) positions
-          (HasPlayed-joined (seat_of p) (seat_of q) (seat_of r) (samples_of p n new) [] (periods_to period (frame_of p) n) (frame_of q ∷ []) filled.played played));
-      stored = subst (λ (xs : List ℤ). HasCaptured w u xs (positions_of period (frame_of p) n)) (append-nil (samples_of p n captured))
-          (subst (λ (ps : List ℕ). HasCaptured w u (samples_of p n captured ++ []) ps) positions
-          (HasCaptured-joined w v u (samples_of p n captured) [] (periods_to period (frame_of p) n) (frame_of q ∷ []) caught published));
+      played = subst (λ (xs : List ℤ). HasPlayed (seat_of p) (seat_of r) xs (positions_of period (frame_of p) n)) (append-nil (first_samples p n new))
+          (subst (λ (ps : List ℕ). HasPlayed (seat_of p) (seat_of r) (first_samples p n new ++ []) ps) positions
+          (HasPlayed-joined (seat_of p) (seat_of q) (seat_of r) (first_samples p n new) [] (periods_to period (frame_of p) n) (frame_of q ∷ []) filled.played played));
+      stored = subst (λ (xs : List ℤ). HasCaptured w u xs (positions_of period (frame_of p) n)) (append-nil (first_samples p n captured))
+          (subst (λ (ps : List ℕ). HasCaptured w u (first_samples p n captured ++ []) ps) positions
+          (HasCaptured-joined w v u (first_samples p n captured) [] (periods_to period (frame_of p) n) (frame_of q ∷ []) caught published));
       next = stays ∙ filled.next;
       in_step = AreSeatsOfCard-in_step true r u in_step;
       rest = filled.rest;
@@ -112,14 +112,14 @@ RunsFrames-published p q r w v u period n captured old new filled caught not_end
 -- the end is a multiple of the period: it is published already
 pub RunsFrames-ended : (p q : CardPlayer) (w v : WriterSeat) (period n : ℕ) (captured old new : List ℤ)
     → HasFilled (seat_of p) (seat_of q) period n old new
-    → HasCaptured w v (samples_of p n captured) (periods_to period (frame_of p) n)
+    → HasCaptured w v (first_samples p n captured) (periods_to period (frame_of p) n)
     → ends_period period (frame_of p) n ≡ true → AreInStep q v
     → RunsFrames true p w q v period n captured old new
 RunsFrames-ended p q w v period n captured old new filled caught ended in_step =
     let positions : periods_to period (frame_of p) n ≡ positions_of period (frame_of p) n = periods_to-ended period (frame_of p) n ended in
     record {
-      played = subst (λ (ps : List ℕ). HasPlayed (seat_of p) (seat_of q) (samples_of p n new) ps) positions filled.played;
-      stored = subst (λ (ps : List ℕ). HasCaptured w v (samples_of p n captured) ps) positions caught;
+      played = subst (λ (ps : List ℕ). HasPlayed (seat_of p) (seat_of q) (first_samples p n new) ps) positions filled.played;
+      stored = subst (λ (ps : List ℕ). HasCaptured w v (first_samples p n captured) ps) positions caught;
       next = filled.next;
       in_step = AreSeatsOfCard-in_step true q v in_step;
       rest = filled.rest;

@@ -3,12 +3,12 @@ use Rattle.std.specs.Prelude.{◌≡◌, ℕ, ◌+◌, ◌*◌, ◌≤◌, ◌++
 use Rattle.snd_base.specs.Places.{end_frame}
 use Rattle.sum_table.specs.Players.{next_of_player}
 use Rattle.card_player.specs.declared.player.CardPlayer.{CardPlayer}
-use Rattle.card_player.specs.Plays.{HasPlayed, TakesFrameAt, at_frame, frame_of, frames_left, geometry_of, positions_of, rest_of, samples_of, seat_of}
+use Rattle.card_player.specs.Plays.{HasPlayed, TakesFrameAt, at_frame, frame_of, frames_left, geometry_of, positions_of, rest_of, first_samples, seat_of}
 use Rattle.snoop_table.specs.declared.seats.writer.WriterSeat.{WriterSeat}
 use Rattle.snoop_table.specs.Writers.{writer_geometry, writer_ring, writer_track}
 use Rattle.card_sim.specs.declared.card.Card.{Card}
 use Rattle.card_sim.specs.Moments.{Moment, moments_of, position_of_writer}
-use Rattle.card_sim.specs.Steps.{AreInStep, AreSeatsOfCard, IsPublished}
+use Rattle.card_sim.specs.Steps.{AreInStep, AreSeatsOfCard, IsAtPublished}
 
 -- a card's player and writer, its period, and whether it records
 abbrev pub player_of : Card → CardPlayer
@@ -40,7 +40,7 @@ pub record CanRun (p : CardPlayer) (w : WriterSeat) (period frames : ℕ)
     (captured out : List ℤ) : Type 0 where
   pub period_least : 1 ≤ period
   pub in_step : AreInStep p w
-  pub published : IsPublished p
+  pub published : IsAtPublished p
   pub captured_holds : frames * (geometry_of p).channels ≤ length captured
   pub out_holds : frames * (geometry_of p).channels ≤ length out
   pub rings_hold : frame_of p + frames ≤ end_frame (geometry_of p)
@@ -64,9 +64,9 @@ pub record PublishesBoth (p : CardPlayer) (w : WriterSeat) (q : CardPlayer)
 -- were captured, and the snoop ring's positions published too.
 pub record RunsFrames (records : Bool) (p : CardPlayer) (w : WriterSeat)
     (q : CardPlayer) (v : WriterSeat) (period frames : ℕ) (captured old new : List ℤ) : Type 0 where
-  pub played : HasPlayed (seat_of p) (seat_of q) (samples_of p frames new)
+  pub played : HasPlayed (seat_of p) (seat_of q) (first_samples p frames new)
       (positions_of period (frame_of p) frames)
-  pub stored : HasCaptured w v (captured_if records (samples_of p frames captured))
+  pub stored : HasCaptured w v (captured_if records (first_samples p frames captured))
       (captured_if records (positions_of period (frame_of p) frames))
   pub next : next_of_player (seat_of q) ≡ at_frame (frame_of p + frames)
   pub in_step : AreSeatsOfCard records q v

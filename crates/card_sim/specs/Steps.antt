@@ -19,5 +19,5 @@ pub record AreSeatsOfCard (records : Bool) (p : CardPlayer) (w : WriterSeat) : T
   pub next : records ≡ true → next_of_player (seat_of p) ≡ at_frame (next_frame w)
 
 -- the frame that a player takes next is the position that it published last
-abbrev pub IsPublished : CardPlayer → Type 0
-IsPublished p = position_of_player (seat_of p) ≡ frame_of p
+abbrev pub IsAtPublished : CardPlayer → Type 0
+IsAtPublished p = position_of_player (seat_of p) ≡ frame_of p

@@ -1,6 +1,6 @@
 //! The duplex card over the seats of both rings.
 ghost use Rattle.std.specs.Prelude.{◌≤◌};
-ghost use Rattle.card_sim.specs.Steps.{AreSeatsOfCard, IsPublished};
+ghost use Rattle.card_sim.specs.Steps.{AreSeatsOfCard, IsAtPublished};
 
 use crate::run::run_frames;
 use crate::watch::{NoWatch, Watch};
@@ -23,7 +23,7 @@ pub struct Card<'p, 'w> {
     records: bool,
     ghost period_least: { 1 ≤ period },
     ghost in_step: { AreSeatsOfCard records player writer },
-    ghost published: { IsPublished player },
+    ghost published: { IsAtPublished player },
 }
 
 impl<'p, 'w> Card<'p, 'w> {
@@ -33,7 +33,7 @@ impl<'p, 'w> Card<'p, 'w> {
     ghost use Rattle.snoop_table.specs.Joins.{HasHeard as WriterHasHeard, HasWriterNote, OneRing as OneSnoopRing, note_geometry, note_ring as snoop_note_ring};
     ghost use Rattle.snoop_table.specs.Writers.{HasUnplugged as WriterHasUnplugged, desk_of, writer_geometry, writer_ring};
     ghost use Rattle.card_player.specs.Plays.{EndsEarly, frame_of, geometry_of, seat_of};
-    ghost use Rattle.card_sim.specs.Steps.{AreInStep, AreSeatsOfCard, IsPublished};
+    ghost use Rattle.card_sim.specs.Steps.{AreInStep, AreSeatsOfCard, IsAtPublished};
     ghost use Rattle.card_sim.specs.Runs.{RunsThrough, moments_through, period_of, player_of, records_of, writer_of};
 
     /// A card that records, over a player and a writer, with a period of so many frames, at least 1.
@@ -43,7 +43,7 @@ impl<'p, 'w> Card<'p, 'w> {
     pub fn new(player: CardPlayer<'p>, writer: WriterSeat<'w>, period: u32) -> Card<'p, 'w>
         requires period { 1 ≤ period }
         requires in_step { AreInStep player writer }
-        requires published { IsPublished player }
+        requires published { IsAtPublished player }
         ensures player { player_of result ≡ player.entry }
         ensures writer { writer_of result ≡ writer.entry }
         ensures period { period_of result ≡ period }
@@ -62,7 +62,7 @@ impl<'p, 'w> Card<'p, 'w> {
     ) -> Card<'p, 'w>
         requires period { 1 ≤ period }
         requires in_step { AreSeatsOfCard records player writer }
-        requires published { IsPublished player }
+        requires published { IsAtPublished player }
         ensures player { player_of result ≡ player.entry }
         ensures writer { writer_of result ≡ writer.entry }
         ensures period { period_of result ≡ period }
@@ -78,7 +78,7 @@ impl<'p, 'w> Card<'p, 'w> {
 
     /// Whether a card can be made of this player and this writer, as `new` asks.
     pub fn can_use(player: &CardPlayer<'p>, writer: &WriterSeat<'w>) -> bool
-        ensures { IsTrue result ↔ (AreInStep player.now writer.now × IsPublished player.now) }
+        ensures { IsTrue result ↔ (AreInStep player.now writer.now × IsAtPublished player.now) }
     {
         if !player.is_at_frame() || !is_same_ring(&player.geometry(), &writer.geometry()) {
             return false;

@@ -7,7 +7,7 @@ use Rattle.mix_core.specs.declared.port.Entry.{Entry}
 use Rattle.mix_core.specs.declared.port.Position.{Position}
 use Rattle.snoop_core.specs.declared.port.Got.{Got}
 use Rattle.snoop_core.specs.declared.port.SnoopPort as snoopport
-use Rattle.snoop_core.specs.Port.{Gets, LoadsPosition, SnoopView, frame_of}
+use Rattle.snoop_core.specs.Port.{Gets, LoadsPosition, SnoopView, numbered_frame}
 use Rattle.course.specs.Course.{Course, Takes}
 use Rattle.course.specs.CourseLaws.{Takes-keeps_getting}
 
@@ -18,7 +18,7 @@ LoadsAtSnoop P G s load t = LoadsPosition P.view P.loaded P.got G.stops G.asked 
 -- the frame of a number was loaded, with some samples where it was got
 abbrev pub GetsAtSnoop : {S T : Type 0} → snoopport.Ghosts S → gates.Ghosts T → S × T → ℕ → Got → S × T → Type 0
 GetsAtSnoop P G s number got t =
-    (samples : List ℤ) × Gets P.view P.shows P.loaded P.got P.finds G.stops G.asked s.0 s.1 (frame_of number samples) got t.0 t.1
+    (samples : List ℤ) × Gets P.view P.shows P.loaded P.got P.finds G.stops G.asked s.0 s.1 (numbered_frame number samples) got t.0 t.1
 
 -- nothing is placed at a port to captured frames
 abbrev pub NoLay : {S : Type 0} → S → Entry → Ended → S → Type 0

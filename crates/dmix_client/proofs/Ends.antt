@@ -3,7 +3,7 @@ use Rattle.std.proofs.Common.{[], arith, refl, ℕ, ◌<◌, ◌∷◌, ◌≡�
 use Rattle.std.proofs.lemmas.Bool.Decides.{nat_tests}
 use Rattle.std.specs.Prelude.{Bool, Err, None, Ok, Option, Some, false, if◌then◌else◌, nat_eq, nat_lt, true, ◌&&◌}
 use Rattle.mix_core.specs.declared.port.Position.{Position}
-use Rattle.pcm_states.specs.Table.{done_in, draining, first_outcome, moving, next_of, outcome_of, refused_in, still_draining, stopped_by}
+use Rattle.pcm_states.specs.Table.{done_in, draining, first_outcome, moving, next_of, cell_outcome, refused_in, still_draining, stopped_by}
 use Rattle.pcm_states.specs.declared.calls.Call.TheVariants as call
 use Rattle.pcm_states.specs.declared.calls.Call.{Call}
 use Rattle.pcm_states.specs.declared.calls.Outcome.{Outcome}
@@ -31,7 +31,7 @@ by-test X false x y first second = second refl
 moving-ends : (X : Outcome → Type 0) (call : Call) (queued : ℕ) (gone : Bool) (over : Option (ℕ × ℕ)) (late : Option XrunWhy)
     → (gone ≡ true → X (refused_in Disconnected error.NoDevice)) → ((a f : ℕ) → gone ≡ false → over ≡ Some (a, f) → X (stopped_by (why.Avail a f)))
     → ((w : XrunWhy) → gone ≡ false → over ≡ None → late ≡ Some w → X (stopped_by w)) → (gone ≡ false → over ≡ None → late ≡ None → X (done_in Running))
-    → X (outcome_of moving Running call (record { capture = false; queued = queued; starts = true; gone = gone; over = over; late = late }))
+    → X (cell_outcome moving Running call (record { capture = false; queued = queued; starts = true; gone = gone; over = over; late = late }))
 moving-ends X call queued true over late at_gone at_over at_late at_end = at_gone refl
 moving-ends X call queued false (Some (a, f)) late at_gone at_over at_late at_end = at_over a f refl refl
 moving-ends X call queued false None (Some w) at_gone at_over at_late at_end = at_late w refl refl refl
@@ -45,7 +45,7 @@ played-ends X call false at_end still = still
 draining-ends : (X : Outcome → Type 0) (call : Call) (queued : ℕ) (gone : Bool) (over : Option (ℕ × ℕ)) (late : Option XrunWhy)
     → (gone ≡ true → X (refused_in Disconnected error.NoDevice)) → ((w : XrunWhy) → gone ≡ false → late ≡ Some w → X (stopped_by w))
     → (gone ≡ false → late ≡ None → X (done_in Setup)) → (gone ≡ false → late ≡ None → X (still_draining call))
-    → X (outcome_of draining Draining call (record { capture = false; queued = queued; starts = true; gone = gone; over = over; late = late }))
+    → X (cell_outcome draining Draining call (record { capture = false; queued = queued; starts = true; gone = gone; over = over; late = late }))
 draining-ends X call queued true over late at_gone at_late at_end still = at_gone refl
 draining-ends X call queued false over (Some w) at_gone at_late at_end still = at_late w refl refl
 draining-ends X call queued false over None at_gone at_late at_end still = played-ends X call (nat_eq queued 0) (at_end refl refl) (still refl refl)

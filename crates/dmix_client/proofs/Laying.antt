@@ -13,7 +13,7 @@ use Rattle.course.specs.CourseLaws.{Takes-map, Takes-parts, Takes-then}
 use Rattle.dmix_client.specs.declared.commit.Commit.{Commit}
 use Rattle.dmix_client.specs.declared.stream.PlaybackStream.{PlaybackStream}
 use Rattle.dmix_client.specs.Course.{go_on, lay_each, lay_frame, lay_frames, lay_on, nothing, one_frame_more, one_more}
-use Rattle.dmix_client.specs.CourseLaws.{entry_of}
+use Rattle.dmix_client.specs.CourseLaws.{channel_entry}
 use Rattle.dmix_client.specs.View.{ring_sample, slot_sample}
 use Rattle.dmix_client.proofs.Frames.{not-whole}
 
@@ -37,7 +37,7 @@ module _ {S T : Type 0} (P : mixport.Ghosts S) (G : gates.Ghosts T) where
   Rest-none member frame bindings sample_of qs s t done ended takes =
       subst (λ n. TakesAt P G s (lay_each member frame bindings sample_of qs) t (n, ended)) (let same : done ≡ 0 + done = omega arith in same) takes
 
-  pub Rest-next : (member frame : ℕ) (bindings : List ℕ) (sample_of : ℕ → ℤ) (qs : List ℕ) (start now next : S × T) (i : ℕ) (e : Entry) → i < length qs → e ≡ entry_of member frame bindings sample_of (slice_index qs i)
+  pub Rest-next : (member frame : ℕ) (bindings : List ℕ) (sample_of : ℕ → ℤ) (qs : List ℕ) (start now next : S × T) (i : ℕ) (e : Entry) → i < length qs → e ≡ channel_entry member frame bindings sample_of (slice_index qs i)
       → Rest P G member frame bindings sample_of qs start now i → LaysAt P G now e Whole next → Rest P G member frame bindings sample_of qs start next (i + 1)
   unfolding lay_each
   Rest-next member frame bindings sample_of qs start now next i e low is so_far step t done ended takes =
@@ -49,7 +49,7 @@ module _ {S T : Type 0} (P : mixport.Ghosts S) (G : gates.Ghosts T) where
         Takes-map (LoadsAt P G) (LaysAt P G) NoGet next t (lay_each member frame bindings sample_of (drop (i + 1) qs)) one_more (done, ended) (done + 1, ended) takes refl,
       )))
 
-  pub Rest-ended : (member frame : ℕ) (bindings : List ℕ) (sample_of : ℕ → ℤ) (qs : List ℕ) (start now next : S × T) (i : ℕ) (e : Entry) (end : Ended) → i < length qs → e ≡ entry_of member frame bindings sample_of (slice_index qs i) → (end ≡ Whole → ⊥)
+  pub Rest-ended : (member frame : ℕ) (bindings : List ℕ) (sample_of : ℕ → ℤ) (qs : List ℕ) (start now next : S × T) (i : ℕ) (e : Entry) (end : Ended) → i < length qs → e ≡ channel_entry member frame bindings sample_of (slice_index qs i) → (end ≡ Whole → ⊥)
       → Rest P G member frame bindings sample_of qs start now i → LaysAt P G now e end next → TakesAt P G start (lay_each member frame bindings sample_of qs) next (i, end)
   unfolding lay_each
   Rest-ended member frame bindings sample_of qs start now next i e end low is not_whole so_far step =

@@ -17,7 +17,7 @@ use Rattle.bindings.specs.Bound.{AreBindings, rising}
 use Rattle.bindings.specs.RisingLaws.{length-rising}
 use Rattle.dmix_client.specs.declared.commit.Commit.{Commit}
 use Rattle.dmix_client.specs.Course.{nothing}
-use Rattle.dmix_client.specs.Rewind.{back_on, left_of, take_each, take_frames, take_on}
+use Rattle.dmix_client.specs.Rewind.{back_on, rewind_left, take_each, take_frames, take_on}
 use Rattle.snd_base.specs.declared.places.Cursor.{Cursor}
 use Rattle.snd_base.specs.Places.{IsFrom}
 use Rattle.snd_base.specs.Relations.{Composes}
@@ -80,13 +80,13 @@ module _ {S T : Type 0} (P : mixport.Ghosts S) (G : gates.Ghosts T) where
       (Takes-then (LoadsAt P G) (LaysAt P G) NoGet now next t (take_each member (card + (first + n)) bindings (samples (first + n)) (length bindings)) (λ end. back_on end n (length bindings) (take_frames member card bindings samples first n)) (left, Whole) x step takes))
 
   pub BackFrames-ended : (member card : ℕ) (bindings : List ℕ) (samples : ℕ → ℕ → ℤ) (first all : ℕ) (start now next : S × T) (n m left : ℕ) (end : Ended) → m ≡ n + 1 → (end ≡ Whole → ⊥) → BackFrames P G member card bindings samples first all start now m
-      → TakesAt P G now (take_each member (card + (first + n)) bindings (samples (first + n)) (length bindings)) next (left, end) → TakesAt P G start (take_frames member card bindings samples first all) next (left_of n left (length bindings) end)
+      → TakesAt P G now (take_each member (card + (first + n)) bindings (samples (first + n)) (length bindings)) next (left, end) → TakesAt P G start (take_frames member card bindings samples first all) next (rewind_left n left (length bindings) end)
   unfolding take_frames
   BackFrames-ended member card bindings samples first all start now next n m left end is not_so so_far step =
       let rest = take_frames member card bindings samples first n in
-      so_far next (left_of n left (length bindings) end) (subst (λ (k : ℕ). TakesAt P G now (take_frames member card bindings samples first k) next (left_of n left (length bindings) end)) (sym (let e : m ≡ suc n = omega (arith, is) in e))
-      (Takes-then (LoadsAt P G) (LaysAt P G) NoGet now next next (take_each member (card + (first + n)) bindings (samples (first + n)) (length bindings)) (λ e. back_on e n (length bindings) rest) (left, end) (left_of n left (length bindings) end) step
-      (not-whole (λ (x : Ended). TakesAt P G next (back_on (left, x) n (length bindings) rest) next (left_of n left (length bindings) x)) end not_so (λ word. record { there = refl; result = refl }) (record { there = refl; result = refl }))))
+      so_far next (rewind_left n left (length bindings) end) (subst (λ (k : ℕ). TakesAt P G now (take_frames member card bindings samples first k) next (rewind_left n left (length bindings) end)) (sym (let e : m ≡ suc n = omega (arith, is) in e))
+      (Takes-then (LoadsAt P G) (LaysAt P G) NoGet now next next (take_each member (card + (first + n)) bindings (samples (first + n)) (length bindings)) (λ e. back_on e n (length bindings) rest) (left, end) (rewind_left n left (length bindings) end) step
+      (not-whole (λ (x : Ended). TakesAt P G next (back_on (left, x) n (length bindings) rest) next (rewind_left n left (length bindings) x)) end not_so (λ word. record { there = refl; result = refl }) (record { there = refl; result = refl }))))
 
   pub BackFrames-all : (member card : ℕ) (bindings : List ℕ) (samples : ℕ → ℕ → ℤ) (first all : ℕ) (start now : S × T) (n : ℕ) → n ≡ 0 → BackFrames P G member card bindings samples first all start now n
       → TakesAt P G start (take_frames member card bindings samples first all) now nothing

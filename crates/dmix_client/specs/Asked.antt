@@ -5,6 +5,6 @@ use Rattle.dmix_client.specs.declared.status.Asked.{Asked}
 use Rattle.dmix_client.specs.declared.status.Asked.TheVariants.{Avail, Delay}
 use Rattle.dmix_client.specs.Calls.{avail_answer, delay_answer}
 
-abbrev pub number_of : Asked → PlaybackStream → ℕ
-number_of Avail = avail_answer
-number_of Delay = delay_answer
+abbrev pub asked_number : Asked → PlaybackStream → ℕ
+asked_number Avail = avail_answer
+asked_number Delay = delay_answer

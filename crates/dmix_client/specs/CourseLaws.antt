@@ -31,8 +31,8 @@ use Rattle.dmix_client.specs.Port.{IsCommit, IsUpTo, LoadsAndCommits, TakesStep,
 use Rattle.dmix_client.specs.View.{ring_sample}
 
 -- the entry of a client channel in a frame
-abbrev pub entry_of : ℕ → ℕ → List ℕ → (ℕ → ℤ) → ℕ → Entry
-entry_of member frame bindings sample_of q = an_add member frame (slice_index bindings q) (sample_of q)
+abbrev pub channel_entry : ℕ → ℕ → List ℕ → (ℕ → ℤ) → ℕ → Entry
+channel_entry member frame bindings sample_of q = an_add member frame (slice_index bindings q) (sample_of q)
 
 -- what some channels of a frame ended in
 pub record LaysFrame {S T : Type 0} (P : mixport.Ghosts S) (G : gates.Ghosts T) (s t : S × T)
@@ -40,7 +40,7 @@ pub record LaysFrame {S T : Type 0} (P : mixport.Ghosts S) (G : gates.Ghosts T) 
     (ended : Ended) : Type 0 where
   pub view_is : P.view t.0 ≡ record (P.view s.0) { marks = (P.view t.0).marks }
   pub up_to : IsUpTo ended done (length qs)
-  pub laid_them : P.laid s.0 t.0 (map (entry_of member frame bindings sample_of) (take done qs))
+  pub laid_them : P.laid s.0 t.0 (map (channel_entry member frame bindings sample_of) (take done qs))
   pub loaded_nothing : P.loaded s.0 t.0 []
   pub not_before_seen : 0 < done → (P.view s.0).seen ≤ frame
   pub late : OnLate ended (λ word. IsPast P.view P.shows t.0 frame
@@ -145,7 +145,7 @@ module _ {S T : Type 0} (P : mixport.Ghosts S) (G : gates.Ghosts T) (laid_compos
       (subst (λ (r : ℕ × Ended). LaysFrame P G s parts.0 member frame bindings sample_of (q ∷ qs) r.0 r.1) (sym result) (record {
         view_is = later.view_is ∙ ap (λ (v : PortView). record v { marks = (P.view parts.0.0).marks }) step.view_is;
         up_to = up_to-more parts.1.1 parts.1.0 (length qs) later.up_to;
-        laid_them = laid_composes.joined s.0 m.0 parts.0.0 (entry_of member frame bindings sample_of q ∷ []) (map (entry_of member frame bindings sample_of) (take parts.1.0 qs)) step.laid_it later.laid_them;
+        laid_them = laid_composes.joined s.0 m.0 parts.0.0 (channel_entry member frame bindings sample_of q ∷ []) (map (channel_entry member frame bindings sample_of) (take parts.1.0 qs)) step.laid_it later.laid_them;
         loaded_nothing = loaded_composes.joined s.0 m.0 parts.0.0 [] [] step.loaded_nothing later.loaded_nothing;
         not_before_seen = λ some. step.not_before_seen;
         late = later.late;

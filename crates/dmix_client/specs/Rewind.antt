@@ -84,16 +84,16 @@ take_each member frame bindings sample_of (suc n) =
     (λ ended. take_on ended (suc n) (take_each member frame bindings sample_of n))
 
 -- what is left of n frames and of one more, of which some channels of all are left
-abbrev pub left_of : ℕ → ℕ → ℕ → Ended → Commit
-left_of n left channels ended =
+abbrev pub rewind_left : ℕ → ℕ → ℕ → Ended → Commit
+rewind_left n left channels ended =
     if nat_eq left channels then record { frames = n + 1; part = 0; ended = ended }
     else record { frames = n; part = left; ended = ended }
 
 -- so many frames, from a first one on, are withdrawn, the last one first, up to the first sample that isn't: what is left of them
 abbrev pub back_on : ℕ × Ended → ℕ → ℕ → Course Commit → Course Commit
 back_on (left, Whole) n channels rest = rest
-back_on (left, Late word) n channels rest = ends (left_of n left channels (Late word))
-back_on (left, Stopped) n channels rest = ends (left_of n left channels Stopped)
+back_on (left, Late word) n channels rest = ends (rewind_left n left channels (Late word))
+back_on (left, Stopped) n channels rest = ends (rewind_left n left channels Stopped)
 
 unfoldable pub take_frames : ℕ → ℕ → List ℕ → (ℕ → ℕ → ℤ) → ℕ → ℕ → Course Commit
 take_frames member card bindings samples first zero = ends nothing

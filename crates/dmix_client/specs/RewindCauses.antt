@@ -18,7 +18,7 @@ use Rattle.dmix_client.specs.Course.{nothing}
 use Rattle.dmix_client.specs.Rewind.{last_channel, last_laid, rewind_on}
 
 -- a frame and channel are the last of a client's segment in which it has a sample, and the port shows that they were taken
-pub record IsKept {S : Type 0} (view : S → PortView) (shows : S → ℕ → ℕ → Option ℕ) (q : S)
+pub record IsLastPast {S : Type 0} (view : S → PortView) (shows : S → ℕ → ℕ → Option ℕ) (q : S)
     (d : PlaybackStream) (frame channel word : ℕ) : Type 0 where
   pub frame_is : frame ≡ last_laid d
   pub channel_is : channel ≡ last_channel d
@@ -33,7 +33,7 @@ pub record IsKeptCause {S X : Type 0} (view : S → PortView) (shows : S → ℕ
   pub reached : (avail frame : ℕ) → (answer ≡ Err (Xrun (Avail avail frame)))
       ↔ Reaches c load avail frame
   pub late : (frame channel word : ℕ) → answer ≡ Err (Xrun (Late frame channel word))
-      → IsKept view shows q d frame channel word
+      → IsLastPast view shows q d frame channel word
   pub never_lap_end : answer ≡ Err LapEnd → ⊥
 
 -- what a load did after which nothing is committed, and why the call answered so by its position

@@ -16,12 +16,12 @@ pub record ClientView : Type 0 where
   pub ring : List ℤ
 
 -- the frames of a stretch that the card has played, as far as a position shows it: 0 before it starts
-abbrev pub played_at : Stretch → Option ℕ → ℕ
-played_at stretch seen = if stretch.started then unwrap_or seen 0 - stretch.card else 0
+abbrev pub played_of_stretch : Stretch → Option ℕ → ℕ
+played_of_stretch stretch seen = if stretch.started then unwrap_or seen 0 - stretch.card else 0
 
 -- the frames that the card has played since the client's start, as far as the client saw
 abbrev pub hw_of : PlaybackStream → ℕ
-hw_of c = played_at c.stretch c.seen
+hw_of c = played_of_stretch c.stretch c.seen
 
 -- the frames that a write can take: a buffer, less what is written and not played; it may exceed the buffer
 abbrev pub avail_of : PlaybackStream → ℕ
@@ -66,7 +66,7 @@ pub record IsUnderWay (stretch : Stretch) (seen : Option ℕ) (buffer_size : ℕ
   pub started : stretch.started ≡ true
   pub whole : stretch.part ≡ 0
   pub laid_most : stretch.committed ≤ stretch.written
-  pub fits : stretch.written ≤ played_at stretch seen + buffer_size
+  pub fits : stretch.written ≤ played_of_stretch stretch seen + buffer_size
   pub pending : stretch.written ≤ stretch.committed + buffer_size
 
 -- how far a client is that moves frames or is paused

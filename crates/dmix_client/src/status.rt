@@ -4,7 +4,7 @@ ghost use Rattle.pcm_states.specs.declared.calls.Call.TheVariants as call;
 ghost use Rattle.course.specs.AtPort.{TakesAt};
 ghost use Rattle.pcm_stream.specs.Status.{is_moving, refusal_of};
 ghost use Rattle.pcm_stream.specs.declared.direction.Direction.{Direction};
-ghost use Rattle.dmix_client.specs.Asked.{number_of};
+ghost use Rattle.dmix_client.specs.Asked.{asked_number};
 ghost use Rattle.dmix_client.specs.Calls.{avail_answer, delay_answer, sync_count, after_sync, with_number};
 ghost use Rattle.dmix_client.specs.Causes.{Explains};
 ghost use Rattle.dmix_client.specs.Course.{if_admitted, number_course, sync_course, syncs};
@@ -109,7 +109,7 @@ impl Client {
         requires { CanUse self.old.stream (P.view port.old) }
         ensures takes { TakesAt P.MixPort G.Gate (port.old, gate.old)
             (if_admitted self.old.stream call.Sync
-            (number_course (number_of asked) self.old.stream self.old.ring)) (port.new, gate.new)
+            (number_course (asked_number asked) self.old.stream self.old.ring)) (port.new, gate.new)
             (self.new.stream, result) }
         ensures refused { (e : PcmError) →
             refusal_of Direction.Playback self.old.stream.status call.Sync ≡ Some e →
@@ -123,7 +123,7 @@ impl Client {
             Explains P.MixPort G.Gate (port.old, gate.old) (port.new, gate.new) self.old
             (λ position. self.old.stream) (sync_count self.old.stream)
             (λ load commit.
-            with_number (number_of asked) (after_sync self.old.stream call.Sync load commit))
+            with_number (asked_number asked) (after_sync self.old.stream call.Sync load commit))
             (self.new.stream, result) }
     {
         self.stream.status.admit(Direction::Playback, Call::Sync)?;

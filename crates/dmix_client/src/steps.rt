@@ -1,7 +1,7 @@
 //! What a client is after each part of a call, by what the part found.
 ghost use Rattle.std.specs.Prelude.{◌≡◌, ℕ, ◌+◌, ◌*◌, ◌^◌, ◌<◌, ◌≤◌, IfSome, OnOk, length, unwrap_or};
 ghost use Rattle.dmix_client.specs.Calls.{in_state, waiting_stretch, in_draining, has_frames, with_number, configured_with, after_drop, after_hw_free, new_client, with_accepted, accepted_if, written_after, avail_answer, commit_count, committed_by, delay_answer, facts_of, found_at, going_on, is_stop, late_of, over_of, after_pause, pending_of, after_prepare, with_new_base, after_resume, seen_at, segment_of, with_outcome, start_count, start_frame, after_start, started_in, stopped_in, sync_count, after_sync, taken_of, window_end};
-ghost use Rattle.dmix_client.specs.Asked.{number_of};
+ghost use Rattle.dmix_client.specs.Asked.{asked_number};
 ghost use Rattle.mix_core.specs.Port.{OnLate};
 ghost use Rattle.dmix_client.specs.Writes.{count_with};
 ghost use Rattle.dmix_client.specs.View.{IsReady, IsReadyAt, avail_of, hw_of, queued_of};
@@ -547,7 +547,7 @@ impl PlaybackStream {
         requires ready { (self.now.status.state ≡ State.Setup → ⊥) → IsReady self.now }
         requires fits { (self.now.status.state ≡ State.Setup → ⊥) →
             self.now.stretch.card + self.now.stretch.written < 2 ^ 64 }
-        ensures { result ≡ number_of asked self.now }
+        ensures { result ≡ asked_number asked self.now }
     {
         match asked {
             Asked::Avail => self.avail_answer(),
@@ -566,7 +566,7 @@ pub(crate) fn with_number(
         IsReady stream.now) }
     requires fits { OnOk answer ((stream.now.status.state ≡ State.Setup → ⊥) →
         stream.now.stretch.card + stream.now.stretch.written < 2 ^ 64) }
-    ensures { with_number (number_of asked) (stream.now, answer) ≡ (stream.now, result) }
+    ensures { with_number (asked_number asked) (stream.now, answer) ≡ (stream.now, result) }
 {
     match answer {
         Ok(()) => Ok(stream.number(asked)),

@@ -6,7 +6,7 @@ ghost use Rattle.bindings.specs.Bound.{AreBindings};
 ghost use Rattle.course.specs.AtPort.{LaysAt, TakesAt};
 ghost use Rattle.dmix_client.specs.Expansion.{frame_entries, run_entries};
 ghost use Rattle.dmix_client.specs.Port.{IsOnCard, least_channel};
-ghost use Rattle.dmix_client.specs.Rewind.{left_of, take_each, take_frames};
+ghost use Rattle.dmix_client.specs.Rewind.{rewind_left, take_each, take_frames};
 ghost use Rattle.dmix_client.specs.View.{ring_sample};
 
 use crate::commit::{BoundSample, Commit, bound_sample, held_from};
@@ -83,7 +83,7 @@ fn take_frame<P: MixPort, G: Gate>(
 /// What is left of `frames` whole frames and of one more, of which `left` of `channels` channels are left.
 fn left_of(frames: u64, left: u8, channels: u8, ended: Ended) -> Commit
     requires { frames + 1 < 2 ^ 64 }
-    ensures { result ≡ left_of frames left channels ended }
+    ensures { result ≡ rewind_left frames left channels ended }
 {
     if left == channels {
         Commit {

@@ -1,6 +1,6 @@
 -- What is kept of a history.
 use Rattle.std.specs.Prelude.{◌≡◌, ℕ, ◌<◌, ◌≤◌, All, Bool, false, List, [], ◌∷◌, length, Option, None, slice_index_or, slice_set, is_some, IsTrue}
-use Rattle.dshare.specs.Owners.{Row, greatest, last_frames, later, owner_of}
+use Rattle.dshare.specs.Owners.{ClaimRow, greatest, last_frames, later, owner_of}
 
 -- how many channels the card has, and for each whether it is owned, and the greatest last frame of its earlier owners
 pub record Held : Type 0 where
@@ -9,7 +9,7 @@ pub record Held : Type 0 where
   pub last : List (Option ℕ)
 
 -- 1 to 8 channels
-pub record IsHeld (v : Held) : Type 0 where
+pub record IsHeldShare (v : Held) : Type 0 where
   pub some : 1 ≤ v.channels
   pub few : v.channels ≤ 8
   pub owned_size : length v.owned ≡ 8
@@ -20,13 +20,13 @@ abbrev pub is_owned : Held → ℕ → Bool
 is_owned v c = slice_index_or v.owned c false
 
 -- the greatest last frame of a channel's earlier owners
-abbrev pub last_of : Held → ℕ → Option ℕ
-last_of v c = slice_index_or v.last c None
+abbrev pub last_owned_frame : Held → ℕ → Option ℕ
+last_owned_frame v c = slice_index_or v.last c None
 
 -- what is held is what a history says of each channel of the card
-pub record StandsFor (v : Held) (h : List Row) : Type 0 where
+pub record StandsFor (v : Held) (h : List ClaimRow) : Type 0 where
   pub owned : (c : ℕ) → c < v.channels → is_owned v c ≡ is_some (owner_of h c)
-  pub last : (c : ℕ) → c < v.channels → last_of v c ≡ greatest (last_frames h c)
+  pub last : (c : ℕ) → c < v.channels → last_owned_frame v c ≡ greatest (last_frames h c)
 
 -- channels of the card
 abbrev pub AreOfCard : Held → List ℕ → Type 0
@@ -39,7 +39,7 @@ AreOwned v channels = All (λ channel. IsTrue (is_owned v channel)) channels
 -- the greatest last frame of the earlier owners of some channels
 abbrev pub latest_of : Held → List ℕ → Option ℕ
 latest_of v [] = None
-latest_of v (c ∷ channels) = later (last_of v c) (latest_of v channels)
+latest_of v (c ∷ channels) = later (last_owned_frame v c) (latest_of v channels)
 
 -- a list with one value at some places
 abbrev pub with_value_at : {X : Type 0} → X → List X → List ℕ → List X

@@ -1,8 +1,8 @@
 //! Which channels of a card are owned.
 ghost use Rattle.std.specs.Prelude.{◌≡◌, ◌<◌, ◌≤◌, ◌↔◌, [], ◌∷◌, List, IfErr, IsTrue, OnErr, OnOk, is_some};
 ghost use Rattle.std.specs.List.{list_any};
-ghost use Rattle.dshare.specs.Owners.{AreFree, Row, busy, claimed, later, owner_of, released};
-ghost use Rattle.dshare.specs.Shared.{AreOfCard, AreOwned, IsHeld, StandsFor, is_owned, latest_of, with_value_at, with_later_at};
+ghost use Rattle.dshare.specs.Owners.{AreFree, ClaimRow, busy, claimed, later, owner_of, released};
+ghost use Rattle.dshare.specs.Shared.{AreOfCard, AreOwned, IsHeldShare, StandsFor, is_owned, latest_of, with_value_at, with_later_at};
 
 use bindings::Bindings;
 use snd_base::PcmError;
@@ -22,13 +22,13 @@ pub struct Shares {
 }
 
 impl Model for Shares {
-    ghost use Rattle.dshare.specs.Shared.{Held, IsHeld};
+    ghost use Rattle.dshare.specs.Shared.{Held, IsHeldShare};
 
     ghost Value = { Held };
 
     ghost view = { λ s. record { channels = s.channels; owned = s.owned; last = s.last } };
 
-    ghost invariant = { λ s. IsHeld (record {
+    ghost invariant = { λ s. IsHeldShare (record {
       channels = s.channels;
       owned = s.owned;
       last = s.last;
@@ -60,13 +60,13 @@ impl Shares {
     /// None where one is owned, else the greatest last frame plus one; `seen` is the position.
     pub fn claim(&mut self, bindings: &Bindings, position: u64) -> Result<(), PcmError>
         requires { AreOfCard self.old bindings.now }
-        ensures free { OnOk result ((h : List Row) → StandsFor self.old h
+        ensures free { OnOk result ((h : List ClaimRow) → StandsFor self.old h
             → AreFree h position bindings.now) }
-        ensures ok { OnOk result ((h : List Row) → StandsFor self.old h
+        ensures ok { OnOk result ((h : List ClaimRow) → StandsFor self.old h
             → StandsFor self.new (claimed bindings.now ∷ h)) }
-        ensures busy { IfErr result (λ e. (h : List Row) → StandsFor self.old h
+        ensures busy { IfErr result (λ e. (h : List ClaimRow) → StandsFor self.old h
             → e ≡ busy h bindings.now position) }
-        ensures not_free { OnErr result ((h : List Row) → StandsFor self.old h
+        ensures not_free { OnErr result ((h : List ClaimRow) → StandsFor self.old h
             → ¬ AreFree h position bindings.now) }
         ensures err { OnErr result (self.new ≡ self.old) }
         ensures owned { OnOk result (AreOwned self.new bindings.now) }
@@ -107,7 +107,7 @@ impl Shares {
     pub fn release(&mut self, bindings: &Bindings, last: Option<u64>)
         requires card { AreOfCard self.old bindings.now }
         requires owned { AreOwned self.old bindings.now }
-        ensures released { (h : List Row) → StandsFor self.old h
+        ensures released { (h : List ClaimRow) → StandsFor self.old h
             → StandsFor self.new (released bindings.now last ∷ h) }
         ensures channels { self.new.channels ≡ self.old.channels }
     {
@@ -133,7 +133,7 @@ impl Shares {
     pub fn owned(&self, channel: u8) -> bool
         requires { channel < self.now.channels }
         ensures value { result ≡ is_owned self.now channel }
-        ensures owner { (h : List Row) → StandsFor self.now h
+        ensures owner { (h : List ClaimRow) → StandsFor self.now h
             → result ≡ is_some (owner_of h channel) }
     {
         self.owned[channel as usize]
@@ -169,7 +169,7 @@ impl Shares {
         requires { AreOfCard self.old bindings.now }
         ensures marked { self.new
             ≡ record self.old { owned = with_value_at owned self.old.owned bindings.now } }
-        ensures bound { IsHeld self.old }
+        ensures bound { IsHeldShare self.old }
     {
         for client in 0..bindings.len() {
             self.owned[bindings.card_channel(client) as usize] = owned;

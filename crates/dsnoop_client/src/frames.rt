@@ -1,7 +1,7 @@
 //! Captured frames are loaded through a port, and put through the bindings.
 ghost use Rattle.std.specs.Prelude.{◌≡◌, ◌+◌, ◌*◌, ◌^◌, ◌<◌, ◌≤◌, All, length};
 ghost use Rattle.snd_base.specs.Places.{first_frame};
-ghost use Rattle.snoop_core.specs.Port.{Gets, OnGot, frame_of};
+ghost use Rattle.snoop_core.specs.Port.{Gets, OnGot, numbered_frame};
 ghost use Rattle.course.specs.AtSnoopPort.{TakesAtSnoop};
 ghost use Rattle.dsnoop_client.specs.Course.{gets_frames};
 ghost use Rattle.dsnoop_client.specs.Reads.{Fills, bound_samples};
@@ -43,7 +43,7 @@ fn load_through<P: SnoopPort, G: Gate>(
     requires least { first_frame (P.view port.old).geometry ≤ number }
     requires captured { number < (P.view port.old).seen }
     ensures step { Gets P.view P.shows P.loaded P.got P.finds G.stops G.asked port.old gate.old
-        (frame_of number frame.new) result port.new gate.new }
+        (numbered_frame number frame.new) result port.new gate.new }
     ensures part { OnGot result (part.new ≡ bound_samples bindings.now frame.new) }
 {
     match Got::of(port.load_frame(gate, number, frame)) {

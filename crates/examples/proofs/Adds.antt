@@ -11,7 +11,7 @@ use Rattle.mix_core.specs.History.{Row, entry_row}
 use Rattle.mix_core.specs.Laid.{AreAdds}
 use Rattle.mix_core.specs.Turn.{AllContinue, continues}
 use Rattle.dmix_client.specs.Expansion.{frame_entries}
-use Rattle.examples.specs.Mixing.{entries_of}
+use Rattle.examples.specs.Mixing.{member_entries}
 
 AreAdds-append : (es fs : List Entry) → AreAdds es → AreAdds fs → AreAdds (es ++ fs)
 AreAdds-append [] fs one two = two
@@ -29,7 +29,7 @@ AreAdds-frames frame adds [] = tt
 AreAdds-frames frame adds (j ∷ js) = AreAdds-append (frame j) (flat_map frame js) (adds j) (AreAdds-frames frame adds js)
 
 -- the entries of a segment
-pub AreAdds-entries : (g : Geometry) (member : ℕ) (s : Segment) (samples : List ℤ) → AreAdds (entries_of g member s samples)
+pub AreAdds-entries : (g : Geometry) (member : ℕ) (s : Segment) (samples : List ℤ) → AreAdds (member_entries g member s samples)
 AreAdds-entries g member s samples = AreAdds-append _ _
     (AreAdds-frames _ (λ j. AreAdds-frame member (identity g.channels) _ (length (identity g.channels)) _) (range_with_len 0 s.whole))
     (AreAdds-frame member (identity g.channels) _ s.part _)

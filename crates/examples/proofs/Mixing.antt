@@ -20,7 +20,7 @@ use Rattle.dmix_client.specs.Calls.{segment_of}
 use Rattle.dmix_client.specs.Expansion.{expand, sample_at}
 use Rattle.dmix_client.specs.Growth.{Follows, Grows, StandsFor, segment_entries}
 use Rattle.dmix_client.specs.GrowthLaws.{StandsFor-nothing}
-use Rattle.examples.specs.Mixing.{AreSums, HasMixed, IsFresh, entries_of}
+use Rattle.examples.specs.Mixing.{AreSums, HasMixed, IsFresh, member_entries}
 use Rattle.examples.proofs.Adds.{AllContinue-adds, AreAdds-entries}
 
 -- a new core
@@ -66,15 +66,15 @@ HasMixed-sums v g placed taken same mixed =
     }
 
 -- a client that has written nothing has placed nothing
-entries_of-fresh : (g : Geometry) (m : ℕ) (c : PlaybackStream) (samples : List ℤ) → IsFresh c g m → entries_of g m (segment_of c) samples ≡ []
-entries_of-fresh g m c samples fresh =
-    ap (λ (s : Stretch). entries_of g m (record { source = s.source; card = s.card; whole = s.committed; part = s.part }) samples) fresh.stretch
+member_entries-fresh : (g : Geometry) (m : ℕ) (c : PlaybackStream) (samples : List ℤ) → IsFresh c g m → member_entries g m (segment_of c) samples ≡ []
+member_entries-fresh g m c samples fresh =
+    ap (λ (s : Stretch). member_entries g m (record { source = s.source; card = s.card; whole = s.committed; part = s.part }) samples) fresh.stretch
 
 -- a refused offer places nothing
 pub HasMixed-unwritten : (v : View) (g : Geometry) (m : ℕ) (c : PlaybackStream) (samples : List ℤ) (placed : List Entry) (taken : List Taken) → IsFresh c g m
-    → HasMixed v placed taken → HasMixed v (placed ++ entries_of g m (segment_of c) samples) taken
+    → HasMixed v placed taken → HasMixed v (placed ++ member_entries g m (segment_of c) samples) taken
 HasMixed-unwritten v g m c samples placed taken fresh mixed =
-    subst (λ (es : List Entry). HasMixed v es taken) (sym (ap (λ (es : List Entry). placed ++ es) (entries_of-fresh g m c samples fresh) ∙ append-nil placed)) mixed
+    subst (λ (es : List Entry). HasMixed v es taken) (sym (ap (λ (es : List Entry). placed ++ es) (member_entries-fresh g m c samples fresh) ∙ append-nil placed)) mixed
 
 -- its samples are those that it is offered
 Follows-fresh : (g : Geometry) (m : ℕ) (c : PlaybackStream) (samples : List ℤ) (n : ℕ) → IsFresh c g m → Follows c samples samples n
@@ -91,24 +91,24 @@ Grows-fresh t u g m c d ring samples n fresh keeps =
     keeps samples (StandsFor-nothing c ring samples (ap (λ (s : Stretch). s.written) fresh.stretch)) (Follows-fresh g m c samples n fresh)
 
 -- what it placed is its segment
-entries_of-written : (t u : Turn) (g : Geometry) (m : ℕ) (c d : PlaybackStream) (samples : List ℤ) → IsFresh c g m → (grows : Grows TurnLaid t u c d samples)
-    → grows.entries ≡ entries_of g m (segment_of d) samples
-entries_of-written t u g m c d samples fresh grows =
+member_entries-written : (t u : Turn) (g : Geometry) (m : ℕ) (c d : PlaybackStream) (samples : List ℤ) → IsFresh c g m → (grows : Grows TurnLaid t u c d samples)
+    → grows.entries ≡ member_entries g m (segment_of d) samples
+member_entries-written t u g m c d samples fresh grows =
     let before : segment_entries c samples ≡ [] =
     ap (λ (b : List ℕ). expand c.identity.member (segment_of c) samples b) fresh.bindings
-    ∙ ap (λ (k : ℕ). entries_of g k (segment_of c) samples) fresh.member_is
-    ∙ entries_of-fresh g m c samples fresh in
-    let after : segment_entries d samples ≡ entries_of g m (segment_of d) samples =
+    ∙ ap (λ (k : ℕ). member_entries g k (segment_of c) samples) fresh.member_is
+    ∙ member_entries-fresh g m c samples fresh in
+    let after : segment_entries d samples ≡ member_entries g m (segment_of d) samples =
     ap (λ (b : List ℕ). expand d.identity.member (segment_of d) samples b) (grows.same_bindings ∙ fresh.bindings)
-    ∙ ap (λ (k : ℕ). entries_of g k (segment_of d) samples) (grows.same_member ∙ fresh.member_is) in
+    ∙ ap (λ (k : ℕ). member_entries g k (segment_of d) samples) (grows.same_member ∙ fresh.member_is) in
     ap (λ (es : List Entry). es ++ grows.entries) (sym before) ∙ sym grows.grown ∙ after
 
 -- the core has it at its end
 pub HasMixed-written : (t u : Turn) (g : Geometry) (m : ℕ) (c d : PlaybackStream) (samples : List ℤ) (placed : List Entry) (taken : List Taken) → IsFresh c g m
-    → Grows TurnLaid t u c d samples → HasMixed (core_of t) placed taken → HasMixed (core_of u) (placed ++ entries_of g m (segment_of d) samples) taken
+    → Grows TurnLaid t u c d samples → HasMixed (core_of t) placed taken → HasMixed (core_of u) (placed ++ member_entries g m (segment_of d) samples) taken
 HasMixed-written t u g m c d samples placed taken fresh grows mixed =
-    let laid : TurnLaid t u (entries_of g m (segment_of d) samples) = subst (TurnLaid t u) (entries_of-written t u g m c d samples fresh grows) grows.laid_them in
-    HasMixed-placed (core_of t) (core_of u) placed (entries_of g m (segment_of d) samples) taken
+    let laid : TurnLaid t u (member_entries g m (segment_of d) samples) = subst (TurnLaid t u) (member_entries-written t u g m c d samples fresh grows) grows.laid_them in
+    HasMixed-placed (core_of t) (core_of u) placed (member_entries g m (segment_of d) samples) taken
     (λ h stands. laid.stands h stands (AllContinue-adds (core_of t).geometry (length (core_of t).marks) h _ (AreAdds-entries g m (segment_of d) samples)))
     mixed
 
@@ -125,16 +125,16 @@ AreSums-two v w x y g members es fs taken new same_w same_x same_y one two play 
 -- the same by the segments of two clients
 pub AreSums-segments : (v w x y : View) (g : Geometry) (members : ℕ) (s t one two : Segment) (first second : List ℤ) (taken : List Taken) → IsNew v g members
     → w.geometry ≡ v.geometry → x.geometry ≡ w.geometry → y.geometry ≡ x.geometry
-    → ((placed : List Entry) → HasMixed v placed [] → HasMixed w (placed ++ entries_of v.geometry 0 s first) [])
-    → ((placed : List Entry) → HasMixed w placed [] → HasMixed x (placed ++ entries_of w.geometry 1 t second) [])
+    → ((placed : List Entry) → HasMixed v placed [] → HasMixed w (placed ++ member_entries v.geometry 0 s first) [])
+    → ((placed : List Entry) → HasMixed w placed [] → HasMixed x (placed ++ member_entries w.geometry 1 t second) [])
     → ((placed : List Entry) → HasMixed x placed [] → HasMixed y placed taken)
     → one ≡ s → two ≡ t
-    → AreSums g (entries_of g 0 one first ++ entries_of g 1 two second) taken
+    → AreSums g (member_entries g 0 one first ++ member_entries g 1 two second) taken
 AreSums-segments v w x y g members s t one two first second taken new same_w same_x same_y left right play is_one is_two =
-    let es : entries_of v.geometry 0 s first ≡ entries_of g 0 one first =
-    ap (λ (k : Geometry). entries_of k 0 s first) new.geometry ∙ ap (λ (a : Segment). entries_of g 0 a first) (sym is_one) in
-    let fs : entries_of w.geometry 1 t second ≡ entries_of g 1 two second =
-    ap (λ (k : Geometry). entries_of k 1 t second) (same_w ∙ new.geometry) ∙ ap (λ (a : Segment). entries_of g 1 a second) (sym is_two) in
-    subst (λ (xs : List Entry). AreSums g (entries_of g 0 one first ++ xs) taken) fs
-    (subst (λ (xs : List Entry). AreSums g (xs ++ entries_of w.geometry 1 t second) taken) es
+    let es : member_entries v.geometry 0 s first ≡ member_entries g 0 one first =
+    ap (λ (k : Geometry). member_entries k 0 s first) new.geometry ∙ ap (λ (a : Segment). member_entries g 0 a first) (sym is_one) in
+    let fs : member_entries w.geometry 1 t second ≡ member_entries g 1 two second =
+    ap (λ (k : Geometry). member_entries k 1 t second) (same_w ∙ new.geometry) ∙ ap (λ (a : Segment). member_entries g 1 a second) (sym is_two) in
+    subst (λ (xs : List Entry). AreSums g (member_entries g 0 one first ++ xs) taken) fs
+    (subst (λ (xs : List Entry). AreSums g (xs ++ member_entries w.geometry 1 t second) taken) es
     (AreSums-two v w x y g members _ _ taken new same_w same_x same_y left right play))

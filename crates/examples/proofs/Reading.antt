@@ -7,7 +7,7 @@ use Rattle.wav_io.specs.declared.error.WavError.TheVariants.{NotRiff, NotWave, N
 use Rattle.wav_io.specs.Reading.{IsRefusal, Reads, wav_file}
 use Rattle.wav_io.specs.Readers.{Reader, sound_to_come, with_samples}
 use Rattle.wav_io.specs.Sound.{Sound}
-use Rattle.examples.specs.Pieces.{bytes_of}
+use Rattle.examples.specs.Pieces.{bytes_of_pieces}
 
 with_samples-nil : (r : Result Sound WavError) → with_samples [] r ≡ r
 with_samples-nil (Ok s) = refl
@@ -21,11 +21,11 @@ begins r items bytes file none = ap (λ (zs : List ℤ). with_samples zs (sound_
 -- with the next piece
 pub goes_on : (r s : Reader) (items after : List ℤ) (pieces more : List (Bor (List ℕ))) (piece : Bor (List ℕ)) (file : Result Sound WavError)
     → pieces ≡ piece ∷ more
-    → with_samples items (sound_to_come r (bytes_of pieces)) ≡ file
+    → with_samples items (sound_to_come r (bytes_of_pieces pieces)) ≡ file
     → ((bytes : List ℕ) → with_samples items (sound_to_come r (piece.now ++ bytes)) ≡ with_samples after (sound_to_come s bytes))
-    → with_samples after (sound_to_come s (bytes_of more)) ≡ file
+    → with_samples after (sound_to_come s (bytes_of_pieces more)) ≡ file
 goes_on r s items after pieces more piece file next same step =
-    sym (step (bytes_of more)) ∙ ap (λ (ps : List (Bor (List ℕ))). with_samples items (sound_to_come r (bytes_of ps))) (sym next) ∙ same
+    sym (step (bytes_of_pieces more)) ∙ ap (λ (ps : List (Bor (List ℕ))). with_samples items (sound_to_come r (bytes_of_pieces ps))) (sym next) ∙ same
 
 -- where a piece is refused, so is the file
 pub refused : (s : Reader) (after : List ℤ) (more : List ℕ) (e : WavError) (file : Result Sound WavError)
@@ -63,18 +63,18 @@ Reads-refused (Err x) e file is h = refusal_from x file (λ other. h (λ same. o
 -- the next piece is refused
 pub refused_next : (r s : Reader) (items after : List ℤ) (pieces more : List (Bor (List ℕ))) (piece : Bor (List ℕ)) (file : Result Sound WavError) (e : WavError)
     → pieces ≡ piece ∷ more
-    → with_samples items (sound_to_come r (bytes_of pieces)) ≡ file
+    → with_samples items (sound_to_come r (bytes_of_pieces pieces)) ≡ file
     → ((bytes : List ℕ) → with_samples items (sound_to_come r (piece.now ++ bytes)) ≡ with_samples after (sound_to_come s bytes))
     → ((bytes : List ℕ) → sound_to_come s bytes ≡ Err e)
     → file ≡ Err e
 refused_next r s items after pieces more piece file e next same step err =
-    refused s after (bytes_of more) e file (goes_on r s items after pieces more piece file next same step) (err (bytes_of more))
+    refused s after (bytes_of_pieces more) e file (goes_on r s items after pieces more piece file next same step) (err (bytes_of_pieces more))
 
 -- no piece is left
 pub ends_whole : (s : Reader) (after : List ℤ) (pieces : List (Bor (List ℕ))) (channels rate : ℕ) (file : Result Sound WavError)
     → pieces ≡ []
-    → with_samples after (sound_to_come s (bytes_of pieces)) ≡ file
+    → with_samples after (sound_to_come s (bytes_of_pieces pieces)) ≡ file
     → sound_to_come s [] ≡ Ok (record { channels = channels; rate = rate; samples = [] })
     → file ≡ Ok (record { channels = channels; rate = rate; samples = after })
 ends_whole s after pieces channels rate file none same is =
-    ends s after channels rate file (ap (λ (ps : List (Bor (List ℕ))). with_samples after (sound_to_come s (bytes_of ps))) (sym none) ∙ same) is
+    ends s after channels rate file (ap (λ (ps : List (Bor (List ℕ))). with_samples after (sound_to_come s (bytes_of_pieces ps))) (sym none) ∙ same) is

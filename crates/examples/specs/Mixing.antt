@@ -14,8 +14,8 @@ use Rattle.dmix_client.specs.Calls.{waiting_stretch}
 use Rattle.dmix_client.specs.Expansion.{expand}
 
 -- what a member placed, by its segment and its samples: each of its channels is in the card's of the same number
-abbrev pub entries_of : Geometry → ℕ → Segment → List ℤ → List Entry
-entries_of g member segment samples = expand member segment samples (identity g.channels)
+abbrev pub member_entries : Geometry → ℕ → Segment → List ℤ → List Entry
+member_entries g member segment samples = expand member segment samples (identity g.channels)
 
 -- a core represents a history in which these entries were placed, and these words taken
 pub record HasMixed (core : View) (placed : List Entry) (taken : List Taken) : Type 0 where

@@ -2,7 +2,7 @@
 ghost use Rattle.std.specs.Prelude.{◌≡◌, ◌*◌, ◌<◌, ◌++◌, List, [], IfOk, OnOk, length};
 ghost use Rattle.mix_core.specs.declared.port.Entry.{Entry};
 ghost use Rattle.dmix_client.specs.Calls.{segment_of};
-ghost use Rattle.examples.specs.Mixing.{AreSums, HasMixed, IsFresh, entries_of};
+ghost use Rattle.examples.specs.Mixing.{AreSums, HasMixed, IsFresh, member_entries};
 
 use bindings::Bindings;
 use dmix_client::Client;
@@ -37,8 +37,8 @@ pub fn mix_two(
     frames: u32,
 ) -> Result<Mixed, PcmError>
     ensures sums { IfOk result (λ mixed. AreSums geometry
-        (entries_of geometry 0 mixed.first first.now
-        ++ entries_of geometry 1 mixed.second second.now)
+        (member_entries geometry 0 mixed.first first.now
+        ++ member_entries geometry 1 mixed.second second.now)
         mixed.taken.items) }
     ensures count { IfOk result (λ mixed. length mixed.taken.items ≡ frames * geometry.channels) }
 {
@@ -78,7 +78,7 @@ fn write(
     requires member { member < length core.old.marks }
     requires fresh { IsFresh client.old.stream core.old.geometry member }
     ensures mixed { (placed : List Entry) → HasMixed core.old placed [] →
-        HasMixed core.new (placed ++ entries_of core.old.geometry member
+        HasMixed core.new (placed ++ member_entries core.old.geometry member
         (segment_of client.new.stream) samples.now) [] }
     ensures geometry { core.new.geometry ≡ core.old.geometry }
     ensures members { length core.new.marks ≡ length core.old.marks }

@@ -1,6 +1,6 @@
 //! A WAV file that comes in pieces.
 ghost use Rattle.wav_io.specs.Reading.{Reads, wav_file};
-ghost use Rattle.examples.specs.Pieces.{bytes_of};
+ghost use Rattle.examples.specs.Pieces.{bytes_of_pieces};
 
 use std::alloc::Global;
 use wav_io::{Samples, Wav, WavError, WavReader};
@@ -11,7 +11,7 @@ use wav_io::{Samples, Wav, WavError, WavReader};
 /// `Memory` is answered where there is no room for the samples. Unlike `read_wav` this function doesn't say that a file which is
 /// refused is never answered with `Memory`: a piece after those that were read may be the one that shows the refusal.
 pub fn read_pieces(alloc: Global, pieces: &[&[u8]]) -> Result<Wav, WavError>
-    ensures exact { Reads result (wav_file (bytes_of pieces.now)) }
+    ensures exact { Reads result (wav_file (bytes_of_pieces pieces.now)) }
 {
     let mut reader = WavReader::new();
     let mut samples = Vec::new(alloc);

@@ -3,7 +3,7 @@ use Rattle.std.specs.Prelude.{◌≡◌, ◌≢◌, ℕ}
 use Rattle.std.proofs.Common.{subst, sym, ap, ◌∙◌}
 use Rattle.pcm_interval.specs.declared.interval.Interval.{Interval}
 use Rattle.pcm_interval.specs.Intervals.{IsEmpty, IsNonEmpty, IsMember, refinement}
-use Rattle.pcm_interval.specs.IntervalLaws.{IsNonEmpty-IsWithin, IsNonEmpty-IsMember}
+use Rattle.pcm_interval.specs.IntervalLaws.{IsNonEmpty-IsIntervalWithin, IsNonEmpty-IsMember}
 use Rattle.pcm_interval.specs.declared.mask.Mask.{Mask}
 use Rattle.pcm_interval.specs.Masks.{common_mask}
 use Rattle.pcm_interval.specs.MaskLaws.{IsMaskWithin-bits, HasNumber-bits, common_mask-IsMaskWithin_left}
@@ -21,7 +21,7 @@ use Rattle.hw_space.proofs.StepLaws.{with_part-IsProper, with_formats-IsProper}
 with_part-IsVoid : (b : ParamBox) (q : Quantity) (i : Interval) → IsEmpty i → IsVoid (with_part b q i)
 with_part-IsVoid b q i empty = record {
   settled = λ s settled within.
-      let filled : IsNonEmpty i = IsNonEmpty-IsWithin (part s q) i (IsBoxWithin-part s b q i within) (settled.parts q) in absurd (cc);
+      let filled : IsNonEmpty i = IsNonEmpty-IsIntervalWithin (part s q) i (IsBoxWithin-part s b q i within) (settled.parts q) in absurd (cc);
   configurations = λ x exact held.
       let P : Interval → Type 0 = λ j. IsMember j (x.value q).over (x.value q).under in
       let member : IsMember i (x.value q).over (x.value q).under = subst P (part-with_part b q i) (held.parts q) in

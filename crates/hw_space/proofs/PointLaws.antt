@@ -9,8 +9,8 @@ use Rattle.std.proofs.lemmas.Nat.Bits.{bit_at-trailing_zeros}
 use Rattle.pcm_interval.specs.declared.interval.Interval.{Interval}
 use Rattle.pcm_interval.specs.declared.empty.Empty.{Empty}
 use Rattle.pcm_interval.specs.declared.mask.Mask.{Mask}
-use Rattle.pcm_interval.specs.Intervals.{IsNonEmpty, IsNormal, IsWithin, refinement}
-use Rattle.pcm_interval.specs.IntervalLaws.{IsWithin-refl, IsWithin-trans, IsWithin-min, IsWithin-max, IsNonEmpty-le, refined-IsWithin_left, refined-IsWithin_right}
+use Rattle.pcm_interval.specs.Intervals.{IsNonEmpty, IsNormal, IsIntervalWithin, refinement}
+use Rattle.pcm_interval.specs.IntervalLaws.{IsIntervalWithin-refl, IsIntervalWithin-trans, IsIntervalWithin-min, IsIntervalWithin-max, IsNonEmpty-le, refined-IsWithin_left, refined-IsWithin_right}
 use Rattle.pcm_interval.specs.Masks.{common_mask}
 use Rattle.pcm_interval.specs.MaskLaws.{common_mask-IsMaskWithin_left, IsMaskWithin-refl}
 use Rattle.hw_space.specs.declared.choice.Choice.{Choice}
@@ -75,11 +75,11 @@ interval_equal i n low high openmin openmax integer = λ k. record {
 }
 
 -- an interval of normal form within one number is that point
-IsPoint-within : (i j : Interval) (n : ℕ) → IsNonEmpty i → IsNormal i → IsWithin i j → j.min ≡ n → j.max ≡ n → i ≡ whole_from_to n n
+IsPoint-within : (i j : Interval) (n : ℕ) → IsNonEmpty i → IsNormal i → IsIntervalWithin i j → j.min ≡ n → j.max ≡ n → i ≡ whole_from_to n n
 IsPoint-within i j n filled normal within low high =
     let order : i.min ≤ i.max = IsNonEmpty-le i filled in
-    let least : n ≤ i.min = omega (arith, low, IsWithin-min i j within) in
-    let most : i.max ≤ n = omega (arith, high, IsWithin-max i j within) in
+    let least : n ≤ i.min = omega (arith, low, IsIntervalWithin-min i j within) in
+    let most : i.max ≤ n = omega (arith, high, IsIntervalWithin-max i j within) in
     let min_is : i.min ≡ n = omega arith in
     let max_is : i.max ≡ n = omega arith in
     let whole : IsTrue i.integer = normal.point (omega arith) in
@@ -100,13 +100,13 @@ module _ (b d : ParamBox) (q : Quantity) (i : Interval) (left : IsLeft (with_ref
       IsBoxWithin-trans d (with_refined b q i) b left.greatest.within
       (with_part-IsBoxWithin b q (refinement (part b q) i) (refined-IsWithin_left (part b q) i))
 
-  narrowed-part : IsWithin (part d q) i
+  narrowed-part : IsIntervalWithin (part d q) i
   narrowed-part =
-      IsWithin-trans (part d q) (refinement (part b q) i) i
+      IsIntervalWithin-trans (part d q) (refinement (part b q) i) i
       (IsBoxWithin-part d b q (refinement (part b q) i) left.greatest.within) (refined-IsWithin_right (part b q) i)
 
 -- a settled box has a point where it lies within a number
-pub point-IsSettled : (d : ParamBox) (q : Quantity) (j : Interval) (n : ℕ) → IsSettled d → IsWithin (part d q) j → j.min ≡ n → j.max ≡ n
+pub point-IsSettled : (d : ParamBox) (q : Quantity) (j : Interval) (n : ℕ) → IsSettled d → IsIntervalWithin (part d q) j → j.min ≡ n → j.max ≡ n
     → part d q ≡ whole_from_to n n
 point-IsSettled d q j n settled within low high =
     IsPoint-within (part d q) j n (settled.parts q) (IsSettled-IsNormal d settled q) within low high
@@ -157,18 +157,18 @@ IsMoved-narrowed b d q i left = record {
 }
 
 -- the intervals stay where the access changes
-parts-access : (b : ParamBox) (n : ℕ) (q : Quantity) → IsWithin (part (with_access b n) q) (part b q)
-parts-access b n SampleBits = IsWithin-refl (part b SampleBits)
-parts-access b n FrameBits = IsWithin-refl (part b FrameBits)
-parts-access b n Channels = IsWithin-refl (part b Channels)
-parts-access b n Rate = IsWithin-refl (part b Rate)
-parts-access b n PeriodTime = IsWithin-refl (part b PeriodTime)
-parts-access b n PeriodSize = IsWithin-refl (part b PeriodSize)
-parts-access b n PeriodBytes = IsWithin-refl (part b PeriodBytes)
-parts-access b n Periods = IsWithin-refl (part b Periods)
-parts-access b n BufferTime = IsWithin-refl (part b BufferTime)
-parts-access b n BufferSize = IsWithin-refl (part b BufferSize)
-parts-access b n BufferBytes = IsWithin-refl (part b BufferBytes)
+parts-access : (b : ParamBox) (n : ℕ) (q : Quantity) → IsIntervalWithin (part (with_access b n) q) (part b q)
+parts-access b n SampleBits = IsIntervalWithin-refl (part b SampleBits)
+parts-access b n FrameBits = IsIntervalWithin-refl (part b FrameBits)
+parts-access b n Channels = IsIntervalWithin-refl (part b Channels)
+parts-access b n Rate = IsIntervalWithin-refl (part b Rate)
+parts-access b n PeriodTime = IsIntervalWithin-refl (part b PeriodTime)
+parts-access b n PeriodSize = IsIntervalWithin-refl (part b PeriodSize)
+parts-access b n PeriodBytes = IsIntervalWithin-refl (part b PeriodBytes)
+parts-access b n Periods = IsIntervalWithin-refl (part b Periods)
+parts-access b n BufferTime = IsIntervalWithin-refl (part b BufferTime)
+parts-access b n BufferSize = IsIntervalWithin-refl (part b BufferSize)
+parts-access b n BufferBytes = IsIntervalWithin-refl (part b BufferBytes)
 
 with_access-IsBoxWithin : (b : ParamBox) (n : ℕ) → IsBoxWithin (with_access b n) b
 with_access-IsBoxWithin b n = record {

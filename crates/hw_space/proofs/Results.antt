@@ -2,13 +2,13 @@
 use Rattle.std.specs.Prelude.{◌≡◌, Result, Ok, Err, OnErr}
 use Rattle.pcm_interval.specs.declared.empty.Empty.{Empty}
 use Rattle.hw_space.specs.declared.param_box.ParamBox.{ParamBox}
-use Rattle.hw_space.specs.Settled.{IsVoid, Leaves, left_of}
+use Rattle.hw_space.specs.Settled.{IsVoid, Leaves, space_left}
 
 pub OnErr-always : {T E P : Type 0} (r : Result T E) → P → OnErr r P
 OnErr-always (Ok x) p = tt
 OnErr-always (Err e) p = p
 
 -- where a call answers that nothing is left, nothing was
-pub Leaves-err : {T : Type 0} (b x : ParamBox) (r : Result T Empty) (y : Empty) → r ≡ Err y → IsVoid b → Leaves b (left_of r x)
+pub Leaves-err : {T : Type 0} (b x : ParamBox) (r : Result T Empty) (y : Empty) → r ≡ Err y → IsVoid b → Leaves b (space_left r x)
 Leaves-err b x (Ok v) y e void = absurd (cc)
 Leaves-err b x (Err v) y e void = void

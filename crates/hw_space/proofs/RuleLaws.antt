@@ -7,7 +7,7 @@ use Rattle.std.proofs.lemmas.List.Sums.{AllPass-from_list_all}
 use Rattle.pcm_interval.specs.declared.interval.Interval.{Interval}
 use Rattle.pcm_interval.specs.declared.mask.Mask.{Mask}
 use Rattle.pcm_interval.specs.Intervals.{IsEmpty, IsNonEmpty, refinement}
-use Rattle.pcm_interval.specs.IntervalLaws.{IsWithin-trans, IsWithin-from_same}
+use Rattle.pcm_interval.specs.IntervalLaws.{IsIntervalWithin-trans, IsIntervalWithin-from_same}
 use Rattle.pcm_interval.specs.Masks.{IsMaskWithin, HasNumber, common_mask}
 use Rattle.pcm_interval.specs.MaskLaws.{IsMaskWithin-trans, IsMaskWithin-from_same}
 use Rattle.hw_space.specs.declared.param_box.ParamBox.{ParamBox}
@@ -17,10 +17,10 @@ use Rattle.hw_space.specs.declared.rule.Operation.TheVariants.{Mul, Div, MulDivK
 use Rattle.hw_space.specs.declared.rule.Rule.{Rule}
 use Rattle.hw_space.specs.Boxes.{part, IsBoxWithin}
 use Rattle.hw_space.specs.Formats.{bits_of_formats, formats_of_bits}
-use Rattle.hw_space.specs.FormatLaws.{bits_of_formats-IsWithin, bits_of_formats-IsMember, formats_of_bits-IsMaskWithin, formats_of_bits-HasNumber}
+use Rattle.hw_space.specs.FormatLaws.{bits_of_formats-IsIntervalWithin, bits_of_formats-IsMember, formats_of_bits-IsMaskWithin, formats_of_bits-HasNumber}
 use Rattle.hw_space.specs.Rules.{rules, no_rule, IsListed, HasScale}
-use Rattle.hw_space.specs.Settled.{IsSettled, Configuration, IsExact, IsHeld, IsResult, Keeps, result_of_rule, IsVoid}
-use Rattle.hw_space.specs.SettledLaws.{computed-IsWithin}
+use Rattle.hw_space.specs.Settled.{IsSettled, Configuration, IsExact, LiesInBox, IsResult, KeepsBox, result_of_rule, IsVoid}
+use Rattle.hw_space.specs.SettledLaws.{computed-IsIntervalWithin}
 use Rattle.hw_space.specs.ConfigurationLaws.{computed-IsMember}
 use Rattle.hw_space.specs.Proper.{IsProper}
 use Rattle.hw_space.specs.Narrowings.{with_refined}
@@ -48,8 +48,8 @@ IsListed-HasScale r listed =
     subst (λ (q : Rule). HasScale q.operation) listed.found (HasScale-from_test (slice_index_or rules listed.place no_rule).operation scaled)
 
 -- a settled box is kept by each rule of the table
-pub IsListed-Keeps : (s : ParamBox) (r : Rule) → IsSettled s → IsListed r → Keeps s r
-IsListed-Keeps s r settled listed = subst (Keeps s) listed.found (settled.by_rules listed.place no_rule listed.below)
+pub IsListed-KeepsBox : (s : ParamBox) (r : Rule) → IsSettled s → IsListed r → KeepsBox s r
+IsListed-KeepsBox s r settled listed = subst (KeepsBox s) listed.found (settled.by_rules listed.place no_rule listed.below)
 
 -- a configuration meets each rule of the table
 pub IsListed-IsResult : (x : Configuration) (r : Rule) → IsExact x → IsListed r
@@ -63,10 +63,10 @@ IsListed-IsResult x r exact listed =
 pub computed-IsMissedByNone : (b : ParamBox) (r : Rule) → IsProper b → IsListed r → IsMissedByNone b r.target (result_of_rule r b)
 computed-IsMissedByNone b r proper listed = record {
   settled = λ s settled within.
-      let same = IsListed-Keeps s r settled listed in
-      IsWithin-trans (part s r.target) (result_of_rule r s) (result_of_rule r b)
-      (IsWithin-from_same (part s r.target) (result_of_rule r s) same)
-      (computed-IsWithin s b settled within proper r (IsListed-HasScale r listed) same);
+      let same = IsListed-KeepsBox s r settled listed in
+      IsIntervalWithin-trans (part s r.target) (result_of_rule r s) (result_of_rule r b)
+      (IsIntervalWithin-from_same (part s r.target) (result_of_rule r s) same)
+      (computed-IsIntervalWithin s b settled within proper r (IsListed-HasScale r listed) same);
   configurations = λ x exact held.
       computed-IsMember b r x proper (IsListed-HasScale r listed) held (IsListed-IsResult x r exact listed);
 }
@@ -74,9 +74,9 @@ computed-IsMissedByNone b r proper listed = record {
 pub bits_of_formats-IsMissedByNone : (b : ParamBox) → IsMissedByNone b SampleBits (bits_of_formats b.format)
 bits_of_formats-IsMissedByNone b = record {
   settled = λ s settled within.
-      IsWithin-trans s.sample_bits (bits_of_formats s.format) (bits_of_formats b.format)
-      (IsWithin-from_same s.sample_bits (bits_of_formats s.format) settled.by_formats)
-      (bits_of_formats-IsWithin s.format b.format within.format);
+      IsIntervalWithin-trans s.sample_bits (bits_of_formats s.format) (bits_of_formats b.format)
+      (IsIntervalWithin-from_same s.sample_bits (bits_of_formats s.format) settled.by_formats)
+      (bits_of_formats-IsIntervalWithin s.format b.format within.format);
   configurations = λ x exact held.
       bits_of_formats-IsMember b.format x.format (x.value SampleBits).over (x.value SampleBits).under
       held.format exact.format (held.parts SampleBits).positive exact.sample_bits;
@@ -89,7 +89,7 @@ IsMaskWithin-formats_of_bits b s settled within =
     (IsMaskWithin-from_same s.format (formats_of_bits s.sample_bits) settled.by_sample_bits)
     (formats_of_bits-IsMaskWithin s.sample_bits b.sample_bits (within.parts SampleBits))
 
-pub HasNumber-formats_of_bits : (b : ParamBox) (x : Configuration) → IsExact x → IsHeld b x → HasNumber (formats_of_bits b.sample_bits) x.format
+pub HasNumber-formats_of_bits : (b : ParamBox) (x : Configuration) → IsExact x → LiesInBox b x → HasNumber (formats_of_bits b.sample_bits) x.format
 HasNumber-formats_of_bits b x exact held =
     formats_of_bits-HasNumber b.sample_bits x.format (x.value SampleBits).over (x.value SampleBits).under
     (held.parts SampleBits) exact.format exact.sample_bits
@@ -118,12 +118,12 @@ apply-IsVoid b r x proper listed equal empty = IsVoid-part b r.target x (missed_
 
 -- what keeps a box up to a place, and at it, keeps it up to the next
 pub kept_more : (a b : ParamBox) (rs : List Rule) (i : ℕ) (x : Rule) → i < length rs → b ≡ a
-    → ((k : ℕ) (d : Rule) → k < i → Keeps a (slice_index_or rs k d)) → Keeps b (slice_index_or rs i x)
-    → (k : ℕ) (d : Rule) → k < i + 1 → Keeps a (slice_index_or rs k d)
+    → ((k : ℕ) (d : Rule) → k < i → KeepsBox a (slice_index_or rs k d)) → KeepsBox b (slice_index_or rs i x)
+    → (k : ℕ) (d : Rule) → k < i + 1 → KeepsBox a (slice_index_or rs k d)
 kept_more a b rs i x inside same so_far here k d below =
-    let at_d : Keeps b (slice_index_or rs i d) = subst (Keeps b) (get_or_default rs i x d inside) here in
-    let at_a : Keeps a (slice_index_or rs i d) = subst (λ (v : ParamBox). Keeps v (slice_index_or rs i d)) same at_d in
-    below_more (λ j. Keeps a (slice_index_or rs j d)) i (λ j h. so_far j d h) at_a k below
+    let at_d : KeepsBox b (slice_index_or rs i d) = subst (KeepsBox b) (get_or_default rs i x d inside) here in
+    let at_a : KeepsBox a (slice_index_or rs i d) = subst (λ (v : ParamBox). KeepsBox v (slice_index_or rs i d)) same at_d in
+    below_more (λ j. KeepsBox a (slice_index_or rs j d)) i (λ j h. so_far j d h) at_a k below
 
 -- ---- formats and sample bits
 
@@ -184,7 +184,7 @@ pass-IsBoxStep a b c d e f p q r s t one two three four five =
 -- where it changes nothing, the box was settled
 pub pass-IsSettled : (a b c d e : ParamBox) (p q r s t : Bool)
     → IsProper a → IsBoxStep a b p → IsBoxStep b c q → IsBoxStep c d r → IsBoxStep d e s
-    → (r ≡ false → All (Keeps c) rules)
+    → (r ≡ false → All (KeepsBox c) rules)
     → (s ≡ false → refinement d.sample_bits (bits_of_formats d.format) ≡ d.sample_bits)
     → (t ≡ false → common_mask e.format (formats_of_bits e.sample_bits) ≡ e.format)
     → ((((p || q) || r) || s) || t) ≡ false → IsSettled a
@@ -200,7 +200,7 @@ pass-IsSettled a b c d e p q r s t proper one two three four by_rules by_formats
       access = proper.access;
       format = proper.format;
       parts = proper.filled;
-      by_rules = subst (λ (x : ParamBox). All (Keeps x) rules) c_is (by_rules third.1);
+      by_rules = subst (λ (x : ParamBox). All (KeepsBox x) rules) c_is (by_rules third.1);
       by_formats = subst (λ (x : ParamBox). refinement x.sample_bits (bits_of_formats x.format) ≡ x.sample_bits) d_is (by_formats fourth.1);
       by_sample_bits = subst (λ (x : ParamBox). common_mask x.format (formats_of_bits x.sample_bits) ≡ x.format) e_is (by_sample_bits last.1);
     }

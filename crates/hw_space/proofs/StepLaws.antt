@@ -3,8 +3,8 @@ use Rattle.std.specs.Prelude.{◌≡◌, ◌≢◌, ◌<◌, Bool, true, false, 
 use Rattle.std.proofs.Common.{arith, sym, subst, ap, ◌∙◌}
 use Rattle.pcm_interval.specs.declared.interval.Interval.{Interval}
 use Rattle.pcm_interval.specs.declared.mask.Mask.{Mask}
-use Rattle.pcm_interval.specs.Intervals.{IsEmpty, IsNonEmpty, IsWithin, IsMember, refinement}
-use Rattle.pcm_interval.specs.IntervalLaws.{IsWithin-refl, IsWithin-min, IsWithin-max, IsNonEmpty-IsWithin, refined-IsWithin_left, refined-greatest, refined-IsMember, IsNonEmpty-IsMember, size_of-refined}
+use Rattle.pcm_interval.specs.Intervals.{IsEmpty, IsNonEmpty, IsIntervalWithin, IsMember, refinement}
+use Rattle.pcm_interval.specs.IntervalLaws.{IsIntervalWithin-refl, IsIntervalWithin-min, IsIntervalWithin-max, IsNonEmpty-IsIntervalWithin, refined-IsWithin_left, refined-greatest, refined-IsMember, IsNonEmpty-IsMember, size_of-refined}
 use Rattle.pcm_interval.specs.Masks.{IsMaskWithin, HasNumber, common_mask}
 use Rattle.pcm_interval.specs.MaskLaws.{IsMaskWithin-refl, IsMaskWithin-bits, HasNumber-bits, common_mask-IsMaskWithin_left, common_mask-greatest, common_mask-HasNumber, bits-common_mask}
 use Rattle.hw_space.specs.declared.param_box.ParamBox.{ParamBox}
@@ -12,7 +12,7 @@ use Rattle.hw_space.specs.declared.quantity.Quantity.{Quantity}
 use Rattle.hw_space.specs.declared.quantity.Quantity.TheVariants.{SampleBits, FrameBits, Channels, Rate, PeriodTime, PeriodSize, PeriodBytes, Periods, BufferTime, BufferSize, BufferBytes}
 use Rattle.hw_space.specs.Boxes.{part, with_part, IsBoxWithin, size_of_box}
 use Rattle.hw_space.specs.BoxLaws.{with_part-each, access-with_part, format-with_part, with_part-same, size_of_box-with_part, IsBoxWithin-refl, IsBoxWithin-trans, IsBoxWithin-with_part, with_part-IsBoxWithin}
-use Rattle.hw_space.specs.Settled.{IsSettled, Configuration, IsExact, IsHeld, IsVoid}
+use Rattle.hw_space.specs.Settled.{IsSettled, Configuration, IsExact, LiesInBox, IsVoid}
 use Rattle.hw_space.specs.SettledLaws.{IsSettled-IsNormal}
 use Rattle.hw_space.specs.Proper.{IsProper}
 use Rattle.hw_space.specs.Steps.{IsBoxStep}
@@ -64,14 +64,14 @@ IsProper-within a b proper within access format filled = record {
   access = access;
   format = format;
   filled = filled;
-  positive = λ q. omega (arith, proper.positive q, IsWithin-min (part a q) (part b q) (within.parts q));
-  capped = λ q. omega (arith, proper.capped q, IsWithin-max (part a q) (part b q) (within.parts q));
-  channels = omega (arith, proper.channels, IsWithin-max a.channels b.channels (within.parts Channels));
-  slowest = omega (arith, proper.slowest, IsWithin-min a.rate b.rate (within.parts Rate));
-  fastest = omega (arith, proper.fastest, IsWithin-max a.rate b.rate (within.parts Rate));
-  period_size = omega (arith, proper.period_size, IsWithin-max a.period_size b.period_size (within.parts PeriodSize));
-  periods = omega (arith, proper.periods, IsWithin-max a.periods b.periods (within.parts Periods));
-  buffer_size = omega (arith, proper.buffer_size, IsWithin-max a.buffer_size b.buffer_size (within.parts BufferSize));
+  positive = λ q. omega (arith, proper.positive q, IsIntervalWithin-min (part a q) (part b q) (within.parts q));
+  capped = λ q. omega (arith, proper.capped q, IsIntervalWithin-max (part a q) (part b q) (within.parts q));
+  channels = omega (arith, proper.channels, IsIntervalWithin-max a.channels b.channels (within.parts Channels));
+  slowest = omega (arith, proper.slowest, IsIntervalWithin-min a.rate b.rate (within.parts Rate));
+  fastest = omega (arith, proper.fastest, IsIntervalWithin-max a.rate b.rate (within.parts Rate));
+  period_size = omega (arith, proper.period_size, IsIntervalWithin-max a.period_size b.period_size (within.parts PeriodSize));
+  periods = omega (arith, proper.periods, IsIntervalWithin-max a.periods b.periods (within.parts Periods));
+  buffer_size = omega (arith, proper.buffer_size, IsIntervalWithin-max a.buffer_size b.buffer_size (within.parts BufferSize));
   whole_channels = (within.parts Channels).integer proper.whole_channels;
   whole_rate = (within.parts Rate).integer proper.whole_rate;
   whole_period_size = (within.parts PeriodSize).integer proper.whole_period_size;
@@ -83,8 +83,8 @@ IsProper-within a b proper within access format filled = record {
 
 -- each settled box within a box lies within an interval at a quantity, and each configuration has a member there
 pub record IsMissedByNone (b : ParamBox) (q : Quantity) (x : Interval) : Type 0 where
-  pub settled : (s : ParamBox) → IsSettled s → IsBoxWithin s b → IsWithin (part s q) x
-  pub configurations : (y : Configuration) → IsExact y → IsHeld b y → IsMember x (y.value q).over (y.value q).under
+  pub settled : (s : ParamBox) → IsSettled s → IsBoxWithin s b → IsIntervalWithin (part s q) x
+  pub configurations : (y : Configuration) → IsExact y → LiesInBox b y → IsMember x (y.value q).over (y.value q).under
 
 pub with_part-IsProper : (b : ParamBox) (q : Quantity) (x : Interval) → IsProper b → IsNonEmpty (refinement (part b q) x)
     → IsProper (with_part b q (refinement (part b q) x))
@@ -122,7 +122,7 @@ pub IsVoid-part : (b : ParamBox) (q : Quantity) (x : Interval) → IsMissedByNon
 IsVoid-part b q x missed empty = record {
   settled = λ s h in_b.
       let smaller = refined-greatest (part s q) (part b q) x (h.parts q) (IsSettled-IsNormal s h q) (in_b.parts q) (missed.settled s h in_b) in
-      let filled : IsNonEmpty (refinement (part b q) x) = IsNonEmpty-IsWithin (part s q) (refinement (part b q) x) smaller (h.parts q) in
+      let filled : IsNonEmpty (refinement (part b q) x) = IsNonEmpty-IsIntervalWithin (part s q) (refinement (part b q) x) smaller (h.parts q) in
       absurd (cc);
   configurations = λ y exact held.
       let member = refined-IsMember (part b q) x (y.value q).over (y.value q).under (held.parts q) (missed.configurations y exact held) in
@@ -135,7 +135,7 @@ IsVoid-part b q x missed empty = record {
 -- each settled box within a box has a mask within another, and each configuration has its number there
 pub record IsFormatMissedByNone (b : ParamBox) (m : Mask) : Type 0 where
   pub settled : (s : ParamBox) → IsSettled s → IsBoxWithin s b → IsMaskWithin s.format m
-  pub configurations : (x : Configuration) → IsExact x → IsHeld b x → HasNumber m x.format
+  pub configurations : (x : Configuration) → IsExact x → LiesInBox b x → HasNumber m x.format
 
 abbrev pub with_formats : ParamBox → Mask → ParamBox
 with_formats b m = record b { format = m }
@@ -158,7 +158,7 @@ pub with_formats-IsBoxWithin : (b : ParamBox) (m : Mask) → IsMaskWithin m b.fo
 with_formats-IsBoxWithin b m within = record {
   access = IsMaskWithin-refl b.access;
   format = within;
-  parts = λ q. parts-format b m q (λ p i. IsWithin i (part b p)) (IsWithin-refl (part b q));
+  parts = λ q. parts-format b m q (λ p i. IsIntervalWithin i (part b p)) (IsIntervalWithin-refl (part b q));
 }
 
 pub with_formats-IsProper : (b : ParamBox) (m : Mask) → IsProper b → IsMaskWithin m b.format → m.bits ≢ 0 → IsProper (with_formats b m)
@@ -175,7 +175,7 @@ with_formats-IsBoxStep b m changed proper missed filled same differs = record {
   settled = λ s h in_b. record {
     access = in_b.access;
     format = common_mask-greatest s.format b.format m in_b.format (missed.settled s h in_b);
-    parts = λ q. parts-format b (common_mask b.format m) q (λ p i. IsWithin (part s p) i) (in_b.parts q);
+    parts = λ q. parts-format b (common_mask b.format m) q (λ p i. IsIntervalWithin (part s p) i) (in_b.parts q);
   };
   configurations = λ x exact held. record {
     access = held.access;

@@ -5,8 +5,8 @@ use Rattle.std.proofs.lemmas.Bool.{cases_lt}
 use Rattle.std.proofs.lemmas.Bool.Decides.{nat_tests}
 use Rattle.std.proofs.Math.Nat.{mul-le-mul_right, lt-div-mul-add, div-mul-le_self, mul-mod_left, eq_of_mul-eq-mul_right, le_of_mul-le-mul_right, mul-pos}
 use Rattle.pcm_interval.specs.declared.interval.Interval.{Interval}
-use Rattle.pcm_interval.specs.Intervals.{refinement, IsEmpty, IsNonEmpty, IsWithin, IsLowerWithin, IsUpperWithin, IsNormal}
-use Rattle.pcm_interval.specs.IntervalLaws.{IsWithin-min, IsWithin-max, IsWithin-from_same, IsNonEmpty-le}
+use Rattle.pcm_interval.specs.Intervals.{refinement, IsEmpty, IsNonEmpty, IsIntervalWithin, IsLowerWithin, IsUpperWithin, IsNormal}
+use Rattle.pcm_interval.specs.IntervalLaws.{IsIntervalWithin-min, IsIntervalWithin-max, IsIntervalWithin-from_same, IsNonEmpty-le}
 use Rattle.pcm_interval.specs.Arithmetic.{end_max, interval_between, is_broken, rounded_up, scaled_product_of, scaled_quotient_of}
 use Rattle.hw_space.specs.declared.param_box.ParamBox.{ParamBox}
 use Rattle.hw_space.specs.declared.quantity.Quantity.{Quantity}
@@ -18,7 +18,7 @@ use Rattle.hw_space.specs.Boxes.{part, IsBoxWithin}
 use Rattle.hw_space.specs.Narrowings.{with_refined}
 use Rattle.hw_space.specs.Proper.{IsProper}
 use Rattle.hw_space.specs.Rules.{no_rule}
-use Rattle.hw_space.specs.Settled.{IsSettled, Configuration, IsExact, IsHeld, IsResult, IsVoid}
+use Rattle.hw_space.specs.Settled.{IsSettled, Configuration, IsExact, LiesInBox, IsResult, IsVoid}
 use Rattle.hw_space.specs.SettledLaws.{IsSettled-IsNormal, IsSettled-max}
 use Rattle.hw_space.specs.Steps.{IsBoxStep}
 use Rattle.hw_space.specs.WholeTimes.{HasWholeTime, HasNoneFrom, size_of_span, time_of_span}
@@ -91,8 +91,8 @@ record IsTimed (size time rate : Interval) (r : ℕ) : Type 0 where
   time_whole : IsTrue time.integer
   size_uncut : size.max < end_max
   time_uncut : time.max < end_max
-  by_size : IsWithin time (scaled_quotient_of size 1000000 rate)
-  by_time : IsWithin size (scaled_product_of time rate 1000000)
+  by_size : IsIntervalWithin time (scaled_quotient_of size 1000000 rate)
+  by_time : IsIntervalWithin size (scaled_product_of time rate 1000000)
   positive : 0 < r
   rate_min : rate.min ≡ r
   rate_max : rate.max ≡ r
@@ -129,12 +129,12 @@ module _ (size time rate : Interval) (r : ℕ) (h : IsTimed size time rate r) wh
 one-rate_min : (s b : ParamBox) (r : ℕ) → IsSettled s → IsBoxWithin s b → b.rate.min ≡ r → b.rate.max ≤ r → s.rate.min ≡ r
 one-rate_min s b r settled within low high =
     let order : s.rate.min ≤ s.rate.max = IsNonEmpty-le s.rate (settled.parts Rate) in
-    omega (arith, order, IsWithin-min s.rate b.rate (within.parts Rate), IsWithin-max s.rate b.rate (within.parts Rate))
+    omega (arith, order, IsIntervalWithin-min s.rate b.rate (within.parts Rate), IsIntervalWithin-max s.rate b.rate (within.parts Rate))
 
 one-rate_max : (s b : ParamBox) (r : ℕ) → IsSettled s → IsBoxWithin s b → b.rate.min ≡ r → b.rate.max ≤ r → s.rate.max ≡ r
 one-rate_max s b r settled within low high =
     let order : s.rate.min ≤ s.rate.max = IsNonEmpty-le s.rate (settled.parts Rate) in
-    omega (arith, order, IsWithin-min s.rate b.rate (within.parts Rate), IsWithin-max s.rate b.rate (within.parts Rate))
+    omega (arith, order, IsIntervalWithin-min s.rate b.rate (within.parts Rate), IsIntervalWithin-max s.rate b.rate (within.parts Rate))
 
 -- the size and the time of a span in a settled box, where the time is whole and there is one rate
 settled-IsTimed : (s b : ParamBox) (span : Span) (r : ℕ) → IsProper b → IsSettled s → IsBoxWithin s b
@@ -149,8 +149,8 @@ settled-IsTimed s b Period r proper settled within whole low high = record {
   time_whole = (within.parts PeriodTime).integer whole;
   size_uncut = IsSettled-max s b settled within proper PeriodSize;
   time_uncut = IsSettled-max s b settled within proper PeriodTime;
-  by_size = IsWithin-from_same s.period_time (scaled_quotient_of s.period_size 1000000 s.rate) (settled.by_rules 12 no_rule (lit< tt));
-  by_time = IsWithin-from_same s.period_size (scaled_product_of s.period_time s.rate 1000000) (settled.by_rules 13 no_rule (lit< tt));
+  by_size = IsIntervalWithin-from_same s.period_time (scaled_quotient_of s.period_size 1000000 s.rate) (settled.by_rules 12 no_rule (lit< tt));
+  by_time = IsIntervalWithin-from_same s.period_size (scaled_product_of s.period_time s.rate 1000000) (settled.by_rules 13 no_rule (lit< tt));
   positive = omega (arith, proper.slowest);
   rate_min = one-rate_min s b r settled within low high;
   rate_max = one-rate_max s b r settled within low high;
@@ -164,8 +164,8 @@ settled-IsTimed s b Buffer r proper settled within whole low high = record {
   time_whole = (within.parts BufferTime).integer whole;
   size_uncut = IsSettled-max s b settled within proper BufferSize;
   time_uncut = IsSettled-max s b settled within proper BufferTime;
-  by_size = IsWithin-from_same s.buffer_time (scaled_quotient_of s.buffer_size 1000000 s.rate) (settled.by_rules 15 no_rule (lit< tt));
-  by_time = IsWithin-from_same s.buffer_size (scaled_product_of s.buffer_time s.rate 1000000) (settled.by_rules 16 no_rule (lit< tt));
+  by_size = IsIntervalWithin-from_same s.buffer_time (scaled_quotient_of s.buffer_size 1000000 s.rate) (settled.by_rules 15 no_rule (lit< tt));
+  by_time = IsIntervalWithin-from_same s.buffer_size (scaled_product_of s.buffer_time s.rate 1000000) (settled.by_rules 16 no_rule (lit< tt));
   positive = omega (arith, proper.slowest);
   rate_min = one-rate_min s b r settled within low high;
   rate_max = one-rate_max s b r settled within low high;
@@ -202,7 +202,7 @@ size-whole : (b : ParamBox) (span : Span) → IsProper b → IsTrue (part b (siz
 size-whole b Period proper = proper.whole_period_size
 size-whole b Buffer proper = proper.whole_buffer_size
 
-held-whole : (b : ParamBox) (x : Configuration) (span : Span) (r : ℕ) → IsProper b → IsExact x → IsHeld b x
+held-whole : (b : ParamBox) (x : Configuration) (span : Span) (r : ℕ) → IsProper b → IsExact x → LiesInBox b x
     → IsTrue (part b (time_of_span span)).integer → b.rate.min ≡ r → b.rate.max ≤ r
     → HasWholeTime r ((x.value (size_of_span span)).over / (x.value (size_of_span span)).under)
 held-whole b x span r proper exact held whole low high =
@@ -219,8 +219,8 @@ held-whole b x span r proper exact held whole low high =
 -- ---- nothing is missed
 
 -- from a least to a greatest number, where none below, and none above, is one
-IsWithin-whole : (i : Interval) (least most : ℕ) → least ≤ i.min → i.max ≤ most → IsTrue i.integer → IsWithin i (whole_from_to least most)
-IsWithin-whole i least most low high whole = record {
+IsIntervalWithin-whole : (i : Interval) (least most : ℕ) → least ≤ i.min → i.max ≤ most → IsTrue i.integer → IsIntervalWithin i (whole_from_to least most)
+IsIntervalWithin-whole i least most low high whole = record {
   lower = elim (cases_lt least i.min) [ inl below ↦ inl below | inr same ↦ inr (omega arith, λ x. absurd (cc)) ];
   upper = elim (cases_lt i.max most) [ inl below ↦ inl below | inr same ↦ inr (omega arith, λ x. absurd (cc)) ];
   integer = λ x. whole;
@@ -247,10 +247,10 @@ whole_sizes-IsMissedByNone b span r least greatest proper whole low high none_be
       let q = size_of_span span in
       let timed = settled-IsTimed s b span r proper settled within whole low high in
       let at_least = not_before r (part b q).min least (part s q).min none_below
-      (IsTimed-min (part s q) (part s (time_of_span span)) s.rate r timed) (IsWithin-min (part s q) (part b q) (within.parts q)) in
+      (IsTimed-min (part s q) (part s (time_of_span span)) s.rate r timed) (IsIntervalWithin-min (part s q) (part b q) (within.parts q)) in
       let at_most = not_after r greatest (part b q).max (part s q).max none_above
-      (IsTimed-max (part s q) (part s (time_of_span span)) s.rate r timed) (IsWithin-max (part s q) (part b q) (within.parts q)) in
-      IsWithin-whole (part s q) least greatest at_least at_most timed.size_whole;
+      (IsTimed-max (part s q) (part s (time_of_span span)) s.rate r timed) (IsIntervalWithin-max (part s q) (part b q) (within.parts q)) in
+      IsIntervalWithin-whole (part s q) least greatest at_least at_most timed.size_whole;
   configurations = λ x exact held.
       let q = size_of_span span in
       let n = (x.value q).over in

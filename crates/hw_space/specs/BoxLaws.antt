@@ -2,8 +2,8 @@
 use Rattle.std.specs.Prelude.{◌≡◌, ◌<◌, refl}
 use Rattle.std.proofs.Common.{arith, subst}
 use Rattle.pcm_interval.specs.declared.interval.Interval.{Interval}
-use Rattle.pcm_interval.specs.Intervals.{IsWithin, size_of}
-use Rattle.pcm_interval.specs.IntervalLaws.{IsWithin-refl, IsWithin-trans, IsWithin-antisym}
+use Rattle.pcm_interval.specs.Intervals.{IsIntervalWithin, size_of}
+use Rattle.pcm_interval.specs.IntervalLaws.{IsIntervalWithin-refl, IsIntervalWithin-trans, IsIntervalWithin-antisym}
 use Rattle.pcm_interval.specs.MaskLaws.{IsMaskWithin-refl, IsMaskWithin-trans, IsMaskWithin-antisym}
 use Rattle.hw_space.specs.declared.param_box.ParamBox.{ParamBox}
 use Rattle.hw_space.specs.declared.quantity.Quantity.{Quantity}
@@ -114,14 +114,14 @@ pub IsBoxWithin-refl : (a : ParamBox) → IsBoxWithin a a
 IsBoxWithin-refl a = record {
   access = IsMaskWithin-refl a.access;
   format = IsMaskWithin-refl a.format;
-  parts = λ q. IsWithin-refl (part a q);
+  parts = λ q. IsIntervalWithin-refl (part a q);
 }
 
 pub IsBoxWithin-trans : (a b c : ParamBox) → IsBoxWithin a b → IsBoxWithin b c → IsBoxWithin a c
 IsBoxWithin-trans a b c h g = record {
   access = IsMaskWithin-trans a.access b.access c.access h.access g.access;
   format = IsMaskWithin-trans a.format b.format c.format h.format g.format;
-  parts = λ q. IsWithin-trans (part a q) (part b q) (part c q) (h.parts q) (g.parts q);
+  parts = λ q. IsIntervalWithin-trans (part a q) (part b q) (part c q) (h.parts q) (g.parts q);
 }
 
 -- boxes are equal where their parts are
@@ -147,27 +147,27 @@ IsBoxWithin-antisym a b h g =
     box-equal a b
     (IsMaskWithin-antisym a.access b.access h.access g.access)
     (IsMaskWithin-antisym a.format b.format h.format g.format)
-    (λ q. IsWithin-antisym (part a q) (part b q) (h.parts q) (g.parts q))
+    (λ q. IsIntervalWithin-antisym (part a q) (part b q) (h.parts q) (g.parts q))
 
 -- ---- a box with another part
 
 pub IsBoxWithin-with_part : (a b : ParamBox) (q : Quantity) (i : Interval)
-    → IsBoxWithin a b → IsWithin (part a q) i → IsBoxWithin a (with_part b q i)
+    → IsBoxWithin a b → IsIntervalWithin (part a q) i → IsBoxWithin a (with_part b q i)
 IsBoxWithin-with_part a b q i h here = record {
   access = rw (access-with_part b q i) h.access;
   format = rw (format-with_part b q i) h.format;
-  parts = with_part-each (λ p j. IsWithin (part a p) j) b q i h.parts here;
+  parts = with_part-each (λ p j. IsIntervalWithin (part a p) j) b q i h.parts here;
 }
 
 pub with_part-IsBoxWithin : (b : ParamBox) (q : Quantity) (i : Interval)
-    → IsWithin i (part b q) → IsBoxWithin (with_part b q i) b
+    → IsIntervalWithin i (part b q) → IsBoxWithin (with_part b q i) b
 with_part-IsBoxWithin b q i here = record {
   access = rw (access-with_part b q i) (IsMaskWithin-refl b.access);
   format = rw (format-with_part b q i) (IsMaskWithin-refl b.format);
-  parts = with_part-each (λ p j. IsWithin j (part b p)) b q i (λ p. IsWithin-refl (part b p)) here;
+  parts = with_part-each (λ p j. IsIntervalWithin j (part b p)) b q i (λ p. IsIntervalWithin-refl (part b p)) here;
 }
 
 -- what lies within a box with another part lies there
-pub IsBoxWithin-part : (a b : ParamBox) (q : Quantity) (i : Interval) → IsBoxWithin a (with_part b q i) → IsWithin (part a q) i
+pub IsBoxWithin-part : (a b : ParamBox) (q : Quantity) (i : Interval) → IsBoxWithin a (with_part b q i) → IsIntervalWithin (part a q) i
 IsBoxWithin-part a b q i h =
-    let P : Interval → Type 0 = IsWithin (part a q) in subst P (part-with_part b q i) (h.parts q)
+    let P : Interval → Type 0 = IsIntervalWithin (part a q) in subst P (part-with_part b q i) (h.parts q)

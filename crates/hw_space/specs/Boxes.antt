@@ -1,7 +1,7 @@
 -- Boxes: an interval or a mask for each parameter, and which box lies within which.
 use Rattle.std.specs.Prelude.{ℕ, ◌+◌}
 use Rattle.pcm_interval.specs.declared.interval.Interval.{Interval}
-use Rattle.pcm_interval.specs.Intervals.{IsWithin, size_of}
+use Rattle.pcm_interval.specs.Intervals.{IsIntervalWithin, size_of}
 use Rattle.pcm_interval.specs.Masks.{IsMaskWithin}
 use Rattle.hw_space.specs.declared.param_box.ParamBox.{ParamBox}
 use Rattle.hw_space.specs.declared.quantity.Quantity.{Quantity}
@@ -39,7 +39,7 @@ with_part b BufferBytes i = record b { buffer_bytes = i }
 pub record IsBoxWithin (a b : ParamBox) : Type 0 where
   pub access : IsMaskWithin a.access b.access
   pub format : IsMaskWithin a.format b.format
-  pub parts : (q : Quantity) → IsWithin (part a q) (part b q)
+  pub parts : (q : Quantity) → IsIntervalWithin (part a q) (part b q)
 
 -- how far a box can still be narrowed: each change makes this smaller
 abbrev pub size_of_box : ParamBox → ℕ

@@ -12,7 +12,7 @@ use Rattle.hw_space.specs.declared.rule.Operation.TheVariants.{Mul, Div, MulDivK
 use Rattle.hw_space.specs.declared.rule.Rule.{Rule}
 use Rattle.hw_space.specs.Boxes.{part}
 use Rattle.hw_space.specs.Rules.{computed_by, HasScale}
-use Rattle.hw_space.specs.Settled.{Fraction, Configuration, IsResult, IsHeld, result_of_rule}
+use Rattle.hw_space.specs.Settled.{Fraction, Configuration, IsResult, LiesInBox, result_of_rule}
 use Rattle.hw_space.specs.Proper.{IsProper}
 
 -- equal fractions are members alike
@@ -80,7 +80,7 @@ computed_by-IsMember (MulKDiv k) a b c x y z scale a_min b_min capped in_a in_b 
     in_c.positive exact
 
 -- so what a rule computes from a box holds the number of its target, where the box holds the configuration
-pub computed-IsMember : (b : ParamBox) (r : Rule) (x : Configuration) → IsProper b → HasScale r.operation → IsHeld b x
+pub computed-IsMember : (b : ParamBox) (r : Rule) (x : Configuration) → IsProper b → HasScale r.operation → LiesInBox b x
     → IsResult r.operation (x.value r.first) (x.value r.second) (x.value r.target)
     → IsMember (result_of_rule r b) (x.value r.target).over (x.value r.target).under
 computed-IsMember b r x proper scale held exact =

@@ -5,7 +5,7 @@ use Rattle.std.proofs.lemmas.Bool.Decides.{nat_tests}
 use Rattle.std.proofs.Math.Nat.{le_of_mul-le-mul_right, lt_of_mul-lt-mul_right, mul-mod_left}
 use Rattle.pcm_interval.specs.declared.interval.Interval.{Interval}
 use Rattle.pcm_interval.specs.declared.mask.Mask.{Mask}
-use Rattle.pcm_interval.specs.Intervals.{IsWithin, IsLowerWithin, IsUpperWithin, IsMember}
+use Rattle.pcm_interval.specs.Intervals.{IsIntervalWithin, IsLowerWithin, IsUpperWithin, IsMember}
 use Rattle.pcm_interval.specs.Masks.{HasNumber, IsMaskWithin, common_mask}
 use Rattle.pcm_interval.specs.MaskLaws.{IsMaskWithin-from_same}
 use Rattle.hw_space.specs.Formats.{bits_of_format, contains, includes, bits_among, bits_of_formats, formats_among, formats_of_bits}
@@ -30,17 +30,17 @@ upper-bits_among e true f false h = let e : false ≡ true = h refl in absurd (c
 upper-bits_among e false f true h = inl (omega arith)
 upper-bits_among e false f false h = inr (refl, λ x. x)
 
-bits_among-IsWithin : (e s f t : Bool) → (e ≡ true → f ≡ true) → (s ≡ true → t ≡ true) → IsWithin (bits_among e s) (bits_among f t)
-bits_among-IsWithin e s f t eight sixteen = record {
+bits_among-IsIntervalWithin : (e s f t : Bool) → (e ≡ true → f ≡ true) → (s ≡ true → t ≡ true) → IsIntervalWithin (bits_among e s) (bits_among f t)
+bits_among-IsIntervalWithin e s f t eight sixteen = record {
   lower = lower-bits_among e s f t eight;
   upper = upper-bits_among e s f t sixteen;
   integer = λ whole. refl;
 }
 
-pub bits_of_formats-IsWithin : (a b : Mask) → IsMaskWithin a b → IsWithin (bits_of_formats a) (bits_of_formats b)
+pub bits_of_formats-IsIntervalWithin : (a b : Mask) → IsMaskWithin a b → IsIntervalWithin (bits_of_formats a) (bits_of_formats b)
 unfolding bits_of_formats
-bits_of_formats-IsWithin a b h =
-    bits_among-IsWithin (contains a 0 || contains a 1) (contains a 2 || contains a 3) (contains b 0 || contains b 1) (contains b 2 || contains b 3)
+bits_of_formats-IsIntervalWithin a b h =
+    bits_among-IsIntervalWithin (contains a 0 || contains a 1) (contains a 2 || contains a 3) (contains b 0 || contains b 1) (contains b 2 || contains b 3)
     (or-true (contains a 0) (contains a 1) (contains b 0) (contains b 1) (contains-IsMaskWithin a b 0 h) (contains-IsMaskWithin a b 1 h))
     (or-true (contains a 2) (contains a 3) (contains b 2) (contains b 3) (contains-IsMaskWithin a b 2 h) (contains-IsMaskWithin a b 3 h))
 
@@ -50,8 +50,8 @@ max-bits_of_formats m = grind (arith, nat_tests)
 
 -- ---- what a smaller interval leaves
 
-pub includes-IsWithin : (a b : Interval) (n : ℕ) → IsWithin a b → IsTrue (includes a n) → IsTrue (includes b n)
-includes-IsWithin a b n h has = grind (arith, nat_tests)
+pub includes-IsIntervalWithin : (a b : Interval) (n : ℕ) → IsIntervalWithin a b → IsTrue (includes a n) → IsTrue (includes b n)
+includes-IsIntervalWithin a b n h has = grind (arith, nat_tests)
 
 formats_among-IsMaskWithin : (e s f t : Bool) → (IsTrue e → IsTrue f) → (IsTrue s → IsTrue t) → IsMaskWithin (formats_among e s) (formats_among f t)
 unfolding common_mask
@@ -72,11 +72,11 @@ formats_among-IsMaskWithin true true false true h g = let x : false ≡ true = h
 formats_among-IsMaskWithin true true true false h g = let x : false ≡ true = g refl in absurd (cc)
 formats_among-IsMaskWithin true true true true h g = IsMaskWithin-from_same (formats_among true true) (formats_among true true) refl
 
-pub formats_of_bits-IsMaskWithin : (a b : Interval) → IsWithin a b → IsMaskWithin (formats_of_bits a) (formats_of_bits b)
+pub formats_of_bits-IsMaskWithin : (a b : Interval) → IsIntervalWithin a b → IsMaskWithin (formats_of_bits a) (formats_of_bits b)
 unfolding formats_of_bits
 formats_of_bits-IsMaskWithin a b h =
     formats_among-IsMaskWithin (includes a 8) (includes a 16) (includes b 8) (includes b 16)
-    (includes-IsWithin a b 8 h) (includes-IsWithin a b 16 h)
+    (includes-IsIntervalWithin a b 8 h) (includes-IsIntervalWithin a b 16 h)
 
 -- ---- the bits of one format
 

@@ -21,15 +21,15 @@ abbrev pub result_of_rule : Rule → ParamBox → Interval
 result_of_rule r b = computed_by r.operation (part b r.first) (part b r.second)
 
 -- a rule changes nothing of a box
-abbrev pub Keeps : ParamBox → Rule → Type 0
-Keeps b r = refinement (part b r.target) (result_of_rule r b) ≡ part b r.target
+abbrev pub KeepsBox : ParamBox → Rule → Type 0
+KeepsBox b r = refinement (part b r.target) (result_of_rule r b) ≡ part b r.target
 
 -- no part of a box is empty, and refining any part by its rules changes nothing
 pub record IsSettled (b : ParamBox) : Type 0 where
   pub access : b.access.bits ≢ 0
   pub format : b.format.bits ≢ 0
   pub parts : (q : Quantity) → IsNonEmpty (part b q)
-  pub by_rules : All (Keeps b) rules
+  pub by_rules : All (KeepsBox b) rules
   pub by_formats : refinement b.sample_bits (bits_of_formats b.format) ≡ b.sample_bits
   pub by_sample_bits : common_mask b.format (formats_of_bits b.sample_bits) ≡ b.format
 
@@ -70,18 +70,18 @@ pub record IsExact (x : Configuration) : Type 0 where
   pub by_rules : All (λ r. IsResult r.operation (x.value r.first) (x.value r.second) (x.value r.target)) rules
 
 -- each number of a configuration lies in its part of a box
-pub record IsHeld (b : ParamBox) (x : Configuration) : Type 0 where
+pub record LiesInBox (b : ParamBox) (x : Configuration) : Type 0 where
   pub access : HasNumber b.access x.access
   pub format : HasNumber b.format x.format
   pub parts : (q : Quantity) → IsMember (part b q) (x.value q).over (x.value q).under
 
 -- every configuration that one box holds is held by another
 abbrev pub KeepsConfigurations : ParamBox → ParamBox → Type 0
-KeepsConfigurations b g = (x : Configuration) → IsExact x → IsHeld b x → IsHeld g x
+KeepsConfigurations b g = (x : Configuration) → IsExact x → LiesInBox b x → LiesInBox g x
 
 -- a box holds no configuration
 abbrev pub HoldsNoConfiguration : ParamBox → Type 0
-HoldsNoConfiguration b = (x : Configuration) → IsExact x → ¬ IsHeld b x
+HoldsNoConfiguration b = (x : Configuration) → IsExact x → ¬ LiesInBox b x
 
 -- ---- what refinement leaves
 
@@ -101,6 +101,6 @@ Leaves b (Some g) = IsLeft b g
 Leaves b None = IsVoid b
 
 -- the space after a call, unless it answered that it is empty
-abbrev pub left_of : {T : Type 0} → Result T Empty → ParamBox → Option ParamBox
-left_of (Ok x) b = Some b
-left_of (Err e) b = None
+abbrev pub space_left : {T : Type 0} → Result T Empty → ParamBox → Option ParamBox
+space_left (Ok x) b = Some b
+space_left (Err e) b = None

@@ -6,10 +6,10 @@ use Rattle.std.proofs.lemmas.Bool.Decides.{nat_tests}
 use Rattle.std.proofs.lemmas.Nat.{mul-le}
 use Rattle.std.proofs.Math.Nat.{div-le_of_le-mul, div-one}
 use Rattle.pcm_interval.specs.declared.interval.Interval.{Interval}
-use Rattle.pcm_interval.specs.Intervals.{IsNonEmpty, IsWithin, IsNormal, refinement}
-use Rattle.pcm_interval.specs.IntervalLaws.{IsWithin-from_same, IsNormal-from_same, IsWithin-min, IsWithin-max, IsNonEmpty-le}
+use Rattle.pcm_interval.specs.Intervals.{IsNonEmpty, IsIntervalWithin, IsNormal, refinement}
+use Rattle.pcm_interval.specs.IntervalLaws.{IsIntervalWithin-from_same, IsNormal-from_same, IsIntervalWithin-min, IsIntervalWithin-max, IsNonEmpty-le}
 use Rattle.pcm_interval.specs.Arithmetic.{end_max, upper_end_of, interval_between, product_of, quotient_of, scaled_product_of, scaled_quotient_of}
-use Rattle.pcm_interval.specs.ArithmeticLaws.{product_of-IsWithin, quotient_of-IsWithin, scaled_product_of-IsWithin, scaled_quotient_of-IsWithin}
+use Rattle.pcm_interval.specs.ArithmeticLaws.{product_of-IsIntervalWithin, quotient_of-IsIntervalWithin, scaled_product_of-IsIntervalWithin, scaled_quotient_of-IsIntervalWithin}
 use Rattle.hw_space.specs.declared.param_box.ParamBox.{ParamBox}
 use Rattle.hw_space.specs.declared.quantity.Quantity.{Quantity}
 use Rattle.hw_space.specs.declared.quantity.Quantity.TheVariants.{SampleBits, FrameBits, Channels, Rate, PeriodTime, PeriodSize, PeriodBytes, Periods, BufferTime, BufferSize, BufferBytes}
@@ -21,7 +21,7 @@ use Rattle.hw_space.specs.BoxLaws.{IsBoxWithin-antisym}
 use Rattle.hw_space.specs.Formats.{bits_of_formats}
 use Rattle.hw_space.specs.FormatLaws.{max-bits_of_formats}
 use Rattle.hw_space.specs.Rules.{rules, no_rule, computed_by, HasScale}
-use Rattle.hw_space.specs.Settled.{IsSettled, IsGreatest, Keeps, result_of_rule}
+use Rattle.hw_space.specs.Settled.{IsSettled, IsGreatest, KeepsBox, result_of_rule}
 use Rattle.hw_space.specs.Proper.{IsProper}
 
 -- ---- one at most
@@ -34,7 +34,7 @@ IsGreatest-unique b g h one other =
 -- ---- parts of a settled box
 
 -- the rule at a place of the table changes nothing
-by_rule : (s : ParamBox) → IsSettled s → (k : ℕ) → k < 18 → Keeps s (slice_index_or rules k no_rule)
+by_rule : (s : ParamBox) → IsSettled s → (k : ℕ) → k < 18 → KeepsBox s (slice_index_or rules k no_rule)
 by_rule s h k below = h.by_rules k no_rule below
 
 -- each part is the target of a rule that changes nothing
@@ -79,44 +79,44 @@ unfolding scaled_quotient_of interval_between
 max-scaled_quotient_of a k b m low = upper-end (a.max * k) b.min m low
 
 -- smaller intervals give a smaller one, where its lower end is below the greatest number
-computed_by-IsWithin : (o : Operation) (a b c d : Interval) → HasScale o → IsNonEmpty a → IsNonEmpty b → IsWithin a c → IsWithin b d
-    → 1 ≤ c.min → 1 ≤ d.min → (computed_by o a b).min < end_max → IsWithin (computed_by o a b) (computed_by o c d)
+computed_by-IsIntervalWithin : (o : Operation) (a b c d : Interval) → HasScale o → IsNonEmpty a → IsNonEmpty b → IsIntervalWithin a c → IsIntervalWithin b d
+    → 1 ≤ c.min → 1 ≤ d.min → (computed_by o a b).min < end_max → IsIntervalWithin (computed_by o a b) (computed_by o c d)
 unfolding product_of quotient_of scaled_product_of scaled_quotient_of interval_between
-computed_by-IsWithin Mul a b c d scale filled_a filled_b in_c in_d c_min d_min uncut =
-    product_of-IsWithin a b c d filled_a filled_b in_c in_d c_min d_min (omega (arith, div-one (a.min * b.min)))
-computed_by-IsWithin Div a b c d scale filled_a filled_b in_c in_d c_min d_min uncut =
-    quotient_of-IsWithin a b c d filled_a filled_b in_c in_d c_min d_min (omega arith)
-computed_by-IsWithin (MulDivK k) a b c d scale filled_a filled_b in_c in_d c_min d_min uncut =
-    scaled_product_of-IsWithin a b c d k filled_a filled_b in_c in_d c_min d_min scale (omega arith)
-computed_by-IsWithin (MulKDiv k) a b c d scale filled_a filled_b in_c in_d c_min d_min uncut =
-    scaled_quotient_of-IsWithin a k b c d filled_a filled_b in_c in_d c_min d_min scale (omega arith)
+computed_by-IsIntervalWithin Mul a b c d scale filled_a filled_b in_c in_d c_min d_min uncut =
+    product_of-IsIntervalWithin a b c d filled_a filled_b in_c in_d c_min d_min (omega (arith, div-one (a.min * b.min)))
+computed_by-IsIntervalWithin Div a b c d scale filled_a filled_b in_c in_d c_min d_min uncut =
+    quotient_of-IsIntervalWithin a b c d filled_a filled_b in_c in_d c_min d_min (omega arith)
+computed_by-IsIntervalWithin (MulDivK k) a b c d scale filled_a filled_b in_c in_d c_min d_min uncut =
+    scaled_product_of-IsIntervalWithin a b c d k filled_a filled_b in_c in_d c_min d_min scale (omega arith)
+computed_by-IsIntervalWithin (MulKDiv k) a b c d scale filled_a filled_b in_c in_d c_min d_min uncut =
+    scaled_quotient_of-IsIntervalWithin a k b c d filled_a filled_b in_c in_d c_min d_min scale (omega arith)
 
 module _ (s b : ParamBox) (settled : IsSettled s) (within : IsBoxWithin s b) (proper : IsProper b) where
   -- what a rule computes bounds its target
-  max-target : (r : Rule) (m : ℕ) → Keeps s r → (result_of_rule r s).max ≤ m → (part s r.target).max ≤ m
-  max-target r m same low = omega (arith, low, IsWithin-max (part s r.target) (result_of_rule r s) (IsWithin-from_same (part s r.target) (result_of_rule r s) same))
+  max-target : (r : Rule) (m : ℕ) → KeepsBox s r → (result_of_rule r s).max ≤ m → (part s r.target).max ≤ m
+  max-target r m same low = omega (arith, low, IsIntervalWithin-max (part s r.target) (result_of_rule r s) (IsIntervalWithin-from_same (part s r.target) (result_of_rule r s) same))
 
   max-sample_bits : s.sample_bits.max ≤ 16
   max-sample_bits =
-      omega (arith, max-bits_of_formats s.format, IsWithin-max s.sample_bits (bits_of_formats s.format) (IsWithin-from_same s.sample_bits (bits_of_formats s.format) settled.by_formats))
+      omega (arith, max-bits_of_formats s.format, IsIntervalWithin-max s.sample_bits (bits_of_formats s.format) (IsIntervalWithin-from_same s.sample_bits (bits_of_formats s.format) settled.by_formats))
 
   max-channels : s.channels.max ≤ 8
-  max-channels = omega (arith, proper.channels, IsWithin-max s.channels b.channels (within.parts Channels))
+  max-channels = omega (arith, proper.channels, IsIntervalWithin-max s.channels b.channels (within.parts Channels))
 
   max-period_size : s.period_size.max ≤ 8192
-  max-period_size = omega (arith, proper.period_size, IsWithin-max s.period_size b.period_size (within.parts PeriodSize))
+  max-period_size = omega (arith, proper.period_size, IsIntervalWithin-max s.period_size b.period_size (within.parts PeriodSize))
 
   max-periods : s.periods.max ≤ 1024
-  max-periods = omega (arith, proper.periods, IsWithin-max s.periods b.periods (within.parts Periods))
+  max-periods = omega (arith, proper.periods, IsIntervalWithin-max s.periods b.periods (within.parts Periods))
 
   max-buffer_size : s.buffer_size.max ≤ 16384
-  max-buffer_size = omega (arith, proper.buffer_size, IsWithin-max s.buffer_size b.buffer_size (within.parts BufferSize))
+  max-buffer_size = omega (arith, proper.buffer_size, IsIntervalWithin-max s.buffer_size b.buffer_size (within.parts BufferSize))
 
   max-rate : s.rate.max ≤ 192000
-  max-rate = omega (arith, proper.fastest, IsWithin-max s.rate b.rate (within.parts Rate))
+  max-rate = omega (arith, proper.fastest, IsIntervalWithin-max s.rate b.rate (within.parts Rate))
 
   min-rate : 4000 ≤ s.rate.min
-  min-rate = omega (arith, proper.slowest, IsWithin-min s.rate b.rate (within.parts Rate))
+  min-rate = omega (arith, proper.slowest, IsIntervalWithin-min s.rate b.rate (within.parts Rate))
 
   max-frame_bits : s.frame_bits.max ≤ 129
   max-frame_bits =
@@ -161,15 +161,15 @@ module _ (s b : ParamBox) (settled : IsSettled s) (within : IsBoxWithin s b) (pr
 
   -- ---- a rule computes less from a settled box within a proper one
 
-  min-target : (r : Rule) → Keeps s r → (result_of_rule r s).min < end_max
+  min-target : (r : Rule) → KeepsBox s r → (result_of_rule r s).min < end_max
   min-target r same =
       let high = IsSettled-max r.target in
-      let low = IsWithin-min (part s r.target) (result_of_rule r s) (IsWithin-from_same (part s r.target) (result_of_rule r s) same) in
+      let low = IsIntervalWithin-min (part s r.target) (result_of_rule r s) (IsIntervalWithin-from_same (part s r.target) (result_of_rule r s) same) in
       let order = IsNonEmpty-le (part s r.target) (settled.parts r.target) in
       omega (arith, high, low, order)
 
-  pub computed-IsWithin : (r : Rule) → HasScale r.operation → Keeps s r → IsWithin (result_of_rule r s) (result_of_rule r b)
-  computed-IsWithin r scale same =
-      computed_by-IsWithin r.operation (part s r.first) (part s r.second) (part b r.first) (part b r.second) scale
+  pub computed-IsIntervalWithin : (r : Rule) → HasScale r.operation → KeepsBox s r → IsIntervalWithin (result_of_rule r s) (result_of_rule r b)
+  computed-IsIntervalWithin r scale same =
+      computed_by-IsIntervalWithin r.operation (part s r.first) (part s r.second) (part b r.first) (part b r.second) scale
       (settled.parts r.first) (settled.parts r.second) (within.parts r.first) (within.parts r.second)
       (proper.positive r.first) (proper.positive r.second) (min-target r same)

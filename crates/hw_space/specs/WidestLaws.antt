@@ -11,7 +11,7 @@ use Rattle.hw_space.specs.declared.quantity.Quantity.TheVariants.{SampleBits, Fr
 use Rattle.hw_space.specs.declared.rule.Rule.{Rule}
 use Rattle.hw_space.specs.Boxes.{part}
 use Rattle.hw_space.specs.Rules.{rules}
-use Rattle.hw_space.specs.Settled.{Fraction, Configuration, IsResult, IsExact, IsHeld}
+use Rattle.hw_space.specs.Settled.{Fraction, Configuration, IsResult, IsExact, LiesInBox}
 use Rattle.hw_space.specs.Widest.{whole_from_to, from_to, widest}
 
 all_at : {X : Type 0} (P : X → Type 0) (xs : List X) → AllByRecursion P xs → All P xs
@@ -130,8 +130,8 @@ module _ (channels rate period ring : ℕ) (some : 1 ≤ channels) (least_rate :
   held-part BufferBytes = IsMember-whole 1 end_max (2 * ring) (omega arith) (omega arith)
 
   -- the widest box of a slave holds it
-  pub widest-IsHeld : IsHeld (widest channels rate ring) (slave_configuration rate period ring)
-  widest-IsHeld = record {
+  pub widest-LiesInBox : LiesInBox (widest channels rate ring) (slave_configuration rate period ring)
+  widest-LiesInBox = record {
     access = refl;
     format = refl;
     parts = held-part;

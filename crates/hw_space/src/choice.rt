@@ -2,7 +2,7 @@
 ghost use Rattle.std.specs.Prelude.{◌≡◌, ◌≢◌, ◌<◌, OnOk};
 ghost use Rattle.hw_space.specs.Choices.{ChoiceLeaves, IsFirstNumber, IsChoice};
 ghost use Rattle.hw_space.specs.Proper.{IsProper};
-ghost use Rattle.hw_space.specs.Settled.{left_of};
+ghost use Rattle.hw_space.specs.Settled.{space_left};
 
 use crate::config::Config;
 use crate::narrowing::{greatest_end, least_end, narrow, take_access, take_format};
@@ -61,7 +61,7 @@ pub fn choose(ranges: &ParamBox, period: u32) -> Result<Config, Empty>
 /// Makes one step of the choice. After `Empty` the box may be narrowed in part.
 fn take(ranges: &mut ParamBox, choice: &Choice) -> Result<(), Empty>
     requires { IsProper ranges.old }
-    ensures makes { ChoiceLeaves choice.now ranges.old (left_of result ranges.new) }
+    ensures makes { ChoiceLeaves choice.now ranges.old (space_left result ranges.new) }
     ensures proper { OnOk result (IsProper ranges.new) }
 {
     match *choice {
@@ -89,7 +89,7 @@ fn take(ranges: &mut ParamBox, choice: &Choice) -> Result<(), Empty>
 /// Refines the box, as a step of the choice.
 fn take_settled(ranges: &mut ParamBox) -> Result<(), Empty>
     requires { IsProper ranges.old }
-    ensures makes { ChoiceLeaves Choice.Settle ranges.old (left_of result ranges.new) }
+    ensures makes { ChoiceLeaves Choice.Settle ranges.old (space_left result ranges.new) }
     ensures proper { OnOk result (IsProper ranges.new) }
 {
     settle(ranges)?;

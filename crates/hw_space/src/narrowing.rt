@@ -3,7 +3,7 @@ ghost use Rattle.std.specs.Prelude.{◌≡◌, ◌+◌, ◌-◌, ◌<◌, OnOk};
 ghost use Rattle.pcm_interval.specs.Intervals.{IsNonEmpty};
 ghost use Rattle.hw_space.specs.Narrowings.{point, at_least, at_most, whole_numbers, between_ends, least_end, greatest_end, with_refined, with_access, with_format, with_kind_value, FitsKind};
 ghost use Rattle.hw_space.specs.Proper.{IsProper};
-ghost use Rattle.hw_space.specs.Settled.{Leaves, left_of};
+ghost use Rattle.hw_space.specs.Settled.{Leaves, space_left};
 ghost use Rattle.hw_space.specs.Widest.{whole_from_to, from_to, mask_of_one};
 
 use crate::param::ParamKind;
@@ -15,7 +15,7 @@ use pcm_interval::{Empty, Interval, Mask};
 /// Refines the interval of one quantity, and then the box. After `Empty` the box may be narrowed in part.
 pub fn narrow(ranges: &mut ParamBox, quantity: Quantity, other: &Interval) -> Result<(), Empty>
     requires { IsProper ranges.old }
-    ensures left { Leaves (with_refined ranges.old quantity other.now) (left_of result ranges.new) }
+    ensures left { Leaves (with_refined ranges.old quantity other.now) (space_left result ranges.new) }
     ensures proper { OnOk result (IsProper ranges.new) }
 {
     narrow_part(ranges, quantity, other)?;
@@ -28,7 +28,7 @@ pub fn narrow(ranges: &mut ParamBox, quantity: Quantity, other: &Interval) -> Re
 pub fn take_access(ranges: &mut ParamBox, number: u32) -> Result<(), Empty>
     requires proper { IsProper ranges.old }
     requires below { number < 64 }
-    ensures left { Leaves (with_access ranges.old number) (left_of result ranges.new) }
+    ensures left { Leaves (with_access ranges.old number) (space_left result ranges.new) }
     ensures proper { OnOk result (IsProper ranges.new) }
 {
     let mut access = ranges.access;
@@ -43,7 +43,7 @@ pub fn take_access(ranges: &mut ParamBox, number: u32) -> Result<(), Empty>
 pub fn take_format(ranges: &mut ParamBox, number: u32) -> Result<(), Empty>
     requires proper { IsProper ranges.old }
     requires below { number < 64 }
-    ensures left { Leaves (with_format ranges.old number) (left_of result ranges.new) }
+    ensures left { Leaves (with_format ranges.old number) (space_left result ranges.new) }
     ensures proper { OnOk result (IsProper ranges.new) }
 {
     narrow_format(ranges, &only(number))?;
@@ -56,7 +56,7 @@ pub fn take_format(ranges: &mut ParamBox, number: u32) -> Result<(), Empty>
 pub fn take_value(ranges: &mut ParamBox, kind: ParamKind, value: u32) -> Result<(), Empty>
     requires proper { IsProper ranges.old }
     requires fits { FitsKind kind value }
-    ensures left { Leaves (with_kind_value ranges.old kind value) (left_of result ranges.new) }
+    ensures left { Leaves (with_kind_value ranges.old kind value) (space_left result ranges.new) }
     ensures proper { OnOk result (IsProper ranges.new) }
 {
     match kind {

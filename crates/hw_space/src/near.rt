@@ -3,7 +3,7 @@ ghost use Rattle.std.specs.Prelude.{◌≡◌, IfSome, OnOk};
 ghost use Rattle.hw_space.specs.Boxes.{part};
 ghost use Rattle.hw_space.specs.Narrowings.{with_refined, least_end, greatest_end, distance, nearest, IsNear, LeavesOf};
 ghost use Rattle.hw_space.specs.Proper.{IsProper};
-ghost use Rattle.hw_space.specs.Settled.{Leaves, left_of};
+ghost use Rattle.hw_space.specs.Settled.{Leaves, space_left};
 
 use crate::narrowing::{at_least, at_most, greatest_end, least_end, narrow};
 use crate::param_box::ParamBox;
@@ -15,7 +15,7 @@ use pcm_interval::{Empty, Interval};
 /// it is the lower. After `Empty` the box is as before.
 pub fn take_near(ranges: &mut ParamBox, quantity: Quantity, value: u32) -> Result<(), Empty>
     requires { IsProper ranges.old }
-    ensures near { IsNear ranges.old quantity value (left_of result ranges.new) }
+    ensures near { IsNear ranges.old quantity value (space_left result ranges.new) }
     ensures proper { OnOk result (IsProper ranges.new) }
 {
     let low = tried(ranges, quantity, &at_most(value));

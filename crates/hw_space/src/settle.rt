@@ -6,7 +6,7 @@ ghost use Rattle.hw_space.specs.Boxes.{part};
 ghost use Rattle.hw_space.specs.Formats.{bits_of_formats, formats_of_bits};
 ghost use Rattle.hw_space.specs.Narrowings.{with_refined};
 ghost use Rattle.hw_space.specs.Rules.{IsListed};
-ghost use Rattle.hw_space.specs.Settled.{Keeps, IsSettled, IsVoid};
+ghost use Rattle.hw_space.specs.Settled.{KeepsBox, IsSettled, IsVoid};
 ghost use Rattle.hw_space.specs.Proper.{IsProper};
 ghost use Rattle.hw_space.specs.Steps.{IsBoxStep};
 
@@ -42,7 +42,7 @@ fn apply(ranges: &mut ParamBox, rule: &Rule) -> Result<bool, Empty>
     requires proper { IsProper ranges.old }
     requires listed { IsListed rule.now }
     ensures step { IfOk result (IsBoxStep ranges.old ranges.new) }
-    ensures kept { IfOk result (λ changed. changed ≡ false → Keeps ranges.old rule.now) }
+    ensures kept { IfOk result (λ changed. changed ≡ false → KeepsBox ranges.old rule.now) }
     ensures empty { OnErr result (IsVoid ranges.old) }
 {
     let first = ranges.part(rule.first);
@@ -57,7 +57,7 @@ fn round(ranges: &mut ParamBox, rules: &[Rule]) -> Result<bool, Empty>
     requires proper { IsProper ranges.old }
     requires listed { All IsListed rules.now }
     ensures step { IfOk result (IsBoxStep ranges.old ranges.new) }
-    ensures kept { IfOk result (λ changed. changed ≡ false → All (Keeps ranges.old) rules.now) }
+    ensures kept { IfOk result (λ changed. changed ≡ false → All (KeepsBox ranges.old) rules.now) }
     ensures empty { OnErr result (IsVoid ranges.old) }
 {
     let mut changed = false;

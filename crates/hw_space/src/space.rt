@@ -3,7 +3,7 @@ ghost use Rattle.std.specs.Prelude.{◌≡◌, ◌≢◌, ◌↔◌, IsTrue, OnE
 ghost use Rattle.hw_space.specs.Narrowings.{with_refined, with_value, with_min, with_max, with_integer, with_first, with_last, interval_of, mask_of, FitsParam, LeavesNear};
 ghost use Rattle.hw_space.specs.Choices.{IsChoice};
 ghost use Rattle.hw_space.specs.Params.{HasInterval};
-ghost use Rattle.hw_space.specs.Settled.{Configuration, IsExact, IsHeld, Leaves, left_of};
+ghost use Rattle.hw_space.specs.Settled.{Configuration, IsExact, LiesInBox, Leaves, space_left};
 ghost use Rattle.hw_space.specs.Widest.{widest};
 
 use crate::choice::choose;
@@ -49,7 +49,7 @@ impl Space {
         ensures widest { result ≡ widest slave.now.channels slave.now.rate slave.now.ring }
 
         // So refinement leaves something of it.
-        ensures some { (x : Configuration) × IsExact x × IsHeld result x }
+        ensures some { (x : Configuration) × IsExact x × LiesInBox result x }
     {
         Space {
             ranges: widest_ranges(slave),
@@ -62,7 +62,7 @@ impl Space {
     /// `Ok(true)` says that it changed. `Empty` comes exactly where no such space is left, and then the space is as
     /// before. Every configuration that the space held is held still.
     pub fn refine(&mut self) -> Result<bool, Empty>
-        ensures left { Leaves self.old (left_of result self.new) }
+        ensures left { Leaves self.old (space_left result self.new) }
         ensures changed { IfOk result (λ changed. IsTrue changed ↔ (self.new ≢ self.old)) }
         ensures err { OnErr result (self.new ≡ self.old) }
     {
@@ -78,7 +78,7 @@ impl Space {
     /// `Empty` comes exactly where no space is left, and then the space is as before.
     pub fn set(&mut self, param: Param, value: u32) -> Result<(), Empty>
         requires { FitsParam param value }
-        ensures left { Leaves (with_value self.old param value) (left_of result self.new) }
+        ensures left { Leaves (with_value self.old param value) (space_left result self.new) }
         ensures err { OnErr result (self.new ≡ self.old) }
     {
         let mut ranges = self.ranges;
@@ -92,7 +92,7 @@ impl Space {
     /// `Empty` comes exactly where no space is left, and then the space is as before.
     pub fn set_min(&mut self, param: Param, value: u32) -> Result<(), Empty>
         requires { HasInterval param }
-        ensures left { Leaves (with_min self.old param value) (left_of result self.new) }
+        ensures left { Leaves (with_min self.old param value) (space_left result self.new) }
         ensures err { OnErr result (self.new ≡ self.old) }
     {
         self.narrow(param.quantity(), &at_least(value))
@@ -103,7 +103,7 @@ impl Space {
     /// `Empty` comes exactly where no space is left, and then the space is as before.
     pub fn set_max(&mut self, param: Param, value: u32) -> Result<(), Empty>
         requires { HasInterval param }
-        ensures left { Leaves (with_max self.old param value) (left_of result self.new) }
+        ensures left { Leaves (with_max self.old param value) (space_left result self.new) }
         ensures err { OnErr result (self.new ≡ self.old) }
     {
         self.narrow(param.quantity(), &at_most(value))
@@ -114,7 +114,7 @@ impl Space {
     /// `Empty` comes exactly where no space is left, and then the space is as before.
     pub fn set_integer(&mut self, param: Param) -> Result<(), Empty>
         requires { HasInterval param }
-        ensures left { Leaves (with_integer self.old param) (left_of result self.new) }
+        ensures left { Leaves (with_integer self.old param) (space_left result self.new) }
         ensures err { OnErr result (self.new ≡ self.old) }
     {
         self.narrow(param.quantity(), &whole_numbers())
@@ -126,7 +126,7 @@ impl Space {
     /// `Empty` comes exactly where no space is left, and then the space is as before.
     pub fn set_first(&mut self, param: Param) -> Result<(), Empty>
         requires { HasInterval param }
-        ensures left { Leaves (with_first self.old param) (left_of result self.new) }
+        ensures left { Leaves (with_first self.old param) (space_left result self.new) }
         ensures err { OnErr result (self.new ≡ self.old) }
     {
         let quantity = param.quantity();
@@ -140,7 +140,7 @@ impl Space {
     /// `Empty` comes exactly where no space is left, and then the space is as before.
     pub fn set_last(&mut self, param: Param) -> Result<(), Empty>
         requires { HasInterval param }
-        ensures left { Leaves (with_last self.old param) (left_of result self.new) }
+        ensures left { Leaves (with_last self.old param) (space_left result self.new) }
         ensures err { OnErr result (self.new ≡ self.old) }
     {
         let quantity = param.quantity();
@@ -159,7 +159,7 @@ impl Space {
     /// `Empty` comes exactly where both tries leave nothing, or the last narrowing does. Then the space is as before.
     pub fn set_near(&mut self, param: Param, value: u32) -> Result<(), Empty>
         requires { HasInterval param }
-        ensures near { LeavesNear self.old param value (left_of result self.new) }
+        ensures near { LeavesNear self.old param value (space_left result self.new) }
         ensures err { OnErr result (self.new ≡ self.old) }
     {
         let mut ranges = self.ranges;
@@ -202,7 +202,7 @@ impl Space {
 
     /// Narrows one quantity to what it has in common with an interval, and refines.
     fn narrow(&mut self, quantity: Quantity, other: &Interval) -> Result<(), Empty>
-        ensures left { Leaves (with_refined self.old quantity other.now) (left_of result self.new) }
+        ensures left { Leaves (with_refined self.old quantity other.now) (space_left result self.new) }
         ensures err { OnErr result (self.new ≡ self.old) }
     {
         let mut ranges = self.ranges;

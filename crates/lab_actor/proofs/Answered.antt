@@ -22,8 +22,8 @@ use Rattle.lab_run.specs.Client.{ended_by, stretch_of}
 use Rattle.lab_run.specs.ClientAtPort.{ClientLinesAreParts, ClientLinesWithoutCall, IsClientLine}
 use Rattle.lab_run.specs.Members.{with_member}
 use Rattle.lab_run.specs.PortSteps.{IsAtPort}
-use Rattle.lab_actor.specs.ClientLines.{CanCall, Extends, HasClientAnswered, HasClientCalled, IsReady, ends_stretch}
-use Rattle.lab_actor.proofs.Away.{Extends-still}
+use Rattle.lab_actor.specs.ClientLines.{CanCall, ExtendsStretches, HasClientAnswered, HasClientCalled, IsReady, ends_stretch}
+use Rattle.lab_actor.proofs.Away.{ExtendsStretches-still}
 
 -- a line that is refused and changes nothing ends no stretch
 no_end : (asked : Op) (e : PcmError) (c : PlaybackStream) → ended_by asked (Failed e) c c ≡ []
@@ -64,8 +64,8 @@ module _ {S T : Type 0} (P : mixport.Ghosts S) (composes : Composes P.laid) (lef
         subst (λ (segments : List Segment). IsClientLine P left by_gate first ring from t phase wav number before (record { own = Some (with_member number c.stream); ended = ended }) asked (record { own = Some (with_member number c.stream); ended = segments }) answer)
         (sym (ap (λ (more : List Segment). ended ++ more) none ∙ append-nil ended)) (line phase number ended first ring from before at);
     ready = subst (λ (p : S). IsReady P wav p c) (sym same) ready;
-    extends = subst (λ (ended : List Segment). Extends P wav.samples s.0 t.0 c.stream c.stream ended) (sym none)
-        (subst (λ (p : S). Extends P wav.samples s.0 p c.stream c.stream []) (sym same) (Extends-still P composes s.0 c.stream c.stream wav.samples [] refl refl refl));
+    extends = subst (λ (ended : List Segment). ExtendsStretches P wav.samples s.0 t.0 c.stream c.stream ended) (sym none)
+        (subst (λ (p : S). ExtendsStretches P wav.samples s.0 p c.stream c.stream []) (sym same) (ExtendsStretches-still P composes s.0 c.stream c.stream wav.samples [] refl refl refl));
   }
 
   -- a line of a client that was stopped

@@ -19,7 +19,7 @@ use Rattle.dmix_client.specs.Calls.{segment_of}
 use Rattle.dmix_client.specs.Expansion.{run_entries, sample_at}
 use Rattle.dmix_client.specs.Growth.{Grows, Loses, segment_entries}
 use Rattle.lab_run.specs.Client.{stretch_of}
-use Rattle.lab_actor.specs.ClientLines.{Extends, entries_by, stretches_entries}
+use Rattle.lab_actor.specs.ClientLines.{ExtendsStretches, entries_by, stretches_entries}
 use Rattle.lab_actor.proofs.Adds.{AreAdds-suffix, segment-adds}
 
 -- a stretch in which nothing was placed has no entries
@@ -50,9 +50,9 @@ same-entries c d samples (segment ∷ segments) member bindings =
 
 module _ {S : Type 0} (P : mixport.Ghosts S) (composes : Composes P.laid) where
   -- nothing was placed, and the entries are the same
-  pub Extends-still : (p : S) (c d : PlaybackStream) (samples : List ℤ) (ended : List Segment) → segment_entries c samples ≡ stretches_entries d samples ended
-      → d.identity.member ≡ c.identity.member → d.setup.bindings ≡ c.setup.bindings → Extends P samples p p c d ended
-  Extends-still p c d samples ended same member bindings = record {
+  pub ExtendsStretches-still : (p : S) (c d : PlaybackStream) (samples : List ℤ) (ended : List Segment) → segment_entries c samples ≡ stretches_entries d samples ended
+      → d.identity.member ≡ c.identity.member → d.setup.bindings ≡ c.setup.bindings → ExtendsStretches P samples p p c d ended
+  ExtendsStretches-still p c d samples ended same member bindings = record {
     away = record {
       entries = [];
       laid_them = composes.none p;
@@ -65,10 +65,10 @@ module _ {S : Type 0} (P : mixport.Ghosts S) (composes : Composes P.laid) where
   }
 
   -- a segment grew by what was placed
-  pub Extends-grows : (p q : S) (c d : PlaybackStream) (samples : List ℤ)
+  pub ExtendsStretches-grows : (p q : S) (c d : PlaybackStream) (samples : List ℤ)
       → ((p q : S) (xs es : List Entry) → AreAdds es → P.laid p q es → P.ends_in p xs → P.ends_in q (xs ++ es))
-      → Grows P.laid p q c d samples → Extends P samples p q c d []
-  Extends-grows p q c d samples held_laid w =
+      → Grows P.laid p q c d samples → ExtendsStretches P samples p q c d []
+  ExtendsStretches-grows p q c d samples held_laid w =
       let adds : AreAdds w.entries = AreAdds-suffix (segment_entries c samples) w.entries (subst AreAdds w.grown (segment-adds d samples)) in
       let more : (early : List Entry) → (early ++ segment_entries c samples) ++ w.entries ≡ early ++ segment_entries d samples =
       λ early. append_assoc early (segment_entries c samples) w.entries ∙ ap (λ (es : List Entry). early ++ es) (sym w.grown) in
@@ -86,13 +86,13 @@ module _ {S : Type 0} (P : mixport.Ghosts S) (composes : Composes P.laid) where
       }
 
   -- a segment lost what was withdrawn
-  pub Extends-back : (p q : S) (c d : PlaybackStream) (samples : List ℤ) → Loses P.laid P.ends_in p q c d samples → Extends P samples p q c d []
-  Extends-back p q c d samples loses = record { away = loses.away; same_member = loses.same_member; same_bindings = loses.same_bindings }
+  pub ExtendsStretches-back : (p q : S) (c d : PlaybackStream) (samples : List ℤ) → Loses P.laid P.ends_in p q c d samples → ExtendsStretches P samples p q c d []
+  ExtendsStretches-back p q c d samples loses = record { away = loses.away; same_member = loses.same_member; same_bindings = loses.same_bindings }
 
   -- one after the other
-  pub Extends-joined : (p q r : S) (c d e : PlaybackStream) (samples : List ℤ) (ended others : List Segment) → Extends P samples p q c d ended → Extends P samples q r d e others
-      → Extends P samples p r c e (ended ++ others)
-  Extends-joined p q r c d e samples ended others first later =
+  pub ExtendsStretches-joined : (p q r : S) (c d e : PlaybackStream) (samples : List ℤ) (ended others : List Segment) → ExtendsStretches P samples p q c d ended → ExtendsStretches P samples q r d e others
+      → ExtendsStretches P samples p r c e (ended ++ others)
+  ExtendsStretches-joined p q r c d e samples ended others first later =
       let one = first.away in
       let two = later.away in
       let old : List Entry = flat_map (entries_by d samples) ended in

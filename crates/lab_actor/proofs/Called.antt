@@ -33,8 +33,8 @@ use Rattle.lab_report.specs.declared.row.Answer.{Answer}
 use Rattle.lab_report.specs.declared.row.Answer.TheVariants.{Done, Failed}
 use Rattle.lab_run.specs.Client.{call_answer, done_answer, ended_by, frames_of, reported_error, stretch_of}
 use Rattle.lab_run.specs.ClientAtPort.{IsOffered, made_call}
-use Rattle.lab_actor.specs.ClientLines.{Extends, HasClientCalled, IsReady, entries_by}
-use Rattle.lab_actor.proofs.Away.{Extends-back, Extends-grows, Extends-joined, Extends-still, stretch-entries}
+use Rattle.lab_actor.specs.ClientLines.{ExtendsStretches, HasClientCalled, IsReady, entries_by}
+use Rattle.lab_actor.proofs.Away.{ExtendsStretches-back, ExtendsStretches-grows, ExtendsStretches-joined, ExtendsStretches-still, stretch-entries}
 
 module _ {S T : Type 0} (P : mixport.Ghosts S) (G : gates.Ghosts T) (composes : Composes P.laid)
     (held_laid : (p q : S) (xs es : List Entry) → AreAdds es → P.laid p q es → P.ends_in p xs → P.ends_in q (xs ++ es))
@@ -61,8 +61,8 @@ module _ {S T : Type 0} (P : mixport.Ghosts S) (G : gates.Ghosts T) (composes : 
           channels = ap length grows.same_bindings ∙ ready.channels;
           fed = fed;
         };
-        extends = subst (λ (ended : List Segment). Extends P wav.samples s.0 t.0 c.stream d.stream ended) (sym none)
-            (Extends-grows P composes s.0 t.0 c.stream d.stream wav.samples held_laid grows);
+        extends = subst (λ (ended : List Segment). ExtendsStretches P wav.samples s.0 t.0 c.stream d.stream ended) (sym none)
+            (ExtendsStretches-grows P composes s.0 t.0 c.stream d.stream wav.samples held_laid grows);
       }
 
   -- a rewind
@@ -81,7 +81,7 @@ module _ {S T : Type 0} (P : mixport.Ghosts S) (G : gates.Ghosts T) (composes : 
           channels = ap length loses.same_bindings ∙ ready.channels;
           fed = fed;
         };
-        extends = Extends-back P composes s.0 t.0 c.stream d.stream wav.samples loses;
+        extends = ExtendsStretches-back P composes s.0 t.0 c.stream d.stream wav.samples loses;
       }
 
   -- A resume. Where the client isn't paused any more its stretch ended, and its counts were based anew.
@@ -102,8 +102,8 @@ module _ {S T : Type 0} (P : mixport.Ghosts S) (G : gates.Ghosts T) (composes : 
           let since : Keeps P G s t base d result AnySamples = subst (λ (b : PlaybackStream). Keeps P G s t (record { stream = b; ring = c.ring }) d result AnySamples) base_is keeps in
           let backed : IsBacked P.ends_in s.0 base wav.samples = IsBacked-rebased P G s.0 c.stream c.ring wav.samples ends_in_part sound (in_pause c.stream.status.state _ is) ready.backed in
           let grows = since.grows wav.samples backed.stands tt in
-          let ends : Extends P wav.samples s.0 s.0 c.stream base.stream (stretch_of c.stream) =
-          Extends-still P composes s.0 c.stream base.stream wav.samples (stretch_of c.stream)
+          let ends : ExtendsStretches P wav.samples s.0 s.0 c.stream base.stream (stretch_of c.stream) =
+          ExtendsStretches-still P composes s.0 c.stream base.stream wav.samples (stretch_of c.stream)
           (sym (append-nil (flat_map (entries_by c.stream wav.samples) (stretch_of c.stream)) ∙ stretch-entries c.stream wav.samples)) refl refl in
           record {
             samples = [];
@@ -115,9 +115,9 @@ module _ {S T : Type 0} (P : mixport.Ghosts S) (G : gates.Ghosts T) (composes : 
               channels = ap length grows.same_bindings ∙ ready.channels;
               fed = fed;
             };
-            extends = subst (λ (ended : List Segment). Extends P wav.samples s.0 t.0 c.stream d.stream ended) (append-nil (stretch_of c.stream) ∙ sym ended_is)
-                (Extends-joined P composes s.0 s.0 t.0 c.stream base.stream d.stream wav.samples (stretch_of c.stream) [] ends
-                (Extends-grows P composes s.0 t.0 base.stream d.stream wav.samples held_laid grows));
+            extends = subst (λ (ended : List Segment). ExtendsStretches P wav.samples s.0 t.0 c.stream d.stream ended) (append-nil (stretch_of c.stream) ∙ sym ended_is)
+                (ExtendsStretches-joined P composes s.0 s.0 t.0 c.stream base.stream d.stream wav.samples (stretch_of c.stream) [] ends
+                (ExtendsStretches-grows P composes s.0 t.0 base.stream d.stream wav.samples held_laid grows));
           }
       by_test false is =
           let base_is : base_of c.stream d.stream ≡ c.stream = ap (λ (test : Bool). if test then with_new_base c.stream else c.stream) is in
@@ -175,8 +175,8 @@ module _ {S T : Type 0} (P : mixport.Ghosts S) (G : gates.Ghosts T) (composes : 
     offered = offered;
     takes = takes;
     ready = ready;
-    extends = subst (λ (ended : List Segment). Extends P wav.samples s.0 s.0 c.stream c.stream ended) (sym none)
-        (Extends-still P composes s.0 c.stream c.stream wav.samples [] refl refl refl);
+    extends = subst (λ (ended : List Segment). ExtendsStretches P wav.samples s.0 s.0 c.stream c.stream ended) (sym none)
+        (ExtendsStretches-still P composes s.0 c.stream c.stream wav.samples [] refl refl refl);
   }
 
   pub called-drop : (s : S × T) (wav : Sound) (c d : ClientView) (answer : Answer) (result : Result (Unit {0}) PcmError) → IsReady P wav s.0 c
@@ -197,7 +197,7 @@ module _ {S T : Type 0} (P : mixport.Ghosts S) (G : gates.Ghosts T) (composes : 
         offered = tt;
         takes = takes;
         ready = ready_now;
-        extends = Extends-still P composes s.0 c.stream d.stream wav.samples [] same member bindings;
+        extends = ExtendsStretches-still P composes s.0 c.stream d.stream wav.samples [] same member bindings;
       }
 
       by_refusal : (refusal : Option PcmError) → refusal_of Playback c.stream.status call.Drop ≡ refusal → HasClientCalled P G s s wav c d op.Drop answer
@@ -222,26 +222,26 @@ module _ {S T : Type 0} (P : mixport.Ghosts S) (G : gates.Ghosts T) (composes : 
           (λ e found. let r = refused e found in (r.0, ap (λ (v : ClientView). v.stream) r.1)) (λ found. let r = prepares found in (r.0, ap (λ (v : ClientView). v.stream) r.1))) is
 
       called : (e : PlaybackStream) (ring : List ℤ) (a : Answer) → d ≡ record { stream = e; ring = ring } → answer ≡ a → IsReady P wav s.0 (record { stream = e; ring = ring })
-          → Extends P wav.samples s.0 s.0 c.stream e (ended_by op.Prepare a c.stream e) → HasClientCalled P G s s wav c d op.Prepare answer
+          → ExtendsStretches P wav.samples s.0 s.0 c.stream e (ended_by op.Prepare a c.stream e) → HasClientCalled P G s s wav c d op.Prepare answer
       called e ring a d_is a_is ready_now extends = record {
         samples = [];
         offered = tt;
         takes = takes;
         ready = subst (IsReady P wav s.0) (sym d_is) ready_now;
-        extends = subst (λ (v : ClientView). Extends P wav.samples s.0 s.0 c.stream v.stream (ended_by op.Prepare answer c.stream v.stream)) (sym d_is)
-            (subst (λ (x : Answer). Extends P wav.samples s.0 s.0 c.stream e (ended_by op.Prepare x c.stream e)) (sym a_is) extends);
+        extends = subst (λ (v : ClientView). ExtendsStretches P wav.samples s.0 s.0 c.stream v.stream (ended_by op.Prepare answer c.stream v.stream)) (sym d_is)
+            (subst (λ (x : Answer). ExtendsStretches P wav.samples s.0 s.0 c.stream e (ended_by op.Prepare x c.stream e)) (sym a_is) extends);
       }
 
       by_refusal : (refusal : Option PcmError) → refusal_of Playback c.stream.status call.Prepare ≡ refusal → HasClientCalled P G s s wav c d op.Prepare answer
       by_refusal None found =
           let r = prepares found in
           called (after_prepare c.stream) c.ring Done r.1 (is ∙ ap done_answer r.0) (IsReady-prepared wav s.0 c ready)
-          (Extends-still P composes s.0 c.stream (after_prepare c.stream) wav.samples (stretch_of c.stream)
+          (ExtendsStretches-still P composes s.0 c.stream (after_prepare c.stream) wav.samples (stretch_of c.stream)
           (sym (append-nil (flat_map (entries_by c.stream wav.samples) (stretch_of c.stream)) ∙ stretch-entries c.stream wav.samples)) refl refl)
       by_refusal (Some e) found =
           let r = refused e found in
           called c.stream c.ring (Failed (reported_error e)) r.1 (is ∙ ap done_answer r.0) ready
-          (Extends-still P composes s.0 c.stream c.stream wav.samples [] refl refl refl)
+          (ExtendsStretches-still P composes s.0 c.stream c.stream wav.samples [] refl refl refl)
 
   -- A pause. It begins with the counts that the client has.
   pub called-pause : {X : Type 0} (s t : S × T) (wav : Sound) (c d : ClientView) (answer : Answer) (result : Result X PcmError) → IsReady P wav s.0 c

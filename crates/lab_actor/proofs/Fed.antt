@@ -21,7 +21,7 @@ use Rattle.dmix_client.specs.declared.commit.Commit.{Commit}
 use Rattle.dmix_client.specs.declared.stream.PlaybackStream.{PlaybackStream}
 use Rattle.dmix_client.specs.Calls.{Answered, accepted_if, committed_by, in_draining, found_at, going_on, going_on_by, has_frames, is_running, is_stop, late_at, late_of, pending_of, with_new_base, after_resume, seen_at, with_outcome, after_start, started_in, stopped_in, after_sync, taken_of, with_number, written_after}
 use Rattle.dmix_client.specs.Course.{if_admitted, admitted_by, drain_course, drain_on, drains, fills, number_course, course_with_number, pause_course, resumes, start_course, starts, starts_taking, sync_course, syncs, takes_more, write_course, write_on, writes_on}
-use Rattle.dmix_client.specs.Rewind.{back_of, back_on, checks, last_channel, last_laid, left_of, rewind_course, rewind_on, rewindable_course, rewindable_of, rewinds, after_rewind, take_frames, taken_back, takes_back, without_frames}
+use Rattle.dmix_client.specs.Rewind.{back_of, back_on, checks, last_channel, last_laid, rewind_left, rewind_course, rewind_on, rewindable_course, rewindable_of, rewinds, after_rewind, take_frames, taken_back, takes_back, without_frames}
 use Rattle.dmix_client.specs.View.{IsSoundClient, avail_of}
 use Rattle.dmix_client.specs.Writes.{frames_in, starts_with}
 use Rattle.lab_actor.proofs.Gives.{Gives, Gives-behind, Gives-then, Gives-weaker}
@@ -186,8 +186,8 @@ rewindable-fed c floor = admitted-gives c call.Transfer _ (IsSame c.fed) (by_cou
 abbrev commit_of : ℕ → ℕ → Ended → Commit
 commit_of frames part ended = record { frames = frames; part = part; ended = ended }
 
-left_of-few : (n left channels : ℕ) (ended : Ended) → (left_of n left channels ended).frames ≤ suc n
-left_of-few n left channels ended = by_bool (nat_eq left channels)
+rewind_left-few : (n left channels : ℕ) (ended : Ended) → (rewind_left n left channels ended).frames ≤ suc n
+rewind_left-few n left channels ended = by_bool (nat_eq left channels)
   where
     by_bool : (test : Bool) → (if test then commit_of (n + 1) 0 ended else commit_of n left ended).frames ≤ suc n
     by_bool true = omega arith
@@ -195,8 +195,8 @@ left_of-few n left channels ended = by_bool (nat_eq left channels)
 
 back_on-few : (end : ℕ × Ended) (n channels : ℕ) (rest : Course Commit) → Gives (λ (left : Commit). left.frames ≤ n) rest → Gives (λ (left : Commit). left.frames ≤ suc n) (back_on end n channels rest)
 back_on-few (left, Whole) n channels rest gives = Gives-weaker (λ (x : Commit). x.frames ≤ n) (λ (x : Commit). x.frames ≤ suc n) rest (λ x few. omega (arith, few)) gives
-back_on-few (left, Late word) n channels rest gives = left_of-few n left channels (Late word)
-back_on-few (left, Stopped) n channels rest gives = left_of-few n left channels Stopped
+back_on-few (left, Late word) n channels rest gives = rewind_left-few n left channels (Late word)
+back_on-few (left, Stopped) n channels rest gives = rewind_left-few n left channels Stopped
 
 take_frames-few : (member card : ℕ) (bindings : List ℕ) (samples : ℕ → ℕ → ℤ) (first n : ℕ) → Gives (λ (left : Commit). left.frames ≤ n) (take_frames member card bindings samples first n)
 unfolding take_frames

@@ -23,10 +23,10 @@ use Rattle.lab_run.specs.Phases.{ops_by}
 use Rattle.lab_run.specs.PortSteps.{IsAtPort}
 use Rattle.lab_actor.specs.declared.client.ClientActor.{ClientActor}
 use Rattle.dmix_client.specs.View.{ClientView}
-use Rattle.lab_actor.specs.ClientLines.{Extends}
+use Rattle.lab_actor.specs.ClientLines.{ExtendsStretches}
 use Rattle.lab_actor.specs.ClientPart.{ClientLine, ClientPart, HasClientDone, client_of}
 use Rattle.lab_actor.specs.Room.{GrowsBy, HasSpace, asked_by}
-use Rattle.lab_actor.proofs.Away.{Extends-joined, Extends-still}
+use Rattle.lab_actor.proofs.Away.{ExtendsStretches-joined, ExtendsStretches-still}
 
 -- the lines of an actor among the first of a phase's
 ops_by-append : (mine : Actor → Bool) (xs ys : List Line) → ops_by mine (xs ++ ys) ≡ ops_by mine xs ++ ops_by mine ys
@@ -75,7 +75,7 @@ module _ {S T : Type 0} (P : mixport.Ghosts S) (composes : Composes P.laid) (lef
     part = λ first ring from before at. record { doing = before; done = (refl, refl); at = at };
     ended = [];
     ended_are = sym (append-nil a.ended.items);
-    extends = Extends-still P composes s.0 a.client.stream a.client.stream wav.samples [] refl refl refl;
+    extends = ExtendsStretches-still P composes s.0 a.client.stream a.client.stream wav.samples [] refl refl refl;
     same = refl;
   }
 
@@ -103,7 +103,7 @@ module _ {S T : Type 0} (P : mixport.Ghosts S) (composes : Composes P.laid) (lef
             };
         ended = one.ended ++ line.ended;
         ended_are = line.ended_are ∙ ap (λ (segments : List Segment). segments ++ line.ended) one.ended_are ∙ append_assoc a.ended.items one.ended line.ended;
-        extends = Extends-joined P composes s.0 t.0 u.0 a.client.stream x.client.stream b.client.stream wav.samples one.ended line.ended one.extends line.extends;
+        extends = ExtendsStretches-joined P composes s.0 t.0 u.0 a.client.stream x.client.stream b.client.stream wav.samples one.ended line.ended one.extends line.extends;
         same = line.same ∙ one.same;
       }
 
@@ -143,7 +143,7 @@ ClientPart-shared P left by_gate other_left by_other p q g h k m phase wav a b c
           });
       ended = part.ended;
       ended_are = ended ∙ part.ended_are;
-      extends = subst (λ (v : ClientView). Extends P wav.samples p q a.client.stream v.stream part.ended) (sym client) part.extends;
+      extends = subst (λ (v : ClientView). ExtendsStretches P wav.samples p q a.client.stream v.stream part.ended) (sym client) part.extends;
       same = number ∙ part.same;
     }
 

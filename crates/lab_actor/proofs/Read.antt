@@ -14,7 +14,7 @@ use Rattle.snd_base.specs.Relations.{Composes}
 use Rattle.mix_core.specs.declared.gate.Gate as gates
 use Rattle.snoop_core.specs.declared.port.Frame.{Frame}
 use Rattle.snoop_core.specs.declared.port.SnoopPort as snoopport
-use Rattle.snoop_core.specs.Port.{frame_if, frame_of}
+use Rattle.snoop_core.specs.Port.{frame_if, numbered_frame}
 use Rattle.course.specs.AtSnoopPort.{GetsAtSnoop, LoadsAtSnoop, NoLay, TakesAtSnoop}
 use Rattle.course.specs.Course.{Course, ends}
 use Rattle.course.specs.CourseLaws.{Takes-keeps_getting, Takes-map}
@@ -159,7 +159,7 @@ module _ {S T : Type 0} (P : snoopport.Ghosts S) (G : gates.Ghosts T) (composes 
       (λ a. ([], composes.none a.0))
       (λ a b c one two. (one.0 ++ two.0, composes.joined a.0 b.0 c.0 one.0 two.0 one.1 two.1))
       (λ a b load step. ([], step.got_nothing))
-      (λ a b number got step. (frame_if got (frame_of number step.0), step.1.got_it))
+      (λ a b number got step. (frame_if got (numbered_frame number step.0), step.1.got_it))
       s t m y takes
 
   -- a call that reads no frame

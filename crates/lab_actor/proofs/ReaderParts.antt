@@ -33,7 +33,7 @@ use Rattle.lab_actor.specs.declared.reader.ReaderActor.{ReaderActor}
 use Rattle.lab_actor.specs.FrameRuns.{frames_of_runs}
 use Rattle.lab_actor.specs.ReaderLines.{AreSamples, HasReaderAnswered, HasSameSetup}
 use Rattle.lab_actor.specs.Progress.{Progress-joined, Progress-most, SeesAtMost}
-use Rattle.lab_actor.specs.ReaderPart.{Appends, HasReaderDone, HasGot, HasRowsFor, IsSameReader, ReaderLine, ReaderPart, TakesRow, channels_of, reader_of}
+use Rattle.lab_actor.specs.ReaderPart.{AppendsFrames, HasReaderDone, HasGot, HasRowsFor, IsSameReader, ReaderLine, ReaderPart, TakesRow, channels_of, reader_of}
 use Rattle.lab_actor.specs.Room.{HasSpace, asked_by, frames_wanted, most_wanted, spare_frames, wanted_by}
 use Rattle.lab_actor.proofs.Parts.{other-line, own-line}
 use Rattle.lab_actor.proofs.Read.{HasLoaded-joined, HasLoaded-none, frames_by-count, length-through}
@@ -232,8 +232,8 @@ module _ {S : Type 0} (P : snoopport.Ghosts S) (composes : Composes P.got) where
             ∙ sym (flat_map-append (λ (frame : Frame). bound_samples r.setup.bindings frame.samples) one.frames two.frames);
       }
 
-  pub Appends-none : (p : S) (a : ReaderActor) → Appends P p p a a
-  Appends-none p a = record {
+  pub AppendsFrames-none : (p : S) (a : ReaderActor) → AppendsFrames P p p a a
+  AppendsFrames-none p a = record {
     numbers = [];
     numbers_are = sym (append-nil (frames_of_runs a.frames.runs));
     more = [];
@@ -249,8 +249,8 @@ module _ {S : Type 0} (P : snoopport.Ghosts S) (composes : Composes P.got) where
     };
   }
 
-  pub Appends-joined : (p q s : S) (a x b : ReaderActor) → IsSameReader a x → Appends P p q a x → Appends P q s x b → Appends P p s a b
-  Appends-joined p q s a x b same one two = record {
+  pub AppendsFrames-joined : (p q s : S) (a x b : ReaderActor) → IsSameReader a x → AppendsFrames P p q a x → AppendsFrames P q s x b → AppendsFrames P p s a b
+  AppendsFrames-joined p q s a x b same one two = record {
     numbers = one.numbers ++ two.numbers;
     numbers_are = two.numbers_are ∙ ap (λ (frames : List ℕ). frames ++ two.numbers) one.numbers_are ∙ append_assoc (frames_of_runs a.frames.runs) one.numbers two.numbers;
     more = one.more ++ two.more;
@@ -265,7 +265,7 @@ module _ {S T : Type 0} (P : snoopport.Ghosts S) (composes : Composes P.got) (lo
     rows_are = sym (append-nil a.rows.items);
     part = λ most first ring before at. record { doing = before; done = (refl, refl); at = at };
     loaded = HasLoaded-none P loading s.0;
-    appends = Appends-none P composes s.0 a;
+    appends = AppendsFrames-none P composes s.0 a;
     same = IsSameActor-none a;
   }
 
@@ -294,7 +294,7 @@ module _ {S T : Type 0} (P : snoopport.Ghosts S) (composes : Composes P.got) (lo
               at = l.at;
             };
         loaded = HasLoaded-joined P loading s.0 t.0 u.0 one.loaded line.loaded;
-        appends = Appends-joined P composes s.0 t.0 u.0 a x b one.same one.appends line.appends;
+        appends = AppendsFrames-joined P composes s.0 t.0 u.0 a x b one.same one.appends line.appends;
         same = IsSameActor-joined a x b one.same line.same;
       }
 

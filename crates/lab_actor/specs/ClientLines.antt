@@ -43,7 +43,7 @@ stretches_entries c samples ended =
 
 -- A client kept its member and its bindings, and at the end of the standing adds of its port its stretches took the place of the one
 -- that it had.
-pub record Extends {S : Type 0} (P : mixport.Ghosts S) (samples : List ℤ) (p q : S)
+pub record ExtendsStretches {S : Type 0} (P : mixport.Ghosts S) (samples : List ℤ) (p q : S)
     (c d : PlaybackStream) (ended : List Segment) : Type 0 where
   pub away : TakesAway P.laid P.ends_in p q (segment_entries c samples)
       (stretches_entries d samples ended)
@@ -58,7 +58,7 @@ pub record HasClientCalled {S T : Type 0} (P : mixport.Ghosts S) (G : gates.Ghos
   pub takes : TakesAt P G s (made_call c.ring samples (P.view s.0).marks c.stream asked)
       t (d.stream, answer)
   pub ready : IsReady P wav t.0 d
-  pub extends : Extends P wav.samples s.0 t.0 c.stream d.stream
+  pub extends : ExtendsStretches P wav.samples s.0 t.0 c.stream d.stream
       (ended_by asked answer c.stream d.stream)
 
 -- a line makes a call: its client or reader isn't stopped, and it is no `die`
@@ -83,7 +83,7 @@ pub record HasClientAnswered {S T : Type 0} (P : mixport.Ghosts S) (left : T →
         ended = ended ++ ended_by asked answer c.stream d.stream;
       }) answer
   pub ready : IsReady P wav t.0 d
-  pub extends : Extends P wav.samples s.0 t.0 c.stream d.stream
+  pub extends : ExtendsStretches P wav.samples s.0 t.0 c.stream d.stream
       (ended_by asked answer c.stream d.stream)
 
 -- a line ends a stretch: a prepare that was done, and a resume after which a client that was paused isn't

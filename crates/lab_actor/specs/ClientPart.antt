@@ -13,7 +13,7 @@ use Rattle.lab_run.specs.ClientAtPort.{IsClientLine}
 use Rattle.lab_run.specs.Members.{with_member}
 use Rattle.lab_run.specs.PortSteps.{IsAtPort}
 use Rattle.lab_actor.specs.declared.client.ClientActor.{ClientActor}
-use Rattle.lab_actor.specs.ClientLines.{Extends}
+use Rattle.lab_actor.specs.ClientLines.{ExtendsStretches}
 
 -- the client of an actor, as a run has it
 abbrev pub client_of : ClientActor → Client
@@ -46,7 +46,7 @@ pub record ClientLine {S T : Type 0} (P : mixport.Ghosts S) (left : T → Option
       (client_of a) asked (client_of b) answer
   pub ended : List Segment
   pub ended_are : b.ended.items ≡ a.ended.items ++ ended
-  pub extends : Extends P wav.samples s.0 t.0 a.client.stream b.client.stream ended
+  pub extends : ExtendsStretches P wav.samples s.0 t.0 a.client.stream b.client.stream ended
   pub same : IsSameClient a b
 
 -- an actor did some lines, likewise
@@ -60,7 +60,7 @@ pub record ClientPart {S T : Type 0} (P : mixport.Ghosts S) (left : T → Option
       (client_of a) ops (client_of b) rows
   pub ended : List Segment
   pub ended_are : b.ended.items ≡ a.ended.items ++ ended
-  pub extends : Extends P wav.samples s.0 t.0 a.client.stream b.client.stream ended
+  pub extends : ExtendsStretches P wav.samples s.0 t.0 a.client.stream b.client.stream ended
   pub same : IsSameClient a b
 
 -- an actor's share of a gate's state: what a `die` lets pass yet, and the stops of its own gate

@@ -61,7 +61,7 @@ pub record HasGot (v w : SnoopView) (a b : ReaderActor) (ops : List Op) : Type 0
   pub progress : Progress count a.reader b.reader v w
 
 -- frames were appended to the runs of an actor, and their samples to its samples
-pub record Appends {S : Type 0} (P : snoopport.Ghosts S) (p q : S)
+pub record AppendsFrames {S : Type 0} (P : snoopport.Ghosts S) (p q : S)
     (a b : ReaderActor) : Type 0 where
   pub numbers : List ℕ
   pub numbers_are : frames_of_runs b.frames.runs ≡ frames_of_runs a.frames.runs ++ numbers
@@ -92,7 +92,7 @@ pub record ReaderLine {S T : Type 0} (P : snoopport.Ghosts S) (left : T → Opti
       → IsReaderLine P left by_gate first ring t phase a.number before (reader_of a)
       asked (reader_of b) answer
   pub loaded : HasLoaded P s.0 t.0
-  pub appends : Appends P s.0 t.0 a b
+  pub appends : AppendsFrames P s.0 t.0 a b
   pub same : IsSameReader a b
 
 -- an actor did some lines, likewise, where its port saw no more frames in them than the card plays
@@ -107,5 +107,5 @@ pub record ReaderPart {S T : Type 0} (P : snoopport.Ghosts S) (left : T → Opti
       → HasReaderDone P left by_gate first ring t phase a.number before (reader_of a)
       ops (reader_of b) rows
   pub loaded : HasLoaded P s.0 t.0
-  pub appends : Appends P s.0 t.0 a b
+  pub appends : AppendsFrames P s.0 t.0 a b
   pub same : IsSameReader a b

@@ -16,7 +16,7 @@ use Rattle.lab_script.specs.declared.line.Op.{Op}
 use Rattle.lab_script.specs.declared.line.Op.TheVariants as op
 use Rattle.lab_script.specs.Ops.{played_by}
 use Rattle.lab_script.specs.Script.{is_unplug}
-use Rattle.card_player.specs.Plays.{HasPlayed, frames_left, is_multiple, periods_to, positions_of, samples_of, seat_of}
+use Rattle.card_player.specs.Plays.{HasPlayed, frames_left, is_multiple, periods_to, positions_of, first_samples, seat_of}
 use Rattle.card_sim.specs.declared.card.Card.{Card}
 use Rattle.card_sim.specs.Runs.{HasCaptured, RunsFrames, RunsThrough, captured_if, period_of, player_of, records_of, writer_of}
 use Rattle.lab_card.specs.declared.card.CardActor.{CardActor}
@@ -58,8 +58,8 @@ run-moves c d n captured old new runs period records captured_size old_size new_
     let left : frames_left (player_of c) old ≡ n = ap (λ (k : ℕ). min (end_frame (geometry_of_card c) - frame_of_card c) k) all ∙ (let e : min (end_frame (geometry_of_card c) - frame_of_card c) n ≡ n = omega (arith, fits) in e) in
     let run : RunsFrames (records_of c) (player_of c) (writer_of c) (player_of d) (writer_of d) (period_of c) n captured old new =
     subst (λ (k : ℕ). RunsFrames (records_of c) (player_of c) (writer_of c) (player_of d) (writer_of d) (period_of c) k captured old new) left runs in
-    let taken : samples_of (player_of c) n new ≡ new = take_all (n * channels) new (omega (arith, new_size)) in
-    let stored : samples_of (player_of c) n captured ≡ captured = take_all (n * channels) captured (omega (arith, captured_size)) in
+    let taken : first_samples (player_of c) n new ≡ new = take_all (n * channels) new (omega (arith, new_size)) in
+    let stored : first_samples (player_of c) n captured ≡ captured = take_all (n * channels) captured (omega (arith, captured_size)) in
     let positions : List ℕ = positions_of (period_of c) (frame_of_card c) n in
     record {
       player = played-moves (seat_of (player_of c)) (seat_of (player_of d)) new positions

@@ -4,7 +4,7 @@ use Rattle.std.proofs.Common.{refl, sym, ap, subst, ◌∙◌}
 use Rattle.snd_base.specs.declared.geometry.Geometry.{Geometry}
 use Rattle.snd_base.specs.declared.places.Cursor.{Cursor}
 use Rattle.snd_base.specs.Places.{first_frame}
-use Rattle.ring_rule.specs.Positions.{last_of}
+use Rattle.ring_rule.specs.Positions.{last_number}
 use Rattle.sum_table.specs.declared.seats.mix.MixSeat.{MixSeat}
 use Rattle.sum_table.specs.declared.view.Key.{Key}
 use Rattle.sum_table.specs.declared.view.Track.{Track}
@@ -65,8 +65,8 @@ Rests-same c d same rests = record {
   captured = subst (λ (t : snoop_track.Track). Each (λ (x : ℕ). x ≤ frame_of_card d) t.published) (sym same.writer.track)
       (subst (λ (n : ℕ). Each (λ (x : ℕ). x ≤ n) (writer_track (writer_of c)).published) (sym (frame-same c d same)) rests.captured);
   position = λ (recorded : records_of d ≡ true).
-      ap (λ (t : snoop_track.Track). last_of (first_frame (geometry_of_card d)) t.published) same.writer.track
-      ∙ (ap (λ (g : Geometry). last_of (first_frame g) (writer_track (writer_of c)).published) (geometry-same c d same)
+      ap (λ (t : snoop_track.Track). last_number (first_frame (geometry_of_card d)) t.published) same.writer.track
+      ∙ (ap (λ (g : Geometry). last_number (first_frame g) (writer_track (writer_of c)).published) (geometry-same c d same)
       ∙ (rests.position (sym same.records ∙ recorded) ∙ sym (frame-same c d same)));
   gone = ap (λ (t : snoop_track.Track). t.gone) same.writer.track ∙ (rests.gone ∙ sym (ap (λ (t : Track). t.gone) same.player.track));
 }

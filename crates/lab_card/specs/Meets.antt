@@ -7,7 +7,7 @@ use Rattle.lap_word.specs.Word.{lap_of}
 use Rattle.mix_core.specs.Sound.{IsNow}
 use Rattle.sum_table.specs.declared.seats.mix.MixSeat.{MixSeat}
 use Rattle.sum_table.specs.declared.seats.player.PlayerSeat.{PlayerSeat}
-use Rattle.sum_table.specs.Exact.{IsPublished}
+use Rattle.sum_table.specs.Exact.{IsPublishedPosition}
 use Rattle.sum_table.specs.Joins.{OneRing}
 use Rattle.sum_table.specs.Players.{next_of_player, player_geometry, player_key, player_ring, track_of}
 use Rattle.sum_table.specs.Seats.{key_of, last_of_seat, marks_of_seat, member_of, places_of_seat, ring_of, seen_of, noted_word, view_of}
@@ -98,7 +98,7 @@ pub record IsSameReader (s t : ReaderSeat) : Type 0 where
 pub record KnowsClient (c : Card) (s : MixSeat) : Type 0 where
   pub seen : seen_of s ≤ frame_of_card c
   pub positions : (i x : ℕ) → get_elem? (view_of s).positions i ≡ some x
-      → IsPublished (player_geometry (seat_of_card c)) (track_of (seat_of_card c)) x
+      → IsPublishedPosition (player_geometry (seat_of_card c)) (track_of (seat_of_card c)) x
   pub noted : (f n x : ℕ)
       → IsNow (player_geometry (seat_of_card c)) (next_of_player (seat_of_card c)) f n
       → noted_word s f n ≡ Some x

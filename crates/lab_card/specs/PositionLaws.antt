@@ -6,8 +6,8 @@ use Rattle.std.proofs.lemmas.Bool.{lt-ltb}
 use Rattle.std.proofs.lemmas.List.{append-nil}
 use Rattle.std.proofs.lemmas.List.Sums.{sum_by-append, sum_by-cons}
 use Rattle.std.proofs.lemmas.List.Elements.{Contains-append_cases, Contains-append_left, Contains-append_right, filter-append}
-use Rattle.ring_rule.specs.Positions.{last_of}
-use Rattle.card_player.specs.PlayLaws.{last_of-append, last_of-positions_of, periods_to-ended}
+use Rattle.ring_rule.specs.Positions.{last_number}
+use Rattle.card_player.specs.PlayLaws.{last_number-append, last_number-positions_of, periods_to-ended}
 use Rattle.card_player.specs.Plays.{ends_period, is_multiple, period_at, periods_to, positions_of}
 use Rattle.lab_script.specs.declared.line.Line.{Line}
 use Rattle.lab_script.specs.declared.line.Op.{Op}
@@ -131,8 +131,8 @@ positions_at-most : (period first : ℕ) (asked : Op) (most : ℕ) → first + p
 positions_at-most period first (op.Play n) most fits = positions_of-most period first n most fits
 positions_at-most period first other most fits = tt
 
-positions_at-last : (period first : ℕ) (asked : Op) → last_of first (positions_at period first asked) ≡ first + played_by asked
-positions_at-last period first (op.Play n) = last_of-positions_of first period first n
+positions_at-last : (period first : ℕ) (asked : Op) → last_number first (positions_at period first asked) ≡ first + played_by asked
+positions_at-last period first (op.Play n) = last_number-positions_of first period first n
 positions_at-last period first other = omega arith
 
 -- no position is past the last frame that is played
@@ -145,10 +145,10 @@ positions_by-most period from (asked ∷ ops) most fits =
     (positions_by-most period (from + played_by asked) ops most (omega (arith, sum, fits)))
 
 -- the last position is that after the last frame that is played
-pub last_of-positions_by : (period from : ℕ) (ops : List Op) → last_of from (positions_by period from ops) ≡ from + frames_by ops
-last_of-positions_by period from [] = omega arith
-last_of-positions_by period from (asked ∷ ops) =
+pub last_number-positions_by : (period from : ℕ) (ops : List Op) → last_number from (positions_by period from ops) ≡ from + frames_by ops
+last_number-positions_by period from [] = omega arith
+last_number-positions_by period from (asked ∷ ops) =
     let sum : frames_by (asked ∷ ops) ≡ played_by asked + frames_by ops = sum_by-cons played_by asked ops in
-    last_of-append from (positions_at period from asked) (positions_by period (from + played_by asked) ops)
-    ∙ (ap (λ (n : ℕ). last_of n (positions_by period (from + played_by asked) ops)) (positions_at-last period from asked)
-    ∙ (last_of-positions_by period (from + played_by asked) ops ∙ (let e : from + played_by asked + frames_by ops ≡ from + frames_by (asked ∷ ops) = omega (arith, sum) in e)))
+    last_number-append from (positions_at period from asked) (positions_by period (from + played_by asked) ops)
+    ∙ (ap (λ (n : ℕ). last_number n (positions_by period (from + played_by asked) ops)) (positions_at-last period from asked)
+    ∙ (last_number-positions_by period (from + played_by asked) ops ∙ (let e : from + played_by asked + frames_by ops ≡ from + frames_by (asked ∷ ops) = omega (arith, sum) in e)))

@@ -3,11 +3,11 @@ use Rattle.std.specs.Prelude.{◌≡◌, ℕ, ◌≤◌, ◌||◌, Bool, true, f
 use Rattle.std.proofs.Common.{sym, ap, subst, ◌∙◌, arith}
 use Rattle.snd_base.specs.Places.{first_frame}
 use Rattle.wav_io.specs.Sound.{Sound}
-use Rattle.ring_rule.specs.Positions.{last_of}
+use Rattle.ring_rule.specs.Positions.{last_number}
 use Rattle.sum_table.specs.declared.view.Key.{Key}
 use Rattle.sum_table.specs.Players.{track_of}
 use Rattle.snoop_table.specs.Writers.{writer_track}
-use Rattle.card_player.specs.PlayLaws.{last_of-append}
+use Rattle.card_player.specs.PlayLaws.{last_number-append}
 use Rattle.card_sim.specs.declared.card.Card.{Card}
 use Rattle.card_sim.specs.Runs.{captured_if, period_of, records_of, writer_of}
 use Rattle.lab_script.specs.declared.line.Op.{Op}
@@ -16,7 +16,7 @@ use Rattle.lab_card.specs.declared.card.CardActor.{CardActor}
 use Rattle.lab_card.specs.CardLines.{CardPart, positions_by, unplugs_by}
 use Rattle.lab_card.specs.Lists.{Each-append, Each-less}
 use Rattle.lab_card.specs.Moves.{frame_of_card, geometry_of_card, is_gone, seat_of_card}
-use Rattle.lab_card.specs.PositionLaws.{last_of-positions_by, positions_by-most}
+use Rattle.lab_card.specs.PositionLaws.{last_number-positions_by, positions_by-most}
 
 -- A card that rests: neither ring has a position that is past the frame that it plays next, which is the snoop ring's position too where it records,
 -- as it is the sum ring's; and the card is gone from both rings or from none.
@@ -24,7 +24,7 @@ pub record Rests (c : Card) : Type 0 where
   pub played : Each (λ (x : ℕ). x ≤ frame_of_card c) (track_of (seat_of_card c)).published
   pub captured : Each (λ (x : ℕ). x ≤ frame_of_card c) (writer_track (writer_of c)).published
   pub position : records_of c ≡ true
-      → last_of (first_frame (geometry_of_card c)) (writer_track (writer_of c)).published
+      → last_number (first_frame (geometry_of_card c)) (writer_track (writer_of c)).published
       ≡ frame_of_card c
   pub gone : (writer_track (writer_of c)).gone ≡ is_gone c
 
@@ -34,7 +34,7 @@ pub Rests-new : (c : Card) → (track_of (seat_of_card c)).published ≡ [] → 
 Rests-new c none_played none_captured first gone = record {
   played = subst (Each (λ (x : ℕ). x ≤ frame_of_card c)) (sym none_played) tt;
   captured = subst (Each (λ (x : ℕ). x ≤ frame_of_card c)) (sym none_captured) tt;
-  position = λ recorded. ap (last_of (first_frame (geometry_of_card c))) none_captured ∙ sym first;
+  position = λ recorded. ap (last_number (first_frame (geometry_of_card c))) none_captured ∙ sym first;
   gone = gone;
 }
 
@@ -65,9 +65,9 @@ Rests-after capture phase a b ops rests part =
           (Each-captured_if (λ (x : ℕ). x ≤ frame_of_card d) (records_of c) positions most));
       position = λ (recorded : records_of d ≡ true).
           let records : records_of c ≡ true = sym moves.records ∙ recorded in
-          ap (λ (n : ℕ). last_of n (writer_track (writer_of d)).published) first
-          ∙ (ap (last_of (first_frame (geometry_of_card c))) (moves.writer.published ∙ ap (λ (b : Bool). (writer_track (writer_of c)).published ++ captured_if b positions) records)
-          ∙ (last_of-append (first_frame (geometry_of_card c)) (writer_track (writer_of c)).published positions
-          ∙ (ap (λ (n : ℕ). last_of n positions) (rests.position records) ∙ (last_of-positions_by period from ops ∙ sym moves.frame))));
+          ap (λ (n : ℕ). last_number n (writer_track (writer_of d)).published) first
+          ∙ (ap (last_number (first_frame (geometry_of_card c))) (moves.writer.published ∙ ap (λ (b : Bool). (writer_track (writer_of c)).published ++ captured_if b positions) records)
+          ∙ (last_number-append (first_frame (geometry_of_card c)) (writer_track (writer_of c)).published positions
+          ∙ (ap (λ (n : ℕ). last_number n positions) (rests.position records) ∙ (last_number-positions_by period from ops ∙ sym moves.frame))));
       gone = moves.writer.gone ∙ (ap (λ (b : Bool). b || unplugs_by ops) rests.gone ∙ sym moves.player.gone);
     }

@@ -6,10 +6,10 @@ use Rattle.snd_base.specs.declared.errors.PcmError.TheVariants.{Invalid}
 use Rattle.snd_base.specs.declared.errors.Why.{Why}
 use Rattle.snd_base.specs.declared.errors.Why.TheVariants.{AvailMinZero, StartRange, StopRange}
 use Rattle.sw_limits.specs.declared.params.SwParams.{SwParams}
-use Rattle.sw_limits.specs.Params.{IsValid, Tells}
+use Rattle.sw_limits.specs.Params.{IsValid, IsVerdict}
 use Rattle.pcm_stream.specs.Setup.{Checks}
 
-valid-why : (why : Why) (p : SwParams) (b : ℕ) → IsValid p b → Tells (Err why) p b → ⊥
+valid-why : (why : Why) (p : SwParams) (b : ℕ) → IsValid p b → IsVerdict (Err why) p b → ⊥
 valid-why AvailMinZero p b valid zero_is = let low = valid.avail_min in omega (arith, low, zero_is)
 valid-why StartRange p b valid defect = defect.1 valid.start
 valid-why StopRange p b valid defect = defect.2 valid.stop

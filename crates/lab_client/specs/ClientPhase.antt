@@ -31,7 +31,7 @@ use Rattle.lab_run.specs.PortSteps.{HasOwnLast, IsAtPort, IsLastSince, MarksAlik
 use Rattle.lab_run.specs.Rules.{AtPort, Rules}
 use Rattle.lab_run.specs.Stage.{new_port}
 use Rattle.lab_actor.specs.declared.client.ClientActor.{ClientActor}
-use Rattle.lab_actor.specs.ClientLines.{Extends, IsReady}
+use Rattle.lab_actor.specs.ClientLines.{ExtendsStretches, IsReady}
 use Rattle.lab_actor.specs.ClientPart.{HasClientDone, client_of, left_in, stops_in}
 use Rattle.lab_actor.specs.Refused.{refused_rows}
 use Rattle.lab_actor.specs.Raised.{ActorPart-lowered, client_is_blind, with_more_stops}
@@ -40,7 +40,7 @@ use Rattle.lab_card.specs.Findings.{CardPhase, client-found, rules_between}
 use Rattle.lab_client.specs.declared.open_client.OpenClient.{OpenClient}
 use Rattle.lab_client.specs.declared.client.LabClient.{LabClient}
 use Rattle.lab_client.specs.Clients.{AllRefused, HasLaidBy, IsAt, IsAtBy, IsCardOf, IsClientHeard, IsClientInformed, IsSameRest, RunsLines, GoesOrRests, client_by, client_in, ended_of, number_of, open_of, rows_by, rows_of}
-use Rattle.lab_client.specs.OpenClients.{HasLaid, HasRun, IsHeard, IsInformed, IsOpenAt, IsSameOpening, stream_of}
+use Rattle.lab_client.specs.OpenClients.{HasLaidPhase, HasRun, IsHeard, IsInformed, IsOpenAt, IsSameOpening, stream_of}
 use Rattle.lab_client.specs.SeatLaws.{IsPlace-same, IsReady-same, IsSameSeat, IsSameSeat-informed, IsSameSeat-same}
 use Rattle.lab_client.specs.SeatPort.{seat_port}
 
@@ -127,17 +127,17 @@ module _ (ring : TableId) (key : Key) (wav : Sound) (last : Option ℕ) (number 
 
 -- ---- what was placed
 
-HasLaid-same : (samples : List ℤ) (x y v w : List Entry) (c d e f : PlaybackStream) (ended : List Segment) → v ≡ x → w ≡ y → e ≡ c → f ≡ d → HasLaid samples x y c d ended
-    → HasLaid samples v w e f ended
-HasLaid-same samples x y v w c d e f ended one two first second laid =
-    subst (λ (s : List Entry). HasLaid samples s w e f ended) (sym one)
-    (subst (λ (t : List Entry). HasLaid samples x t e f ended) (sym two)
-    (subst (λ (m : PlaybackStream). HasLaid samples x y m f ended) (sym first)
-    (subst (λ (n : PlaybackStream). HasLaid samples x y c n ended) (sym second) laid)))
+HasLaidPhase-same : (samples : List ℤ) (x y v w : List Entry) (c d e f : PlaybackStream) (ended : List Segment) → v ≡ x → w ≡ y → e ≡ c → f ≡ d → HasLaidPhase samples x y c d ended
+    → HasLaidPhase samples v w e f ended
+HasLaidPhase-same samples x y v w c d e f ended one two first second laid =
+    subst (λ (s : List Entry). HasLaidPhase samples s w e f ended) (sym one)
+    (subst (λ (t : List Entry). HasLaidPhase samples x t e f ended) (sym two)
+    (subst (λ (m : PlaybackStream). HasLaidPhase samples x y m f ended) (sym first)
+    (subst (λ (n : PlaybackStream). HasLaidPhase samples x y c n ended) (sym second) laid)))
 
-HasLaid-extends : (samples : List ℤ) (s t : MixSeat) (c d : PlaybackStream) (ended : List Segment) → Extends seat_port samples s t c d ended
-    → HasLaid samples (view_of s).laid (view_of t).laid c d ended
-HasLaid-extends samples s t c d ended extends =
+HasLaidPhase-extends : (samples : List ℤ) (s t : MixSeat) (c d : PlaybackStream) (ended : List Segment) → ExtendsStretches seat_port samples s t c d ended
+    → HasLaidPhase samples (view_of s).laid (view_of t).laid c d ended
+HasLaidPhase-extends samples s t c d ended extends =
     let away = extends.away in
     let laid = away.laid_them.laid in
     record {
@@ -241,10 +241,10 @@ module _ {capture : Option Sound} {phase : ℕ} (c : Card) (a b : CardActor) (d 
         rows_are = ap (λ (x : ClientActor). x.rows.items) heard.actor ∙ (run.part.rows_are ∙ ap (λ (x : ClientActor). x.rows.items ++ rows) informed.actor);
         ended = run.part.ended;
         ended_are = ap (λ (x : ClientActor). x.ended.items) heard.actor ∙ (run.part.ended_are ∙ ap (λ (x : ClientActor). x.ended.items ++ run.part.ended) informed.actor);
-        laid = HasLaid-same wav.samples (view_of p.seat).laid (view_of q.seat).laid (view_of o.seat).laid (view_of r.seat).laid (stream_of p) (stream_of q) (stream_of o) (stream_of r)
+        laid = HasLaidPhase-same wav.samples (view_of p.seat).laid (view_of q.seat).laid (view_of o.seat).laid (view_of r.seat).laid (stream_of p) (stream_of q) (stream_of o) (stream_of r)
             run.part.ended (sym informed.seat.laid) (ap (λ (v : View). v.laid) heard.seat.view) (ap (λ (x : ClientActor). x.client.stream) (sym informed.actor))
             (ap (λ (x : ClientActor). x.client.stream) heard.actor)
-            (HasLaid-extends wav.samples p.seat q.seat (stream_of p) (stream_of q) run.part.ended run.part.extends);
+            (HasLaidPhase-extends wav.samples p.seat q.seat (stream_of p) (stream_of q) run.part.ended run.part.extends);
       }
 
   -- a client that isn't open had its lines refused

@@ -22,7 +22,7 @@ use Rattle.lab_card.specs.Meets.{IsClientOf}
 use Rattle.lab_card.specs.Moves.{seat_of_card}
 use Rattle.lab_client.specs.declared.client.LabClient.{LabClient}
 use Rattle.lab_client.specs.declared.open_client.OpenClient.{OpenClient}
-use Rattle.lab_client.specs.OpenClients.{HasLaid, HasRun, IsHeard, IsInformed, IsOpenAt, IsReadyAt, IsSameOpen, stream_of}
+use Rattle.lab_client.specs.OpenClients.{HasLaidPhase, HasRun, IsHeard, IsInformed, IsOpenAt, IsReadyAt, IsSameOpen, stream_of}
 
 abbrev pub number_of : LabClient → ℕ
 number_of d = d.number
@@ -54,9 +54,9 @@ abbrev pub client_in : LabClient → Client
 client_in d = client_by (ended_of d) (open_of d)
 
 -- the same in two parts: its segments but the last one, which is that of its present stretch, or of its last closing
-abbrev pub ended_by : LabClient → Option OpenClient → List Segment
-ended_by d None = d.ended.items
-ended_by d (Some o) = o.actor.ended.items
+abbrev pub ended_segments : LabClient → Option OpenClient → List Segment
+ended_segments d None = d.ended.items
+ended_segments d (Some o) = o.actor.ended.items
 
 abbrev pub last_by : LabClient → Option OpenClient → List Segment
 last_by d None = option_to_list d.last
@@ -139,7 +139,7 @@ pub record IsClientHeard (c : Card) (d e : LabClient) : Type 0 where
 -- what was placed for a client in a phase, in which its segments grew by these
 abbrev pub HasLaidBy : Sound → List Segment → OpenClient → OpenClient → Type 0
 HasLaidBy wav ended o p =
-    HasLaid wav.samples (view_of o.seat).laid (view_of p.seat).laid (stream_of o)
+    HasLaidPhase wav.samples (view_of o.seat).laid (view_of p.seat).laid (stream_of o)
     (stream_of p) ended
 
 -- the same client as before, but for its rows and its room

@@ -83,7 +83,7 @@ pub record IsHeard (c : Card) (o p : OpenClient) : Type 0 where
 
 -- What a seat placed for a client in a phase, by the samples of its file: the client had a stretch there before. At the end of the seat's standing adds
 -- its stretches, those that it ended and then the present one, took the place of that one; and they give each sum as much more as the seat placed.
-pub record HasLaid (samples : List ℤ) (before after : List Entry) (c d : PlaybackStream)
+pub record HasLaidPhase (samples : List ℤ) (before after : List Entry) (c d : PlaybackStream)
     (ended : List Segment) : Type 0 where
   pub totals : (f k : ℕ)
       → total after f k +ℤ total (segment_entries c samples) f k

@@ -27,7 +27,7 @@ use Rattle.lab_client.specs.declared.open_client.OpenClient.{OpenClient}
 use Rattle.lab_client.specs.ClientPhase.{LastsAreOwn}
 use Rattle.lab_client.specs.Clients.{CanRun, IsAt, IsAtBy, client_by, client_in, ended_of, number_of, open_of}
 use Rattle.lab_client.specs.OpenClients.{IsOpenAt, IsReadyAt}
-use Rattle.lab_client.specs.Openings.{HasOpened, IsHigh, IsNew}
+use Rattle.lab_client.specs.Openings.{HasOpened, IsHigh, IsNewlyOpen}
 use Rattle.lab_client.specs.SeatPort.{seat_port}
 
 -- a client that is opened with as many bindings as its file has channels can use its seat
@@ -50,7 +50,7 @@ IsReady-new wav seat setup held one channels = record {
 }
 
 IsReady-opened : (wav : Sound) (seat : MixSeat) (setup : Setup) (position : ℕ) (d : LabClient) (o : OpenClient) → places_of_seat seat ≡ 1 → length setup.bindings ≡ wav.channels
-    → IsNew seat setup position d o → IsReadyAt wav o
+    → IsNewlyOpen seat setup position d o → IsReadyAt wav o
 IsReady-opened wav seat setup position d o one channels new =
     subst (λ (s : MixSeat). IsReady seat_port wav s o.actor.client) (sym new.seat_is)
     (subst (λ (c : PlaybackStream). IsReady seat_port wav seat (record { stream = c; ring = o.actor.client.ring })) (sym new.stream)
@@ -79,7 +79,7 @@ module _ (p : Places) (position : ℕ) (seat : MixSeat) (setup : Setup) (d e : L
       → IsAt (ring_of_places p) (key_of_places p) wav (seats.last_of seat) e (new_port (key_of_places p).geometry stops)
   IsAt-opened wav stops channels = by_open (open_of e) opened.own
     where
-      by_open : (o : Option OpenClient) → IsSomeAnd o (IsNew seat setup position d)
+      by_open : (o : Option OpenClient) → IsSomeAnd o (IsNewlyOpen seat setup position d)
           → IsAtBy (ring_of_places p) (key_of_places p) wav (seats.last_of seat) (number_of e) o (new_port (key_of_places p).geometry stops)
       by_open None never = absurd never
       by_open (Some o) new = record {
@@ -102,7 +102,7 @@ module _ (p : Places) (position : ℕ) (seat : MixSeat) (setup : Setup) (d e : L
   pub client-opened : client_in e ≡ new_client setup (key_of_places p).geometry (number_of d) (client_in d).ended
   client-opened = by_open (open_of e) opened.own
     where
-      by_open : (o : Option OpenClient) → IsSomeAnd o (IsNew seat setup position d)
+      by_open : (o : Option OpenClient) → IsSomeAnd o (IsNewlyOpen seat setup position d)
           → client_by (ended_of e) o ≡ new_client setup (key_of_places p).geometry (number_of d) (client_in d).ended
       by_open None never = absurd never
       by_open (Some o) new =
@@ -116,7 +116,7 @@ pub CanRun-opened : (position : ℕ) (seat : MixSeat) (setup : Setup) (wav : Sou
     → HasOpened seat setup position d e → CanRun wav e
 CanRun-opened position seat setup wav d e one channels opened = by_open (open_of e) opened.own
   where
-    by_open : (o : Option OpenClient) → IsSomeAnd o (IsNew seat setup position d) → IfSome o (IsReadyAt wav)
+    by_open : (o : Option OpenClient) → IsSomeAnd o (IsNewlyOpen seat setup position d) → IfSome o (IsReadyAt wav)
     by_open None never = tt
     by_open (Some o) new = IsReady-opened wav seat setup position d o one channels new
 

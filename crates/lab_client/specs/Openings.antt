@@ -12,7 +12,7 @@ use Rattle.lab_client.specs.Clients.{client_in, number_of, open_of, rows_of}
 use Rattle.lab_client.specs.OpenClients.{stream_of}
 
 -- a client that is opened at a seat and a position: its stream is new, and the segments and rows that it had are its own
-pub record IsNew (seat : MixSeat) (setup : Setup) (position : ℕ) (d : LabClient)
+pub record IsNewlyOpen (seat : MixSeat) (setup : Setup) (position : ℕ) (d : LabClient)
     (o : OpenClient) : Type 0 where
   pub number : o.actor.number ≡ number_of d
   pub stream : stream_of o ≡ opened_client (geometry_of seat) (member_of seat) setup
@@ -31,7 +31,7 @@ IsHigh s = last_of s ≡ high_frame (geometry_of s) (marks_of_seat s)
 pub record HasOpened (seat : MixSeat) (setup : Setup) (position : ℕ)
     (d e : LabClient) : Type 0 where
   pub number : number_of e ≡ number_of d
-  pub own : IsSomeAnd (open_of e) (IsNew seat setup position d)
+  pub own : IsSomeAnd (open_of e) (IsNewlyOpen seat setup position d)
   pub high : IsHigh seat
 
 -- the client of a run that was closed

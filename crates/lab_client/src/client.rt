@@ -45,7 +45,7 @@ impl<'r> LabClient<'r> {
     ghost use Rattle.lab_run.specs.Phases.{is_client, ops_by};
     ghost use Rattle.lab_actor.specs.ClientLines.{IsFew};
     ghost use Rattle.lab_card.specs.Meets.{IsSameCard};
-    ghost use Rattle.lab_client.specs.Clients.{CanRun, HasRoom, IsClientHeard, IsClientInformed, IsOfCard, IsSameBut, RunsLines, client_in, ended_by, ended_of, is_open, last_by, number_of, open_of, rows_of, seen_by};
+    ghost use Rattle.lab_client.specs.Clients.{CanRun, HasRoom, IsClientHeard, IsClientInformed, IsOfCard, IsSameBut, RunsLines, client_in, ended_segments, ended_of, is_open, last_by, number_of, open_of, rows_of, seen_by};
     ghost use Rattle.lab_client.specs.declared.open_client.OpenClient.{OpenClient};
     ghost use Rattle.lab_client.specs.Openings.{HasClosed, HasOpened};
 
@@ -212,7 +212,7 @@ impl<'r> LabClient<'r> {
 
     // The segments of its stretches that ended, but that of its last closing.
     fn ended(&self) -> &[Segment]
-        ensures { result.now ≡ ended_by self.now (open_of self.now) }
+        ensures { result.now ≡ ended_segments self.now (open_of self.now) }
     {
         match &self.own {
             Some(own) => own.actor.ended.as_slice(),

@@ -32,7 +32,7 @@ use Rattle.lab_client.specs.declared.client.LabClient.{LabClient}
 use Rattle.lab_client.specs.declared.open_client.OpenClient.{OpenClient}
 use Rattle.lab_client.specs.Clients.{IsAt, client_by, client_in, ended_of, is_open, number_of, open_of, rows_by}
 use Rattle.lab_client.specs.OpeningLaws.{IsAt-opened, client-opened, new_client}
-use Rattle.lab_client.specs.Openings.{HasOpened, IsNew}
+use Rattle.lab_client.specs.Openings.{HasOpened, IsNewlyOpen}
 use Rattle.lab_clients.specs.declared.clients.LabClients.{LabClients}
 use Rattle.lab_clients.specs.AtStage.{AreAfter, AreAt, IsClientAt, IsReported, IsSetUp, clients_of, holding_by, laid_for, places_of}
 use Rattle.lab_clients.specs.Exchanged.{AreIn-exchanged, AreIn-places, ChangesAt-with_holding, IsClientAt-holding, IsLaidAlike, IsLaidWith, IsReported-exchanged, MovesLaid, with_holding}
@@ -206,17 +206,17 @@ module _ (session : Session) (stage : Stage) (number : ℕ) (setup : Setup) (pos
       (IsAt-opened (places_of cs) position seat setup d e given opened (sound_at session.sounds number) (client_at session stage number).0.by_gate
       (before.at.are.card.setups number setup (sym before.setup_is)).channels)
 
-  holds-it : (o : Option OpenClient) → IsSomeAnd o (IsNew seat setup position d) → Some own-holding ≡ holding_by (last_of seat) o
+  holds-it : (o : Option OpenClient) → IsSomeAnd o (IsNewlyOpen seat setup position d) → Some own-holding ≡ holding_by (last_of seat) o
   holds-it None never = absurd never
   holds-it (Some o) new =
       ap (λ (s : MixSeat). Some (record { place = member_of s; before = last_of seat; channels = setup.bindings })) (sym new.seat_is)
       ∙ ap (λ (channels : List ℕ). Some (record { place = member_of o.seat; before = last_of seat; channels = channels })) (sym new.bindings)
 
-  set-up : (o : Option OpenClient) → IsSomeAnd o (IsNew seat setup position d) → IsSetUp (slice_index_or session.clients number None) o
+  set-up : (o : Option OpenClient) → IsSomeAnd o (IsNewlyOpen seat setup position d) → IsSetUp (slice_index_or session.clients number None) o
   set-up None never = absurd never
   set-up (Some o) new = (setup, sym before.setup_is, ap (λ (c : PlaybackStream). c.setup.bindings) new.stream)
 
-  no-rows : (o : Option OpenClient) → IsSomeAnd o (IsNew seat setup position d) → rows_by e.rows.items o ≡ []
+  no-rows : (o : Option OpenClient) → IsSomeAnd o (IsNewlyOpen seat setup position d) → rows_by e.rows.items o ≡ []
   no-rows None never = absurd never
   no-rows (Some o) new = new.rows ∙ was.rows
 
@@ -234,7 +234,7 @@ module _ (session : Session) (stage : Stage) (number : ℕ) (setup : Setup) (pos
     rows = no-rows (open_of e) opened.own;
   }
 
-  laid-new : (o : Option OpenClient) → IsSomeAnd o (IsNew seat setup position d) → (f k : ℕ) → laid_for o f k ≡ total (view_of seat).laid f k
+  laid-new : (o : Option OpenClient) → IsSomeAnd o (IsNewlyOpen seat setup position d) → (f k : ℕ) → laid_for o f k ≡ total (view_of seat).laid f k
   laid-new None never f k = absurd never
   laid-new (Some o) new f k = ap (λ (s : MixSeat). total (view_of s).laid f k) new.seat_is
 

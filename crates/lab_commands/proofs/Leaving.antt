@@ -55,7 +55,7 @@ module _ (laws : RunLaws) (input : RunInput) (script out : List ℕ) (gates : St
   left-part (inr stopped) = inr (record { input = input; read = read; stopped = subst (λ (b : Option Files). HasStopped input out b after taken taken_after) same stopped })
 
   -- what a run leaves that was read and stopped
-  pub Leaves-stopped : (stop : Stop) → IsWriteStop stop → HasPlayedPart input out between after taken taken_after
+  pub CommandLeaves-stopped : (stop : Stop) → IsWriteStop stop → HasPlayedPart input out between after taken taken_after
       → CommandLeaves {X = Unit {0}} (Err stop) (Some (run script out)) gates before after taken taken_after
   CommandLeaves-stopped Words only part = absurd only
   CommandLeaves-stopped (Script error) only part = absurd only

@@ -55,8 +55,8 @@ abbrev pub IsMissing : List (List ℕ) → Files → Type 0
 IsMissing words files = (name : List ℕ) × (cause_of words files ≡ Some (missing name))
 
 -- the words have a listed form, and all that it reads is there and right
-abbrev pub IsValid : List (List ℕ) → Files → Type 0
-IsValid words files = IsSome (form_of words) × (cause_of words files ≡ None)
+abbrev pub IsValidCall : List (List ℕ) → Files → Type 0
+IsValidCall words files = IsSome (form_of words) × (cause_of words files ≡ None)
 
 -- a status comes exactly where its cause does, but for a fault before it or want of memory
 pub record ComesExactly (status result : ℕ) (rose cause : Type 0) : Type 0 where
@@ -68,7 +68,7 @@ pub record ComesExactly (status result : ℕ) (rose cause : Type 0) : Type 0 whe
 pub record EndsWell (result : ℕ) (words : List (List ℕ)) (files : Files) : Type 0 where
   pub reads : result ≡ 4 → IsMissing words files
   pub writes : result ≢ 5
-  pub valid : IsValid words files → (result ≡ 0) ⊎ (result ≡ 6)
+  pub valid : IsValidCall words files → (result ≡ 0) ⊎ (result ≡ 6)
 
 -- a text was put, and no file changed
 pub record HasPut (text : List ℕ) (before after : Option Files) (taken taken_after : Option (List ℕ)) : Type 0 where
@@ -114,12 +114,12 @@ abbrev pub Headline : List (List ℕ) → Stops → Option Files → Option File
 Headline words gates before after taken taken_after = DoneIn (form_of words) gates before after taken taken_after
 
 -- what a call leaves with status 0 is the only thing that it can leave
-abbrev pub IsExact : List (List ℕ) → Stops → Option Files → Option Files → Option (List ℕ) → Option (List ℕ) → Type 0
-IsExact words gates before after taken taken_after = OnlyIn (form_of words) gates before after taken taken_after
+abbrev pub IsOnlyLeft : List (List ℕ) → Stops → Option Files → Option Files → Option (List ℕ) → Option (List ℕ) → Type 0
+IsOnlyLeft words gates before after taken taken_after = OnlyIn (form_of words) gates before after taken taken_after
 
 -- what a call leaves with another status: nothing was written, or, with 5 or 6, it ended in its output
-abbrev pub IsLeft : ℕ → List (List ℕ) → Stops → Option Files → Option Files → Option (List ℕ) → Option (List ℕ) → Type 0
-IsLeft result words gates before after taken taken_after =
+abbrev pub IsLeftByFault : ℕ → List (List ℕ) → Stops → Option Files → Option Files → Option (List ℕ) → Option (List ℕ) → Type 0
+IsLeftByFault result words gates before after taken taken_after =
     IsUntouched before after taken taken_after
     ⊎ (((result ≡ 5) ⊎ (result ≡ 6)) × PartIn (form_of words) gates before after taken taken_after)
 

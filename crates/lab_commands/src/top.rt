@@ -6,7 +6,7 @@ ghost use Rattle.lab_play.specs.Played.{rises};
 ghost use Rattle.lab_shelf.specs.Counts.{Rose};
 ghost use Rattle.lab_stop.specs.Stops.{EndsOf, EndsReliably, InputFaults, OutputFaults, Refuses};
 ghost use Rattle.lab_commands.specs.Words.{form_of, texts};
-ghost use Rattle.lab_commands.specs.Top.{cause_in, ComesExactly, EndsWell, Headline, IsExact, IsLeft, IsMissing, IsTextRefused, IsValid, IsWavRefused, CommandLeaves};
+ghost use Rattle.lab_commands.specs.Top.{cause_in, ComesExactly, EndsWell, Headline, IsOnlyLeft, IsLeftByFault, IsMissing, IsTextRefused, IsValidCall, IsWavRefused, CommandLeaves};
 
 use crate::commands::{conf_command, make_command, refine_command, run_command};
 use crate::words::{Command, help, read_command, version};
@@ -95,7 +95,7 @@ pub fn dmixlab<R: Threads + Sync, S: Shelf, K: Sink, E: Sink, G: Gate + Send>(
         (S.files shelf.old) (S.files shelf.new) (K.taken out.old) (K.taken out.new) }
 
     // Where no gate stopped an actor and no phase is mixed, they are the only ones.
-    ensures exact { result ≡ 0 → IsExact (texts words.now)
+    ensures exact { result ≡ 0 → IsOnlyLeft (texts words.now)
         (rises (stops_by G.stops gates.old) (stops_by G.stops gates.new))
         (S.files shelf.old) (S.files shelf.new) (K.taken out.old) (K.taken out.new) }
 
@@ -115,7 +115,7 @@ pub fn dmixlab<R: Threads + Sync, S: Shelf, K: Sink, E: Sink, G: Gate + Send>(
         ⊎ Rose (K.faults out.old) (K.faults out.new) }
 
     // Valid input is done where nothing fails, unless memory runs out.
-    ensures complete { ForSome (S.files shelf.old) (λ files. IsValid (texts words.now) files
+    ensures complete { ForSome (S.files shelf.old) (λ files. IsValidCall (texts words.now) files
         → ¬ Rose (S.fetch_faults shelf.old) (S.fetch_faults shelf.new)
         → ¬ Rose (S.write_faults shelf.old) (S.write_faults shelf.new)
         → ¬ Rose (K.faults out.old) (K.faults out.new)
@@ -126,7 +126,7 @@ pub fn dmixlab<R: Threads + Sync, S: Shelf, K: Sink, E: Sink, G: Gate + Send>(
         → ForSome (S.files shelf.old) (λ files. EndsWell result (texts words.now) files) }
 
     // What is left after another status.
-    ensures rest { result ≢ 0 → IsLeft result (texts words.now)
+    ensures rest { result ≢ 0 → IsLeftByFault result (texts words.now)
         (rises (stops_by G.stops gates.old) (stops_by G.stops gates.new))
         (S.files shelf.old) (S.files shelf.new) (K.taken out.old) (K.taken out.new) }
 

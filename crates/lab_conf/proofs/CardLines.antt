@@ -14,7 +14,7 @@ use Rattle.lab_script.specs.Reading.{after, on_line, refusal_at, script_at, scri
 use Rattle.lab_conf.specs.Described.{IsScriptText, card_script}
 use Rattle.lab_conf.proofs.CardWords.{AreNumerals, card_line-words, words_with}
 use Rattle.lab_conf.proofs.LineWords.{is_plain_word, word_lines-line}
-use Rattle.lab_conf.proofs.Numerals.{is_plain_word-decimal, length-decimal-few, number_of-decimal}
+use Rattle.lab_conf.proofs.Numerals.{is_plain_word-decimal, length-decimal-few, number_of_word-decimal}
 
 -- the words of a device's card line
 card_words : Device → List (List ℕ)
@@ -63,10 +63,10 @@ IsScriptText-card d card =
     let size = length-card_line d card in
     let fits : nat_lt 1048576 (length text) ≡ false = grind (arith, nat_tests, size) in
     let numerals : AreNumerals (decimal d.channels) (decimal d.rate) (decimal d.period) (decimal d.ring) d.channels d.rate d.period d.ring = record {
-      is_channels = number_of-decimal d.channels (omega (arith, card.channels_high));
-      is_rate = number_of-decimal d.rate (omega (arith, card.rate_high));
-      is_period = number_of-decimal d.period (omega (arith, card.period_twice, card.ring_high));
-      is_ring = number_of-decimal d.ring (omega (arith, card.ring_high));
+      is_channels = number_of_word-decimal d.channels (omega (arith, card.channels_high));
+      is_rate = number_of_word-decimal d.rate (omega (arith, card.rate_high));
+      is_period = number_of_word-decimal d.period (omega (arith, card.period_twice, card.ring_high));
+      is_ring = number_of_word-decimal d.ring (omega (arith, card.ring_high));
     } in
     ap (λ t. cond t (Err (refusal_at 0 why.TooLong)) (script_of_lines (word_lines text))) fits
     ∙ ap script_of_lines (word_lines-card_line d card)

@@ -6,7 +6,7 @@ use Rattle.lab_script.specs.declared.script.Share.TheVariants as share
 use Rattle.lab_script.specs.Draft.{card_of, divides}
 use Rattle.lab_script.specs.Keys.{key_value}
 use Rattle.lab_script.specs.Reading.{card_line}
-use Rattle.lab_script.specs.Word.{number_of}
+use Rattle.lab_script.specs.Word.{number_of_word}
 
 -- the words of a card's line, with these words for its channels, rate, period and ring
 abbrev pub words_with : (channels rate period ring : List ℕ) → List (List ℕ)
@@ -15,10 +15,10 @@ words_with channels rate period ring =
 
 -- words are numerals of the numbers of a card
 pub record AreNumerals (channels rate period ring : List ℕ) (c r p n : ℕ) : Type 0 where
-  pub is_channels : number_of channels ≡ Some c
-  pub is_rate : number_of rate ≡ Some r
-  pub is_period : number_of period ≡ Some p
-  pub is_ring : number_of ring ≡ Some n
+  pub is_channels : number_of_word channels ≡ Some c
+  pub is_rate : number_of_word rate ≡ Some r
+  pub is_period : number_of_word period ≡ Some p
+  pub is_ring : number_of_word ring ≡ Some n
 
 -- the tests that a card's numbers pass
 record AreTested (c r p n : ℕ) : Type 0 where

@@ -9,7 +9,7 @@ use Rattle.std.specs.Str.Parse.{digits_value}
 use Rattle.std.proofs.lemmas.Bool.Decides.{nat_tests}
 use Rattle.std.proofs.lemmas.Fmt.{decimal_nonempty, length-decimal-le, digits_decimal, digits_value-decimal}
 use Rattle.std.proofs.lemmas.Str.Parse.{IsNumeralModel, numerals_by_value, tells_all_ascii_digits}
-use Rattle.lab_script.specs.Word.{is_file_byte, number_of}
+use Rattle.lab_script.specs.Word.{is_file_byte, number_of_word}
 use Rattle.lab_conf.proofs.LineWords.{is_plain_word, weaker}
 
 -- numerals are digits, and their values those of std
@@ -35,8 +35,8 @@ is_plain_word-decimal n small =
     rw (least, weaker is_ascii_digit is_file_byte digit-file_byte (decimal n) digits) refl
 
 -- a decimal text is a numeral of its number
-pub number_of-decimal : (n : ℕ) → n < 2 ^ 32 → number_of (decimal n) ≡ Some n
-number_of-decimal n small =
+pub number_of_word-decimal : (n : ℕ) → n < 2 ^ 32 → number_of_word (decimal n) ≡ Some n
+number_of_word-decimal n small =
     let fits : n < 2 ^ 64 = omega arith in
     let some : 0 < length (decimal n) = decimal_nonempty n fits in
     let most : length (decimal n) ≤ 19 = length-decimal-le 19 n (omega arith) (omega arith) fits in

@@ -3,7 +3,7 @@ ghost use Rattle.std.specs.Prelude.{◌≡◌, IfErr, IfOk, string_bytes};
 ghost use Rattle.std.specs.Option.{ForSome};
 ghost use Rattle.asound_conf.specs.Device.{IsCard};
 ghost use Rattle.lab_stop.specs.Causes.{cause};
-ghost use Rattle.lab_stop.specs.Stops.{EndsOf, EndsReliably, FetchFaults, Follows, InputFaults, IsReadStop, Misses};
+ghost use Rattle.lab_stop.specs.Stops.{EndsOf, EndsReliably, FetchFaults, AnswersOrStops, InputFaults, IsReadStop, Misses};
 ghost use Rattle.lab_conf.specs.Described.{IsDeviceText, device_in};
 
 use asound_conf::{Device, device, print_device, read_conf};
@@ -62,7 +62,7 @@ fn device_in<S: Shelf>(
     name: &[u8],
 ) -> Result<Device, Stop>
     ensures device { ForSome (S.files shelf.old)
-        (λ files. Follows (λ d. d) result (device_in files file.now name.now)) }
+        (λ files. AnswersOrStops (λ d. d) result (device_in files file.now name.now)) }
     ensures card { IfOk result (λ d. IsCard d.channels d.rate d.period d.ring) }
     ensures missing { S.is_reliable shelf.old → ForSome (S.files shelf.old)
         (λ files. Misses result (device_in files file.now name.now)) }

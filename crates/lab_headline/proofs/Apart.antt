@@ -10,7 +10,7 @@ use Rattle.mix_core.specs.Marks.{high_frame}
 use Rattle.wav_io.specs.Sound.{Sound}
 use Rattle.dmix_client.specs.declared.stream.PlaybackStream.{PlaybackStream}
 use Rattle.dsnoop_client.specs.declared.stream.CaptureStream as reading
-use Rattle.dshare.specs.Owners.{AreFree, Row as Claim, claimed, has_channel, owner_of, released}
+use Rattle.dshare.specs.Owners.{AreFree, ClaimRow as Claim, claimed, has_channel, owner_of, released}
 use Rattle.lab_script.specs.declared.line.Actor.TheVariants as actor
 use Rattle.lab_script.specs.declared.line.Item.{Item}
 use Rattle.lab_script.specs.declared.line.Item.TheVariants as item
@@ -26,7 +26,7 @@ use Rattle.lab_run.specs.Phases.{is_client, ops_by}
 use Rattle.lab_run.specs.Places.{Lobby, after_attach}
 use Rattle.lab_run.specs.Rules.{AtPort, Rules}
 use Rattle.lab_run.specs.Stage.{Session, Setup, Stage, attached_client, claimed_client, client_at, close_client, close_reader, first_stage, no_client, open_client, open_client_with, open_reader, open_reader_with, reader_at}
-use Rattle.lab_headline.specs.Shares.{AreApart, HaveOwnChannels, channels_of}
+use Rattle.lab_headline.specs.Shares.{AreApart, HaveOwnChannels, channels_of_client}
 use Rattle.lab_headline.proofs.Bound.{HasBindings, line-bound}
 use Rattle.lab_headline.proofs.Missed.{still-closed}
 
@@ -64,7 +64,7 @@ free-unowned claims position (c ∷ channels) k free has = by_test (free-unowned
 -- ---- a stage
 
 abbrev pub Channels : Session → Stage → ℕ → List ℕ
-Channels session stage n = channels_of (client_at session stage n).1.own
+Channels session stage n = channels_of_client (client_at session stage n).1.own
 
 pub record Shares (session : Session) (stage : Stage) : Type 0 where
   pub owned : (n k : ℕ) → Has (Channels session stage n) k → is_some (owner_of stage.claims k) ≡ true
@@ -84,18 +84,18 @@ set-client session clients n m x other = get_or-set_other clients n m _ _ (λ sa
 
 -- the channels of a client that is set
 set-part : (session : Session) (clients : List (AtPort × Client)) (n : ℕ) (x : AtPort × Client)
-    → IsPart (channels_of (slice_index_or (slice_set clients n x) n (no_client session.ring)).1.own) (channels_of x.1.own)
+    → IsPart (channels_of_client (slice_index_or (slice_set clients n x) n (no_client session.ring)).1.own) (channels_of_client x.1.own)
 set-part session [] n x k has = absurd (none-has k has)
 set-part session (y ∷ clients) zero x k has = has
 set-part session (y ∷ clients) (suc n) x k has = set-part session clients n x k has
 
 -- a claim is granted
 claim-shares : (session : Session) (stage after : Stage) (n position : ℕ) (channels : List ℕ) (x : AtPort × Client) → AreFree stage.claims position channels
-    → channels_of x.1.own ≡ channels → after.clients ≡ slice_set stage.clients n x → after.claims ≡ claimed channels ∷ stage.claims → Shares session stage → Shares session after
+    → channels_of_client x.1.own ≡ channels → after.clients ≡ slice_set stage.clients n x → after.claims ≡ claimed channels ∷ stage.claims → Shares session stage → Shares session after
 claim-shares session stage after n position channels x free is clients claims shares = record {
-  owned = λ m k has. rw claims (by_claim m k (has_channel channels k) refl (subst (λ (l : List (AtPort × Client)). Has (channels_of (slice_index_or l m (no_client session.ring)).1.own) k) clients has));
-  apart = λ m l other k has. subst (λ (c : List (AtPort × Client)). has_channel (channels_of (slice_index_or c l (no_client session.ring)).1.own) k ≡ false) (sym clients)
-      (by_numbers m l other k (subst (λ (c : List (AtPort × Client)). Has (channels_of (slice_index_or c m (no_client session.ring)).1.own) k) clients has));
+  owned = λ m k has. rw claims (by_claim m k (has_channel channels k) refl (subst (λ (l : List (AtPort × Client)). Has (channels_of_client (slice_index_or l m (no_client session.ring)).1.own) k) clients has));
+  apart = λ m l other k has. subst (λ (c : List (AtPort × Client)). has_channel (channels_of_client (slice_index_or c l (no_client session.ring)).1.own) k ≡ false) (sym clients)
+      (by_numbers m l other k (subst (λ (c : List (AtPort × Client)). Has (channels_of_client (slice_index_or c m (no_client session.ring)).1.own) k) clients has));
 }
   where
     d : AtPort × Client
@@ -104,33 +104,33 @@ claim-shares session stage after n position channels x free is clients claims sh
     set : List (AtPort × Client)
     set = slice_set stage.clients n x
 
-    own-part : IsPart (channels_of (slice_index_or set n d).1.own) channels
-    own-part = subst (λ (c : List ℕ). IsPart (channels_of (slice_index_or set n d).1.own) c) is (set-part session stage.clients n x)
+    own-part : IsPart (channels_of_client (slice_index_or set n d).1.own) channels
+    own-part = subst (λ (c : List ℕ). IsPart (channels_of_client (slice_index_or set n d).1.own) c) is (set-part session stage.clients n x)
 
-    other-same : (m : ℕ) → (n ≡ m → ⊥) → channels_of (slice_index_or set m d).1.own ≡ Channels session stage m
-    other-same m other = ap (λ (y : AtPort × Client). channels_of y.1.own) (set-client session stage.clients n m x other)
+    other-same : (m : ℕ) → (n ≡ m → ⊥) → channels_of_client (slice_index_or set m d).1.own ≡ Channels session stage m
+    other-same m other = ap (λ (y : AtPort × Client). channels_of_client y.1.own) (set-client session stage.clients n m x other)
 
     -- an owned channel isn't claimed
     unclaimed : (m k : ℕ) → Has (Channels session stage m) k → Has channels k → ⊥
     unclaimed m k has claim = false≢true (sym (ap is_some (free-unowned stage.claims position channels k free claim)) ∙ shares.owned m k has)
 
-    by_claim : (m k : ℕ) (b : Bool) → has_channel channels k ≡ b → Has (channels_of (slice_index_or set m d).1.own) k → is_some (owner_of (claimed channels ∷ stage.claims) k) ≡ true
+    by_claim : (m k : ℕ) (b : Bool) → has_channel channels k ≡ b → Has (channels_of_client (slice_index_or set m d).1.own) k → is_some (owner_of (claimed channels ∷ stage.claims) k) ≡ true
     by_claim m k true claim has = rw claim refl
     by_claim m k false claim has = rw claim (elim (cases_eq n m) [
-      | inl same ↦ absurd (false≢true (sym claim ∙ own-part k (subst (λ j. Has (channels_of (slice_index_or set j d).1.own) k) (sym same) has)))
+      | inl same ↦ absurd (false≢true (sym claim ∙ own-part k (subst (λ j. Has (channels_of_client (slice_index_or set j d).1.own) k) (sym same) has)))
       | inr other ↦ shares.owned m k (subst (λ (c : List ℕ). Has c k) (other-same m other) has)
     ])
 
-    by_numbers : (m l : ℕ) → (m ≡ l → ⊥) → (k : ℕ) → Has (channels_of (slice_index_or set m d).1.own) k → has_channel (channels_of (slice_index_or set l d).1.own) k ≡ false
-    by_numbers m l apart k has = not-has (channels_of (slice_index_or set l d).1.own) k (λ also. elim (cases_eq n m) [
+    by_numbers : (m l : ℕ) → (m ≡ l → ⊥) → (k : ℕ) → Has (channels_of_client (slice_index_or set m d).1.own) k → has_channel (channels_of_client (slice_index_or set l d).1.own) k ≡ false
+    by_numbers m l apart k has = not-has (channels_of_client (slice_index_or set l d).1.own) k (λ also. elim (cases_eq n m) [
       | inl same ↦
-          let claim : Has channels k = own-part k (subst (λ j. Has (channels_of (slice_index_or set j d).1.own) k) (sym same) has) in
+          let claim : Has channels k = own-part k (subst (λ j. Has (channels_of_client (slice_index_or set j d).1.own) k) (sym same) has) in
           let not_l : n ≡ l → ⊥ = λ e. apart (sym same ∙ e) in
           unclaimed l k (subst (λ (c : List ℕ). Has c k) (other-same l not_l) also) claim
       | inr other ↦
           let here : Has (Channels session stage m) k = subst (λ (c : List ℕ). Has c k) (other-same m other) has in
           elim (cases_eq n l) [
-            | inl same ↦ unclaimed m k here (own-part k (subst (λ j. Has (channels_of (slice_index_or set j d).1.own) k) (sym same) also))
+            | inl same ↦ unclaimed m k here (own-part k (subst (λ j. Has (channels_of_client (slice_index_or set j d).1.own) k) (sym same) also))
             | inr not_l ↦ false≢true (sym (shares.apart m l apart k here) ∙ subst (λ (c : List ℕ). Has c k) (other-same l not_l) also)
           ]
     ])
@@ -150,27 +150,27 @@ released-owner claims channels last k not = rw not refl
 -- ---- lines and phases
 
 line-part : (rules : Rules) (phase : ℕ) (wav : Sound) (number : ℕ) (a b : AtPort) (client after : Client) (asked : Op) (answer : Answer)
-    → LineMay (client_kind phase wav number) rules (a, client) asked (b, after) answer → IsPart (channels_of after.own) (channels_of client.own)
+    → LineMay (client_kind phase wav number) rules (a, client) asked (b, after) answer → IsPart (channels_of_client after.own) (channels_of_client client.own)
 line-part rules phase wav number a b client after asked answer may = by_own client.own refl
   where
-    bound-part : (channels : List ℕ) (own : Option PlaybackStream) → HasBindings channels own → IsPart (channels_of own) channels
+    bound-part : (channels : List ℕ) (own : Option PlaybackStream) → HasBindings channels own → IsPart (channels_of_client own) channels
     bound-part channels None bound k has = absurd (none-has k has)
     bound-part channels (Some c) bound k has = subst (λ (l : List ℕ). Has l k) bound has
 
-    by_own : (own : Option PlaybackStream) → client.own ≡ own → IsPart (channels_of after.own) (channels_of own)
+    by_own : (own : Option PlaybackStream) → client.own ≡ own → IsPart (channels_of_client after.own) (channels_of_client own)
     by_own None is = rw (still-closed rules phase wav number a b client after asked answer is may) (λ k has. has)
     by_own (Some c) is = bound-part c.setup.bindings after.own
         (line-bound rules phase wav number c.setup.bindings a b client after asked answer (subst (HasBindings c.setup.bindings) (sym is) refl) may)
 
 lines-part : (rules : Rules) (phase : ℕ) (wav : Sound) (number : ℕ) (x y : AtPort × Client) (ops : List Op) (rows : List Row)
-    → LinesMay (client_kind phase wav number) rules x ops y rows → IsPart (channels_of y.1.own) (channels_of x.1.own)
-lines-part rules phase wav number x y [] rows (same, none) = subst (λ (z : AtPort × Client). IsPart (channels_of z.1.own) (channels_of x.1.own)) (sym same) (λ k has. has)
+    → LinesMay (client_kind phase wav number) rules x ops y rows → IsPart (channels_of_client y.1.own) (channels_of_client x.1.own)
+lines-part rules phase wav number x y [] rows (same, none) = subst (λ (z : AtPort × Client). IsPart (channels_of_client z.1.own) (channels_of_client x.1.own)) (sym same) (λ k has. has)
 lines-part rules phase wav number (a, client) y (asked ∷ ops) rows ((b, between), answer, others, may, rest, are) = λ k has.
     line-part rules phase wav number a b client between asked answer may k (lines-part rules phase wav number (b, between) y ops others rest k has)
 
 each-part : (session : Session) (stage : Stage) (rules : Rules) (ops : ℕ → List Op) (number i : ℕ) (actors after : List (AtPort × Client)) (rows : List Row)
     → EachMay (client_kinds session stage) rules ops number actors after rows
-    → IsPart (channels_of (slice_index_or after i (no_client session.ring)).1.own) (channels_of (slice_index_or actors i (no_client session.ring)).1.own)
+    → IsPart (channels_of_client (slice_index_or after i (no_client session.ring)).1.own) (channels_of_client (slice_index_or actors i (no_client session.ring)).1.own)
 each-part session stage rules ops number i [] after rows (same, none) = rw same (λ k has. has)
 each-part session stage rules ops number zero (x ∷ actors) after rows (own, others, own_rows, other_rows, may, rest, same, are) =
     rw same (lines-part rules _ _ number x own (ops number) own_rows may)
@@ -179,7 +179,7 @@ each-part session stage rules ops number (suc i) (x ∷ actors) after rows (own,
 
 -- each client that was stopped has none of a channel
 abbrev NoneStopped : ℕ → List (AtPort × Client) → Type 0
-NoneStopped k clients = AllByRecursion (λ (x : AtPort × Client). is_stopped x.1.own ≡ true → has_channel (channels_of x.1.own) k ≡ false) clients
+NoneStopped k clients = AllByRecursion (λ (x : AtPort × Client). is_stopped x.1.own ≡ true → has_channel (channels_of_client x.1.own) k ≡ false) clients
 
 held-owner : (session : Session) (number : ℕ) (clients : List (AtPort × Client)) (held : Held) (k : ℕ) → session.card.share ≡ Dshare → NoneStopped k clients
     → owner_of (held_after session number clients held).claims k ≡ owner_of held.claims k
@@ -192,7 +192,7 @@ held-owner session number (x ∷ clients) held k share none =
     by_own own is false stops = refl
     by_own None is true stops = rw is refl
     by_own (Some c) is true stops = rw is (rw share (released-owner held.claims c.setup.bindings (high_frame session.ring x.0.marks) k
-        (subst (λ (o : Option PlaybackStream). has_channel (channels_of o) k ≡ false) is (none.0 stops))))
+        (subst (λ (o : Option PlaybackStream). has_channel (channels_of_client o) k ≡ false) is (none.0 stops))))
 
 from-index : {X : Type 0} (P : X → Type 0) (xs : List X) (d : X) → ((i : ℕ) → P (slice_index_or xs i d)) → AllByRecursion P xs
 from-index P [] d each = tt
@@ -205,11 +205,11 @@ reaped-at session [] n = refl
 reaped-at session (x ∷ clients) zero = refl
 reaped-at session (x ∷ clients) (suc n) = reaped-at session clients n
 
-reaped-part : (ring : Geometry) (x : AtPort × Client) (k : ℕ) → Has (channels_of (reaped_client ring x).1.own) k → (is_stopped x.1.own ≡ false) × Has (channels_of x.1.own) k
+reaped-part : (ring : Geometry) (x : AtPort × Client) (k : ℕ) → Has (channels_of_client (reaped_client ring x).1.own) k → (is_stopped x.1.own ≡ false) × Has (channels_of_client x.1.own) k
 reaped-part ring (a, client) k = by_test (is_stopped client.own) refl
   where
-    by_test : (stopped : Bool) → is_stopped client.own ≡ stopped → Has (channels_of (reaped_client_if stopped ring (a, client)).1.own) k
-        → (is_stopped client.own ≡ false) × Has (channels_of client.own) k
+    by_test : (stopped : Bool) → is_stopped client.own ≡ stopped → Has (channels_of_client (reaped_client_if stopped ring (a, client)).1.own) k
+        → (is_stopped client.own ≡ false) × Has (channels_of_client client.own) k
     by_test true is has = absurd (none-has k has)
     by_test false is has = (is, has)
 
@@ -249,7 +249,7 @@ close-shares session stage n (Some c) is share shares = part-shares session stag
     own-none k has = none-has k (set-part session stage.clients n _ k has)
 
     other-same : (m : ℕ) → (n ≡ m → ⊥) → Channels session after m ≡ Channels session stage m
-    other-same m other = ap (λ (y : AtPort × Client). channels_of y.1.own) (set-client session stage.clients n m _ other)
+    other-same m other = ap (λ (y : AtPort × Client). channels_of_client y.1.own) (set-client session stage.clients n m _ other)
 
     part : (m : ℕ) → IsPart (Channels session after m) (Channels session stage m)
     part m k has = elim (cases_eq n m) [
@@ -261,7 +261,7 @@ close-shares session stage n (Some c) is share shares = part-shares session stag
     kept m k other has =
         let not_own : has_channel (Channels session stage n) k ≡ false =
         not-has (Channels session stage n) k (λ own. false≢true (sym (shares.apart n m other k own) ∙ part m k has)) in
-        rw share (released-owner stage.claims c.setup.bindings (high_frame session.ring (client_at session stage n).0.marks) k (subst (λ (o : Option PlaybackStream). has_channel (channels_of o) k ≡ false) is not_own))
+        rw share (released-owner stage.claims c.setup.bindings (high_frame session.ring (client_at session stage n).0.marks) k (subst (λ (o : Option PlaybackStream). has_channel (channels_of_client o) k ≡ false) is not_own))
 
     owners : (m k : ℕ) → Has (Channels session after m) k → owner_of after.claims k ≡ owner_of stage.claims k
     owners m k has = elim (cases_eq n m) [
@@ -290,26 +290,26 @@ phase-shares session stage after ends rules ops rows may clients claims share sh
     end : ℕ → AtPort × Client
     end n = slice_index_or ends n (no_client session.ring)
 
-    ended : (n k : ℕ) → Has (Channels session after n) k → (is_stopped (end n).1.own ≡ false) × Has (channels_of (end n).1.own) k
+    ended : (n k : ℕ) → Has (Channels session after n) k → (is_stopped (end n).1.own ≡ false) × Has (channels_of_client (end n).1.own) k
     ended n k has = reaped-part session.ring (end n) k
-        (subst (λ (y : AtPort × Client). Has (channels_of y.1.own) k) (reaped-at session ends n)
-        (subst (λ (l : List (AtPort × Client)). Has (channels_of (slice_index_or l n (no_client session.ring)).1.own) k) clients has))
+        (subst (λ (y : AtPort × Client). Has (channels_of_client y.1.own) k) (reaped-at session ends n)
+        (subst (λ (l : List (AtPort × Client)). Has (channels_of_client (slice_index_or l n (no_client session.ring)).1.own) k) clients has))
 
-    of-stage : (n : ℕ) → IsPart (channels_of (end n).1.own) (Channels session stage n)
+    of-stage : (n : ℕ) → IsPart (channels_of_client (end n).1.own) (Channels session stage n)
     of-stage n = each-part session stage rules ops 0 n stage.clients ends rows may
 
     part : (n : ℕ) → IsPart (Channels session after n) (Channels session stage n)
     part n k has = of-stage n k (ended n k has).1
 
-    none-stopped : (n k : ℕ) → Has (Channels session after n) k → (i : ℕ) → is_stopped (end i).1.own ≡ true → has_channel (channels_of (end i).1.own) k ≡ false
-    none-stopped n k has i stops = not-has (channels_of (end i).1.own) k (λ also. elim (cases_eq n i) [
+    none-stopped : (n k : ℕ) → Has (Channels session after n) k → (i : ℕ) → is_stopped (end i).1.own ≡ true → has_channel (channels_of_client (end i).1.own) k ≡ false
+    none-stopped n k has i stops = not-has (channels_of_client (end i).1.own) k (λ also. elim (cases_eq n i) [
       | inl same ↦ false≢true (sym (ended n k has).0 ∙ subst (λ j. is_stopped (end j).1.own ≡ true) (sym same) stops)
       | inr other ↦ false≢true (sym (shares.apart n i other k (part n k has)) ∙ of-stage i k also)
     ])
 
     owners : (n k : ℕ) → Has (Channels session after n) k → owner_of after.claims k ≡ owner_of stage.claims k
     owners n k has = rw claims (held-owner session 0 ends (held_of stage) k share
-        (from-index (λ (x : AtPort × Client). is_stopped x.1.own ≡ true → has_channel (channels_of x.1.own) k ≡ false) ends (no_client session.ring) (none-stopped n k has)))
+        (from-index (λ (x : AtPort × Client). is_stopped x.1.own ≡ true → has_channel (channels_of_client x.1.own) k ≡ false) ends (no_client session.ring) (none-stopped n k has)))
 
 pub item-shares : (session : Session) (stage after : Stage) (one : Item) → ((claims : List Claim) (channels : List ℕ) (position : ℕ) → ClaimIsOwners claims channels position)
     → session.card.share ≡ Dshare → Shares session stage → ItemMay session stage one after → Shares session after
@@ -330,7 +330,7 @@ items-shares session stage after (one ∷ items) owners share shares (between, m
 
 -- no client is open before the first item
 none-open : (session : Session) (setups : List (Option Setup)) (n k : ℕ)
-    → Has (channels_of (slice_index_or (map (λ setup. no_client session.ring) setups) n (no_client session.ring)).1.own) k → ⊥
+    → Has (channels_of_client (slice_index_or (map (λ setup. no_client session.ring) setups) n (no_client session.ring)).1.own) k → ⊥
 none-open session [] n k has = none-has k has
 none-open session (setup ∷ setups) zero k has = none-has k has
 none-open session (setup ∷ setups) (suc n) k has = none-open session setups n k has

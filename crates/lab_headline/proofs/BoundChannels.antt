@@ -5,7 +5,7 @@ use Rattle.bindings.specs.AnswerLaws.{AreBindings-answered}
 use Rattle.bindings.specs.Bound.{AreBindings, identity}
 use Rattle.bindings.specs.RisingLaws.{AreBindings-identity}
 use Rattle.pcm_interval.specs.declared.interval.Interval.{Interval}
-use Rattle.pcm_interval.specs.Intervals.{IsLowerWithin, IsUpperWithin, IsWithin, refinement}
+use Rattle.pcm_interval.specs.Intervals.{IsLowerWithin, IsUpperWithin, IsIntervalWithin, refinement}
 use Rattle.pcm_interval.specs.IntervalLaws.{IsNonEmpty-le, refined-IsWithin_left, refined-IsWithin_right}
 use Rattle.hw_space.specs.declared.param.Param.TheVariants.{Channels}
 use Rattle.hw_space.specs.declared.param_box.ParamBox.{ParamBox}
@@ -42,7 +42,7 @@ left-channels channels rate ring n left is = (least, most)
     part : Interval
     part = refinement (whole_from_to 1 channels) (point n)
 
-    within : IsWithin left.channels (refinement (whole_from_to 1 channels) (point n))
+    within : IsIntervalWithin left.channels (refinement (whole_from_to 1 channels) (point n))
     within = is.greatest.within.parts quantity.Channels
 
     ends : left.channels.min ≤ left.channels.max

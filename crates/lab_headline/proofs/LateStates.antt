@@ -15,7 +15,7 @@ use Rattle.pcm_states.specs.declared.calls.Facts.{Facts}
 use Rattle.pcm_states.specs.declared.calls.Outcome.{Outcome}
 use Rattle.pcm_states.specs.declared.states.State.{State}
 use Rattle.pcm_states.specs.declared.states.State.TheVariants.{Draining, Prepared, Running, Setup}
-use Rattle.pcm_states.specs.Table.{Cell, already, done_in, draining, ebadfd, eio, enodev, filling, first_outcome, if_empty, if_gone, if_late, if_none_left, if_over, if_played, moving, next_of, outcome_of, resuming, call_row, starting, still_draining, stopped_by, to}
+use Rattle.pcm_states.specs.Table.{Cell, already, done_in, draining, ebadfd, eio, enodev, filling, first_outcome, if_empty, if_gone, if_late, if_none_left, if_over, if_played, moving, next_of, cell_outcome, resuming, call_row, starting, still_draining, stopped_by, to}
 use Rattle.course.specs.Course.{◌>>=◌, Course, ends}
 use Rattle.wav_io.specs.Sound.{Sound}
 use Rattle.dmix_client.specs.declared.commit.Commit.{Commit}
@@ -90,7 +90,7 @@ still : (c : Call) → Says (still_draining c)
 still call.Drain = tt
 still other = tt
 
-cell-says : (cell : Cell) (s : State) (c : Call) (f : Facts) → Says (outcome_of cell s c f)
+cell-says : (cell : Cell) (s : State) (c : Call) (f : Facts) → Says (cell_outcome cell s c f)
 cell-says (to t) s c f = tt
 cell-says ebadfd s c f = tt
 cell-says enodev s c f = tt

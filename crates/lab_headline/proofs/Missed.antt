@@ -15,7 +15,7 @@ use Rattle.lab_report.specs.declared.row.Answer.{Answer}
 use Rattle.lab_run.specs.Client.{Client, begins, client_kind, line_by, stretch_of}
 use Rattle.lab_run.specs.Items.{no_sound, rules_of}
 use Rattle.lab_run.specs.LabRun.{entries_by}
-use Rattle.lab_run.specs.LateRows.{IsNext, LateRewindsNameLast, LateRowsNameNext, NamesLast, NamesNext, is_rewind}
+use Rattle.lab_run.specs.LateRows.{IsNextSample, LateRewindsNameLast, LateRowsNameNext, NamesLast, NamesNext, is_rewind}
 use Rattle.lab_run.specs.Lines.{LineMay}
 use Rattle.lab_run.specs.Rules.{AtPort, MayGet, MayLay, MayLoad, Rules}
 use Rattle.lab_run.specs.Stage.{Session, Setup, client_at}
@@ -37,7 +37,7 @@ of-stretch session number c frame channel none = by_test (nat_eq c.stretch.commi
     by_test false = ap (λ es. at es frame channel) (append-nil (entries_by session (number, segment_of c))) ∙ none
 
 -- those of the segment
-of-segment : (session : Session) (number : ℕ) (c : PlaybackStream) (frame channel : ℕ) → IsNext c frame channel
+of-segment : (session : Session) (number : ℕ) (c : PlaybackStream) (frame channel : ℕ) → IsNextSample c frame channel
     → IfSome (slice_index_or session.clients number None) (λ (s : Setup). (c.setup.bindings ≡ s.bindings) × (c.stretch.part < length (rising s.bindings)))
     → at (entries_by session (number, segment_of c)) frame channel ≡ []
 of-segment session number c frame channel next = by_file (slice_get session.sounds number) refl (slice_index_or session.clients number None) refl
@@ -51,10 +51,10 @@ of-segment session number c frame channel next = by_file (slice_get session.soun
         let has : (c.setup.bindings ≡ s.bindings) × (c.stretch.part < length (rising s.bindings)) =
         subst (λ (o : Option Setup). IfSome o (λ (t : Setup). (c.setup.bindings ≡ t.bindings) × (c.stretch.part < length (rising t.bindings)))) setup_is bound in
         rw is (rw setup_is (next-free number (segment_of c) wav.samples s.bindings frame channel has.1 next.0
-        (subst (λ (b : List ℕ). IsNext-channel b) has.0 next.1)))
+        (subst (λ (b : List ℕ). IsNextSample-channel b) has.0 next.1)))
       where
-        IsNext-channel : List ℕ → Type 0
-        IsNext-channel b = channel ≡ slice_index b (slice_index (rising b) c.stretch.part)
+        IsNextSample-channel : List ℕ → Type 0
+        IsNextSample-channel b = channel ≡ slice_index b (slice_index (rising b) c.stretch.part)
 
 -- a client's line was late, so its setup's part is short
 short-of : (session : Session) (number : ℕ) (setup : Option Setup) (rules : Rules) (phase : ℕ) (wav : Sound) (a b : AtPort) (client after : Client) (asked : Op) (answer : Answer)
@@ -114,11 +114,11 @@ late-missed session body names names_last = record {
         record { own = named.own; is_own = named.is_own; last = named.late frame channel late }
 
     by_next : (session : Session) (number : ℕ) (after : Client) (answer : Answer) (frame channel : ℕ) (c : PlaybackStream) → after.own ≡ Some c → IsLate answer frame channel
-        → NamesNext after answer → IsNext c frame channel
+        → NamesNext after answer → IsNextSample c frame channel
     by_next session number after answer frame channel c own late named =
         let same : Some named.own ≡ Some c = sym named.is_own ∙ own in
         let is : named.own ≡ c = cc in
-        subst (λ (d : PlaybackStream). IsNext d frame channel) is (named.late frame channel late)
+        subst (λ (d : PlaybackStream). IsNextSample d frame channel) is (named.late frame channel late)
 
     by_own : (session : Session) (number : ℕ) (rules : Rules) (phase : ℕ) (wav : Sound) (a b : AtPort) (client after : Client) (asked : Op) (answer : Answer) (frame channel : ℕ)
         → LateRowsNameNext rules phase wav number → IsBound (slice_index_or session.clients number None) client.own → is_rewind asked ≡ false → IsLate answer frame channel

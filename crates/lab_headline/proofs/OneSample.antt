@@ -26,7 +26,7 @@ use Rattle.lab_headline.specs.OneSample.{AreBound, HasOneSample, only_of}
 use Rattle.lab_run.specs.Rules.{AtPort}
 use Rattle.lab_run.specs.Stage.{Session, Setup}
 use Rattle.snd_base.specs.Places.{first_frame}
-use Rattle.dshare.specs.Owners.{Row as Claim}
+use Rattle.dshare.specs.Owners.{ClaimRow as Claim}
 use Rattle.dmix_client.specs.declared.stream.PlaybackStream.{PlaybackStream}
 use Rattle.lab_script.specs.declared.line.Item.{Item}
 use Rattle.lab_script.specs.declared.script.Share.TheVariants.{Dshare}

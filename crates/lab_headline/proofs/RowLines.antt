@@ -36,7 +36,7 @@ use Rattle.lab_run.specs.Reader.{Reader, reader_kind}
 use Rattle.lab_run.specs.Reader as readers
 use Rattle.lab_run.specs.Rules.{AtPort, Rules}
 use Rattle.lab_run.specs.Stage.{Session, Setup, Stage, attached_client, claimed_client, client_at, close_client, close_reader, first_stage, no_client, open_client, open_client_with, open_reader, open_reader_with, reader_at}
-use Rattle.lab_headline.specs.Late.{IsLate, IsLineOf, IsListed, IsRowOfLine, LateLinesMiss, LateRowsMiss, RowMisses, RowNamesLast, SaysWhereLate}
+use Rattle.lab_headline.specs.Late.{IsLate, IsLineOf, ListsSegments, IsRowOfLine, LateLinesMiss, LateRowsMiss, RowMisses, RowNamesLast, SaysWhereLate}
 use Rattle.lab_headline.proofs.Listed.{items-over, late-over, listed-at, reaped-over}
 use Rattle.lab_headline.proofs.Sealed.{IsStart, Over, over-lines}
 use Rattle.snd_base.specs.declared.places.Segment.{Segment}
@@ -81,7 +81,7 @@ IsEarlyResult (Err e) = IsEarly e
 busy-early : (until : Option ℕ) (seen : ℕ) → IsEarly (error.Busy until seen)
 busy-early until seen frame channel is = absurd (cc)
 
-claim-early : (share : Share) (claims : List owners.Row) (channels : List ℕ) (position : ℕ) → IfSome (claim_refusal share claims channels position) IsEarly
+claim-early : (share : Share) (claims : List owners.ClaimRow) (channels : List ℕ) (position : ℕ) → IfSome (claim_refusal share claims channels position) IsEarly
 claim-early Dmix claims channels position = tt
 claim-early Dshare claims channels position = by_test (list_all (is_free_channel claims position) channels)
   where
@@ -179,7 +179,7 @@ module _ (session : Session) (body : List Item) (report : Report) (late : LateLi
   abbrev ListsOf : ℕ → AtPort × Client → Type 0
   ListsOf number x = (list : List Segment) → Over list x.1 → Lists number list
 
-  is-listed : (number : ℕ) (client : Client) → Lists number (segments_of client) → IsListed report number client
+  is-listed : (number : ℕ) (client : Client) → Lists number (segments_of client) → ListsSegments report number client
   is-listed number client (others, are) = record { others = others; segments_are = are }
 
   -- a row with another answer, and a row of another actor
@@ -253,7 +253,7 @@ module _ (session : Session) (body : List Item) (report : Report) (late : LateLi
   }
 
   line-listed : (n : ℕ) (before after : AtPort × Client) (asked : Op) (answer : Answer) (frame channel : ℕ) → IsLineOf session body n before asked after answer → ListsOf n after
-      → IsLate answer frame channel → IsListed report n after.1
+      → IsLate answer frame channel → ListsSegments report n after.1
   line-listed n before after asked answer frame channel line lists is = is-listed n after.1 (lists (segments_of after.1)
       (late-over (rules_of session line.stage line.lines) (line.stage.phases + 1) (slice_index_or session.sounds n no_sound) n before.0 after.0 before.1 after.1 asked answer frame channel is line.line))
 

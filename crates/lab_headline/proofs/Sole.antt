@@ -15,7 +15,7 @@ use Rattle.wav_io.specs.Sound.{Sound}
 use Rattle.dmix_client.specs.declared.stream.PlaybackStream.{PlaybackStream}
 use Rattle.dmix_client.specs.Calls.{segment_of}
 use Rattle.dsnoop_client.specs.declared.stream.CaptureStream as reading
-use Rattle.dshare.specs.Owners.{AreFree, Row as Claim, claimed, has_channel, last_frames, released}
+use Rattle.dshare.specs.Owners.{AreFree, ClaimRow as Claim, claimed, has_channel, last_frames, released}
 use Rattle.lab_script.specs.declared.line.Actor.TheVariants as actor
 use Rattle.lab_script.specs.declared.line.Item.{Item}
 use Rattle.lab_script.specs.declared.line.Item.TheVariants as item
@@ -32,7 +32,7 @@ use Rattle.lab_run.specs.Phases.{is_client, on_the_way, ops_by, played_at, phase
 use Rattle.lab_run.specs.Places.{Lobby, after_attach}
 use Rattle.lab_run.specs.Rules.{AtPort, Rules}
 use Rattle.lab_run.specs.Stage.{Session, Setup, Stage, attached_client, claimed_client, client_at, close_client, close_reader, ended_client, first_stage, no_client, open_client, open_client_with, open_reader, open_reader_with, opened_client, reader_at, renewed_port}
-use Rattle.lab_headline.specs.Shares.{channels_of}
+use Rattle.lab_headline.specs.Shares.{channels_of_client}
 use Rattle.lab_headline.proofs.Apart.{Shares, free-unowned, item-shares, reaped-at, set-client}
 use Rattle.lab_headline.proofs.Bound.{HasBindings}
 use Rattle.lab_headline.proofs.Going.{Ascends, Going, IsPlaced, ascends-more, each-both, each-going, each-map, each-more, onward-less, placed-past, placed-some, seg_end, still-client}
@@ -162,7 +162,7 @@ in-map F G (Some c) map is = map c is
 
 -- an open client has its channels
 pub open-has : (bindings : List ℕ) (own : Option PlaybackStream) (c : PlaybackStream) (channel : ℕ) → own ≡ Some c → HasBindings bindings own → has_channel bindings channel ≡ true
-    → has_channel (channels_of own) channel ≡ true
+    → has_channel (channels_of_client own) channel ≡ true
 open-has bindings own c channel is bound has =
     let same : c.setup.bindings ≡ bindings = subst (HasBindings bindings) is bound in rw is (rw same has)
 

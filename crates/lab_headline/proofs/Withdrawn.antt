@@ -10,7 +10,7 @@ use Rattle.mix_core.specs.declared.port.Ended.{Ended}
 use Rattle.mix_core.specs.declared.port.Ended.TheVariants as ended
 use Rattle.mix_core.specs.Marks.{withdrawn_at}
 use Rattle.dmix_client.specs.declared.commit.Commit.{Commit}
-use Rattle.dmix_client.specs.Rewind.{back_on, left_of, take_each, take_frames}
+use Rattle.dmix_client.specs.Rewind.{back_on, rewind_left, take_each, take_frames}
 use Rattle.lab_headline.proofs.Onward.{Leads, Leads-then, Lies, begun, begun-most, earlier-lies, high_end}
 
 -- ---- a rewind
@@ -88,7 +88,7 @@ module _ (p : ℕ) (g : Geometry) (x y card : ℕ) (past : x ≤ card) where
     FramesLeft first n left = Lies p x y card 0 (card + (first + left.frames) + begun left.part) n
 
     left-lies : (first n left : ℕ) (end : Ended) (k : Marks) → 0 < left → Lies p x y card 0 (card + (first + n) + begun left) k
-        → FramesLeft first k (left_of n left (length bindings) end)
+        → FramesLeft first k (rewind_left n left (length bindings) end)
     left-lies first n left end k later lies = by_test (nat_eq left (length bindings)) (nat_eq left 0) refl
       where
         by_test : (all none : Bool) → nat_eq left 0 ≡ none

@@ -20,7 +20,7 @@ use Rattle.lab_report.specs.declared.row.Row.{Row}
 use Rattle.lab_run.specs.Client.{Client, present_of, row_by, segments_of}
 use Rattle.lab_run.specs.Items.{ItemsMay, client_kinds, rules_of}
 use Rattle.lab_run.specs.LabRun.{entries_by}
-use Rattle.lab_run.specs.LateRows.{IsLast, is_rewind}
+use Rattle.lab_run.specs.LateRows.{IsLastSample, is_rewind}
 use Rattle.lab_run.specs.Lines.{LineMay, LinesMay}
 use Rattle.lab_run.specs.OwnRows.{segments_by}
 use Rattle.lab_run.specs.Phases.{is_client, ops_by}
@@ -59,7 +59,7 @@ IsLate answer frame channel = answer ≡ Failed (Xrun (why.Late frame channel 0)
 pub record HasLast (client : Client) (frame channel : ℕ) : Type 0 where
   pub own : PlaybackStream
   pub is_own : client.own ≡ Some own
-  pub last : IsLast own frame channel
+  pub last : IsLastSample own frame channel
 
 -- Then none of the samples that the client's stretch has placed by then is at this frame and channel. A rewind that was late names the last sample
 -- of the stretch that is in the card's ring instead: the one that it couldn't take back.
@@ -87,7 +87,7 @@ pub record IsRowOfLine (session : Session) (body : List Item) (all : List Row)
   pub row_is : row ≡ row_by (line.stage.phases + 1) number asked after.1.own answer
 
 -- A report lists the segments that a client has after a line, that of its present stretch as the last one, and others only behind them.
-pub record IsListed (report : Report) (number : ℕ) (client : Client) : Type 0 where
+pub record ListsSegments (report : Report) (number : ℕ) (client : Client) : Type 0 where
   pub others : List Segment
   pub segments_are : segments_by number report.segments ≡ segments_of client ++ others
 
@@ -96,7 +96,7 @@ pub record RowMisses (session : Session) (body : List Item) (report : Report)
     (row : Row) (number frame channel : ℕ) : Type 0 where
   pub of : IsRowOfLine session body report.rows row number
   pub none : at (placed_now session number of.after.1) frame channel ≡ []
-  pub listed : IsListed report number of.after.1
+  pub listed : ListsSegments report number of.after.1
 
 -- After the line the last sample of the client's stretch that is in the card's ring is that of a frame and channel, and it stays: the report lists the
 -- segment of this stretch as it is then.
@@ -104,7 +104,7 @@ pub record RowNamesLast (session : Session) (body : List Item) (report : Report)
     (row : Row) (number frame channel : ℕ) : Type 0 where
   pub of : IsRowOfLine session body report.rows row number
   pub last : HasLast of.after.1 frame channel
-  pub listed : IsListed report number of.after.1
+  pub listed : ListsSegments report number of.after.1
 
 -- what a row says that is answered late: of a rewind the other thing
 pub record SaysWhereLate (session : Session) (body : List Item) (report : Report)

@@ -8,9 +8,9 @@ use Rattle.lab_run.specs.Items.{ItemsMay}
 use Rattle.lab_run.specs.Stage.{Session, Stage, client_at, first_stage}
 
 -- the card's channels of an open client
-abbrev pub channels_of : Option PlaybackStream → List ℕ
-channels_of None = []
-channels_of (Some c) = c.setup.bindings
+abbrev pub channels_of_client : Option PlaybackStream → List ℕ
+channels_of_client None = []
+channels_of_client (Some c) = c.setup.bindings
 
 -- lists without a channel in common
 abbrev pub AreApart : List ℕ → List ℕ → Type 0
@@ -22,5 +22,5 @@ abbrev pub HaveOwnChannels : Session → List Item → Stage → Type 0
 HaveOwnChannels session done stage =
     session.card.share ≡ Dshare → ItemsMay session (first_stage session) done stage
     → (n m : ℕ) → (n ≡ m → ⊥)
-    → AreApart (channels_of (client_at session stage n).1.own)
-    (channels_of (client_at session stage m).1.own)
+    → AreApart (channels_of_client (client_at session stage n).1.own)
+    (channels_of_client (client_at session stage m).1.own)

@@ -10,7 +10,7 @@ use Rattle.wav_io.specs.declared.format.Depths.TheVariants.{Sixteen, UpTo32}
 use Rattle.wav_io.specs.Reading.{Contents, Finding, refused, body_found, format_cut, ended, before_end, found_in, within_limit, contents, most_bytes, sounds}
 use Rattle.wav_io.specs.Readers.{raws}
 use Rattle.lab_input.specs.declared.shape.Shape.{Shape}
-use Rattle.lab_input.specs.Plug.{conversion_of, sound_file}
+use Rattle.lab_input.specs.Plug.{converted_file, sound_file}
 
 -- what such a file is, by its first bytes
 contents-long : (depths : Depths) (bytes : List ℕ) → most_bytes < length bytes
@@ -28,7 +28,7 @@ contents-append depths bytes more long =
 -- whatever follows, it is the same
 pub sound_file-long : (shape : Option Shape) (bytes more : List ℕ) → most_bytes < length bytes → sound_file shape (bytes ++ more) ≡ sound_file shape bytes
 sound_file-long None bytes more long = ap sounds (contents-append Sixteen bytes more long)
-sound_file-long (Some s) bytes more long = ap (λ (r : Result Contents WavError). conversion_of s (raws r)) (contents-append UpTo32 bytes more long)
+sound_file-long (Some s) bytes more long = ap (λ (r : Result Contents WavError). converted_file s (raws r)) (contents-append UpTo32 bytes more long)
 
 refused_before : (f : Finding) → (e : WavError) × (before_end f ≡ Err e)
 refused_before (refused e) = (e, refl)
@@ -43,4 +43,4 @@ sound_file-refused None bytes long =
     (is.0, ap sounds (contents-long Sixteen bytes long ∙ is.1))
 sound_file-refused (Some s) bytes long =
     let is = refused_before (found_in UpTo32 (take most_bytes bytes)) in
-    (is.0, ap (λ (r : Result Contents WavError). conversion_of s (raws r)) (contents-long UpTo32 bytes long ∙ is.1))
+    (is.0, ap (λ (r : Result Contents WavError). converted_file s (raws r)) (contents-long UpTo32 bytes long ∙ is.1))

@@ -8,10 +8,10 @@ use Rattle.std.specs.Option.{ForSome}
 use Rattle.lab_input.specs.declared.plug.PlugReader.{PlugReader}
 use Rattle.lab_input.specs.declared.shape.Shape.{Shape}
 use Rattle.lab_input.specs.Converting.{IsConverted, IsConverting, IsFed, IsSoFar}
-use Rattle.lab_input.specs.Plug.{IsShape, conversion_to, converted_sound, plug_file, conversion_of, short_enough, sound_file}
+use Rattle.lab_input.specs.Plug.{IsShape, conversion_to, converted_sound, plug_file, converted_file, short_enough, sound_file}
 use Rattle.plug_chain.specs.Frames.{Conversion, frame_count}
 use Rattle.plug_chain.specs.Growth.{Appends}
-use Rattle.plug_chain.specs.Plugs.{Completes, Continues, HasTaken, IsBeginning, IsStage, Stage, known_of, plug_of}
+use Rattle.plug_chain.specs.Plugs.{Completes, Continues, HasTakenBytes, IsBeginning, IsStage, Stage, known_of, plug_of}
 use Rattle.plug_chain.specs.Rates.{AreRates, output_count}
 use Rattle.plug_chain.specs.Tables.{IsTable}
 use Rattle.plug_chain.proofs.Lengths.{known_of-nil, length-plug_of, length-plug_of-append, plug_of-nil}
@@ -49,8 +49,8 @@ with_bytes-append a b (Err e) = refl
 -- ---- too many samples
 
 -- an answer of a head is of the conversion that the head gives
-conversion_of-head : (shape : Shape) (channels rate bits : ℕ) (s : Raw) → IsOfHead channels rate bits (Ok s) → conversion_to shape s.channels s.rate s.bits ≡ conversion_to shape channels rate bits
-conversion_of-head shape channels rate bits s is =
+converted_file-head : (shape : Shape) (channels rate bits : ℕ) (s : Raw) → IsOfHead channels rate bits (Ok s) → conversion_to shape s.channels s.rate s.bits ≡ conversion_to shape channels rate bits
+converted_file-head shape channels rate bits s is =
     ap (λ (n : ℕ). conversion_to shape n s.rate s.bits) is.0
     ∙ ap (λ (n : ℕ). conversion_to shape channels n s.bits) is.1
     ∙ ap (λ (n : ℕ). conversion_to shape channels rate n) is.2
@@ -63,9 +63,9 @@ short_enough-short sound short = cond-true (leb (2 * length sound.samples) most_
 
 -- where the first bytes have too many samples, the file is refused
 plugged-long : (shape : Shape) (channels rate bits : ℕ) (c : Conversion) (fed : List ℕ) (r : Result Raw WavError) → c ≡ conversion_to shape channels rate bits → AreRates c.rates → IsTable c.table
-    → IsOfHead channels rate bits r → most_bytes < 2 * length (plug_of c fed) → conversion_of shape (with_bytes fed r) ≡ Err TooLong
+    → IsOfHead channels rate bits r → most_bytes < 2 * length (plug_of c fed) → converted_file shape (with_bytes fed r) ≡ Err TooLong
 plugged-long shape channels rate bits c fed (Ok s) is rates table head long =
-    let same : c ≡ conversion_to shape s.channels s.rate s.bits = is ∙ sym (conversion_of-head shape channels rate bits s head) in
+    let same : c ≡ conversion_to shape s.channels s.rate s.bits = is ∙ sym (converted_file-head shape channels rate bits s head) in
     let more : length (plug_of c fed) ≤ length (plug_of c (fed ++ s.body)) = length-plug_of-append c fed s.body rates table in
     short_enough-long (converted_sound shape (record { channels = s.channels; rate = s.rate; bits = s.bits; body = fed ++ s.body }))
     (omega (arith, long, more, ap (λ (d : Conversion). length (plug_of d (fed ++ s.body))) same))
@@ -75,7 +75,7 @@ pub plug_file-long : (r : PlugReader) (channels rate bits : ℕ) (seen rest fed 
     → c ≡ conversion_to r.shape channels rate bits → AreRates c.rates → IsTable c.table → IsOfHead channels rate bits (raw_to_come r.reader rest)
     → most_bytes < 2 * length (plug_of c fed) → plug_file r.shape (seen ++ rest) ≡ Err TooLong
 plug_file-long r channels rate bits seen rest fed c same is rates table head long =
-    ap (conversion_of r.shape) (sym (same rest)) ∙ plugged-long r.shape channels rate bits c fed (raw_to_come r.reader rest) is rates table head long
+    ap (converted_file r.shape) (sym (same rest)) ∙ plugged-long r.shape channels rate bits c fed (raw_to_come r.reader rest) is rates table head long
 
 pub IsFed-long : (r : PlugReader) (channels rate bits : ℕ) (seen rest : List ℕ) (stage : Stage) → (so_far : IsFed r channels rate bits seen) → IsConverted r.shape r.reader stage so_far.fed r.samples.items
     → IsTable stage.conversion.table → most_bytes < 2 * length (plug_of stage.conversion (so_far.fed ++ r.body.items)) → plug_file r.shape (seen ++ rest) ≡ Err TooLong
@@ -97,7 +97,7 @@ IsConverted-first s reader stage channels rate bits fed samples shape some head 
       conversion = begins.conversion;
       rates = rates;
       head = head;
-      taken = subst (λ (x : List ℕ). HasTaken stage x) (sym none) begins.stage;
+      taken = subst (λ (x : List ℕ). HasTakenBytes stage x) (sym none) begins.stage;
       known = silent ∙ sym (known_of-nil stage.conversion) ∙ ap (known_of stage.conversion) (sym none);
       short = omega (arith, ap (λ (x : List ℕ). length (plug_of stage.conversion x)) none, ap length (plug_of-nil stage.conversion rates));
     }
@@ -185,7 +185,7 @@ pub plug_file-ended : (r : PlugReader) (seen : List ℕ) (channels rate bits : �
     → plug_file r.shape seen ≡ Ok (record { channels = r.shape.channels; rate = r.shape.rate; samples = samples })
 plug_file-ended r seen channels rate bits fed samples same ends is short =
     ap (λ (b : List ℕ). plug_file r.shape b) (sym (append-nil seen))
-    ∙ ap (conversion_of r.shape) (sym (same []) ∙ ap (with_bytes fed) ends)
+    ∙ ap (converted_file r.shape) (sym (same []) ∙ ap (with_bytes fed) ends)
     ∙ ap (λ (b : List ℕ). short_enough (converted_sound r.shape (record { channels = channels; rate = rate; bits = bits; body = b }))) (append-nil fed)
     ∙ ap (λ (zs : List ℤ). short_enough (record { channels = r.shape.channels; rate = r.shape.rate; samples = zs })) (sym is)
     ∙ short_enough-short (record { channels = r.shape.channels; rate = r.shape.rate; samples = samples }) short
@@ -193,7 +193,7 @@ plug_file-ended r seen channels rate bits fed samples same ends is short =
 -- the file is refused
 pub plug_file-refused : (r : PlugReader) (seen rest fed : List ℕ) (e : WavError) → ((more : List ℕ) → with_bytes fed (raw_to_come r.reader more) ≡ raw_file (seen ++ more))
     → raw_to_come r.reader rest ≡ Err e → plug_file r.shape (seen ++ rest) ≡ Err e
-plug_file-refused r seen rest fed e same is = ap (conversion_of r.shape) (sym (same rest) ∙ ap (with_bytes fed) is)
+plug_file-refused r seen rest fed e same is = ap (converted_file r.shape) (sym (same rest) ∙ ap (with_bytes fed) is)
 
 -- ---- the samples at the end
 
@@ -210,7 +210,7 @@ ended_is s reader (Some stage) channels rate bits fed samples after shape some s
     let raw : Raw = record { channels = channels; rate = rate; bits = bits; body = [] } in
     let head : IsOfHead so_far.channels so_far.rate so_far.bits (Ok raw) = subst (λ (r : Result Raw WavError). IsOfHead so_far.channels so_far.rate so_far.bits r) ends (so_far.head []) in
     grown.new_is ∙ ap (λ (x : List ℤ). x ++ grown.more) so_far.known ∙ sym grown.longer_is
-    ∙ ap (λ (c : Conversion). plug_of c fed) (so_far.conversion ∙ sym (conversion_of-head s so_far.channels so_far.rate so_far.bits raw head))
+    ∙ ap (λ (c : Conversion). plug_of c fed) (so_far.conversion ∙ sym (converted_file-head s so_far.channels so_far.rate so_far.bits raw head))
 
 short_ended : (s : Shape) (reader : Reader) (o : Option Stage) (channels rate bits : ℕ) (fed : List ℕ) (samples after : List ℤ) → IsShape s → 1 ≤ rate → IsSoFar s reader o fed samples
     → IfSome o (λ stage. Completes stage samples after) → (o ≡ None → after ≡ samples) → 2 * length after ≤ most_bytes
@@ -252,7 +252,7 @@ short_by sound other is =
           omega (arith, short, ap (λ (s : Sound). length s.samples) same)
     ]
 
-plugged-short : (shape : Shape) (r : Result Raw WavError) (sound : Sound) → conversion_of shape r ≡ Ok sound → 2 * length sound.samples ≤ most_bytes
+plugged-short : (shape : Shape) (r : Result Raw WavError) (sound : Sound) → converted_file shape r ≡ Ok sound → 2 * length sound.samples ≤ most_bytes
 plugged-short shape (Ok raw) sound is = short_by (converted_sound shape raw) sound is
 plugged-short shape (Err e) sound is = absurd (cc)
 

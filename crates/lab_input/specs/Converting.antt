@@ -3,7 +3,7 @@ use Rattle.std.specs.Prelude.{◌≡◌, ℕ, ◌*◌, ◌≤◌, List, [], ◌+
 use Rattle.lab_input.specs.declared.plug.PlugReader.{PlugReader}
 use Rattle.lab_input.specs.declared.shape.Shape.{Shape}
 use Rattle.lab_input.specs.Plug.{IsShape, conversion_to}
-use Rattle.plug_chain.specs.Plugs.{HasTaken, Stage, known_of, plug_of}
+use Rattle.plug_chain.specs.Plugs.{HasTakenBytes, Stage, known_of, plug_of}
 use Rattle.plug_chain.specs.Rates.{AreRates}
 use Rattle.wav_io.specs.Reading.{most_bytes}
 use Rattle.wav_io.specs.Readers.{Reader, IsOfHead, error_of, raw_file, raw_to_come, with_bytes}
@@ -18,7 +18,7 @@ pub record IsConverted (s : Shape) (reader : Reader) (stage : Stage) (fed : List
   pub conversion : stage.conversion ≡ conversion_to s channels rate bits
   pub rates : AreRates stage.conversion.rates
   pub head : (more : List ℕ) → IsOfHead channels rate bits (raw_to_come reader more)
-  pub taken : HasTaken stage fed
+  pub taken : HasTakenBytes stage fed
   pub known : samples ≡ known_of stage.conversion fed
   pub short : 2 * length (plug_of stage.conversion fed) ≤ most_bytes
 

@@ -67,12 +67,12 @@ abbrev pub short_enough : Sound → Result Sound WavError
 short_enough sound = if nat_le (2 * length sound.samples) most_bytes then Ok sound else Err TooLong
 
 -- what a file is converted to, or why it is refused: as its own reader says, or since it would be too long
-abbrev pub conversion_of : Shape → Result Raw WavError → Result Sound WavError
-conversion_of s (Ok raw) = short_enough (converted_sound s raw)
-conversion_of s (Err e) = Err e
+abbrev pub converted_file : Shape → Result Raw WavError → Result Sound WavError
+converted_file s (Ok raw) = short_enough (converted_sound s raw)
+converted_file s (Err e) = Err e
 
 abbrev pub plug_file : Shape → List ℕ → Result Sound WavError
-plug_file s bytes = conversion_of s (raw_file bytes)
+plug_file s bytes = converted_file s (raw_file bytes)
 
 -- what a file is as a sound, converted where there is a shape
 abbrev pub sound_file : Option Shape → List ℕ → Result Sound WavError

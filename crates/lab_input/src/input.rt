@@ -2,7 +2,7 @@
 ghost use Rattle.std.specs.Prelude.{◌≡◌, IfOk, length};
 ghost use Rattle.std.specs.Option.{ForSome};
 ghost use Rattle.lab_script.specs.Limits.{IsScript};
-ghost use Rattle.lab_stop.specs.Stops.{FetchFaults, Follows, Misses};
+ghost use Rattle.lab_stop.specs.Stops.{FetchFaults, AnswersOrStops, Misses};
 ghost use Rattle.lab_input.specs.Input.{input_in, script_in};
 ghost use Rattle.lab_input.specs.Read.{input_of};
 
@@ -45,7 +45,7 @@ pub struct Input {
 pub fn read_input<S: Shelf>(shelf: &mut S, alloc: Global, name: &[u8]) -> Result<Input, Stop>
     // The answer is what the files hold, or the first cause that they give.
     ensures input { ForSome (S.files shelf.old)
-        (λ files. Follows input_of result (input_in files name.now)) }
+        (λ files. AnswersOrStops input_of result (input_in files name.now)) }
 
     // What is read keeps a script's limits, and there are as many sounds as clients.
     ensures script { IfOk result (λ input. IsScript input.script) }
@@ -76,7 +76,7 @@ pub fn read_input<S: Shelf>(shelf: &mut S, alloc: Global, name: &[u8]) -> Result
 #[tactic(auto, unfolding(crate::specs::Input::script_in))]
 fn load_script<S: Shelf>(shelf: &mut S, alloc: Global, name: &[u8]) -> Result<Script, Stop>
     ensures script { ForSome (S.files shelf.old)
-        (λ files. Follows (λ s. s) result (script_in files name.now)) }
+        (λ files. AnswersOrStops (λ s. s) result (script_in files name.now)) }
     ensures valid { IfOk result (λ s. IsScript s) }
     ensures files { S.files shelf.new ≡ S.files shelf.old }
     ensures faults { FetchFaults result (S.fetch_faults shelf.old) (S.fetch_faults shelf.new) }

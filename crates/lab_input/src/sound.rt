@@ -1,7 +1,7 @@
 //! A WAV file of the shelf, read piece by piece.
 ghost use Rattle.std.specs.Prelude.{◌≡◌, ◌*◌, ◌≤◌, ◌++◌, ℕ, List, [], Option, IfErr, IfOk, OnOk, length};
 ghost use Rattle.std.specs.Option.{ForSome};
-ghost use Rattle.lab_stop.specs.Stops.{FetchFaults, Follows, Misses};
+ghost use Rattle.lab_stop.specs.Stops.{FetchFaults, AnswersOrStops, Misses};
 ghost use Rattle.wav_io.specs.Reading.{IsRefusal, Reads, wav_file};
 ghost use Rattle.lab_input.specs.declared.shape.Shape.{Shape};
 ghost use Rattle.lab_input.specs.Input.{wav_in};
@@ -135,7 +135,7 @@ pub(crate) fn read_sound<S: Shelf>(
 ) -> Result<(Wav, u64), Stop>
     requires { ForSome shape IsShape }
     ensures sound { ForSome (S.files shelf.old)
-        (λ files. Follows (λ r. r) result (wav_in files shape name.now)) }
+        (λ files. AnswersOrStops (λ r. r) result (wav_in files shape name.now)) }
     ensures few { IfOk result (λ r. r.1 ≤ 67_174_400) }
     ensures files { S.files shelf.new ≡ S.files shelf.old }
     ensures faults { FetchFaults result (S.fetch_faults shelf.old) (S.fetch_faults shelf.new) }

@@ -1,7 +1,7 @@
 //! The WAV files of a run, one after the other, and how many bytes they have together.
 ghost use Rattle.std.specs.Prelude.{◌≡◌, ◌≤◌, IfOk, length};
 ghost use Rattle.std.specs.Option.{ForSome};
-ghost use Rattle.lab_stop.specs.Stops.{FetchFaults, Follows, Misses};
+ghost use Rattle.lab_stop.specs.Stops.{FetchFaults, AnswersOrStops, Misses};
 ghost use Rattle.lab_script.specs.Limits.{IsCardLine};
 ghost use Rattle.lab_input.specs.Input.{capture_in, most_of_run, sound_in, sounds_in};
 ghost use Rattle.lab_input.specs.Plug.{IsShape};
@@ -30,7 +30,7 @@ fn read_within<S: Shelf>(
     requires few { before ≤ most_of_run }
     requires shape { ForSome shape IsShape }
     ensures sound { ForSome (S.files shelf.old)
-        (λ files. Follows (λ r. r) result (sound_in files before shape name.now)) }
+        (λ files. AnswersOrStops (λ r. r) result (sound_in files before shape name.now)) }
     ensures few { IfOk result (λ r. r.1 ≤ most_of_run) }
     ensures files { S.files shelf.new ≡ S.files shelf.old }
     ensures faults { FetchFaults result (S.fetch_faults shelf.old) (S.fetch_faults shelf.new) }
@@ -56,7 +56,7 @@ pub(crate) fn read_capture<S: Shelf>(
     card: &CardLine,
 ) -> Result<(Option<Wav>, u64), Stop>
     ensures sound { ForSome (S.files shelf.old)
-        (λ files. Follows (λ r. r) result (capture_in files card.now.capture)) }
+        (λ files. AnswersOrStops (λ r. r) result (capture_in files card.now.capture)) }
     ensures few { IfOk result (λ r. r.1 ≤ most_of_run) }
     ensures files { S.files shelf.new ≡ S.files shelf.old }
     ensures faults { FetchFaults result (S.fetch_faults shelf.old) (S.fetch_faults shelf.new) }
@@ -86,7 +86,7 @@ pub(crate) fn read_wavs<S: Shelf>(
     requires few { before ≤ most_of_run }
     requires card { IsCardLine card.now }
     ensures sounds { ForSome (S.files shelf.old)
-        (λ files. Follows (λ v. v.items) result (sounds_in files before card.now clients.now)) }
+        (λ files. AnswersOrStops (λ v. v.items) result (sounds_in files before card.now clients.now)) }
     ensures number { IfOk result (λ wavs. length wavs.items ≡ length clients.now) }
     ensures files { S.files shelf.new ≡ S.files shelf.old }
     ensures faults { FetchFaults result (S.fetch_faults shelf.old) (S.fetch_faults shelf.new) }

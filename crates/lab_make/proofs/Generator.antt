@@ -5,7 +5,7 @@ use Rattle.std.proofs.lemmas.List.FromFn.{map-range_with_len_more}
 use Rattle.rand_pcg.specs.Lcg.{Lcg, advance, next, next_state, state_after}
 use Rattle.rand_pcg.specs.Pcg.{multiplier_64}
 use Rattle.wav_io.specs.Sound.{Sound}
-use Rattle.lab_make.specs.Files.{after_words, generator_of, made_sound, sample_at, sound_from}
+use Rattle.lab_make.specs.Files.{after_words, generator_of, made_sound, next_sample, sound_from}
 
 -- steps after other steps are as many steps as both
 pub state_after-add : (w m p a b s : ℕ) → state_after w m p b (state_after w m p a s) ≡ state_after w m p (a + b) s
@@ -36,12 +36,12 @@ after_words-file i first g h before step =
 
 -- one sample more
 pub samples-push : (i : ℕ) (first g : Lcg) (xs ys : List ℤ) (x : ℤ)
-    → xs ≡ map (λ index. sample_at (after_words index first)) (range_with_len 0 i) → g ≡ after_words i first → x ≡ sample_at g → ys ≡ xs ++ x ∷ []
-    → ys ≡ map (λ index. sample_at (after_words index first)) (range_with_len 0 (i + 1))
+    → xs ≡ map (λ index. next_sample (after_words index first)) (range_with_len 0 i) → g ≡ after_words i first → x ≡ next_sample g → ys ≡ xs ++ x ∷ []
+    → ys ≡ map (λ index. next_sample (after_words index first)) (range_with_len 0 (i + 1))
 samples-push i first g xs ys x before at last all =
     all ∙ ap (λ zs. zs ++ x ∷ []) before
-    ∙ ap (λ z. map (λ index. sample_at (after_words index first)) (range_with_len 0 i) ++ z ∷ []) (last ∙ ap sample_at at)
-    ∙ sym (map-range_with_len_more (λ index. sample_at (after_words index first)) 0 i i (zero-add i))
+    ∙ ap (λ z. map (λ index. next_sample (after_words index first)) (range_with_len 0 i) ++ z ∷ []) (last ∙ ap next_sample at)
+    ∙ sym (map-range_with_len_more (λ index. next_sample (after_words index first)) 0 i i (zero-add i))
 
 -- one file more
 pub files-push : (seed i : ℕ) (g : Lcg) (xs ys : List Sound) (x : Sound)

@@ -14,7 +14,7 @@ use Rattle.lab_script.specs.Keys.{key_value}
 use Rattle.lab_script.specs.Ops.{op_of, played_by}
 use Rattle.lab_script.specs.Reading.{card_line}
 use Rattle.lab_script.specs.Script.{is_of_card, is_unplug}
-use Rattle.lab_script.specs.Word.{is_name, is_file, number_of}
+use Rattle.lab_script.specs.Word.{is_name, is_file, number_of_word}
 use Rattle.lab_make.specs.Lines.{card_words}
 use Rattle.lab_make.specs.Script.{made_card}
 use Rattle.lab_make.proofs.NumberTests.{below_test}
@@ -81,12 +81,12 @@ some_equal None n e = absurd (false≢true e)
 some_equal (Some m) n e = ap Some ((Decides-eqb m n).0 e)
 
 -- the decimal form of a small number
-pub number_of-decimal : (n : ℕ) → n < 97 → number_of (decimal n) ≡ Some n
+pub number_of_word-decimal : (n : ℕ) → n < 97 → number_of_word (decimal n) ≡ Some n
 unfolding digits
-number_of-decimal n h = some_equal (number_of (decimal n)) n (below_test (λ m. option_map_or (λ k. k == m) (number_of (decimal m)) false) 97 n refl h)
+number_of_word-decimal n h = some_equal (number_of_word (decimal n)) n (below_test (λ m. option_map_or (λ k. k == m) (number_of_word (decimal m)) false) 97 n refl h)
 
 -- a client writes
-pub op_of-write : (client n : ℕ) (word : List ℕ) → number_of word ≡ Some n → nat_le n 4194304 ≡ true → op_of (Client client) (codes "write" ∷ word ∷ []) ≡ Ok (op.Write n)
+pub op_of-write : (client n : ℕ) (word : List ℕ) → number_of_word word ≡ Some n → nat_le n 4194304 ≡ true → op_of (Client client) (codes "write" ∷ word ∷ []) ≡ Ok (op.Write n)
 unfolding op_of
 op_of-write client n word e most =
     let least : nat_le 0 n ≡ true = grind (arith, nat_tests) in

@@ -17,7 +17,7 @@ use Rattle.lab_script.specs.Reading.{after, on_line}
 use Rattle.lab_make.specs.Files.{file_name}
 use Rattle.lab_make.specs.Lines.{client_name, client_words, frames_written, open_words, write_words}
 use Rattle.lab_make.specs.Script.{made_card, made_client, made_opening, turn_line, write_line}
-use Rattle.lab_make.proofs.LineSteps.{IsTaken, client_of-plain, number_of-decimal, op_of-play, op_of-write, with_line-plain, with_open-plain, with_phase-plain}
+use Rattle.lab_make.proofs.LineSteps.{IsTaken, client_of-plain, number_of_word-decimal, op_of-play, op_of-write, with_line-plain, with_open-plain, with_phase-plain}
 use Rattle.lab_make.proofs.Names.{client_name-is_name, client_name-same, file_name-is_file, frames_written-lt}
 use Rattle.lab_make.proofs.Places.{position-first, position-none}
 use Rattle.lab_make.proofs.NumberTests.{below_test}
@@ -185,7 +185,7 @@ with_words-write clients turn k body phases played few h short =
     let s = inside_of clients body begin (written clients turn k) phases played in
     let n = frames_written turn k in
     let small = frames_written-lt turn k in
-    let asked = op_of-write k n (decimal n) (number_of-decimal n small) (nat_le-le n 4194304 (omega arith)) in
+    let asked = op_of-write k n (decimal n) (number_of_word-decimal n small) (nat_le-le n 4194304 (omega arith)) in
     let taken : IsTaken s (Client k) (op.Write n) = record {
       alone = is_beside-written clients turn k n;
       plugged = refl;

@@ -8,12 +8,12 @@ use Rattle.rand_pcg.specs.Pcg.{multiplier_64, pcg32, pcg32_of_seed}
 use Rattle.wav_io.specs.Sound.{Sound}
 
 -- the sample of a word of 32 bits: its 14 highest bits less 8192
-abbrev pub sample_of : ℕ → ℤ
-sample_of word = pos (word / 2 ^ 18) -ℤ pos 8192
+abbrev pub sample_of_random : ℕ → ℤ
+sample_of_random word = pos (word / 2 ^ 18) -ℤ pos 8192
 
 -- the sample of the next word of a generator
-unfoldable pub sample_at : Lcg → ℤ
-sample_at generator = sample_of (pcg32 generator).0
+unfoldable pub next_sample : Lcg → ℤ
+next_sample generator = sample_of_random (pcg32 generator).0
 
 -- a generator after so many words
 abbrev pub after_words : ℕ → Lcg → Lcg
@@ -21,7 +21,7 @@ after_words words generator = advance 64 multiplier_64 words generator
 
 -- the samples of the next 4,096 stereo frames of a generator, one of each word
 abbrev pub samples_from : Lcg → List ℤ
-samples_from generator = map (λ index. sample_at (after_words index generator)) (range_with_len 0 8192)
+samples_from generator = map (λ index. next_sample (after_words index generator)) (range_with_len 0 8192)
 
 -- the next file of a generator
 abbrev pub sound_from : Lcg → Sound

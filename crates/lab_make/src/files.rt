@@ -2,7 +2,7 @@
 ghost use Rattle.std.specs.Prelude.{◌≡◌, ◌≤ℤ◌, All, OnOk, IfOk, IfErr, negsuc, pos, length, string_bytes};
 ghost use Rattle.rand_pcg.specs.Lcg.{advance, next};
 ghost use Rattle.rand_pcg.specs.Pcg.{multiplier_64};
-ghost use Rattle.lab_make.specs.Files.{IsMadeSound, file_name, made_sounds, sample_at, sample_of, samples_from, sound_from};
+ghost use Rattle.lab_make.specs.Files.{IsMadeSound, file_name, made_sounds, next_sample, sample_of_random, samples_from, sound_from};
 
 use rand_core::SeedableRng;
 use rand_core::utils::NextWord;
@@ -22,7 +22,7 @@ const SAMPLES: usize = 8192;
 
 /// The sample that a word gives: its 14 highest bits less 8192, so that it is from -8192 to 8191.
 fn sample_of(word: u32) -> i16
-    ensures value { result ≡ sample_of word }
+    ensures value { result ≡ sample_of_random word }
     ensures least { negsuc 8191 ≤ℤ result }
     ensures most { result ≤ℤ pos 8191 }
 {
@@ -30,9 +30,9 @@ fn sample_of(word: u32) -> i16
 }
 
 /// The next sample of a generator, which draws one word.
-#[tactic(auto, unfolding(crate::specs::Files::sample_at))]
+#[tactic(auto, unfolding(crate::specs::Files::next_sample))]
 fn next_sample(generator: &mut Lcg64Xsh32) -> i16
-    ensures sample { result ≡ sample_at generator.old }
+    ensures sample { result ≡ next_sample generator.old }
     ensures next { generator.new ≡ next 64 multiplier_64 generator.old }
 {
     sample_of(generator.next_word())

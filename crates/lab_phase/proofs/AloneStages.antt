@@ -32,7 +32,7 @@ use Rattle.lab_readers.specs.Idle.{AreStill, readers-still}
 use Rattle.lab_readers.specs.Steps.{is_busy, is_some_op}
 use Rattle.lab_phase.specs.declared.lab.Lab.{Lab}
 use Rattle.lab_phase.specs.Alone.{ops_by-alone_client, ops_by-alone_reader}
-use Rattle.lab_phase.specs.AtStage.{AreActorsOf, IsAtStage, IsNext, IsSameScript, capture_of, played_by, played_of, session_of}
+use Rattle.lab_phase.specs.AtStage.{AreActorsOf, IsAtStage, IsNextItem, IsSameScript, capture_of, played_by, played_of, session_of}
 use Rattle.lab_phase.specs.CardStage.{IsCardIn, IsCardIn-after, IsCardIn-same}
 use Rattle.lab_phase.specs.PhaseRuns.{AreStopsOf, HasRunPhase, IsLonger, PlaysAlone, RunsPhase, Stops, asks_of_lab}
 use Rattle.lab_phase.proofs.PhaseStages.{phase-lines}
@@ -53,7 +53,7 @@ idle-count lines none (r ∷ rs) =
 rows-nil : (xs ys : List Row) → xs ++ ys ++ [] ++ [] ≡ xs ++ ys
 rows-nil xs ys = simp append-nil
 
-module _ (lab after : Lab) (lines : List Line) (is : IsNext lab (item.Phase lines)) (alone : length (ops_by is_of_card lines) ≡ length lines) (a b : CardActor)
+module _ (lab after : Lab) (lines : List Line) (is : IsNextItem lab (item.Phase lines)) (alone : length (ops_by is_of_card lines) ≡ length lines) (a b : CardActor)
     (card_is : lab.card ≡ Some a) (card_then : after.card ≡ Some b) (clients_same : after.clients ≡ lab.clients) (readers_same : after.readers ≡ lab.readers)
     (plays : PlaysAlone (asks_of_lab lab lines) lab.rows.items after.rows.items a b) where
   module _ (stage : Stage) (at : IsAtStage lab stage) where

@@ -37,7 +37,7 @@ use Rattle.lab_phase.specs.declared.lab.Lab.{Lab}
 use Rattle.lab_phase.specs.declared.steps.Asked.{Asked}
 use Rattle.lab_phase.specs.Alone.{unplugs_by-others}
 use Rattle.lab_phase.specs.Asked.{CanMeet}
-use Rattle.lab_phase.specs.AtStage.{AreActorsOf, AreOfRings, IsAtStage, IsCardOf, IsNext, capture_of, played_by, played_of, session_of}
+use Rattle.lab_phase.specs.AtStage.{AreActorsOf, AreOfRings, IsAtStage, IsCardOf, IsNextItem, capture_of, played_by, played_of, session_of}
 use Rattle.lab_phase.specs.BorderLaws.{HasDone-next, AreSetUp-same, session_of-same}
 use Rattle.lab_phase.specs.Counts.{AreAll-reached}
 use Rattle.lab_phase.specs.PhaseLaws.{ActorLaws, HaveDone, asks_at, have-done}
@@ -55,7 +55,7 @@ length-phases_of (item.Phase more ∷ done) others lines = let rest = length-pha
 length-phases_of (item.Opens number who ∷ done) others lines = length-phases_of done others lines
 length-phases_of (item.Closes number who ∷ done) others lines = length-phases_of done others lines
 
-module _ (lab : Lab) (stage : Stage) (lines : List Line) (at : IsAtStage lab stage) (is : IsNext lab (item.Phase lines)) where
+module _ (lab : Lab) (stage : Stage) (lines : List Line) (at : IsAtStage lab stage) (is : IsNextItem lab (item.Phase lines)) where
   pub first-item : IsFirstOf (item.Phase lines) at.has_done.others
   first-item =
       let has = at.has_done in
@@ -81,7 +81,7 @@ module _ (lab : Lab) (stage : Stage) (lines : List Line) (at : IsAtStage lab sta
       omega (arith, count, more, all, body, own)
 
 -- its actors can do it: the card's frames are before its rings' end, and all can meet once they took the room of the lines
-module _ (lab : Lab) (stage : Stage) (asked : Asked) (at : IsAtStage lab stage) (is : IsNext lab (item.Phase asked.lines.now)) (a0 : CardActor) (card_is : lab.card ≡ Some a0)
+module _ (lab : Lab) (stage : Stage) (asked : Asked) (at : IsAtStage lab stage) (is : IsNextItem lab (item.Phase asked.lines.now)) (a0 : CardActor) (card_is : lab.card ≡ Some a0)
     (laws : PhasesAreOfScripts) where
   actors-at : AreActorsOf (session_of lab) (capture_of lab) stage (Some a0) lab.clients lab.readers
   actors-at = subst (λ (card : Option CardActor). AreActorsOf (session_of lab) (capture_of lab) stage card lab.clients lab.readers) card_is at.actors
@@ -130,7 +130,7 @@ rows-joined xs xs2 ks ks2 bs bs2 cs cs2 first more =
     let after : xs2 ++ ks2 ++ bs2 ++ cs2 ≡ xs2 ++ (ks2 ++ bs2 ++ cs2) = simp append_assoc in
     before ∙ (ap (λ (rows : List Row). xs ++ rows) more ∙ (ap (λ (rows : List Row). rows ++ (ks2 ++ bs2 ++ cs2)) first ∙ sym after))
 
-module _ {G : Type 0} (stops : G → ℕ) (gates gates_after : List G) (lab mid : Lab) (lines : List Line) (laws : ActorLaws) (is : IsNext lab (item.Phase lines))
+module _ {G : Type 0} (stops : G → ℕ) (gates gates_after : List G) (lab mid : Lab) (lines : List Line) (laws : ActorLaws) (is : IsNextItem lab (item.Phase lines))
     (others : length (ops_by is_of_card lines) ≢ length lines) (run : HasRunLines stops gates gates_after lab lines mid) (stage : Stage) (base : Stops)
     (at : IsAtStage lab stage) (counted : AreStopsOf base (stops_by stops gates) stage) where
   actors-before : AreActorsOf (session_of lab) (capture_of lab) stage (Some run.card) lab.clients lab.readers
@@ -245,7 +245,7 @@ played-longer stops gates gates_after lab mid after lines run reaps =
     }
 
 -- at whatever stage it was
-pub RunsPhase-reaped : {G : Type 0} (stops : G → ℕ) (gates gates_after : List G) (lab mid after : Lab) (lines : List Line) → ActorLaws → IsNext lab (item.Phase lines)
+pub RunsPhase-reaped : {G : Type 0} (stops : G → ℕ) (gates gates_after : List G) (lab mid after : Lab) (lines : List Line) → ActorLaws → IsNextItem lab (item.Phase lines)
     → length (ops_by is_of_card lines) ≢ length lines → HasRunLines stops gates gates_after lab lines mid → Reaps mid after
     → RunsPhase (stops_by stops gates) (stops_by stops gates_after) lab lines after
 RunsPhase-reaped stops gates gates_after lab mid after lines laws is others run reaps = record {
@@ -263,7 +263,7 @@ RunsPhase-reaped stops gates gates_after lab mid after lines laws is others run 
 
 -- ---- a phase that is counted
 
-module _ (stops stops_after : Stops) (lab mid after : Lab) (lines : List Line) (is : IsNext lab (item.Phase lines)) (runs : RunsPhase stops stops_after lab lines mid)
+module _ (stops stops_after : Stops) (lab mid after : Lab) (lines : List Line) (is : IsNextItem lab (item.Phase lines)) (runs : RunsPhase stops stops_after lab lines mid)
     (counts : CountsPhase mid after) where
   same-then : Rattle.lab_phase.specs.AtStage.IsSameScript lab after
   same-then = record {

@@ -113,13 +113,13 @@ pub record DoesItem (lab : Lab) (item : Item) (after : Lab) : Type 0 where
   pub does : (stage : Stage) → IsAtStage lab stage → HasDoneItem lab item after stage
 
 -- this is the next item of its script
-abbrev pub IsNext : Lab → Item → Type 0
-IsNext lab item = slice_get lab.script.now.body lab.next ≡ Some item
+abbrev pub IsNextItem : Lab → Item → Type 0
+IsNextItem lab item = slice_get lab.script.now.body lab.next ≡ Some item
 
 -- the item of a script whose number is that of the items that are done
-pub IsNext-at : (lab : Lab) (script : Script) (done : ℕ) (item : Item) → script_of lab ≡ script → items_done lab ≡ done → slice_get script.body done ≡ Some item
-    → IsNext lab item
-IsNext-at lab script done item same count is =
+pub IsNextItem-at : (lab : Lab) (script : Script) (done : ℕ) (item : Item) → script_of lab ≡ script → items_done lab ≡ done → slice_get script.body done ≡ Some item
+    → IsNextItem lab item
+IsNextItem-at lab script done item same count is =
     ap (λ (n : ℕ). slice_get lab.script.now.body n) count ∙ (ap (λ (s : Script). slice_get s.body done) same ∙ is)
 
 -- it is at a stage of a run

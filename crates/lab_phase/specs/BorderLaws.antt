@@ -21,7 +21,7 @@ use Rattle.lab_clients.specs.declared.clients.LabClients.{LabClients}
 use Rattle.lab_readers.specs.AtStage as readers
 use Rattle.lab_readers.specs.declared.readers.LabReaders.{LabReaders}
 use Rattle.lab_phase.specs.declared.lab.Lab.{Lab}
-use Rattle.lab_phase.specs.AtStage.{AddsRow, AreActorsAt, AreActorsOf, DoesItem, DoesRow, HasDone, AreSetUp, IsBorderItem, IsAtStage, IsNext, IsSameCount, IsSameRing, IsSameScript, border_after, capture_of, session_of}
+use Rattle.lab_phase.specs.AtStage.{AddsRow, AreActorsAt, AreActorsOf, DoesItem, DoesRow, HasDone, AreSetUp, IsBorderItem, IsAtStage, IsNextItem, IsSameCount, IsSameRing, IsSameScript, border_after, capture_of, session_of}
 use Rattle.lab_phase.specs.Borders.{KeepsClients, KeepsReaders}
 use Rattle.lab_phase.specs.CardStage.{IsCardIn-same, IsSameActor, IsSameActor-none}
 use Rattle.lab_phase.specs.Reached.{IsFirstOf-next, IsReached-next, length-next}
@@ -87,7 +87,7 @@ AreSetUp-same lab after same set_up = record {
 }
 
 -- a lab that did an item more of its script
-pub HasDone-next : (lab after : Lab) (stage next : Stage) (one : Item) → IsSameScript lab after → IsNext lab one → ItemMay (session_of lab) stage one next → after.next ≡ lab.next + 1
+pub HasDone-next : (lab after : Lab) (stage next : Stage) (one : Item) → IsSameScript lab after → IsNextItem lab one → ItemMay (session_of lab) stage one next → after.next ≡ lab.next + 1
     → HasDone lab stage → HasDone after next
 HasDone-next lab after stage next one same is may count has =
     let first = IsFirstOf-next has.done has.others one (ap (λ (n : ℕ). slice_get (has.done ++ has.others) n) (sym has.next)
@@ -104,7 +104,7 @@ HasDone-next lab after stage next one same is may count has =
     }
 
 -- an item of one row
-module _ (lab mid after : Lab) (one : Item) (row : Row) (step : Stage → Stage) (does : DoesRow step lab row mid) (adds : AddsRow row mid after) (is : IsNext lab one)
+module _ (lab mid after : Lab) (one : Item) (row : Row) (step : Stage → Stage) (does : DoesRow step lab row mid) (adds : AddsRow row mid after) (is : IsNextItem lab one)
     (may : (stage : Stage) → ItemMay (session_of lab) stage one (step stage)) where
   same-after : IsSameScript lab after
   same-after = record {
@@ -214,7 +214,7 @@ slice_get-inside [] i x is = absurd (none-some x is)
 slice_get-inside (y ∷ xs) zero x is = omega arith
 slice_get-inside (y ∷ xs) (suc i) x is = let more = slice_get-inside xs i x is in omega (arith, more)
 
-pub next-inside : (lab : Lab) (one : Item) → IsNext lab one → lab.next < length lab.script.now.body
+pub next-inside : (lab : Lab) (one : Item) → IsNextItem lab one → lab.next < length lab.script.now.body
 next-inside lab one is = slice_get-inside lab.script.now.body lab.next one is
 
 pub OnOk-more : {X E : Type 0} (P Q : Type 0) (r : Result X E) → (P → Q) → OnOk r P → OnOk r Q

@@ -13,7 +13,7 @@ use Rattle.lab_script.specs.declared.line.Op.TheVariants as op
 use Rattle.lab_script.specs.declared.script.Script.{Script}
 use Rattle.lab_script.specs.Limits.{IsItem, IsOpOf, IsPhase, IsScript}
 use Rattle.lab_script.specs.Script as scripts
-use Rattle.lab_script.specs.Script.{first_frame, frames_played, phases_of, position_after}
+use Rattle.lab_script.specs.Script.{first_frame, frames_played, phases_of, position_after_phases}
 use Rattle.lab_run.specs.Phases.{played_in}
 use Rattle.lab_run.specs.ScriptWords.{IsReached, PhasesAreOfScripts}
 use Rattle.lab_run.specs.Stage.{Session, Stage}
@@ -67,7 +67,7 @@ pub FitsRing-next : (script : Script) (wavs : List Sound) (session : Session) (d
     → IsReached script wavs session done (item.Phase lines ∷ others) stage → stage.position + played_in lines ≤ 4294967295 * session.ring.frames
 FitsRing-next script wavs session done others lines stage laws is =
     let rules = laws script wavs session done others lines stage is in
-    let at : stage.position + played_in lines ≡ position_after script (stage.phases + 1) = rules.position in
+    let at : stage.position + played_in lines ≡ position_after_phases script (stage.phases + 1) = rules.position in
     let few = frames_played-take (stage.phases + 1) (phases_of script.body) in
     let laps = is.script_is.laps in
     let ring : session.ring.frames ≡ script.card.ring = is.session_is.ring.frames in

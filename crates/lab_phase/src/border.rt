@@ -10,7 +10,7 @@ impl<'r> Lab<'r, '_> {
     ghost use Rattle.lab_script.specs.declared.line.Actor.TheVariants as whose;
     ghost use Rattle.lab_script.specs.Limits.{IsBorder};
     ghost use Rattle.lab_run.specs.Stage.{after_close, after_open};
-    ghost use Rattle.lab_phase.specs.AtStage.{AddsRow, DoesItem, DoesRow, IsNext, IsBorderItem, IsLab, border_after, played_of, session_of};
+    ghost use Rattle.lab_phase.specs.AtStage.{AddsRow, DoesItem, DoesRow, IsNextItem, IsBorderItem, IsLab, border_after, played_of, session_of};
 
     /// Does an `open` or a `close` of the script's body, which has one row. It refuses, with `Memory`, only where no memory is left; the
     /// lab isn't called again then.
@@ -18,7 +18,7 @@ impl<'r> Lab<'r, '_> {
     /// The caller has the script's next item, which is no phase.
     pub fn border(&mut self, item: &Item) -> Result<(), PcmError>
         requires at { IsLab self.old }
-        requires next { IsNext self.old item.now }
+        requires next { IsNextItem self.old item.now }
         requires border { IsBorderItem item.now }
         ensures does { OnOk result (DoesItem self.old item.now self.new) }
         ensures played { OnOk result (played_of self.new ≡ played_of self.old) }
@@ -31,7 +31,7 @@ impl<'r> Lab<'r, '_> {
     // Does an `open` or a `close`, and gives its row.
     fn do_item(&mut self, item: &Item) -> Result<Row, PcmError>
         requires at { IsLab self.old }
-        requires next { IsNext self.old item.now }
+        requires next { IsNextItem self.old item.now }
         requires border { IsBorderItem item.now }
         ensures does { IfOk result
             (λ row. DoesRow (λ stage. border_after (session_of self.old) stage item.now)

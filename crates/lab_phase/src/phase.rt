@@ -72,7 +72,7 @@ impl<'r> Lab<'r, '_> {
     ghost use Rattle.lab_script.specs.Script.{is_of_card};
     ghost use Rattle.lab_run.specs.Phases.{ops_by};
     ghost use Rattle.lab_clients.specs.Reaped.{AreDoneInRun};
-    ghost use Rattle.lab_phase.specs.AtStage.{IsLab, IsNext};
+    ghost use Rattle.lab_phase.specs.AtStage.{IsLab, IsNextItem};
     ghost use Rattle.lab_phase.specs.PhaseRuns.{CountsPhase, DoesPhase, HasRunLines, IsLabWith, Reaps, RunsPhase, Stops, stops_by};
 
     /// Does the next phase of the script's body: the card and all clients and readers do their lines, at once where two of them have some,
@@ -89,7 +89,7 @@ impl<'r> Lab<'r, '_> {
         gates: &mut [G],
     ) -> Result<(), PcmError>
         requires at { IsLabWith (stops_by G.stops gates.old) self.old }
-        requires next { IsNext self.old (item.Phase lines.now) }
+        requires next { IsNextItem self.old (item.Phase lines.now) }
         requires gates { 128 ≤ length gates.old }
         ensures does { OnOk result
             (DoesPhase (stops_by G.stops gates.old) (stops_by G.stops gates.new)
@@ -110,7 +110,7 @@ impl<'r> Lab<'r, '_> {
         gates: &mut [G],
     ) -> Result<(), PcmError>
         requires at { IsLabWith (stops_by G.stops gates.old) self.old }
-        requires next { IsNext self.old (item.Phase lines.now) }
+        requires next { IsNextItem self.old (item.Phase lines.now) }
         requires gates { 128 ≤ length gates.old }
         ensures runs { OnOk result
             (RunsPhase (stops_by G.stops gates.old) (stops_by G.stops gates.new)
@@ -127,7 +127,7 @@ impl<'r> Lab<'r, '_> {
     // A phase whose lines are all the card's: no other actor does anything in it.
     fn run_card(&mut self, lines: &[Line]) -> Result<(), PcmError>
         requires at { IsLab self.old }
-        requires next { IsNext self.old (item.Phase lines.now) }
+        requires next { IsNextItem self.old (item.Phase lines.now) }
         requires alone { length (ops_by is_of_card lines.now) ≡ length lines.now }
         ensures runs { OnOk result
             ((stops : Stops) → RunsPhase stops stops self.old lines.now self.new) }
@@ -154,7 +154,7 @@ impl<'r> Lab<'r, '_> {
         gates: &mut [G],
     ) -> Result<(), PcmError>
         requires at { IsLabWith (stops_by G.stops gates.old) self.old }
-        requires next { IsNext self.old (item.Phase lines.now) }
+        requires next { IsNextItem self.old (item.Phase lines.now) }
         requires gates { 128 ≤ length gates.old }
         requires others { length (ops_by is_of_card lines.now) ≢ length lines.now }
         ensures runs { OnOk result
@@ -178,7 +178,7 @@ impl<'r> Lab<'r, '_> {
         gates: &mut [G],
     ) -> Result<(), PcmError>
         requires at { IsLab self.old }
-        requires next { IsNext self.old (item.Phase lines.now) }
+        requires next { IsNextItem self.old (item.Phase lines.now) }
         requires gates { 128 ≤ length gates.old }
         ensures runs { OnOk result
             (HasRunLines G.stops gates.old gates.new self.old lines.now self.new) }

@@ -18,7 +18,7 @@ use Rattle.lobby.specs.Lobbies.{Attaches, LoadsAt, Outcome, free_seats, seen_of_
 use Rattle.lobby.specs.Seats.{IsBusy, last_of, lowest_free, lowest_silent, seat_at}
 use Rattle.lobby.specs.Seats as seats
 use Rattle.lab_run.specs.Places.{Lobby, Place, after_attach, attached_by, held_by, is_below, is_free, is_silent, place_after}
-use Rattle.lab_places.specs.Held.{AreAtPlaces, HoldsGiven, HoldsNone, HoldsPlace, IsAnswer, IsAtPlace}
+use Rattle.lab_places.specs.Held.{AreAtPlaces, HoldsGiven, HoldsNone, HoldsPlace, IsAnswerOfRun, IsAtPlace}
 use Rattle.lab_places.proofs.Least.{least_last-is}
 
 -- ---- the first place that passes a test
@@ -119,7 +119,7 @@ holds-at number (seat ∷ more) (first ∷ places) (suc place) s at there none =
 -- what an attach at a position made of the seats is what a run makes of its places
 pub record SeatsAttach (number position : ℕ) (lobby : Lobby) (r : Result MixSeat PcmError) (after : List (Option MixSeat)) : Type 0 where
   pub places : AreAtPlaces after (after_attach number position lobby).0.places
-  pub answer : IsAnswer r (after_attach number position lobby).1
+  pub answer : IsAnswerOfRun r (after_attach number position lobby).1
   pub place : HoldsGiven number lobby.places r (after_attach number position lobby).0.places
 
 attached-none : (number position : ℕ) (lobby : Lobby) (more : List (Option MixSeat)) → AreAtPlaces more lobby.places → lowest_free more ≡ None
@@ -196,7 +196,7 @@ lobby-attaches load number position lobby l m r at seen none_free_is free_is pub
         record {
           seats_attach = record {
             places = subst (λ (x : Lobby × Result (Unit {0}) PcmError). AreAtPlaces (free_seats m) x.0.places) (sym is) (subst (λ (x : Free). AreAtPlaces (free_seats x) lobby.places) (sym came.1) at);
-            answer = subst (λ x. IsAnswer x (after_attach number position lobby).1) (sym came.0)
+            answer = subst (λ x. IsAnswerOfRun x (after_attach number position lobby).1) (sym came.0)
                 (ap (λ (x : Lobby × Result (Unit {0}) PcmError). x.1) is ∙ ap (λ n. Err (Busy None n)) seen);
             place = λ none. subst (λ x. IfOk x (λ s. HoldsPlace number (member_of s) (last_of s) (after_attach number position lobby).0.places)) (sym came.0) tt;
           };

@@ -8,7 +8,7 @@ use Rattle.lab_run.specs.Claims.{claim_refusal, with_claim}
 use Rattle.lab_run.specs.Items.{Held}
 use Rattle.lab_run.specs.Places.{Lobby, after_attach}
 use Rattle.lab_places.specs.declared.places.Places.{Places}
-use Rattle.lab_places.specs.Held.{AttachesAt, HoldsGiven, IsAnswer, IsHeldBy, IsLobby, Opens, attached_held, opened_held, opened_if}
+use Rattle.lab_places.specs.Held.{AttachesAt, HoldsGiven, IsAnswerOfRun, IsHeldBy, IsLobby, Opens, attached_held, opened_held, opened_if}
 
 -- what comes of an opening
 abbrev Came : Type 0
@@ -49,7 +49,7 @@ pub Opens-granted : (sharing : Share) (number : ℕ) (channels : List ℕ) (posi
 Opens-granted sharing number channels position held s q granted attaches claims = by_attach (after_attach number position held.lobby) refl
   where
     Then : Came → Type 0
-    Then came = IsHeldBy q came.0 × IsAnswer (Ok s) came.1 × HoldsGiven number held.lobby.places (Ok s) came.0.lobby.places
+    Then came = IsHeldBy q came.0 × IsAnswerOfRun (Ok s) came.1 × HoldsGiven number held.lobby.places (Ok s) came.0.lobby.places
 
     opens : Then (opened_held sharing number channels position held) → Opens sharing number channels position held (Ok s) q
     opens then = record { held_then = then.0; answer = then.1; place = then.2 }

@@ -13,7 +13,7 @@ use Rattle.lobby.specs.declared.lobby.Lobby.{Lobby as Free}
 use Rattle.lobby.specs.Loads.{PlayerStays}
 use Rattle.lobby.specs.Lobbies.{CanTakeBack, free_seats, key_of_lobby, ring_of_lobby, seen_of_lobby}
 use Rattle.lobby.specs.Seats as seats
-use Rattle.dshare.specs.Owners.{Row}
+use Rattle.dshare.specs.Owners.{ClaimRow}
 use Rattle.dshare.specs.Shared as shared
 use Rattle.lab_script.specs.declared.script.Share.{Share}
 use Rattle.lab_script.specs.declared.script.Share.TheVariants.{Dmix, Dshare}
@@ -129,8 +129,8 @@ pub record IsGiven (p : Places) (position : ℕ) (s : MixSeat) : Type 0 where
       (start_marks (key_of_places p).geometry) (marks_of_seat s)
 
 -- an answer to a client is that of a run
-abbrev pub IsAnswer : Result MixSeat PcmError → Result (Unit {0}) PcmError → Type 0
-IsAnswer r answer = MatchResult r (λ s. answer ≡ Ok tt) (λ e. answer ≡ Err e)
+abbrev pub IsAnswerOfRun : Result MixSeat PcmError → Result (Unit {0}) PcmError → Type 0
+IsAnswerOfRun r answer = MatchResult r (λ s. answer ≡ Ok tt) (λ e. answer ≡ Err e)
 
 -- a client that held no place holds that of the seat that it is given
 abbrev pub HoldsGiven : ℕ → List Place → Result MixSeat PcmError → List Place → Type 0
@@ -138,7 +138,7 @@ HoldsGiven number places r after =
     HoldsNone number places → IfOk r (λ s. HoldsPlace number (member_of s) (seats.last_of s) after)
 
 -- the claim of a client, at the claims before it
-abbrev pub IsClaimed : Share → List Row → List ℕ → ℕ → Result (Unit {0}) PcmError
+abbrev pub IsClaimed : Share → List ClaimRow → List ℕ → ℕ → Result (Unit {0}) PcmError
     → shared.Held → Type 0
 IsClaimed sharing claims channels position r after =
     MatchResult r
@@ -150,14 +150,14 @@ IsClaimed sharing claims channels position r after =
 pub record AttachesAt (number position : ℕ) (lobby : Lobby) (r : Result MixSeat PcmError)
     (q : Places) : Type 0 where
   pub lobby_then : IsLobby q (after_attach number position lobby).0
-  pub answer : IsAnswer r (after_attach number position lobby).1
+  pub answer : IsAnswerOfRun r (after_attach number position lobby).1
   pub place : HoldsGiven number lobby.places r (after_attach number position lobby).0.places
 
 -- a client's opening, at what was held: the answer is that of a run, and what is held then
 pub record Opens (sharing : Share) (number : ℕ) (channels : List ℕ) (position : ℕ)
     (held : Held) (r : Result MixSeat PcmError) (q : Places) : Type 0 where
   pub held_then : IsHeldBy q (opened_held sharing number channels position held).0
-  pub answer : IsAnswer r (opened_held sharing number channels position held).1
+  pub answer : IsAnswerOfRun r (opened_held sharing number channels position held).1
   pub place : HoldsGiven number held.lobby.places r
       (opened_held sharing number channels position held).0.lobby.places
 

@@ -6,7 +6,7 @@ use Rattle.std.proofs.lemmas.Option.{none-some, same_Some}
 use Rattle.snd_base.specs.declared.errors.PcmError.{PcmError}
 use Rattle.sum_table.specs.declared.seats.mix.MixSeat.{MixSeat}
 use Rattle.sum_table.specs.Seats.{member_of, places_of_seat}
-use Rattle.dshare.specs.Owners.{Row}
+use Rattle.dshare.specs.Owners.{ClaimRow}
 use Rattle.dshare.specs.Shared.{AreOfCard}
 use Rattle.lab_script.specs.declared.script.Share.{Share}
 use Rattle.lab_run.specs.Items.{Held}
@@ -62,7 +62,7 @@ AreHeld-refused sharing client channels at held holdings e are refused =
     record {
       none = λ n is. subst (HoldsNone n) (sym same.places) (are.none n is);
       place = λ n h is. subst (HoldsPlace n h.place h.before) (sym same.places) (are.place n h is);
-      channels = λ n h is. subst (λ (claims : List Row). OwnsChannels sharing claims h.channels) (sym same.claims) (are.channels n h is);
+      channels = λ n h is. subst (λ (claims : List ClaimRow). OwnsChannels sharing claims h.channels) (sym same.claims) (are.channels n h is);
       disjoint = are.disjoint;
     }
 

@@ -6,7 +6,7 @@ use Rattle.std.proofs.Common.{refl, sym, ap, subst, ◌∙◌, arith}
 use Rattle.std.proofs.lemmas.Bool.{false≢true}
 use Rattle.std.proofs.lemmas.Bool.Decides.{nat_tests}
 use Rattle.std.proofs.lemmas.List.Elements.{All-from_recursion, recursion_from_All}
-use Rattle.dshare.specs.Owners.{Row, busy, has_channel, last_frames, owner_of}
+use Rattle.dshare.specs.Owners.{ClaimRow, busy, has_channel, last_frames, owner_of}
 use Rattle.dshare.specs.Shared as shared
 use Rattle.lab_script.specs.declared.script.Share.{Share}
 use Rattle.lab_script.specs.declared.script.Share.TheVariants.{Dmix, Dshare}
@@ -17,7 +17,7 @@ use Rattle.lab_places.specs.Held.{AreReleasable, CanRelease, closed_held, opened
 use Rattle.lab_places.specs.HeldLaws.{opened_held-cases, opened_held-done}
 
 -- each of these channels has an owner, where clients share the card by channels
-abbrev pub OwnsChannels : Share → List Row → List ℕ → Type 0
+abbrev pub OwnsChannels : Share → List ClaimRow → List ℕ → Type 0
 OwnsChannels Dmix claims channels = ⊤
 OwnsChannels Dshare claims channels = AllByRecursion (λ c. is_some (owner_of claims c) ≡ true) channels
 
@@ -75,7 +75,7 @@ owned_if-claimed true n owner owned = refl
 owned_if-claimed false n owner owned = owned
 
 -- another client's claim leaves them owned
-pub OwnsChannels-with_claim : (sharing : Share) (claims : List Row) (channels others : List ℕ) → OwnsChannels sharing claims channels
+pub OwnsChannels-with_claim : (sharing : Share) (claims : List ClaimRow) (channels others : List ℕ) → OwnsChannels sharing claims channels
     → OwnsChannels sharing (with_claim sharing others claims) channels
 OwnsChannels-with_claim Dmix claims channels others owns = tt
 OwnsChannels-with_claim Dshare claims channels others owns =
@@ -83,7 +83,7 @@ OwnsChannels-with_claim Dshare claims channels others owns =
     (λ c owned. owned_if-claimed (has_channel others c) (length claims) (owner_of claims c) owned) owns
 
 -- and so does another client's release
-pub OwnsChannels-with_release : (sharing : Share) (claims : List Row) (channels others : List ℕ) (last : Option ℕ) → AreDisjoint sharing channels others
+pub OwnsChannels-with_release : (sharing : Share) (claims : List ClaimRow) (channels others : List ℕ) (last : Option ℕ) → AreDisjoint sharing channels others
     → OwnsChannels sharing claims channels → OwnsChannels sharing (with_release sharing others last claims) channels
 OwnsChannels-with_release Dmix claims channels others last apart owns = tt
 OwnsChannels-with_release Dshare claims [] others last apart owns = tt
@@ -93,7 +93,7 @@ OwnsChannels-with_release Dshare claims (c ∷ channels) others last apart owns 
 )
 
 -- a client owns what it claimed
-pub OwnsChannels-own : (sharing : Share) (claims : List Row) (channels : List ℕ) → OwnsChannels sharing (with_claim sharing channels claims) channels
+pub OwnsChannels-own : (sharing : Share) (claims : List ClaimRow) (channels : List ℕ) → OwnsChannels sharing (with_claim sharing channels claims) channels
 OwnsChannels-own Dmix claims channels = tt
 OwnsChannels-own Dshare claims channels =
     each-from (λ c. has_channel channels c ≡ true) (λ c. is_some (if has_channel channels c then Some (length claims) else owner_of claims c) ≡ true) channels
@@ -113,7 +113,7 @@ none-some : (owner : Option ℕ) → is_none owner ≡ true → is_some owner �
 none-some None none = refl
 none-some (Some n) none = absurd (false≢true none)
 
-free-unowned : (claims : List Row) (at : ℕ) (channels : List ℕ) → list_all (is_free_channel claims at) channels ≡ true
+free-unowned : (claims : List ClaimRow) (at : ℕ) (channels : List ℕ) → list_all (is_free_channel claims at) channels ≡ true
     → AllByRecursion (λ c. is_some (owner_of claims c) ≡ false) channels
 free-unowned claims at [] free = tt
 free-unowned claims at (c ∷ channels) free =
@@ -122,7 +122,7 @@ free-unowned claims at (c ∷ channels) free =
       free-unowned claims at channels (and-right (is_free_channel claims at c) (list_all (is_free_channel claims at) channels) free),
     )
 
-granted-unowned : (claims : List Row) (at : ℕ) (channels : List ℕ) → claim_refusal Dshare claims channels at ≡ None → AllByRecursion (λ c. is_some (owner_of claims c) ≡ false) channels
+granted-unowned : (claims : List ClaimRow) (at : ℕ) (channels : List ℕ) → claim_refusal Dshare claims channels at ≡ None → AllByRecursion (λ c. is_some (owner_of claims c) ≡ false) channels
 granted-unowned claims at channels granted = by_test (list_all (is_free_channel claims at) channels) refl granted
   where
     by_test : (free : Bool) → list_all (is_free_channel claims at) channels ≡ free → (if free then None else Some (busy claims channels at)) ≡ None
@@ -131,7 +131,7 @@ granted-unowned claims at channels granted = by_test (list_all (is_free_channel 
     by_test false free none = absurd (cc)
 
 -- channels that are granted were nobody's
-pub AreDisjoint-granted : (sharing : Share) (claims : List Row) (channels others : List ℕ) (at : ℕ) → OwnsChannels sharing claims channels
+pub AreDisjoint-granted : (sharing : Share) (claims : List ClaimRow) (channels others : List ℕ) (at : ℕ) → OwnsChannels sharing claims channels
     → claim_refusal sharing claims others at ≡ None → AreDisjoint sharing channels others
 AreDisjoint-granted Dmix claims channels others at owns granted = tt
 AreDisjoint-granted Dshare claims channels others at owns granted =
@@ -148,7 +148,7 @@ AreDisjoint-granted Dshare claims channels others at owns granted =
 pub OwnsChannels-opened : (sharing : Share) (client : ℕ) (channels : List ℕ) (at : ℕ) (held : Held) → (opened_held sharing client channels at held).1 ≡ Ok tt
     → OwnsChannels sharing (opened_held sharing client channels at held).0.claims channels
 OwnsChannels-opened sharing client channels at held done =
-    subst (λ (claims : List Row). OwnsChannels sharing claims channels) (sym (opened_held-done sharing client channels at held done).claims)
+    subst (λ (claims : List ClaimRow). OwnsChannels sharing claims channels) (sym (opened_held-done sharing client channels at held done).claims)
     (OwnsChannels-own sharing held.claims channels)
 
 -- which are none of the other clients'
@@ -170,12 +170,12 @@ OwnsChannels-closed_held sharing client others last held channels apart owns = O
 
 -- ---- at the shares
 
-AreOwned-by_recursion : (v : shared.Held) (claims : List Row) (channels : List ℕ) → shared.StandsFor v claims → AllByRecursion (λ c. c < v.channels) channels
+AreOwned-by_recursion : (v : shared.Held) (claims : List ClaimRow) (channels : List ℕ) → shared.StandsFor v claims → AllByRecursion (λ c. c < v.channels) channels
     → AllByRecursion (λ c. is_some (owner_of claims c) ≡ true) channels → AllByRecursion (λ c. shared.is_owned v c ≡ true) channels
 AreOwned-by_recursion v claims [] stands card owns = tt
 AreOwned-by_recursion v claims (c ∷ channels) stands card owns = (stands.owned c card.0 ∙ owns.0, AreOwned-by_recursion v claims channels stands card.1 owns.1)
 
-releasable : (sharing : Share) (v : shared.Held) (claims : List Row) (channels : List ℕ) → shared.StandsFor v claims → shared.AreOfCard v channels
+releasable : (sharing : Share) (v : shared.Held) (claims : List ClaimRow) (channels : List ℕ) → shared.StandsFor v claims → shared.AreOfCard v channels
     → OwnsChannels sharing claims channels → AreReleasable sharing v channels
 releasable Dmix v claims channels stands card owns = tt
 releasable Dshare v claims channels stands card owns = (
@@ -184,6 +184,6 @@ releasable Dshare v claims channels stands card owns = (
 )
 
 -- a client that owns its channels can release them
-pub CanRelease-owned : (p : Places) (claims : List Row) (channels : List ℕ) → shared.StandsFor (shares_of p) claims → shared.AreOfCard (shares_of p) channels
+pub CanRelease-owned : (p : Places) (claims : List ClaimRow) (channels : List ℕ) → shared.StandsFor (shares_of p) claims → shared.AreOfCard (shares_of p) channels
     → OwnsChannels (share_of p) claims channels → CanRelease p channels
 CanRelease-owned p claims channels stands card owns = releasable p.share p.shares claims channels stands card owns

@@ -13,7 +13,7 @@ use Rattle.lab_run.specs.Client.{Client}
 use Rattle.lab_run.specs.Items.{Held, held_of, held_without, reaped_one}
 use Rattle.lab_run.specs.Places.{Lobby, after_attach}
 use Rattle.lab_run.specs.Rules.{AtPort}
-use Rattle.lab_run.specs.Stage.{Session, Setup, Stage, attached_client, claimed_client, close_client, done_open, ended_client, open_client_with, opened_client, refused_open, renewed_port, row_at, with_client, with_row}
+use Rattle.lab_run.specs.Stage.{Session, Setup, Stage, attached_client, claimed_client, close_client, done_open, ended_client, open_client_with, opened_client, refused_open, renewed_port, stage_row, with_client_at, with_row}
 use Rattle.lab_places.specs.Held.{attached_held, closed_held, opened_held, opened_if}
 use Rattle.lab_places.specs.HeldLaws.{Came}
 
@@ -24,7 +24,7 @@ with_held held stage = record stage { lobby = held.lobby; claims = held.claims }
 -- a client that is opened with a setup
 abbrev pub with_opened : Session → ℕ → Setup → AtPort × Client → Stage → Stage
 with_opened session number setup client stage =
-    with_client number (renewed_port session.ring client.0, record client.1 { own = Some (opened_client session.ring number setup) }) stage
+    with_client_at number (renewed_port session.ring client.0, record client.1 { own = Some (opened_client session.ring number setup) }) stage
 
 -- the stage after an opening, by what came of it
 abbrev pub opened_stage : Session → Stage → ℕ → Setup → AtPort × Client → Came → Stage
@@ -89,8 +89,8 @@ module _ (session : Session) (stage : Stage) (number : ℕ) where
   -- a closing of an open client gives its place and its channels back
   pub close_client-closed_held : (client : AtPort × Client) (c : PlaybackStream)
       → close_client session stage number client (Some c)
-      ≡ with_row (row_at stage (actor.Client number) op.Closes Done state.Open c.seen)
-      (with_client number (ended_client session.ring client)
+      ≡ with_row (stage_row stage (actor.Client number) op.Closes Done state.Open c.seen)
+      (with_client_at number (ended_client session.ring client)
       (with_held (closed_held session.card.share number c.setup.bindings (high_frame session.ring client.0.marks) (held_of stage)) stage))
   close_client-closed_held client c = refl
 

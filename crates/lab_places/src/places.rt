@@ -36,7 +36,7 @@ impl<'a> Places<'a> {
     ghost use Rattle.sum_table.specs.Seats.{key_of, places_of_seat, ring_of, view_of};
     ghost use Rattle.lobby.specs.Loads.{PlayerStays};
     ghost use Rattle.lobby.specs.Lobbies.{free_seats, reaped_of};
-    ghost use Rattle.dshare.specs.Owners.{Row};
+    ghost use Rattle.dshare.specs.Owners.{ClaimRow};
     ghost use Rattle.dshare.specs.Shared.{AreOfCard, StandsFor};
     ghost use Rattle.lab_run.specs.Items.{Held};
     ghost use Rattle.lab_run.specs.Places as runs;
@@ -170,7 +170,7 @@ impl<'a> Places<'a> {
     // Releases a client's channels, where clients share the card by channels, with the client's own last frame.
     fn release(&mut self, seat: &MixSeat<'_>, bindings: &Bindings, opened_at: u64)
         requires { CanRelease self.old bindings.now }
-        ensures claims { (h : List Row) → StandsFor (shares_of self.old) h
+        ensures claims { (h : List ClaimRow) → StandsFor (shares_of self.old) h
             → StandsFor (shares_of self.new)
             (with_release (share_of self.old) bindings.now
             (last_from opened_at (last_of seat.now)) h) }
@@ -185,7 +185,7 @@ impl<'a> Places<'a> {
     // Claims the card's channels of the bindings, where clients share the card by channels.
     fn claim(&mut self, bindings: &Bindings, position: u64) -> Result<(), PcmError>
         requires { AreOfCard (shares_of self.old) bindings.now }
-        ensures claims { (h : List Row) → StandsFor (shares_of self.old) h
+        ensures claims { (h : List ClaimRow) → StandsFor (shares_of self.old) h
             → IsClaimed (share_of self.old) h bindings.now position result (shares_of self.new) }
         ensures same { IsSameLobby self.old self.new }
         ensures refused { IfErr result (λ e. self.new ≡ self.old) }

@@ -1,6 +1,6 @@
 -- What an item of a script's body makes of a run that goes on.
 --     StaysWritten-border      an opening or a closing: all that the lab holds is written still
---     IsBehind-phase      a phase: what it played, recorded and answered isn't written yet
+--     IsPartlyWritten-phase      a phase: what it played, recorded and answered isn't written yet
 use Rattle.std.specs.Prelude.{◌≡◌, ℕ, ◌+◌, ℤ, List, [], ◌∷◌, ◌++◌, length, take, slice_get, Option, Some}
 use Rattle.std.specs.Option.{option_map}
 use Rattle.std.proofs.Common.{sym, ap, subst, ◌∙◌, arith}
@@ -19,9 +19,9 @@ use Rattle.lab_run.specs.Reader.{Reader}
 use Rattle.lab_run.specs.Rules.{AtPort}
 use Rattle.lab_run.specs.ScriptWords.{IsReached}
 use Rattle.lab_run.specs.Stage.{Session, Stage}
-use Rattle.lab_rows.specs.Growth.{AreGrown, BordersKeepFrames, StagesGrow, frames_of, recorded_from-grown, recorded_from-same}
+use Rattle.lab_rows.specs.Growth.{AreGrown, BordersKeepFrames, StagesGrow, frames_of_readers, recorded_from-grown, recorded_from-same}
 use Rattle.lab_phase.specs.declared.lab.Lab.{Lab}
-use Rattle.lab_phase.specs.AtStage.{DoesItem, IsBorderItem, IsNext, IsOfScript, IsSameScript, capture_of, played_of, session_of}
+use Rattle.lab_phase.specs.AtStage.{DoesItem, IsBorderItem, IsNextItem, IsOfScript, IsSameScript, capture_of, played_of, session_of}
 use Rattle.lab_phase.specs.BorderLaws.{session_of-same}
 use Rattle.lab_phase.specs.PhaseRuns.{DoesPhase, Stops}
 use Rattle.lab_phase.specs.StopLaws.{AreStopsOf-border}
@@ -31,7 +31,7 @@ use Rattle.lab_output.specs.Text.{text_so_far}
 use Rattle.lab_shelf.specs.Changes.{TookPart-all}
 use Rattle.lab_shelf.specs.Files.{Files}
 use Rattle.lab_play.specs.Order.{StopsInFrames}
-use Rattle.lab_play.specs.Playing.{AreWritten, IsBehind, IsPlaying, Start, StaysWritten, scene, sounds_at}
+use Rattle.lab_play.specs.Playing.{AreWritten, IsPartlyWritten, IsPlaying, Start, StaysWritten, scene, sounds_at}
 use Rattle.lab_play.proofs.ItemsStopped.{TookPart-rows}
 
 -- ---- the lab
@@ -89,7 +89,7 @@ AreLonger-grown session capture number (x ∷ xs) [] grown = absurd grown
 -- ---- an opening or a closing
 
 frames-border : BordersKeepFrames → (session : Session) (stage next : Stage) (one : Item) → IsBorderItem one → ItemMay session stage one next
-    → frames_of next.readers ≡ frames_of stage.readers
+    → frames_of_readers next.readers ≡ frames_of_readers stage.readers
 frames-border keeps session stage next (item.Opens number who) border may = (keeps session stage next number who).opens may
 frames-border keeps session stage next (item.Closes number who) border may = (keeps session stage next number who).closes may
 frames-border keeps session stage next (item.Phase lines) border may = absurd border
@@ -139,7 +139,7 @@ others-next (item ∷ done) others (first ∷ done_after) others_after one same 
 
 -- its frames aren't appended yet, and none of its rows was put
 order-phase : (stops stops_after : Stops) (lab after : Lab) (lines : List Line) (does : DoesPhase stops stops_after lab lines after) (outputs : Outputs) (files : Option Files)
-    (taken : Option (List ℕ)) (start : Start) (is : IsPlaying start stops (scene lab outputs files taken)) → IsNext lab (item.Phase lines)
+    (taken : Option (List ℕ)) (start : Start) (is : IsPlaying start stops (scene lab outputs files taken)) → IsNextItem lab (item.Phase lines)
     → StopsInFrames start.input (session_of after) (does.does is.stage start.stops is.lab_is.stage_is is.lab_is.counted).is.has_done.others
     (does.does is.stage start.stops is.lab_is.stage_is is.lab_is.counted).next start.taken taken
 order-phase stops stops_after lab after lines does outputs files taken start is next =
@@ -168,10 +168,10 @@ order-phase stops stops_after lab after lines does outputs files taken start is 
           (TookPart-all start.taken taken (text_so_far start.input.script (take outputs.rows is.stage.rows)) is.written.text);
     }
 
-pub IsBehind-phase : StagesGrow → (stops stops_after : Stops) (lab after : Lab) (lines : List Line) → DoesPhase stops stops_after lab lines after → IsNext lab (item.Phase lines)
+pub IsPartlyWritten-phase : StagesGrow → (stops stops_after : Stops) (lab after : Lab) (lines : List Line) → DoesPhase stops stops_after lab lines after → IsNextItem lab (item.Phase lines)
     → (outputs : Outputs) (files : Option Files) (taken : Option (List ℕ)) (start : Start) → IsPlaying start stops (scene lab outputs files taken)
-    → IsBehind start stops_after (scene after outputs files taken)
-IsBehind-phase grow stops stops_after lab after lines does first outputs files taken start is =
+    → IsPartlyWritten start stops_after (scene after outputs files taken)
+IsPartlyWritten-phase grow stops stops_after lab after lines does first outputs files taken start is =
     let own = is.lab_is in
     let done = does.does is.stage start.stops own.stage_is own.counted in
     let grown = grow (session_of lab) is.stage done.next (item.Phase lines) done.may in

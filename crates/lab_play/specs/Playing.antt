@@ -70,7 +70,7 @@ pub record IsPlaying (start : Start) (stops : Stops) (at : Scene) : Type 0 where
   pub written : AreWritten start (sounds_at at.lab stage) stage.rows at.outputs at.files at.taken
 
 -- less of it is written: the frames of its last phase are still to be appended, and no row of it was put
-pub record IsBehind (start : Start) (stops : Stops) (at : Scene) : Type 0 where
+pub record IsPartlyWritten (start : Start) (stops : Stops) (at : Scene) : Type 0 where
   pub stage : Stage
   pub lab_is : IsLabOf start stops at.lab stage
   pub sounds : List (List ℤ)
@@ -105,8 +105,8 @@ IsStopped start files taken = HasStopped start.input start.out start.files files
 -- ---- what calls make of a run, whatever it began with
 
 -- the run goes on
-abbrev pub GoesOn : Stops → Scene → Stops → Scene → Type 0
-GoesOn stops before stops_after after = (start : Start) → IsPlaying start stops before → IsPlaying start stops_after after
+abbrev pub SceneGoesOn : Stops → Scene → Stops → Scene → Type 0
+SceneGoesOn stops before stops_after after = (start : Start) → IsPlaying start stops before → IsPlaying start stops_after after
 
 -- it stopped, and left this
 abbrev pub StopsWith : Stops → Scene → Option Files → Option (List ℕ) → Type 0
@@ -115,14 +115,14 @@ StopsWith stops before files taken = (start : Start) → IsPlaying start stops b
 -- and all that the lab holds after an item is written still, where it was before, and however often gates have stopped
 abbrev pub StaysWritten : Lab → Lab → Type 0
 StaysWritten lab after =
-    (stops : Stops) (outputs : Outputs) (files : Option Files) (taken : Option (List ℕ)) → GoesOn stops (scene lab outputs files taken) stops (scene after outputs files taken)
+    (stops : Stops) (outputs : Outputs) (files : Option Files) (taken : Option (List ℕ)) → SceneGoesOn stops (scene lab outputs files taken) stops (scene after outputs files taken)
 
 -- what was played and recorded is written
 abbrev pub CatchesUp : Scene → Scene → Type 0
-CatchesUp before after = (start : Start) (stops : Stops) → IsBehind start stops before → IsPlaying start stops after
+CatchesUp before after = (start : Start) (stops : Stops) → IsPartlyWritten start stops before → IsPlaying start stops after
 
 abbrev pub StopsBehind : Scene → Option Files → Option (List ℕ) → Type 0
-StopsBehind before files taken = (start : Start) (stops : Stops) → IsBehind start stops before → IsStopped start files taken
+StopsBehind before files taken = (start : Start) (stops : Stops) → IsPartlyWritten start stops before → IsStopped start files taken
 
 -- there is a run of a script that is at this moment
 pub record CanPlay (script : Script) (stops : Stops) (at : Scene) : Type 0 where
@@ -134,7 +134,7 @@ pub record CanCatchUp (script : Script) (at : Scene) : Type 0 where
   pub start : Start
   pub stops : Stops
   pub script_is : start.input.script ≡ script
-  pub is : IsBehind start stops at
+  pub is : IsPartlyWritten start stops at
 
 -- the files were known when a run at this moment began
 pub record IsKnownRun (stops : Stops) (at : Scene) : Type 0 where
@@ -146,5 +146,5 @@ pub record IsKnownRun (stops : Stops) (at : Scene) : Type 0 where
 pub record IsKnownBehind (at : Scene) : Type 0 where
   pub start : Start
   pub stops : Stops
-  pub is : IsBehind start stops at
+  pub is : IsPartlyWritten start stops at
   pub known : Rattle.std.specs.Prelude.IsSome start.files

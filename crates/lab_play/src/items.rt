@@ -3,10 +3,10 @@ ghost use Rattle.std.specs.Prelude.{◌≡◌, ◌≢◌, ◌+◌, ◌≤◌, Er
 ghost use Rattle.lab_script.specs.declared.line.Item.TheVariants as item;
 ghost use Rattle.lab_stop.specs.Stops.{IsWriteStop};
 ghost use Rattle.lab_stop.specs.declared.stop.Stop.TheVariants as stops;
-ghost use Rattle.lab_phase.specs.AtStage.{DoesItem, IsBorderItem, IsLab, IsNext, IsSameScript, items_done, played_of};
+ghost use Rattle.lab_phase.specs.AtStage.{DoesItem, IsBorderItem, IsLab, IsNextItem, IsSameScript, items_done, played_of};
 ghost use Rattle.lab_phase.specs.PhaseRuns.{stops_by};
 ghost use Rattle.lab_play.specs.Counts.{PlayFaults};
-ghost use Rattle.lab_play.specs.Playing.{CanPlay, GoesOn, IsKnownRun, StaysWritten, StopsWith, scene};
+ghost use Rattle.lab_play.specs.Playing.{CanPlay, SceneGoesOn, IsKnownRun, StaysWritten, StopsWith, scene};
 
 use crate::write::write_phase;
 use lab_output::Outputs;
@@ -40,7 +40,7 @@ pub(crate) fn do_items<R: Threads + Sync, S: Shelf, K: Sink, G: Gate + Send>(
         (scene lab.old outputs.old (S.files shelf.old) (K.taken out.old)) }
     requires first { items_done lab.old ≡ 0 }
     requires gates { 128 ≤ length gates.old }
-    ensures done { OnOk result (GoesOn
+    ensures done { OnOk result (SceneGoesOn
         (stops_by G.stops gates.old)
         (scene lab.old outputs.old (S.files shelf.old) (K.taken out.old))
         (stops_by G.stops gates.new)
@@ -92,9 +92,9 @@ fn do_item<R: Threads + Sync, S: Shelf, K: Sink, G: Gate + Send>(
 ) -> Result<(), Stop>
     requires playing { CanPlay script.now (stops_by G.stops gates.old)
         (scene lab.old outputs.old (S.files shelf.old) (K.taken out.old)) }
-    requires next { IsNext lab.old item.now }
+    requires next { IsNextItem lab.old item.now }
     requires gates { 128 ≤ length gates.old }
-    ensures done { OnOk result (GoesOn
+    ensures done { OnOk result (SceneGoesOn
         (stops_by G.stops gates.old)
         (scene lab.old outputs.old (S.files shelf.old) (K.taken out.old))
         (stops_by G.stops gates.new)
@@ -147,9 +147,9 @@ fn do_phase<R: Threads + Sync, S: Shelf, K: Sink, G: Gate + Send>(
 ) -> Result<(), Stop>
     requires playing { CanPlay script.now (stops_by G.stops gates.old)
         (scene lab.old outputs.old (S.files shelf.old) (K.taken out.old)) }
-    requires next { IsNext lab.old (item.Phase lines.now) }
+    requires next { IsNextItem lab.old (item.Phase lines.now) }
     requires gates { 128 ≤ length gates.old }
-    ensures done { OnOk result (GoesOn
+    ensures done { OnOk result (SceneGoesOn
         (stops_by G.stops gates.old)
         (scene lab.old outputs.old (S.files shelf.old) (K.taken out.old))
         (stops_by G.stops gates.new)
@@ -181,7 +181,7 @@ fn do_phase<R: Threads + Sync, S: Shelf, K: Sink, G: Gate + Send>(
 /// Does an opening or a closing. Its row is put with those of the next phase, or at the end.
 fn do_border(lab: &mut Lab<'_, '_>, item: &Item) -> Result<(), Stop>
     requires at { IsLab lab.old }
-    requires next { IsNext lab.old item.now }
+    requires next { IsNextItem lab.old item.now }
     requires border { IsBorderItem item.now }
     ensures does { OnOk result (DoesItem lab.old item.now lab.new) }
     ensures played { OnOk result (played_of lab.new ≡ played_of lab.old) }

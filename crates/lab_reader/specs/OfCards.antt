@@ -16,7 +16,7 @@ use Rattle.lab_card.specs.Meets.{IsInformedReader, IsReaderOf, IsSameCard, IsSam
 use Rattle.lab_card.specs.Moves.{CardMoves}
 use Rattle.lab_reader.specs.declared.reader.LabReader.{LabReader}
 use Rattle.lab_reader.specs.Readers.{IsAt, IsOf, IsSeatedAt, OnSeat, OnSeats, ops_of}
-use Rattle.lab_reader.specs.Runs.{HasRun, HasRunAt, IsHeard, IsInformed, IsSame}
+use Rattle.lab_reader.specs.Runs.{HasRun, HasRunAt, IsHeard, IsInformed, IsSameButRows}
 
 -- a card is over a snoop ring of a geometry
 pub record IsOver (ring : TableId) (geometry : Geometry) (c : Card) : Type 0 where
@@ -64,7 +64,7 @@ pub IsOf-moved : (c d : Card) (r : LabReader) (n : ℕ) (xs ys : List ℤ) (ps :
 IsOf-moved c d r n xs ys ps b moves is = OnSeat-more (IsReaderOf c) (IsReaderOf d) r.seat (λ s. IsReaderOf-moved c d s n xs ys ps b moves) is
 
 -- whatever the reader does
-pub IsOf-kept : (c : Card) (r s : LabReader) → IsSame r s → IsOf c r → IsOf c s
+pub IsOf-kept : (c : Card) (r s : LabReader) → IsSameButRows r s → IsOf c r → IsOf c s
 IsOf-kept c r s same is = subst (λ (seat : Option ReaderSeat). OnSeat seat (IsReaderOf c)) (sym same.seat) is
 
 pub IsOf-informed : (c d : Card) (r s : LabReader) → IsInformed d r s → IsOf c r → IsOf c s

@@ -19,21 +19,21 @@ use Rattle.lab_actor.specs.FrameRuns.{frames_of_runs}
 use Rattle.lab_actor.specs.ReaderPart.{HasRoomFor}
 use Rattle.lab_card.specs.Meets.{IsInformedReader}
 use Rattle.lab_reader.specs.declared.reader.LabReader.{LabReader}
-use Rattle.lab_reader.specs.Readers.{HasRoom, HasRoomAt, IsAt, IsOpenAt, IsSeatedAt, OnSeat, OnSeats, ops_of, reader_at, reader_in, stream_at}
+use Rattle.lab_reader.specs.Readers.{HasRoom, HasRoomAt, IsAt, IsOpenAt, IsSeatedAt, OnSeat, OnSeats, ops_of, reader_in_run, reader_in, stream_at}
 use Rattle.lab_reader.specs.Recorded.{IsRecorded, recorded_samples}
-use Rattle.lab_reader.specs.Runs.{HasClosed, HasOpened, IsInformed, IsNew, IsSame}
+use Rattle.lab_reader.specs.Runs.{HasClosed, HasOpened, IsInformed, IsNeverOpen, IsSameButRows}
 
 -- ---- a new one
 
-pub reader_in-new : (number : ℕ) (r : LabReader) → IsNew number r → reader_in r ≡ record { own = None; frames = [] }
+pub reader_in-new : (number : ℕ) (r : LabReader) → IsNeverOpen number r → reader_in r ≡ record { own = None; frames = [] }
 reader_in-new number r new =
-    ap (λ (seat : Option ReaderSeat). reader_at seat r.actor) new.closed
+    ap (λ (seat : Option ReaderSeat). reader_in_run seat r.actor) new.closed
     ∙ ap (λ (runs : List (ℕ × ℕ)). record { own = None; frames = frames_of_runs runs }) new.frames
 
-pub IsAt-new : (ring : TableId) (geometry : Geometry) (number k : ℕ) (r : LabReader) → IsNew number r → IsAt ring geometry r (new_port geometry k)
+pub IsAt-new : (ring : TableId) (geometry : Geometry) (number k : ℕ) (r : LabReader) → IsNeverOpen number r → IsAt ring geometry r (new_port geometry k)
 IsAt-new ring geometry number k r new = subst (λ (seat : Option ReaderSeat). IsSeatedAt ring geometry r.actor seat (new_port geometry k)) (sym new.closed) refl
 
-pub IsRecorded-new : (capture : Option Sound) (geometry : Geometry) (bindings : List ℕ) (number : ℕ) (r : LabReader) → All (λ channel. channel < geometry.channels) bindings → IsNew number r
+pub IsRecorded-new : (capture : Option Sound) (geometry : Geometry) (bindings : List ℕ) (number : ℕ) (r : LabReader) → All (λ channel. channel < geometry.channels) bindings → IsNeverOpen number r
     → IsRecorded capture geometry bindings r
 IsRecorded-new capture geometry bindings number r on_card new = record {
   on_card = on_card;
@@ -46,7 +46,7 @@ IsRecorded-new capture geometry bindings number r on_card new = record {
 pub reader_in-opened : (seat : ReaderSeat) (setup : Setup) (r s : LabReader) → HasOpened seat setup r s
     → reader_in s ≡ record (reader_in r) { own = Some (opened_reader (geometry_of seat) setup) }
 reader_in-opened seat setup r s opened =
-    ap (λ (at : Option ReaderSeat). reader_at at s.actor) opened.seat_is
+    ap (λ (at : Option ReaderSeat). reader_in_run at s.actor) opened.seat_is
     ∙ (ap (λ (stream : CaptureStream). record { own = Some stream; frames = frames_of_runs s.actor.frames.runs }) opened.stream
     ∙ ap (λ (runs : List (ℕ × ℕ)). record { own = Some (opened_reader (geometry_of seat) setup); frames = frames_of_runs runs }) opened.file.frames)
 
@@ -79,7 +79,7 @@ IsRecorded-opened capture geometry bindings seat setup r s bound opened is =
 
 pub reader_in-closed : (seat : ReaderSeat) (r s : LabReader) → HasClosed seat r s → reader_in s ≡ record (reader_in r) { own = None }
 reader_in-closed seat r s closed =
-    ap (λ (at : Option ReaderSeat). reader_at at s.actor) closed.seat_is
+    ap (λ (at : Option ReaderSeat). reader_in_run at s.actor) closed.seat_is
     ∙ ap (λ (x : ReaderActor). record { own = None; frames = frames_of_runs x.frames.runs }) closed.actor
 
 pub IsAt-closed : (ring : TableId) (geometry : Geometry) (k : ℕ) (seat : ReaderSeat) (r s : LabReader) → HasClosed seat r s → IsAt ring geometry s (new_port geometry k)
@@ -111,9 +111,9 @@ HasRoom-informed card r s lines informed room =
 
 -- ---- as before but for its rows
 
-pub reader_in-same : (r s : LabReader) → IsSame r s → reader_in s ≡ reader_in r
+pub reader_in-same : (r s : LabReader) → IsSameButRows r s → reader_in s ≡ reader_in r
 reader_in-same r s same =
-    ap (λ (seat : Option ReaderSeat). reader_at seat s.actor) same.seat
+    ap (λ (seat : Option ReaderSeat). reader_in_run seat s.actor) same.seat
     ∙ (ap (λ (own : Option CaptureStream). record { own = own; frames = frames_of_runs s.actor.frames.runs }) (by_seat r.seat)
     ∙ ap (λ (runs : List (ℕ × ℕ)). record { own = stream_at r.seat r.actor; frames = frames_of_runs runs }) same.file.frames)
   where
@@ -121,7 +121,7 @@ reader_in-same r s same =
     by_seat None = refl
     by_seat (Some at) = ap Some same.stream
 
-pub IsAt-same : (ring : TableId) (geometry : Geometry) (r s : LabReader) (a : AtPort) → IsSame r s → IsAt ring geometry r a → IsAt ring geometry s a
+pub IsAt-same : (ring : TableId) (geometry : Geometry) (r s : LabReader) (a : AtPort) → IsSameButRows r s → IsAt ring geometry r a → IsAt ring geometry s a
 IsAt-same ring geometry r s a same at =
     subst (λ (seat : Option ReaderSeat). IsSeatedAt ring geometry s.actor seat a) (sym same.seat) (by_seat r.seat at)
   where
@@ -135,7 +135,7 @@ IsAt-same ring geometry r s a same at =
       left = is.left ∙ sym same.left;
     }
 
-pub IsRecorded-same : (capture : Option Sound) (geometry : Geometry) (bindings : List ℕ) (r s : LabReader) → IsSame r s → IsRecorded capture geometry bindings r
+pub IsRecorded-same : (capture : Option Sound) (geometry : Geometry) (bindings : List ℕ) (r s : LabReader) → IsSameButRows r s → IsRecorded capture geometry bindings r
     → IsRecorded capture geometry bindings s
 IsRecorded-same capture geometry bindings r s same is = record {
   on_card = is.on_card;

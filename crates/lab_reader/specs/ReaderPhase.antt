@@ -34,7 +34,7 @@ use Rattle.lab_card.specs.Meets.{IsInformedReader, IsSameReader, KnowsReader}
 use Rattle.lab_card.specs.Moves.{geometry_of_card}
 use Rattle.lab_reader.specs.declared.reader.LabReader.{LabReader}
 use Rattle.lab_reader.specs.OfCards.{IsOver}
-use Rattle.lab_reader.specs.Readers.{CanRun, IsAt, IsOpenAt, IsSeatedAt, OnSeat, OnSeats, ops_of, reader_at, reader_in, rows_of, seat_port}
+use Rattle.lab_reader.specs.Readers.{CanRun, IsAt, IsOpenAt, IsSeatedAt, OnSeat, OnSeats, ops_of, reader_in_run, reader_in, rows_of, seat_port}
 use Rattle.lab_reader.specs.Runs.{HasRefused, HasRun, HasRunAt, HasRunOpen, IsHeard, IsInformed}
 use Rattle.lab_reader.specs.Seen.{SeesPlayed, sees-played}
 
@@ -55,7 +55,7 @@ pub record SeatPart (ring : TableId) (geometry : Geometry) (c d : Card) (phase b
   pub rows : List Row
   pub found : Findings
   pub part : ActorPart (reader_kind phase x.number) geometry
-      ((before, reader_at p x), nothing_found) ops ((end, reader_at q y), found) rows
+      ((before, reader_in_run p x), nothing_found) ops ((end, reader_in_run q y), found) rows
   pub allowed : (capture : Option Sound) (number : ℕ) (a b : CardActor) (lines : List Line)
       → CardPhase capture number c a b d lines → records_of c ≡ true
       → AreOf (rules_between c b.card lines) found
@@ -99,9 +99,9 @@ module _ (ring : TableId) (geometry : Geometry) (c d : Card) (over : IsOver ring
   part-closed : (ops : List Op) (x y : ReaderActor) → before ≡ new_port geometry before.by_gate → HasRefused phase stops after ops x y
       → SeatPart ring geometry c d phase base after ops before x None y None
   part-closed ops x y at ran =
-      let reader : Reader = reader_at None x in
+      let reader : Reader = reader_in_run None x in
       let rows : List Row = refused_rows phase (actor.Reader x.number) ops in
-      let same : reader ≡ reader_at None y = ap (λ (runs : List (ℕ × ℕ)). record { own = None; frames = frames_of_runs runs }) (sym ran.file.frames) in
+      let same : reader ≡ reader_in_run None y = ap (λ (runs : List (ℕ × ℕ)). record { own = None; frames = frames_of_runs runs }) (sym ran.file.frames) in
       record {
         end = before;
         rows = rows;

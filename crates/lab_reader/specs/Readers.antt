@@ -46,11 +46,11 @@ stream_at None actor = None
 stream_at (Some seat) actor = Some actor.reader
 
 -- the reader as a run has it
-abbrev pub reader_at : Option ReaderSeat → ReaderActor → Reader
-reader_at seat actor = record { own = stream_at seat actor; frames = frames_of_runs actor.frames.runs }
+abbrev pub reader_in_run : Option ReaderSeat → ReaderActor → Reader
+reader_in_run seat actor = record { own = stream_at seat actor; frames = frames_of_runs actor.frames.runs }
 
 abbrev pub reader_in : LabReader → Reader
-reader_in r = reader_at r.seat r.actor
+reader_in r = reader_in_run r.seat r.actor
 
 -- a reader's seat as a port, as proofs take it
 abbrev pub seat_port : snoopport.Ghosts ReaderSeat

@@ -35,14 +35,14 @@ pub record HasSameFile (a b : ReaderActor) : Type 0 where
   pub samples : b.samples.items ≡ a.samples.items
 
 -- it is as before but for its rows
-pub record IsSame (r s : LabReader) : Type 0 where
+pub record IsSameButRows (r s : LabReader) : Type 0 where
   pub seat : s.seat ≡ r.seat
   pub stream : s.actor.reader ≡ r.actor.reader
   pub left : s.actor.left ≡ r.actor.left
   pub file : HasSameFile r.actor s.actor
 
 -- it was never open
-pub record IsNew (number : ℕ) (r : LabReader) : Type 0 where
+pub record IsNeverOpen (number : ℕ) (r : LabReader) : Type 0 where
   pub number_is : r.actor.number ≡ number
   pub closed : r.seat ≡ None
   pub frames : r.actor.frames.runs ≡ []

@@ -12,7 +12,7 @@ ghost use Rattle.lab_setup.specs.Usable.{IsUsable};
 ghost use Rattle.snd_base.specs.declared.geometry.Geometry.{Geometry};
 ghost use Rattle.snoop_table.specs.Readers.{geometry_of};
 ghost use Rattle.lab_reader.specs.Readers.{CanRun, HasRoom, IsOf, actor_of, number_of, ops_of, reader_in, rows_of, seat_of};
-ghost use Rattle.lab_reader.specs.Runs.{HasClosed, HasOpened, HasRun, IsHeard, IsInformed, IsNew, IsSame};
+ghost use Rattle.lab_reader.specs.Runs.{HasClosed, HasOpened, HasRun, IsHeard, IsInformed, IsNeverOpen, IsSameButRows};
 
 use card_sim::Card;
 use dsnoop_client::Reader;
@@ -60,7 +60,7 @@ fn stream(alloc: Global, geometry: Geometry, opening: &Opening) -> Result<Reader
 impl<'r> LabReader<'r> {
     /// A reader that was never open, of a number and of a ring of a geometry.
     pub fn new(alloc: Global, number: u32, geometry: Geometry) -> LabReader<'r>
-        ensures { IsNew number result }
+        ensures { IsNeverOpen number result }
     {
         LabReader {
             actor: ReaderActor {
@@ -159,7 +159,7 @@ impl<'r> LabReader<'r> {
     /// no memory is left.
     pub fn take_room(&mut self, lines: &[Line]) -> Result<(), PcmError>
         ensures room { OnOk result (HasRoom self.new lines.now) }
-        ensures same { IsSame self.old self.new }
+        ensures same { IsSameButRows self.old self.new }
         ensures rows { rows_of self.new ≡ rows_of self.old }
         ensures only { IfErr result (λ e. e ≡ PcmError.Memory) }
     {
@@ -232,7 +232,7 @@ impl<'r> LabReader<'r> {
         requires { HasSpace (length (rows_of self.old)) all.old }
         ensures all { all.new.items ≡ all.old.items ++ rows_of self.old }
         ensures rows { rows_of self.new ≡ [] }
-        ensures same { IsSame self.old self.new }
+        ensures same { IsSameButRows self.old self.new }
     {
         all.append(&mut self.actor.rows).unwrap();
     }

@@ -23,7 +23,7 @@ use Rattle.lab_reader.specs.Readers.{number_of, reader_in, stream_at}
 use Rattle.lab_reader.specs.Runs.{HasClosed, HasOpened}
 use Rattle.lab_readers.specs.declared.readers.LabReaders.{LabReaders}
 use Rattle.lab_readers.specs.AtStage.{AreAfter, AreAt, readers_of, spare_of}
-use Rattle.lab_readers.specs.End.{all_runs-at, recorded_from-at, runs_by, samples_of}
+use Rattle.lab_readers.specs.End.{all_runs-at, recorded_from-at, runs_by, read_samples}
 use Rattle.lab_readers.specs.Opening.{AreAfter-closing, AreAfter-opening, Exchanges, HasClosing, HasOpening, IsItemAt}
 use Rattle.lab_readers.specs.Steps.{is_some_op}
 
@@ -84,7 +84,7 @@ runs-ok rs list (Err e) same is = tt
 runs-ok rs list (Ok runs) same is = λ session capture xs are. is ∙ (ap (flat_map runs_by) same ∙ all_runs-at session capture xs rs are)
 
 pub recorded-ok : (rs : LabReaders) (result : Result (Vec (Vec ℤ)) PcmError)
-    → IfOk result (λ all. map (λ (samples : Vec ℤ). samples.items) all.items ≡ map samples_of (readers_of rs))
+    → IfOk result (λ all. map (λ (samples : Vec ℤ). samples.items) all.items ≡ map read_samples (readers_of rs))
     → IfOk result (λ all. (session : Session) (capture : Option Sound) (xs : List (AtPort × Reader)) → AreAt session capture xs rs
     → map (λ (samples : Vec ℤ). samples.items) all.items ≡ recorded_from session capture 0 xs)
 recorded-ok rs (Err e) is = tt

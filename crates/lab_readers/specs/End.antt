@@ -24,8 +24,8 @@ abbrev pub runs_by : LabReader → List (ℕ × ℕ × ℕ)
 runs_by r = map (λ (run : ℕ × ℕ). (number_of r, run.0, run.1)) (runs_of (reader_in r).frames)
 
 -- all samples that a reader read
-abbrev pub samples_of : LabReader → List ℤ
-samples_of r = (actor_of r).samples.items
+abbrev pub read_samples : LabReader → List ℤ
+read_samples r = (actor_of r).samples.items
 
 module _ (session : Session) (capture : Option Sound) (ring : TableId) where
   runs-each : (number : ℕ) (rs : List LabReader) (xs : List (AtPort × Reader)) → AreEach (IsReaderAt session capture ring session.ring) number rs xs
@@ -46,10 +46,10 @@ module _ (session : Session) (capture : Option Sound) (ring : TableId) where
   runs-each number (r ∷ rs) [] are = absurd are
 
   samples-each : first_frame session.card ≡ rings.first_frame session.ring → (number : ℕ) (rs : List LabReader) (xs : List (AtPort × Reader))
-      → AreEach (IsReaderAt session capture ring session.ring) number rs xs → map samples_of rs ≡ recorded_from session capture number xs
+      → AreEach (IsReaderAt session capture ring session.ring) number rs xs → map read_samples rs ≡ recorded_from session capture number xs
   samples-each first number [] [] are = refl
   samples-each first number (r ∷ rs) (x ∷ xs) are =
-      ap (λ (zs : List ℤ). zs ∷ map samples_of rs)
+      ap (λ (zs : List ℤ). zs ∷ map read_samples rs)
       (recorded-by session capture number session.ring r first are.0.is.recorded ∙ ap (recorded_by session capture number) are.0.is.reader)
       ∙ ap (λ (zs : List (List ℤ)). recorded_by session capture number x.1 ∷ zs) (samples-each first (number + 1) rs xs are.1)
   samples-each first number [] (x ∷ xs) are = absurd are
@@ -62,12 +62,12 @@ all_runs-at session capture xs rs are = runs-each session capture (ring_of rs) 0
 
 -- The samples of each reader are those that a run leaves of it.
 pub recorded_from-at : (session : Session) (capture : Option Sound) (xs : List (AtPort × Reader)) (rs : LabReaders) → AreAt session capture xs rs
-    → map samples_of (readers_of rs) ≡ recorded_from session capture 0 xs
+    → map read_samples (readers_of rs) ≡ recorded_from session capture 0 xs
 recorded_from-at session capture xs rs are = samples-each session capture (ring_of rs) are.card.first 0 (readers_of rs) xs are.each
 
 pub recorded_by-at : (session : Session) (capture : Option Sound) (xs : List (AtPort × Reader)) (rs : LabReaders) (number : ℕ) (d : LabReader) (e : AtPort × Reader)
     → AreAt session capture xs rs → number < length (readers_of rs)
-    → samples_of (slice_index_or (readers_of rs) number d) ≡ recorded_by session capture number (slice_index_or xs number e).1
+    → read_samples (slice_index_or (readers_of rs) number d) ≡ recorded_by session capture number (slice_index_or xs number e).1
 recorded_by-at session capture xs rs number d e are inside =
     let is : IsReaderAt session capture (ring_of rs) session.ring number (slice_index_or (readers_of rs) number d) (slice_index_or xs number e) =
     subst (λ n. IsReaderAt session capture (ring_of rs) session.ring n (slice_index_or (readers_of rs) number d) (slice_index_or xs number e)) (omega arith)

@@ -28,7 +28,7 @@ use Rattle.lab_actors.specs.Walks.{AreEach, AreEach-at}
 use Rattle.lab_reader.specs.declared.reader.LabReader.{LabReader}
 use Rattle.lab_reader.specs.ReaderLaws.{IsAt-new, IsAt-opened, IsRecorded-new, IsRecorded-opened, reader_in-new, reader_in-opened}
 use Rattle.lab_reader.specs.Readers.{number_of, reader_in}
-use Rattle.lab_reader.specs.Runs.{HasClosed, HasOpened, IsNew}
+use Rattle.lab_reader.specs.Runs.{HasClosed, HasOpened, IsNeverOpen}
 use Rattle.lab_readers.specs.declared.readers.LabReaders.{LabReaders}
 use Rattle.lab_readers.specs.AtStage.{AreAfter, AreAt, IsNewCardOf, IsReaderAt, readers_of, ring_of, spare_of}
 use Rattle.lab_readers.specs.Counted.{AreCounted-set}
@@ -40,11 +40,11 @@ use Rattle.lab_readers.specs.Reaped.{IsReaderAt-closed}
 -- readers that were never open, the first of which has a number
 abbrev pub AreNew : ℕ → List LabReader → Type 0
 AreNew number [] = ⊤
-AreNew number (r ∷ rs) = IsNew number r × AreNew (number + 1) rs
+AreNew number (r ∷ rs) = IsNeverOpen number r × AreNew (number + 1) rs
 
-pub AreNew-append : (number : ℕ) (rs : List LabReader) (r : LabReader) → AreNew number rs → IsNew (number + length rs) r → AreNew number (rs ++ r ∷ [])
-AreNew-append number [] r are is = (subst (λ n. IsNew n r) (omega arith) is, tt)
-AreNew-append number (s ∷ rs) r are is = (are.0, AreNew-append (number + 1) rs r are.1 (subst (λ n. IsNew n r) (omega arith) is))
+pub AreNew-append : (number : ℕ) (rs : List LabReader) (r : LabReader) → AreNew number rs → IsNeverOpen (number + length rs) r → AreNew number (rs ++ r ∷ [])
+AreNew-append number [] r are is = (subst (λ n. IsNeverOpen n r) (omega arith) is, tt)
+AreNew-append number (s ∷ rs) r are is = (are.0, AreNew-append (number + 1) rs r are.1 (subst (λ n. IsNeverOpen n r) (omega arith) is))
 
 -- the bindings of each setup that fits a card go to its channels
 on_card : (channels ring : ℕ) (setups : List (Option Setup)) → AreUsable channels ring setups → (n : ℕ)
@@ -61,7 +61,7 @@ on_card channels ring (setup ∷ setups) usable (suc n) =
 
 module _ (session : Session) (capture : Option Sound) (ring : TableId)
     (on : (n : ℕ) → All (λ channel. channel < session.ring.channels) (bindings_of (slice_index_or session.readers n None))) where
-  IsReaderAt-new : (number : ℕ) (r : LabReader) → IsNew number r → IsReaderAt session capture ring session.ring number r (no_reader session.ring)
+  IsReaderAt-new : (number : ℕ) (r : LabReader) → IsNeverOpen number r → IsReaderAt session capture ring session.ring number r (no_reader session.ring)
   IsReaderAt-new number r new = record {
     is = record {
       numbered = new.number_is;

@@ -10,7 +10,7 @@ use Rattle.lab_actors.specs.Walks.{AreEach}
 use Rattle.lab_card.specs.Meets.{IsSameCard}
 use Rattle.lab_reader.specs.declared.reader.LabReader.{LabReader}
 use Rattle.lab_reader.specs.Readers.{CanRun, HasRoom, ops_of, reader_in, rows_of}
-use Rattle.lab_reader.specs.Runs.{HasClosed, HasRun, IsHeard, IsInformed, IsSame}
+use Rattle.lab_reader.specs.Runs.{HasClosed, HasRun, IsHeard, IsInformed, IsSameButRows}
 use Rattle.lab_readers.specs.AtStage.{readers_of, spare_of}
 use Rattle.lab_readers.specs.declared.readers.LabReaders.{LabReaders}
 
@@ -22,7 +22,7 @@ pub record EachReader (R : ℕ → LabReader → LabReader → Type 0)
 
 -- a reader is as before, but for its room
 pub record HasKept (number : ℕ) (r s : LabReader) : Type 0 where
-  pub same : IsSame r s
+  pub same : IsSameButRows r s
   pub rows : rows_of s ≡ rows_of r
 
 pub HasKept-none : (number : ℕ) (r : LabReader) → HasKept number r r
@@ -58,7 +58,7 @@ RunsBehind stops after phase lines number r s = HasRun phase (stops number) (aft
 
 -- a reader's rows were taken
 pub record HasRowsTaken (number : ℕ) (r s : LabReader) : Type 0 where
-  pub same : IsSame r s
+  pub same : IsSameButRows r s
   pub rows : rows_of s ≡ []
 
 -- some of a phase's lines are a reader's

@@ -2,7 +2,7 @@
 ghost use Rattle.std.specs.Prelude.{◌≡◌, ◌++◌, IfErr, IfOk, OnOk, map, ℤ};
 ghost use Rattle.std.specs.Global.{Vec};
 ghost use Rattle.std.specs.List.{flat_map};
-ghost use Rattle.lab_readers.specs.End.{runs_by, samples_of};
+ghost use Rattle.lab_readers.specs.End.{runs_by, read_samples};
 
 use crate::readers::LabReaders;
 use lab_reader::LabReader;
@@ -38,7 +38,7 @@ fn list_runs(alloc: Global, readers: &[LabReader<'_>]) -> Result<Vec<(u32, u64, 
 /// The samples of all readers, one reader after the other.
 fn list_samples(alloc: Global, readers: Vec<LabReader<'_>>) -> Result<Vec<Vec<i16>>, PcmError>
     ensures items { IfOk result (λ all.
-        map (λ (samples : Vec ℤ). samples.items) all.items ≡ map samples_of readers.entry.items) }
+        map (λ (samples : Vec ℤ). samples.items) all.items ≡ map read_samples readers.entry.items) }
     ensures only { IfErr result (λ e. e ≡ PcmError.Memory) }
 {
     let mut all = Vec::new(alloc);

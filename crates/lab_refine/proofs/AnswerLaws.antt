@@ -12,7 +12,7 @@ use Rattle.hw_space.specs.Narrowings.{FitsParam, IsNearKind, with_value, with_mi
 use Rattle.hw_space.specs.Params.{HasInterval, kind_of}
 use Rattle.hw_space.specs.SettledLaws.{IsGreatest-unique}
 use Rattle.hw_space.specs.Widest.{widest}
-use Rattle.hw_space.specs.Settled.{left_of}
+use Rattle.hw_space.specs.Settled.{space_left}
 use Rattle.pcm_interval.specs.declared.empty.Empty.{Empty}
 use Rattle.lab_refine.specs.declared.request.Ask.{Ask}
 use Rattle.lab_refine.specs.declared.request.Ask.TheVariants as ask_kinds
@@ -53,15 +53,15 @@ FitsParam-most BufferSize value h = tt
 FitsParam-most BufferBytes value h = tt
 
 -- what stays of a box after a narrowing
-left-stays : (r : Result (Unit {0}) Empty) (old new : ParamBox) → OnErr r (new ≡ old) → new ≡ unwrap_or (left_of r new) old
+left-stays : (r : Result (Unit {0}) Empty) (old new : ParamBox) → OnErr r (new ≡ old) → new ≡ unwrap_or (space_left r new) old
 left-stays (Ok x) old new same = refl
 left-stays (Err e) old new same = same
 
 -- a narrowing says what it leaves
 pub IsNarrowing-is_line : (leaves : Option ParamBox → Type 0) (param : Param) (old new : ParamBox) (r : Result (Unit {0}) Empty)
-    → leaves (left_of r new) → OnErr r (new ≡ old) → IsNarrowing leaves param old (left_line param (left_of r new)) new
+    → leaves (space_left r new) → OnErr r (new ≡ old) → IsNarrowing leaves param old (left_line param (space_left r new)) new
 IsNarrowing-is_line leaves param old new r left same = record {
-  left = left_of r new;
+  left = space_left r new;
   is_left = left;
   is_line = refl;
   stays = left-stays r old new same;

@@ -5,7 +5,7 @@ use Rattle.lab_script.specs.declared.error.ScriptError.{ScriptError}
 use Rattle.lab_shelf.specs.Files.{Files, TookPart}
 use Rattle.lab_refine.specs.declared.request.Request.{Request}
 use Rattle.lab_stop.specs.Causes.{Cause, script_refused, first_bytes, ◌>>=◌}
-use Rattle.lab_refine.specs.Reading.{request_of}
+use Rattle.lab_refine.specs.Reading.{request_of_text}
 use Rattle.lab_refine.specs.Answers.{AreAnswers}
 
 -- what a text asks, or its refusal as a cause
@@ -17,7 +17,7 @@ as_request (Err e) = Err (script_refused e)
 unfoldable pub request_in : Files → List ℕ → Result Request Cause
 request_in files name = do
   text ← first_bytes files name 1048577
-  as_request (request_of text)
+  as_request (request_of_text text)
 
 -- a text has the answers to what the text in a file asks, and no other text has them
 pub record IsAnswerTo (files : Option Files) (name text : List ℕ) : Type 0 where

@@ -16,7 +16,7 @@ use Rattle.hw_space.specs.Widest.{widest}
 use Rattle.lab_refine.specs.declared.request.Ask.{Ask}
 use Rattle.lab_refine.specs.declared.request.Ask.TheVariants as asks
 use Rattle.lab_refine.specs.declared.request.Request.{Request}
-use Rattle.lab_refine.specs.Params.{name_of}
+use Rattle.lab_refine.specs.Params.{param_name}
 use Rattle.lab_refine.specs.Values.{interval_text, mask_text}
 
 -- what a parameter may still be
@@ -27,7 +27,7 @@ kind_text b (kinds.Number q) = interval_text (part b q)
 
 -- the line of a parameter
 abbrev pub value_line : ParamBox → Param → List ℕ
-value_line b param = codes "ok " ++ (name_of param ++ (codes " " ++ (kind_text b (kind_of param) ++ 10 ∷ [])))
+value_line b param = codes "ok " ++ (param_name param ++ (codes " " ++ (kind_text b (kind_of param) ++ 10 ∷ [])))
 
 -- the line of a narrowing that leaves nothing
 abbrev pub empty_line : List ℕ

@@ -3,7 +3,7 @@ use Rattle.std.specs.Prelude.{◌≡◌, ℕ, ◌*◌, ◌%◌, ◌≤◌, Bool,
 use Rattle.std.specs.Str.{bytes_eq}
 use Rattle.lab_script.specs.declared.error.ScriptWhy.{ScriptWhy}
 use Rattle.lab_script.specs.declared.error.ScriptWhy.TheVariants as why
-use Rattle.lab_script.specs.Word.{number_of}
+use Rattle.lab_script.specs.Word.{number_of_word}
 use Rattle.hw_space.specs.declared.param.Param.{Param}
 use Rattle.lab_refine.specs.declared.grammar.Verb.{Verb}
 use Rattle.lab_refine.specs.declared.grammar.Verb.TheVariants as verbs
@@ -33,9 +33,9 @@ result_view view (Ok x) = Ok (view x)
 result_view view (Err cause) = Err cause
 
 -- the word that must follow, and the words after it
-abbrev pub word_in : List (List ℕ) → Result (List ℕ × List (List ℕ)) ScriptWhy
-word_in [] = Err why.Missing
-word_in (word ∷ words) = Ok (word, words)
+abbrev pub word_and_rest : List (List ℕ) → Result (List ℕ × List (List ℕ)) ScriptWhy
+word_and_rest [] = Err why.Missing
+word_and_rest (word ∷ words) = Ok (word, words)
 
 -- the line's end, where no further word may follow
 abbrev pub end_of_line : ScriptWhy → List (List ℕ) → Result (Unit {0}) ScriptWhy
@@ -45,21 +45,21 @@ end_of_line cause (word ∷ words) = Err cause
 -- a number in its range, and the words after it
 unfoldable pub number_in : ℕ → ℕ → List (List ℕ) → Result (ℕ × List (List ℕ)) ScriptWhy
 number_in least most words = do
-  word ← word_in words
-  n ← found_or_refused why.Number (number_of word.0)
+  word ← word_and_rest words
+  n ← found_or_refused why.Number (number_of_word word.0)
   value_if why.Range (nat_le least n && nat_le n most) (n, word.1)
 
 -- the number after its key, and the words after both
 unfoldable pub keyed_in : List ℕ → ℕ → ℕ → List (List ℕ) → Result (ℕ × List (List ℕ)) ScriptWhy
 keyed_in key least most words = do
-  word ← word_in words
+  word ← word_and_rest words
   rest ← value_if why.Word (bytes_eq word.0 key) word.1
   number_in least most rest
 
 -- a parameter, and the words after it
 unfoldable pub param_in : List (List ℕ) → Result (Param × List (List ℕ)) ScriptWhy
 param_in words = do
-  word ← word_in words
+  word ← word_and_rest words
   param ← found_or_refused why.Word (param_of word.0)
   Ok (param, word.1)
 
@@ -85,8 +85,8 @@ abbrev pub first_word_cause : List ℕ → ScriptWhy
 first_word_cause word = if bytes_eq word (codes "slave") || is_some (verb_of word) then why.Order else why.Word
 
 -- the ring is a multiple of the period, which is at most half of it
-abbrev pub fits : ℕ → ℕ → Bool
-fits period ring = nat_le (2 * period) ring && ring % period == 0
+abbrev pub ring_fits : ℕ → ℕ → Bool
+ring_fits period ring = nat_le (2 * period) ring && ring % period == 0
 
 -- the numbers of a slave are in their ranges and fit together
 pub record IsSlaveLine (slave : SlaveLine) : Type 0 where
@@ -103,12 +103,12 @@ pub record IsSlaveLine (slave : SlaveLine) : Type 0 where
 -- the slave of numbers that fit together
 abbrev pub slave_with : ℕ → ℕ → ℕ → ℕ → Result SlaveLine ScriptWhy
 slave_with channels rate period ring =
-    value_if why.Fit (fits period ring) (record { channels = channels; rate = rate; period = period; ring = ring })
+    value_if why.Fit (ring_fits period ring) (record { channels = channels; rate = rate; period = period; ring = ring })
 
 -- the words after the word `slave`
 unfoldable pub slave_keys_in : List (List ℕ) → Result (List (List ℕ)) ScriptWhy
 slave_keys_in words = do
-  word ← word_in words
+  word ← word_and_rest words
   value_if (first_word_cause word.0) (bytes_eq word.0 (codes "slave")) word.1
 
 -- `slave channels C rate R period P ring N`
@@ -179,7 +179,7 @@ asked_by verbs.Choose words = do
 -- what a line asks
 unfoldable pub ask_of : List (List ℕ) → Result Ask ScriptWhy
 ask_of words = do
-  word ← word_in words
+  word ← word_and_rest words
   verb ← found_or_refused (first_word_cause word.0) (verb_of word.0)
   asked_by verb word.1
 

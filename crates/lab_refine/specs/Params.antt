@@ -5,20 +5,20 @@ use Rattle.hw_space.specs.declared.param.Param.{Param}
 use Rattle.hw_space.specs.declared.param.Param.TheVariants.{Access, Format, SampleBits, FrameBits, Channels, Rate, PeriodTime, PeriodSize, PeriodBytes, Periods, BufferTime, BufferSize, BufferBytes}
 
 -- the parameter's name
-abbrev pub name_of : Param → List ℕ
-name_of Access = codes "access"
-name_of Format = codes "format"
-name_of SampleBits = codes "sample_bits"
-name_of FrameBits = codes "frame_bits"
-name_of Channels = codes "channels"
-name_of Rate = codes "rate"
-name_of PeriodTime = codes "period_time"
-name_of PeriodSize = codes "period_size"
-name_of PeriodBytes = codes "period_bytes"
-name_of Periods = codes "periods"
-name_of BufferTime = codes "buffer_time"
-name_of BufferSize = codes "buffer_size"
-name_of BufferBytes = codes "buffer_bytes"
+abbrev pub param_name : Param → List ℕ
+param_name Access = codes "access"
+param_name Format = codes "format"
+param_name SampleBits = codes "sample_bits"
+param_name FrameBits = codes "frame_bits"
+param_name Channels = codes "channels"
+param_name Rate = codes "rate"
+param_name PeriodTime = codes "period_time"
+param_name PeriodSize = codes "period_size"
+param_name PeriodBytes = codes "period_bytes"
+param_name Periods = codes "periods"
+param_name BufferTime = codes "buffer_time"
+param_name BufferSize = codes "buffer_size"
+param_name BufferBytes = codes "buffer_bytes"
 
 -- every parameter
 unfoldable pub all_params : List Param
@@ -28,7 +28,7 @@ all_params =
 
 -- a word is the parameter's name
 abbrev pub has_name : List ℕ → Param → Bool
-has_name word param = bytes_eq (name_of param) word
+has_name word param = bytes_eq (param_name param) word
 
 -- the parameter of a name
 abbrev pub param_of : List ℕ → Option Param

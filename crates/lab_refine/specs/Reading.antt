@@ -35,8 +35,8 @@ asked_in (line ∷ lines) = do
   Ok (record { slave = slave; asks = asks })
 
 -- what a text asks, or why it is refused: for its length, or for its first line that isn't allowed
-unfoldable pub request_of : List ℕ → Result Request ScriptError
-request_of text = if nat_lt 1048576 (length text) then Err (record { line = 0; why = why.TooLong }) else asked_in (word_lines text)
+unfoldable pub request_of_text : List ℕ → Result Request ScriptError
+request_of_text text = if nat_lt 1048576 (length text) then Err (record { line = 0; why = why.TooLong }) else asked_in (word_lines text)
 
 -- an error of a call is the one that is given, unless memory ran out
 abbrev pub Refuses : {X : Type 0} → ScriptWhy → ScriptError → Result X ScriptError → Type 0

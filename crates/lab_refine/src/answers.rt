@@ -1,6 +1,6 @@
 //! The answers to a request.
 ghost use Rattle.std.specs.Prelude.{◌≡◌, ◌++◌, All, IfOk, OnOk, string_bytes};
-ghost use Rattle.hw_space.specs.Settled.{IsGreatest, left_of};
+ghost use Rattle.hw_space.specs.Settled.{IsGreatest, space_left};
 ghost use Rattle.hw_space.specs.Widest.{widest};
 ghost use Rattle.lab_refine.specs.Answers.{AreAnswers, IsAppended, choice_line, chosen_line, left_line, value_line};
 ghost use Rattle.lab_refine.specs.Grammar.{IsAsk, IsSlaveLine};
@@ -64,7 +64,7 @@ fn push_left(
     narrowed: &Result<(), Empty>,
 ) -> Result<(), AllocError>
     ensures { OnOk result (string_bytes text.new
-        ≡ string_bytes text.old ++ left_line param (left_of narrowed.now space.now)) }
+        ≡ string_bytes text.old ++ left_line param (space_left narrowed.now space.now)) }
 {
     match narrowed {
         Ok(()) => push_value(text, space, param),

@@ -2,7 +2,7 @@
 ghost use Rattle.std.specs.Prelude.{◌≡◌, All, IfErr, IfOk, string_bytes};
 ghost use Rattle.std.specs.Option.{ForSome};
 ghost use Rattle.lab_stop.specs.Causes.{cause};
-ghost use Rattle.lab_stop.specs.Stops.{EndsOf, EndsReliably, FetchFaults, Follows, InputFaults, IsReadStop, Misses};
+ghost use Rattle.lab_stop.specs.Stops.{EndsOf, EndsReliably, FetchFaults, AnswersOrStops, InputFaults, IsReadStop, Misses};
 ghost use Rattle.lab_refine.specs.Answered.{IsAnswerTo, request_in};
 ghost use Rattle.lab_refine.specs.Grammar.{IsAsk, IsSlaveLine};
 
@@ -52,7 +52,7 @@ pub fn refine_file<S: Shelf>(shelf: &mut S, alloc: Global, name: &[u8]) -> Resul
 #[tactic(auto, unfolding(crate::specs::Answered::request_in))]
 fn request_in<S: Shelf>(shelf: &mut S, alloc: Global, name: &[u8]) -> Result<Request, Stop>
     ensures request { ForSome (S.files shelf.old)
-        (λ files. Follows (λ r. r) result (request_in files name.now)) }
+        (λ files. AnswersOrStops (λ r. r) result (request_in files name.now)) }
     ensures slave { IfOk result (λ r. IsSlaveLine r.slave) }
     ensures asks { IfOk result (λ r. All IsAsk r.asks) }
     ensures missing { S.is_reliable shelf.old → ForSome (S.files shelf.old)

@@ -2,7 +2,7 @@
 ghost use Rattle.std.specs.Prelude.{◌≡◌, ◌≤◌, IfOk, false};
 ghost use Rattle.lab_refine.specs.Params.{is_mask, most_of};
 ghost use Rattle.lab_script.specs.Lexing.{words_between};
-ghost use Rattle.lab_refine.specs.Grammar.{IsAsk, IsSlaveLine, ask_of, asked_by, bounded_in, fits, first_word_cause, result_view, slave_keys_in, slave_of, slave_with, valued_in, verb_of, whole_interval_in, whole_param_in};
+ghost use Rattle.lab_refine.specs.Grammar.{IsAsk, IsSlaveLine, ask_of, asked_by, bounded_in, ring_fits, first_word_cause, result_view, slave_keys_in, slave_of, slave_with, valued_in, verb_of, whole_interval_in, whole_param_in};
 
 use crate::params::most_of;
 use crate::place::{end, interval, keyed, number, param, word};
@@ -74,7 +74,7 @@ fn slave_keys(line: &[u8]) -> Result<&[u8], ScriptWhy>
 fn fits(period: u64, ring: u64) -> bool
     requires period { 1 ≤ period }
     requires ring { ring ≤ 16384 }
-    ensures fits { result ≡ fits period ring }
+    ensures fits { result ≡ ring_fits period ring }
 {
     period <= ring / 2 && ring % period == 0
 }

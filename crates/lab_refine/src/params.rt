@@ -1,6 +1,6 @@
 //! The names of the hardware parameters.
 ghost use Rattle.std.specs.Prelude.{◌≡◌};
-ghost use Rattle.lab_refine.specs.Params.{all_params, has_name, is_mask, most_of, name_of, param_of};
+ghost use Rattle.lab_refine.specs.Params.{all_params, has_name, is_mask, most_of, param_name, param_of};
 
 use hw_space::Param;
 
@@ -23,7 +23,7 @@ const ALL: [Param; 13] = [
 
 /// The parameter's name in a text.
 pub(crate) fn name(param: Param) -> &'static str
-    ensures { result.now ≡ name_of param }
+    ensures { result.now ≡ param_name param }
 {
     match param {
         Param::Access => "access",

@@ -2,7 +2,7 @@
 ghost use Rattle.std.specs.Prelude.{◌≡◌, ◌≤◌, IfOk, false};
 ghost use Rattle.lab_script.specs.Lexing.{words_between};
 ghost use Rattle.lab_refine.specs.Params.{is_mask};
-ghost use Rattle.lab_refine.specs.Grammar.{end_of_line, interval_in, keyed_in, number_in, param_in, result_view, word_in};
+ghost use Rattle.lab_refine.specs.Grammar.{end_of_line, interval_in, keyed_in, number_in, param_in, result_view, word_and_rest};
 
 use crate::params::{is_mask, param_of};
 use hw_space::Param;
@@ -11,7 +11,7 @@ use lab_script::{ScriptWhy, next_word, read_number};
 /// The word that must follow, and the rest of the line.
 pub(crate) fn word(line: &[u8]) -> Result<(&[u8], &[u8]), ScriptWhy>
     ensures { result_view (λ w. (w.0.now, words_between w.1.now)) result
-        ≡ word_in (words_between line.now) }
+        ≡ word_and_rest (words_between line.now) }
 {
     match next_word(line) {
         Some(word) => Ok(word),

@@ -3,7 +3,7 @@ ghost use Rattle.std.specs.Prelude.{◌≡◌, ◌+◌, ◌<◌, ◌^◌, [], �
 ghost use Rattle.lab_script.specs.declared.error.ScriptWhy.TheVariants as whys;
 ghost use Rattle.lab_refine.specs.Grammar.{IsAsk, IsSlaveLine};
 ghost use Rattle.lab_script.specs.Lexing.{lines_from, words_between};
-ghost use Rattle.lab_refine.specs.Reading.{Reads, asked_in, asks_of, on_line, request_of};
+ghost use Rattle.lab_refine.specs.Reading.{Reads, asked_in, asks_of, on_line, request_of_text};
 
 use crate::grammar::{read_ask, read_slave};
 use crate::request::{Ask, Asks, Request};
@@ -103,10 +103,10 @@ fn read_lines(alloc: Global, text: &[u8]) -> Result<Request, ScriptError>
 ///
 /// `Fit` is for a slave's line whose words are right, where the period is above half the ring or doesn't
 /// divide it. `Memory` is for want of memory.
-#[tactic(auto, unfolding(crate::specs::Reading::request_of))]
+#[tactic(auto, unfolding(crate::specs::Reading::request_of_text))]
 pub fn read_request(alloc: Global, text: &[u8]) -> Result<Request, ScriptError>
     // The answer is what the text asks, or its refusal, unless memory ran out.
-    ensures exact { Reads (λ r. r) result (request_of text.now) }
+    ensures exact { Reads (λ r. r) result (request_of_text text.now) }
 
     // The slave's numbers are in their ranges, and each line asks what it can.
     ensures slave { IfOk result (λ r. IsSlaveLine r.slave) }

@@ -12,14 +12,14 @@ use Rattle.lab_report.specs.declared.report.Report.{Report}
 use Rattle.lab_report.specs.declared.request.Request.{Request}
 use Rattle.lab_report.specs.declared.row.Row.{Row}
 use Rattle.lab_report.specs.Causes.{◌>>=◌}
-use Rattle.lab_report.specs.Reading.{State, nothing, tail_by, with_line, next_line, on_line, lines_after, report_of}
+use Rattle.lab_report.specs.Reading.{State, nothing, tail_by, with_line, next_line, on_line, lines_after, report_in_text}
 use Rattle.lab_report.specs.Requests.{requests_of}
 use Rattle.lab_report.specs.Text.{client_name, reader_name, request_of_row, row_line, segment_line, run_line, played_line, report_text, IsRowOf, IsSegmentOf, IsRunOf, IsReportOf}
-use Rattle.lab_report.specs.Words.{lines_of, word_of}
-use Rattle.lab_report.proofs.Printed.{IsLineText, lines_of-line, lines_of-lines, word_of-printed}
+use Rattle.lab_report.specs.Words.{lines_of, front_word}
+use Rattle.lab_report.proofs.Printed.{IsLineText, lines_of-line, lines_of-lines, front_word-printed}
 use Rattle.lab_report.specs.Ranges.{IsWide, IsRowInRange, IsSegmentInRange, IsRunInRange, IsReportInRange}
-use Rattle.lab_report.proofs.PrintedRows.{row_at-printed}
-use Rattle.lab_report.proofs.PrintedReport.{segment_at-printed, run_at-printed, played_at-printed}
+use Rattle.lab_report.proofs.PrintedRows.{row_of_line-printed}
+use Rattle.lab_report.proofs.PrintedReport.{segment_at-printed, run_at-printed, played_run-printed}
 use Rattle.lab_report.proofs.PrintedWhole.{front_in_line, row_is_line, segment_is_line, run_is_line, played_is_line}
 
 -- a report that is read as far as these rows, segments and runs
@@ -43,7 +43,7 @@ get_at f (b ∷ bs) x xs = get_at f bs x xs
 row_read : (script : Script) (requests : List Request) (before : List Row) (row : Row) → IsScript script → IsPrinted script row
     → slice_get requests (length before) ≡ Some (request_of_row row) → with_line script requests (read before [] []) (row_line script row) ≡ Ok (read (before ++ row ∷ []) [] [])
 row_read script requests before row valid p e =
-    rw (e, row_at-printed script row (front_in_line script row valid p.of p.range) p.of.answer p.of.state p.range) refl
+    rw (e, row_of_line-printed script row (front_in_line script row valid p.of p.range) p.of.answer p.of.state p.range) refl
 
 rows_read : (script : Script) (requests : List Request) (before rows : List Row) (number : ℕ) (lines : List (List ℕ)) → IsScript script → AllByRecursion (IsPrinted script) rows
     → requests ≡ map request_of_row (before ++ rows)
@@ -68,7 +68,7 @@ played_parts a b = simp append_assoc
 
 -- a line below the rows, by its first word
 below_word : (script : Script) (requests : List Request) (rows : List Row) (segments : List (ℕ × Segment)) (runs : List (ℕ × ℕ × ℕ)) (w r : List ℕ)
-    → length requests ≤ length rows → word_of (w ++ 32 ∷ r) ≡ Ok (w, 32 ∷ r)
+    → length requests ≤ length rows → front_word (w ++ 32 ∷ r) ≡ Ok (w, 32 ∷ r)
     → with_line script requests (read rows segments runs) (w ++ 32 ∷ r) ≡ tail_by script (read rows segments runs) w (32 ∷ r)
 below_word script requests rows segments runs w r past e = rw (slice_get_past requests (length rows) past, e) refl
 
@@ -77,7 +77,7 @@ segment_read : (script : Script) (requests : List Request) (rows : List Row) (be
     → with_line script requests (read rows before []) (segment_line script (client, s)) ≡ Ok (read rows (before ++ (client, s) ∷ []) [])
 segment_read script requests rows before client s valid past h n =
     ap (with_line script requests (read rows before [])) (segment_parts (client_name script client) (decimal s.source) (decimal s.card) (decimal s.whole) (decimal s.part))
-    ∙ below_word script requests rows before [] (codes "segment") (client_name script client ++ 32 ∷ (decimal s.source ++ 32 ∷ (decimal s.card ++ 32 ∷ (decimal s.whole ++ 32 ∷ (decimal s.part ++ 10 ∷ []))))) past (word_of-printed (codes "segment") 32 _ refl refl)
+    ∙ below_word script requests rows before [] (codes "segment") (client_name script client ++ 32 ∷ (decimal s.source ++ 32 ∷ (decimal s.card ++ 32 ∷ (decimal s.whole ++ 32 ∷ (decimal s.part ++ 10 ∷ []))))) past (front_word-printed (codes "segment") 32 _ refl refl)
     ∙ ap (λ x. x >>= (λ segment. Ok (read rows (before ++ segment ∷ []) []))) (segment_at-printed script client s valid h n)
 
 -- all that printing asks of a segment
@@ -98,7 +98,7 @@ run_read : (script : Script) (requests : List Request) (rows : List Row) (segmen
     → with_line script requests (read rows segments before) (run_line script (reader, first, count)) ≡ Ok (read rows segments (before ++ (reader, first, count) ∷ []))
 run_read script requests rows segments before reader first count valid past h f c =
     ap (with_line script requests (read rows segments before)) (run_parts (reader_name script reader) (decimal first) (decimal count))
-    ∙ below_word script requests rows segments before (codes "run") (reader_name script reader ++ 32 ∷ (decimal first ++ 32 ∷ (decimal count ++ 10 ∷ []))) past (word_of-printed (codes "run") 32 _ refl refl)
+    ∙ below_word script requests rows segments before (codes "run") (reader_name script reader ++ 32 ∷ (decimal first ++ 32 ∷ (decimal count ++ 10 ∷ []))) past (front_word-printed (codes "run") 32 _ refl refl)
     ∙ ap (λ x. x >>= (λ run. Ok (read rows segments (before ++ run ∷ [])))) (run_at-printed script reader first count valid h f c)
 
 -- all that printing asks of a run
@@ -121,8 +121,8 @@ end_read : (script : Script) (requests : List Request) (rows : List Row) (segmen
 end_read script requests rows segments runs first frames number past f n =
     let played : with_line script requests (read rows segments runs) (played_line first frames) ≡ Ok (record (read rows segments runs) { played = Some (first, frames) }) =
     ap (with_line script requests (read rows segments runs)) (played_parts (decimal first) (decimal frames))
-    ∙ below_word script requests rows segments runs (codes "played") (decimal first ++ 32 ∷ (decimal frames ++ 10 ∷ [])) past (word_of-printed (codes "played") 32 _ refl refl)
-    ∙ ap (λ x. x >>= (λ p. Ok (record (read rows segments runs) { played = Some p }))) (played_at-printed first frames f n) in
+    ∙ below_word script requests rows segments runs (codes "played") (decimal first ++ 32 ∷ (decimal frames ++ 10 ∷ [])) past (front_word-printed (codes "played") 32 _ refl refl)
+    ∙ ap (λ x. x >>= (λ p. Ok (record (read rows segments runs) { played = Some p }))) (played_run-printed first frames f n) in
     ap (λ r. on_line (next_line number) r (λ next. lines_after script requests next (next_line number) (codes "end\n" ∷ []))) played
     ∙ rw (slice_get_past requests (length rows) past) refl
 
@@ -173,8 +173,8 @@ report_lines script report valid rows segments runs f n =
     ∙ ap (λ ls. map (run_line script) report.runs ++ ls) (lines_of-line p (codes "end\n") (played_is_line report.first report.frames f n)))))
 
 -- the text of a report is read as the report
-pub report_of-text : (script : Script) (report : Report) → IsScript script → IsReportOf script report → IsReportInRange report → report_of script (report_text script report) ≡ Ok report
-report_of-text script report valid of n =
+pub report_in_text-text : (script : Script) (report : Report) → IsScript script → IsReportOf script report → IsReportInRange report → report_in_text script (report_text script report) ≡ Ok report
+report_in_text-text script report valid of n =
     let q = requests_of script in
     let rows = printed_rows script report.rows (recursion_from_All (IsRowOf script) report.rows of.rows) (recursion_from_All IsRowInRange report.rows n.rows) in
     let segments = printed_segments script report.segments (recursion_from_All (IsSegmentOf script) report.segments of.tail.segments) (recursion_from_All (λ (s : ℕ × Segment). IsSegmentInRange s.1) report.segments n.segments) in

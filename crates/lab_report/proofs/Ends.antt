@@ -6,7 +6,7 @@ use Rattle.lab_report.specs.declared.error.ReportWhy.{ReportWhy}
 use Rattle.lab_report.specs.declared.request.Request.{Request}
 use Rattle.lab_report.specs.Answers.{answer_at, state_at}
 use Rattle.lab_report.specs.Causes.{◌>>=◌}
-use Rattle.lab_report.specs.Reading.{row_at, row_end, client_at, reader_at, segment_at, segment_end, run_at, played_at}
+use Rattle.lab_report.specs.Reading.{row_of_line, row_end, client_and_rest, reader_and_rest, segment_at, segment_end, run_at, played_run}
 use Rattle.lab_report.specs.Text.{front_text}
 use Rattle.lab_report.specs.Words.{is_space, space_of, feed_of, next_number, most_frames, number_or_dash_at, expect_words}
 
@@ -23,11 +23,11 @@ apart_after (Err w) f g h same = refl
 
 -- a row is its front, its answer and its end
 pub row_at_steps : (script : Script) (request : Request) (line : List ℕ)
-    → row_at script request line
+    → row_of_line script request line
     ≡ (expect_words (slice_split is_space (front_text script request)) line >>= (λ front. answer_at front >>= (λ answer.
     space_of answer.1 >>= (λ before. row_end before >>= (λ ends.
     Ok (record { phase = request.phase; actor = request.actor; op = request.op; answer = answer.0; state = ends.0; seen = ends.1 }))))))
-unfolding row_at row_end
+unfolding row_of_line row_end
 row_at_steps script request line =
     same_after (expect_words (slice_split is_space (front_text script request)) line) _ _ (λ front.
     same_after (answer_at front) _ _ (λ answer. same_after (space_of answer.1) _ _ (λ before.
@@ -36,19 +36,19 @@ row_at_steps script request line =
 
 -- a segment's line is its client and its numbers
 pub segment_at_steps : (script : Script) (rest : List ℕ)
-    → segment_at script rest ≡ (client_at script rest >>= (λ client. segment_end client.1 >>= (λ segment. Ok (client.0, segment))))
+    → segment_at script rest ≡ (client_and_rest script rest >>= (λ client. segment_end client.1 >>= (λ segment. Ok (client.0, segment))))
 unfolding segment_at segment_end
 segment_at_steps script rest =
-    same_after (client_at script rest) _ _ (λ client.
+    same_after (client_and_rest script rest) _ _ (λ client.
     apart_after (next_number most_frames client.1) _ _ _ (λ source. apart_after (next_number most_frames source.1) _ _ _ (λ card.
     apart_after (next_number most_frames card.1) _ _ _ (λ whole. apart_after (next_number 255 whole.1) _ _ _ (λ part.
     apart_after (feed_of part.1) _ _ _ (λ u. refl))))))
 
 -- a run's line is its reader and its frames
 pub run_at_steps : (script : Script) (rest : List ℕ)
-    → run_at script rest ≡ (reader_at script rest >>= (λ reader. played_at reader.1 >>= (λ frames. Ok (reader.0, frames.0, frames.1))))
-unfolding run_at played_at
+    → run_at script rest ≡ (reader_and_rest script rest >>= (λ reader. played_run reader.1 >>= (λ frames. Ok (reader.0, frames.0, frames.1))))
+unfolding run_at played_run
 run_at_steps script rest =
-    same_after (reader_at script rest) _ _ (λ reader.
+    same_after (reader_and_rest script rest) _ _ (λ reader.
     apart_after (next_number most_frames reader.1) _ _ _ (λ first. apart_after (next_number most_frames first.1) _ _ _ (λ count.
     apart_after (feed_of count.1) _ _ _ (λ u. refl))))

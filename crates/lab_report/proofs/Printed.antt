@@ -13,7 +13,7 @@ use Rattle.std.proofs.lemmas.Slice.Eq.{bytes_eq-Decides}
 use Rattle.std.proofs.lemmas.Str.Parse.{IsNumeralModel, numerals_by_value, tells_all_ascii_digits}
 use Rattle.lab_report.specs.declared.error.ReportWhy.TheVariants as why
 use Rattle.lab_report.specs.Causes.{◌>>=◌, some_or}
-use Rattle.lab_report.specs.Words.{is_feed, is_space, is_end, lines_of, word_of, is_plain, within, decimal_of, number_at, most_frames, next_number, dash_or_number, number_or_dash_at, expect_word, expect_words}
+use Rattle.lab_report.specs.Words.{is_feed, is_space, is_end, lines_of, front_word, lacks_leading_zero, within, decimal_of, number_at, most_frames, next_number, dash_or_number, number_or_dash_at, expect_word, expect_words}
 use Rattle.lab_report.proofs.Parts.{all_digits, within-fits}
 
 -- a byte within a word
@@ -43,9 +43,9 @@ position_or_len-word (b ∷ bs) e r h t =
     let parts = both (in_word b) (list_all in_word bs) h in
     rw (is_true (is_end b) parts.0, position_or_len-word bs e r parts.1 t) (one-add (length bs))
 
-word_of-some : (xs : List ℕ) → 0 < length xs → word_of xs ≡ Ok (take (position_or_len is_end xs) xs, drop (position_or_len is_end xs) xs)
-word_of-some [] h = absurd (omega arith)
-word_of-some (b ∷ bs) h = refl
+front_word-some : (xs : List ℕ) → 0 < length xs → front_word xs ≡ Ok (take (position_or_len is_end xs) xs, drop (position_or_len is_end xs) xs)
+front_word-some [] h = absurd (omega arith)
+front_word-some (b ∷ bs) h = refl
 
 drop-append : (w s : List ℕ) → drop (length w) (w ++ s) ≡ s
 drop-append [] s = refl
@@ -56,9 +56,9 @@ more_than [] e r = omega arith
 more_than (b ∷ bs) e r = omega arith
 
 -- a word is read where one of its ends follows
-pub word_of-printed : (w : List ℕ) (e : ℕ) (r : List ℕ) → list_all in_word w ≡ true → is_end e ≡ true → word_of (w ++ e ∷ r) ≡ Ok (w, e ∷ r)
-word_of-printed w e r h t =
-    word_of-some (w ++ e ∷ r) (more_than w e r)
+pub front_word-printed : (w : List ℕ) (e : ℕ) (r : List ℕ) → list_all in_word w ≡ true → is_end e ≡ true → front_word (w ++ e ∷ r) ≡ Ok (w, e ∷ r)
+front_word-printed w e r h t =
+    front_word-some (w ++ e ∷ r) (more_than w e r)
     ∙ ap (λ n. Ok (take n (w ++ e ∷ r), drop n (w ++ e ∷ r))) (position_or_len-word w e r h t)
     ∙ ap (λ x. Ok (x, drop (length w) (w ++ e ∷ r))) (take-append_seam w (e ∷ r))
     ∙ ap (λ x. Ok (w, x)) (drop-append w (e ∷ r))
@@ -79,7 +79,7 @@ digits_in_word (d ∷ ds) e =
 pub decimal_in_word : (n : ℕ) → n < 2 ^ 64 → list_all in_word (decimal n) ≡ true
 decimal_in_word n h = digits_in_word (decimal n) (all_digits (decimal n) ∙ digits_decimal own n h)
 
-plain_of : (ds : List ℕ) → 0 < length ds → (get_or ds 0 0 ≡ 48 → length ds ≡ 1) → is_plain ds ≡ true
+plain_of : (ds : List ℕ) → 0 < length ds → (get_or ds 0 0 ≡ 48 → length ds ≡ 1) → lacks_leading_zero ds ≡ true
 plain_of [] some h = absurd (omega arith)
 plain_of (b ∷ []) some h = refl
 plain_of (b ∷ c ∷ bs) some h = plain_by b (length bs) (b == 48) refl h
@@ -88,7 +88,7 @@ plain_of (b ∷ c ∷ bs) some h = plain_by b (length bs) (b == 48) refl h
     plain_by b n true e h = absurd (let same : b ≡ 48 = grind (arith, nat_tests) in omega (arith, h same))
     plain_by b n false e h = refl
 
-decimal_plain : (n : ℕ) → n < 2 ^ 64 → is_plain (decimal n) ≡ true
+decimal_plain : (n : ℕ) → n < 2 ^ 64 → lacks_leading_zero (decimal n) ≡ true
 decimal_plain zero h = rw (decimal_digit 0 (omega arith)) refl
 decimal_plain (suc n) h =
     plain_of (decimal (suc n)) (decimal_nonempty (suc n) h) (λ e. absurd (omega (arith, first_decimal (suc n) (omega arith) h, e)))
@@ -96,13 +96,13 @@ decimal_plain (suc n) h =
 -- a number's decimal form is read as the number
 pub decimal_of-decimal : (most n : ℕ) → n ≤ most → n < 2 ^ 64 → decimal_of most (decimal n) ≡ Some n
 decimal_of-decimal most n fits h =
-    ap (λ t. cond t (within most (digits_value 10 (decimal n))) None) (and_true (is_plain (decimal n)) (all_ascii_digits (decimal n)) (decimal_plain n h) (digits_decimal own n h))
+    ap (λ t. cond t (within most (digits_value 10 (decimal n))) None) (and_true (lacks_leading_zero (decimal n)) (all_ascii_digits (decimal n)) (decimal_plain n h) (digits_decimal own n h))
     ∙ ap (within most) (digits_value-decimal own n h)
     ∙ sym (within-fits most n fits)
 
 pub number_at-printed : (most n e : ℕ) (r : List ℕ) → n ≤ most → n < 2 ^ 64 → is_end e ≡ true → number_at most (decimal n ++ e ∷ r) ≡ Ok (n, e ∷ r)
 number_at-printed most n e r fits h t =
-    rw (word_of-printed (decimal n) e r (decimal_in_word n h) t) (ap (λ o. (some_or why.Number o) >>= (λ m. Ok (m, e ∷ r))) (decimal_of-decimal most n fits h))
+    rw (front_word-printed (decimal n) e r (decimal_in_word n h) t) (ap (λ o. (some_or why.Number o) >>= (λ m. Ok (m, e ∷ r))) (decimal_of-decimal most n fits h))
 
 -- a number after a space is read
 pub next_number-printed : (most n e : ℕ) (r : List ℕ) → n ≤ most → n < 2 ^ 64 → is_end e ≡ true → next_number most (32 ∷ (decimal n ++ e ∷ r)) ≡ Ok (n, e ∷ r)
@@ -121,20 +121,20 @@ not_digits ds w d n = not_by (bytes_eq ds w) refl
 
 -- `-` is read as no number
 pub dash-printed : (e : ℕ) (r : List ℕ) → is_end e ≡ true → number_or_dash_at (codes "-" ++ e ∷ r) ≡ Ok (None, e ∷ r)
-dash-printed e r t = ap (λ w. w >>= (λ word. (some_or why.Word (dash_or_number word.0)) >>= (λ n. Ok (n, word.1)))) (word_of-printed (codes "-") e r refl t)
+dash-printed e r t = ap (λ w. w >>= (λ word. (some_or why.Word (dash_or_number word.0)) >>= (λ n. Ok (n, word.1)))) (front_word-printed (codes "-") e r refl t)
 
 -- a number is read where `-` may be
 pub number-printed : (n e : ℕ) (r : List ℕ) → n < 2 ^ 64 → is_end e ≡ true → number_or_dash_at (decimal n ++ e ∷ r) ≡ Ok (Some n, e ∷ r)
 number-printed n e r h t =
     let fits : n ≤ most_frames = omega arith in
-    rw (word_of-printed (decimal n) e r (decimal_in_word n h) t, not_digits (decimal n) (codes "-") (digits_decimal own n h) refl, decimal_of-decimal most_frames n fits h) refl
+    rw (front_word-printed (decimal n) e r (decimal_in_word n h) t, not_digits (decimal n) (codes "-") (digits_decimal own n h) refl, decimal_of-decimal most_frames n fits h) refl
 
 bytes_eq-same : (w : List ℕ) → bytes_eq w w ≡ true
 bytes_eq-same w = (bytes_eq-Decides w w).1 refl
 
 -- the word that must follow is read
 pub expect_word-printed : (w : List ℕ) (e : ℕ) (r : List ℕ) → list_all in_word w ≡ true → is_end e ≡ true → expect_word w (w ++ e ∷ r) ≡ Ok (e ∷ r)
-expect_word-printed w e r h t = rw (word_of-printed w e r h t, bytes_eq-same w) refl
+expect_word-printed w e r h t = rw (front_word-printed w e r h t, bytes_eq-same w) refl
 
 -- each of some words has no end within
 abbrev pub AreWords : List (List ℕ) → Type 0

@@ -16,10 +16,10 @@ use Rattle.lab_script.specs.Limits.{IsScript}
 use Rattle.lab_script.specs.Word.{is_name, is_name_byte}
 use Rattle.lab_report.specs.declared.error.ReportWhy.TheVariants as why
 use Rattle.lab_report.specs.Causes.{◌>>=◌, some_or}
-use Rattle.lab_report.specs.Reading.{client_at, reader_at, segment_at, run_at, played_at}
+use Rattle.lab_report.specs.Reading.{client_and_rest, reader_and_rest, segment_at, run_at, played_run}
 use Rattle.lab_report.specs.Text.{client_name, reader_name}
 use Rattle.lab_report.specs.Words.{most_frames}
-use Rattle.lab_report.proofs.Printed.{in_word, word_of-printed, next_number-printed}
+use Rattle.lab_report.proofs.Printed.{in_word, front_word-printed, next_number-printed}
 use Rattle.lab_report.specs.Ranges.{IsWide, IsSegmentInRange}
 
 both : (a b : Bool) → (a && b) ≡ true → (a ≡ true) × (b ≡ true)
@@ -98,19 +98,19 @@ reader-found script n valid h =
     rw name (at_place (is_reader c.0.name) script.readers n h place, name_in_word c.0.name form)
 
 -- a client's name is read
-client_at-printed : (script : Script) (n : ℕ) (r : List ℕ) → IsScript script → n < length script.clients
-    → client_at script (32 ∷ (client_name script n ++ 32 ∷ r)) ≡ Ok (n, 32 ∷ r)
-client_at-printed script n r valid h =
+client_and_rest-printed : (script : Script) (n : ℕ) (r : List ℕ) → IsScript script → n < length script.clients
+    → client_and_rest script (32 ∷ (client_name script n ++ 32 ∷ r)) ≡ Ok (n, 32 ∷ r)
+client_and_rest-printed script n r valid h =
     let found = client-found script n valid h in
-    ap (λ x. x >>= (λ word. (some_or why.Word (position (is_client word.0) script.clients)) >>= (λ k. Ok (k, word.1)))) (word_of-printed (client_name script n) 32 r found.1 refl)
+    ap (λ x. x >>= (λ word. (some_or why.Word (position (is_client word.0) script.clients)) >>= (λ k. Ok (k, word.1)))) (front_word-printed (client_name script n) 32 r found.1 refl)
     ∙ ap (λ o. (some_or why.Word o) >>= (λ k. Ok (k, 32 ∷ r))) found.0
 
 -- a reader's name is read
-reader_at-printed : (script : Script) (n : ℕ) (r : List ℕ) → IsScript script → n < length script.readers
-    → reader_at script (32 ∷ (reader_name script n ++ 32 ∷ r)) ≡ Ok (n, 32 ∷ r)
-reader_at-printed script n r valid h =
+reader_and_rest-printed : (script : Script) (n : ℕ) (r : List ℕ) → IsScript script → n < length script.readers
+    → reader_and_rest script (32 ∷ (reader_name script n ++ 32 ∷ r)) ≡ Ok (n, 32 ∷ r)
+reader_and_rest-printed script n r valid h =
     let found = reader-found script n valid h in
-    ap (λ x. x >>= (λ word. (some_or why.Word (position (is_reader word.0) script.readers)) >>= (λ k. Ok (k, word.1)))) (word_of-printed (reader_name script n) 32 r found.1 refl)
+    ap (λ x. x >>= (λ word. (some_or why.Word (position (is_reader word.0) script.readers)) >>= (λ k. Ok (k, word.1)))) (front_word-printed (reader_name script n) 32 r found.1 refl)
     ∙ ap (λ o. (some_or why.Word o) >>= (λ k. Ok (k, 32 ∷ r))) found.0
 
 wide : (n : ℕ) → IsWide n → n ≤ most_frames
@@ -127,7 +127,7 @@ unfolding segment_at
 segment_at-printed script client s valid h n =
     let small : IsWide s.part = omega (arith, n.part) in
     rw (
-      client_at-printed script client (decimal s.source ++ 32 ∷ (decimal s.card ++ 32 ∷ (decimal s.whole ++ 32 ∷ (decimal s.part ++ 10 ∷ [])))) valid h,
+      client_and_rest-printed script client (decimal s.source ++ 32 ∷ (decimal s.card ++ 32 ∷ (decimal s.whole ++ 32 ∷ (decimal s.part ++ 10 ∷ [])))) valid h,
       next_number-printed most_frames s.source 32 (decimal s.card ++ 32 ∷ (decimal s.whole ++ 32 ∷ (decimal s.part ++ 10 ∷ []))) (wide s.source n.source) n.source refl,
       next_number-printed most_frames s.card 32 (decimal s.whole ++ 32 ∷ (decimal s.part ++ 10 ∷ [])) (wide s.card n.card) n.card refl,
       next_number-printed most_frames s.whole 32 (decimal s.part ++ 10 ∷ []) (wide s.whole n.whole) n.whole refl,
@@ -143,14 +143,14 @@ pub run_at-printed : (script : Script) (reader first count : ℕ) → IsScript s
 unfolding run_at
 run_at-printed script reader first count valid h f c =
     rw (
-      reader_at-printed script reader (decimal first ++ 32 ∷ (decimal count ++ 10 ∷ [])) valid h,
+      reader_and_rest-printed script reader (decimal first ++ 32 ∷ (decimal count ++ 10 ∷ [])) valid h,
       next_number-printed most_frames first 32 (decimal count ++ 10 ∷ []) (wide first f) f refl,
       next_number-printed most_frames count 10 [] (wide count c) c refl,
     ) refl
 
-pub played_at-printed : (first count : ℕ) → IsWide first → IsWide count → played_at (32 ∷ (decimal first ++ 32 ∷ (decimal count ++ 10 ∷ []))) ≡ Ok (first, count)
-unfolding played_at
-played_at-printed first count f c =
+pub played_run-printed : (first count : ℕ) → IsWide first → IsWide count → played_run (32 ∷ (decimal first ++ 32 ∷ (decimal count ++ 10 ∷ []))) ≡ Ok (first, count)
+unfolding played_run
+played_run-printed first count f c =
     rw (
       next_number-printed most_frames first 32 (decimal count ++ 10 ∷ []) (wide first f) f refl,
       next_number-printed most_frames count 10 [] (wide count c) c refl,

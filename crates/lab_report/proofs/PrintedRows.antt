@@ -21,10 +21,10 @@ use Rattle.lab_report.specs.declared.row.Row.{Row}
 use Rattle.lab_report.specs.Answers.{plain_answers, states, frame_and_channel, xrun_by, xrun_of, busy_of, answer_by, answer_at, state_at}
 use Rattle.lab_report.specs.Causes.{◌>>=◌, some_or}
 use Rattle.lab_report.specs.Ranges.{IsWide, IsWideWhere, IsXrunInRange, IsAnswerInRange, IsRowInRange}
-use Rattle.lab_report.specs.Reading.{row_at}
+use Rattle.lab_report.specs.Reading.{row_of_line}
 use Rattle.lab_report.specs.Text.{request_of_row, number_or_dash, xrun_text, answer_text, front_text, row_line, HasText, HasXrunText, HasStateText}
 use Rattle.lab_report.specs.Words.{is_end, most_frames, number_or_dash_at}
-use Rattle.lab_report.proofs.Printed.{in_word, in_line, word_of-printed, decimal_in_word, decimal_of-decimal, next_number-printed, not_digits, dash-printed, number-printed, expect_words-printed}
+use Rattle.lab_report.proofs.Printed.{in_word, in_line, front_word-printed, decimal_in_word, decimal_of-decimal, next_number-printed, not_digits, dash-printed, number-printed, expect_words-printed}
 
 own : IsNumeralModel (λ ds. all_ascii_digits ds ≡ true) (digits_value 10)
 own = numerals_by_value _ tells_all_ascii_digits
@@ -40,7 +40,7 @@ place_of-printed f c r hf hc =
 
 xrun_word : (w r : List ℕ) → list_all in_word w ≡ true
     → xrun_of (32 ∷ (w ++ 32 ∷ r)) ≡ (xrun_by w (32 ∷ r)) >>= (λ xrun. Ok (Failed (Xrun xrun.0), xrun.1))
-xrun_word w r h = ap (λ x. x >>= (λ word. (xrun_by word.0 word.1) >>= (λ xrun. Ok (Failed (Xrun xrun.0), xrun.1)))) (word_of-printed w 32 r h refl)
+xrun_word w r h = ap (λ x. x >>= (λ word. (xrun_by word.0 word.1) >>= (λ xrun. Ok (Failed (Xrun xrun.0), xrun.1)))) (front_word-printed w 32 r h refl)
 
 -- why there was an xrun is read
 xrun_of-printed : (w : XrunWhy) (r : List ℕ) → HasXrunText w → IsXrunInRange w → xrun_of (32 ∷ (xrun_text w ++ 32 ∷ r)) ≡ Ok (Failed (Xrun w), 32 ∷ r)
@@ -68,7 +68,7 @@ busy_of-printed u s r hu hs =
     rw (append_assoc (number_or_dash u) (32 ∷ decimal s) (32 ∷ r), number_or_dash-printed u 32 (decimal s ++ 32 ∷ r) hu refl, next_number-printed most_frames s 32 r (wide s hs) hs refl) refl
 
 answer_word : (w r : List ℕ) → list_all in_word w ≡ true → answer_at (w ++ 32 ∷ r) ≡ answer_by (row_of plain_answers w) w (32 ∷ r)
-answer_word w r h = ap (λ x. x >>= (λ word. answer_by (row_of plain_answers word.0) word.0 word.1)) (word_of-printed w 32 r h refl)
+answer_word w r h = ap (λ x. x >>= (λ word. answer_by (row_of plain_answers word.0) word.0 word.1)) (front_word-printed w 32 r h refl)
 
 -- a number is read as an answer
 count-printed : (n : ℕ) (r : List ℕ) → IsWide n → answer_at (decimal n ++ 32 ∷ r) ≡ Ok (Count n, 32 ∷ r)
@@ -104,7 +104,7 @@ answer_at-printed (Failed LapEnd) r h n = absurd h
 answer_at-printed (Failed Memory) r h n = absurd h
 
 state_word : (w r : List ℕ) → list_all in_word w ≡ true → state_at (w ++ 32 ∷ r) ≡ (some_or why.Word (row_of states w)) >>= (λ s. Ok (s, 32 ∷ r))
-state_word w r h = ap (λ x. x >>= (λ word. (some_or why.Word (row_of states word.0)) >>= (λ s. Ok (s, word.1)))) (word_of-printed w 32 r h refl)
+state_word w r h = ap (λ x. x >>= (λ word. (some_or why.Word (row_of states word.0)) >>= (λ s. Ok (s, word.1)))) (front_word-printed w 32 r h refl)
 
 -- a state is read
 pub state_at-printed : (s : PcmState) (r : List ℕ) → HasStateText s → state_at (state_name s ++ 32 ∷ r) ≡ Ok (s, 32 ∷ r)
@@ -122,10 +122,10 @@ line_parts : (f a s n : List ℕ) → (((f ++ 32 ∷ a) ++ 32 ∷ s) ++ 32 ∷ n
 line_parts f a s n = simp append_assoc
 
 -- a row's line is read as the row
-pub row_at-printed : (script : Script) (row : Row) → list_all in_line (front_text script (request_of_row row)) ≡ true → HasText row.answer → HasStateText row.state → IsRowInRange row
-    → row_at script (request_of_row row) (row_line script row) ≡ Ok row
-unfolding row_at
-row_at-printed script row whole answer state n =
+pub row_of_line-printed : (script : Script) (row : Row) → list_all in_line (front_text script (request_of_row row)) ≡ true → HasText row.answer → HasStateText row.state → IsRowInRange row
+    → row_of_line script (request_of_row row) (row_line script row) ≡ Ok row
+unfolding row_of_line
+row_of_line-printed script row whole answer state n =
     let a : List ℕ = answer_text row.answer in
     let s : List ℕ = state_name row.state in
     let m : List ℕ = number_or_dash row.seen in

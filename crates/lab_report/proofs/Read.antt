@@ -26,10 +26,10 @@ use Rattle.lab_report.specs.declared.row.Answer.TheVariants.{Count, Failed}
 use Rattle.lab_report.specs.declared.row.Row.{Row}
 use Rattle.lab_report.specs.Answers.{plain_answers, states, frame_and_channel, xrun_by, longer_answer, answer_by, answer_at, state_at}
 use Rattle.lab_report.specs.Causes.{◌>>=◌, some_or}
-use Rattle.lab_report.specs.Reading.{State, nothing, row_at, client_at, reader_at, segment_at, run_at, played_at, with_segment, with_run, with_played, tail_by, below_rows, after_head, version_of, with_line, next_line, on_line, report_at, lines_after, report_of, Answers}
+use Rattle.lab_report.specs.Reading.{State, nothing, row_of_line, client_and_rest, reader_and_rest, segment_at, run_at, played_run, with_segment, with_run, with_played, tail_by, below_rows, after_head, version_of, with_line, next_line, on_line, report_at, lines_after, report_in_text, Answers}
 use Rattle.lab_report.specs.Requests.{requests_of}
 use Rattle.lab_report.specs.Text.{request_of_row, HasText, HasXrunText, HasStateText, IsRowOf, IsSegmentOf, IsRunOf, IsReportOf, front_text}
-use Rattle.lab_report.specs.Words.{lines_of, is_space, word_of, space_of, feed_of, next_number, most_frames, number_or_dash_at, decimal_of, expect_word, expect_words}
+use Rattle.lab_report.specs.Words.{lines_of, is_space, front_word, space_of, feed_of, next_number, most_frames, number_or_dash_at, decimal_of, expect_word, expect_words}
 use Rattle.lab_report.proofs.Actors.{IsAsked, requests_of-asked}
 
 -- what a value after a step says
@@ -67,7 +67,7 @@ longer_answer-has word rest y e =
     either (bytes_eq word (codes "EPIPE")) _ _ y (HasText y.0)
     (λ f.
     let a = bind_ok (space_of rest) _ y f in
-    let w = bind_ok (word_of a.0) _ y a.2 in
+    let w = bind_ok (front_word a.0) _ y a.2 in
     let x = bind_ok (xrun_by w.0.0 w.0.1) _ y w.2 in
     same_ok HasText (Failed (Xrun x.0.0)) x.0.1 y x.2 (xrun_by-has w.0.0 w.0.1 x.0 x.1))
     (λ g. either (bytes_eq word (codes "EBUSY")) _ _ y (HasText y.0)
@@ -87,7 +87,7 @@ answer_by-has None word rest y e f = longer_answer-has word rest y f
 
 answer_at-has : (rest : List ℕ) (y : Answer × List ℕ) → answer_at rest ≡ Ok y → HasText y.0
 answer_at-has rest y e =
-    let w = bind_ok (word_of rest) _ y e in
+    let w = bind_ok (front_word rest) _ y e in
     answer_by-has (row_of plain_answers w.0.0) w.0.0 w.0.1 y refl w.2
 
 states-have : RowsHave HasStateText states
@@ -95,7 +95,7 @@ states-have = (tt, (tt, (tt, (tt, (tt, (tt, (tt, (tt, tt))))))))
 
 state_at-has : (rest : List ℕ) (y : PcmState × List ℕ) → state_at rest ≡ Ok y → HasStateText y.0
 state_at-has rest y e =
-    let w = bind_ok (word_of rest) _ y e in
+    let w = bind_ok (front_word rest) _ y e in
     let s = bind_ok (some_or why.Word (row_of states w.0.0)) _ y w.2 in
     same_ok HasStateText s.0 w.0.1 y s.2 (row_of-has HasStateText states w.0.0 s.0 states-have (some_is why.Word _ s.0 s.1))
 
@@ -108,9 +108,9 @@ pub record IsRead (request : Request) (row : Row) : Type 0 where
 ok_row : (request : Request) (x row : Row) → ◌≡◌ {A = Result Row ReportWhy} (Ok x) (Ok row) → IsRead request x → IsRead request row
 ok_row request x row e h = let same : x ≡ row = cc (e) in subst (IsRead request) same h
 
-row_at-is : (script : Script) (request : Request) (line : List ℕ) (row : Row) → row_at script request line ≡ Ok row → IsRead request row
-unfolding row_at
-row_at-is script request line row e =
+row_of_line-is : (script : Script) (request : Request) (line : List ℕ) (row : Row) → row_of_line script request line ≡ Ok row → IsRead request row
+unfolding row_of_line
+row_of_line-is script request line row e =
     let front = bind_ok (expect_words (slice_split is_space (front_text script request)) line) _ row e in
     let answer = bind_ok (answer_at front.0) _ row front.2 in
     let before = bind_ok (space_of answer.0.1) _ row answer.2 in
@@ -136,17 +136,17 @@ place_of-some : (n i : ℕ) (o : Option ℕ) → IsPlaceIn n o → o ≡ Some i 
 place_of-some n i None h e = absurd (cc)
 place_of-some n i (Some j) h e = let same : j ≡ i = cc (e) in subst (λ (k : ℕ). k < n) same h
 
-client_at-in : (script : Script) (rest : List ℕ) (y : ℕ × List ℕ) → client_at script rest ≡ Ok y → y.0 < length script.clients
-client_at-in script rest y e =
+client_and_rest-in : (script : Script) (rest : List ℕ) (y : ℕ × List ℕ) → client_and_rest script rest ≡ Ok y → y.0 < length script.clients
+client_and_rest-in script rest y e =
     let a = bind_ok (space_of rest) _ y e in
-    let w = bind_ok (word_of a.0) _ y a.2 in
+    let w = bind_ok (front_word a.0) _ y a.2 in
     let n = bind_ok (some_or why.Word (position (is_client w.0.0) script.clients)) _ y w.2 in
     same_ok (λ (k : ℕ). k < length script.clients) n.0 w.0.1 y n.2 (place_of-some (length script.clients) n.0 _ (position-in (is_client w.0.0) script.clients) (some_is why.Word _ n.0 n.1))
 
-reader_at-in : (script : Script) (rest : List ℕ) (y : ℕ × List ℕ) → reader_at script rest ≡ Ok y → y.0 < length script.readers
-reader_at-in script rest y e =
+reader_and_rest-in : (script : Script) (rest : List ℕ) (y : ℕ × List ℕ) → reader_and_rest script rest ≡ Ok y → y.0 < length script.readers
+reader_and_rest-in script rest y e =
     let a = bind_ok (space_of rest) _ y e in
-    let w = bind_ok (word_of a.0) _ y a.2 in
+    let w = bind_ok (front_word a.0) _ y a.2 in
     let n = bind_ok (some_or why.Word (position (is_reader w.0.0) script.readers)) _ y w.2 in
     same_ok (λ (k : ℕ). k < length script.readers) n.0 w.0.1 y n.2 (place_of-some (length script.readers) n.0 _ (position-in (is_reader w.0.0) script.readers) (some_is why.Word _ n.0 n.1))
 
@@ -156,13 +156,13 @@ same_segment script x y e h = let same : x ≡ y = cc (e) in subst (IsSegmentOf 
 segment_at-is : (script : Script) (rest : List ℕ) (y : ℕ × Segment) → segment_at script rest ≡ Ok y → IsSegmentOf script y
 unfolding segment_at
 segment_at-is script rest y e =
-    let client = bind_ok (client_at script rest) _ y e in
+    let client = bind_ok (client_and_rest script rest) _ y e in
     let source = bind_ok (next_number most_frames client.0.1) _ y client.2 in
     let card = bind_ok (next_number most_frames source.0.1) _ y source.2 in
     let whole = bind_ok (next_number most_frames card.0.1) _ y card.2 in
     let part = bind_ok (next_number 255 whole.0.1) _ y whole.2 in
     let end = bind_ok (feed_of part.0.1) _ y part.2 in
-    same_segment script _ y end.2 (client_at-in script rest client.0 client.1)
+    same_segment script _ y end.2 (client_and_rest-in script rest client.0 client.1)
 
 same_run : (script : Script) (x y : ℕ × ℕ × ℕ) → ◌≡◌ {A = Result (ℕ × ℕ × ℕ) ReportWhy} (Ok x) (Ok y) → IsRunOf script x → IsRunOf script y
 same_run script x y e h = let same : x ≡ y = cc (e) in subst (IsRunOf script) same h
@@ -170,11 +170,11 @@ same_run script x y e h = let same : x ≡ y = cc (e) in subst (IsRunOf script) 
 run_at-is : (script : Script) (rest : List ℕ) (y : ℕ × ℕ × ℕ) → run_at script rest ≡ Ok y → IsRunOf script y
 unfolding run_at
 run_at-is script rest y e =
-    let reader = bind_ok (reader_at script rest) _ y e in
+    let reader = bind_ok (reader_and_rest script rest) _ y e in
     let first = bind_ok (next_number most_frames reader.0.1) _ y reader.2 in
     let count = bind_ok (next_number most_frames first.0.1) _ y first.2 in
     let end = bind_ok (feed_of count.0.1) _ y count.2 in
-    same_run script _ y end.2 (reader_at-in script rest reader.0 reader.1)
+    same_run script _ y end.2 (reader_and_rest-in script rest reader.0 reader.1)
 
 -- all rows are read where what was played is
 abbrev pub IsWhole : Option (ℕ × ℕ) → ℕ → ℕ → Type 0
@@ -247,7 +247,7 @@ with_run-is script requests s rest t e st =
 with_played-is : (script : Script) (requests : List Request) (s : State) (rest : List ℕ) (t : State) → length requests ≤ length s.rows
     → with_played s rest ≡ Ok t → IsDraft script requests s → IsDraft script requests t
 with_played-is script requests s rest t past e st =
-    let a = bind_ok (played_at rest) (λ played. Ok (record s { played = Some played })) t e in
+    let a = bind_ok (played_run rest) (λ played. Ok (record s { played = Some played })) t e in
     ok_draft script requests (record s { played = Some a.0 }) t a.2 (record { lines = st.lines; rows = st.rows; segments = st.segments; runs = st.runs; whole = past })
 
 tail_by-is : (script : Script) (requests : List Request) (s : State) (word rest : List ℕ) (t : State) → length requests ≤ length s.rows
@@ -264,7 +264,7 @@ tail_by-is script requests s word rest t past e st =
 below_rows-is : (script : Script) (requests : List Request) (s : State) (o : Option (ℕ × ℕ)) (line : List ℕ) (t : State) → length requests ≤ length s.rows
     → below_rows script s o line ≡ Ok t → IsDraft script requests s → IsDraft script requests t
 below_rows-is script requests s None line t past e st =
-    let w = bind_ok (word_of line) _ t e in
+    let w = bind_ok (front_word line) _ t e in
     tail_by-is script requests s w.0.0 w.0.1 t past w.2 st
 below_rows-is script requests s (Some p) line t past e st =
     let a = bind_ok (expect_word (codes "end") line) _ t e in
@@ -274,8 +274,8 @@ below_rows-is script requests s (Some p) line t past e st =
 after_head-is : (script : Script) (requests : List Request) (s : State) (o : Option Request) (line : List ℕ) (t : State) → All (IsAsked (length script.clients) (length script.readers)) requests
     → slice_get requests (length s.rows) ≡ o → after_head script s o line ≡ Ok t → IsDraft script requests s → IsDraft script requests t
 after_head-is script requests s (Some request) line t asked g e st =
-    let row = bind_ok (row_at script request line) _ t e in
-    ok_draft script requests _ t row.2 (row-is script requests s request row.0 asked g (row_at-is script request line row.0 row.1) st)
+    let row = bind_ok (row_of_line script request line) _ t e in
+    ok_draft script requests _ t row.2 (row-is script requests s request row.0 asked g (row_of_line-is script request line row.0 row.1) st)
 after_head-is script requests s None line t asked g e st =
     either s.ended _ _ t (IsDraft script requests t) (λ (f : ◌≡◌ {A = Result State ReportWhy} (Err why.Extra) (Ok t)). absurd (cc (f)))
     (λ f. below_rows-is script requests s s.played line t (past_by requests (length s.rows) _ refl g) f st) e
@@ -321,6 +321,6 @@ lines_after-is script s number (line ∷ lines) report valid e st =
     (with_line-is script (requests_of script) s line next.0 (requests_of-asked script valid) next.1 st)
 
 -- what is read is a report of the script
-pub answers-of : (script : Script) (text : List ℕ) (r : Result Report ReportError) → IsScript script → Answers r (report_of script text) → IfOk r (IsReportOf script)
+pub answers-of : (script : Script) (text : List ℕ) (r : Result Report ReportError) → IsScript script → Answers r (report_in_text script text) → IfOk r (IsReportOf script)
 answers-of script text (Ok report) valid h = lines_after-is script nothing 0 (lines_of text) report valid h (nothing-is script (requests_of script))
 answers-of script text (Err e) valid h = tt

@@ -20,17 +20,17 @@ use Rattle.lab_report.specs.declared.error.ReportWhy.{ReportWhy}
 use Rattle.lab_report.specs.declared.error.ReportWhy.TheVariants as why
 use Rattle.lab_report.specs.declared.row.Answer.{Answer}
 use Rattle.lab_report.specs.declared.row.Answer.TheVariants.{Count, Failed}
-use Rattle.lab_report.specs.Answers.{plain_answers, states, frame_and_channel, xrun_by, xrun_of, busy_of, count_of, longer_answer, answer_by, answer_at, state_at}
+use Rattle.lab_report.specs.Answers.{plain_answers, states, frame_and_channel, xrun_by, xrun_of, busy_of, count_and_rest, longer_answer, answer_by, answer_at, state_at}
 use Rattle.lab_report.specs.Causes.{some_or}
 use Rattle.lab_report.specs.Text.{number_or_dash, xrun_text, answer_text}
-use Rattle.lab_report.specs.Words.{is_space, is_feed, is_end, word_of, space_of, feed_of, is_plain, is_decimal, within, decimal_of, number_at, most_frames, next_number, dash_or_number, number_or_dash_at, not_word, expect_word, expect_words}
+use Rattle.lab_report.specs.Words.{is_space, is_feed, is_end, front_word, space_of, feed_of, lacks_leading_zero, is_decimal, within, decimal_of, number_at, most_frames, next_number, dash_or_number, number_or_dash_at, not_word, expect_word, expect_words}
 use Rattle.lab_report.proofs.Parts.{within-some, within-most}
 use Rattle.lab_report.proofs.Read.{bind_ok, some_is}
 
 -- a word and the rest are the text that they were read from
-pub word_of-is : (xs : List ℕ) (y : List ℕ × List ℕ) → word_of xs ≡ Ok y → xs ≡ y.0 ++ y.1
-word_of-is [] y e = absurd (cc)
-word_of-is (b ∷ bs) y e =
+pub front_word-is : (xs : List ℕ) (y : List ℕ × List ℕ) → front_word xs ≡ Ok y → xs ≡ y.0 ++ y.1
+front_word-is [] y e = absurd (cc)
+front_word-is (b ∷ bs) y e =
     let n = position_or_len is_end (b ∷ bs) in
     let same : ◌≡◌ {A = List ℕ × List ℕ} (take n (b ∷ bs), drop n (b ∷ bs)) y = cc (e) in
     sym (take-append-drop n (b ∷ bs)) ∙ ap (λ p. p.0 ++ p.1) same
@@ -63,11 +63,11 @@ both false b e = absurd (cc)
 own : IsNumeralModel (λ ds. all_ascii_digits ds ≡ true) (digits_value 10)
 own = numerals_by_value _ tells_all_ascii_digits
 
-plain_some : (w : List ℕ) → is_plain w ≡ true → 0 < length w
+plain_some : (w : List ℕ) → lacks_leading_zero w ≡ true → 0 < length w
 plain_some [] e = absurd (cc)
 plain_some (b ∷ bs) e = omega arith
 
-plain_lead : (w : List ℕ) → is_plain w ≡ true → get_or w 0 0 ≡ 48 → length w ≡ 1
+plain_lead : (w : List ℕ) → lacks_leading_zero w ≡ true → get_or w 0 0 ≡ 48 → length w ≡ 1
 plain_lead [] e h = absurd (cc)
 plain_lead (b ∷ []) e h = refl
 plain_lead (b ∷ c ∷ bs) e h = absurd (not_zero b e h)
@@ -77,7 +77,7 @@ plain_lead (b ∷ c ∷ bs) e h = absurd (not_zero b e h)
 
 decimal_by : (most n : ℕ) (w : List ℕ) (t : Bool) → most < 2 ^ 64 → is_decimal w ≡ t → cond t (within most (digits_value 10 w)) None ≡ Some n → w ≡ decimal n
 decimal_by most n w true small t e =
-    let parts = both (is_plain w) (all_ascii_digits w) t in
+    let parts = both (lacks_leading_zero w) (all_ascii_digits w) t in
     let same = within-some most (digits_value 10 w) n (sym e) in
     let fits = within-most most (digits_value 10 w) n (sym e) in
     sym (ap decimal same ∙ decimal-digits_value own w parts.1 (plain_some w parts.0) (plain_lead w parts.0) (omega (arith, same, fits, small)))
@@ -92,10 +92,10 @@ same_pair {A = A} f x r y xs e h = let same : ◌≡◌ {A = A × List ℕ} (x, 
 
 number_at-is : (most : ℕ) (xs : List ℕ) (y : ℕ × List ℕ) → most < 2 ^ 64 → number_at most xs ≡ Ok y → xs ≡ decimal y.0 ++ y.1
 number_at-is most xs y small e =
-    let w = bind_ok (word_of xs) _ y e in
+    let w = bind_ok (front_word xs) _ y e in
     let n = bind_ok (some_or why.Number (decimal_of most w.0.0)) _ y w.2 in
     same_pair decimal n.0 w.0.1 y xs n.2
-    (word_of-is xs w.0 w.1 ∙ ap (λ x. x ++ w.0.1) (decimal_of-is most n.0 w.0.0 small (some_is why.Number _ n.0 n.1)))
+    (front_word-is xs w.0 w.1 ∙ ap (λ x. x ++ w.0.1) (decimal_of-is most n.0 w.0.0 small (some_is why.Number _ n.0 n.1)))
 
 pub next_number-is : (most : ℕ) (xs : List ℕ) (y : ℕ × List ℕ) → most < 2 ^ 64 → next_number most xs ≡ Ok y → xs ≡ 32 ∷ (decimal y.0 ++ y.1)
 next_number-is most xs y small e =
@@ -115,10 +115,10 @@ dash_by w o false (Some n) t e g = let same : Some n ≡ o = cc (g) in decimal_o
 
 pub number_or_dash_at-is : (xs : List ℕ) (y : Option ℕ × List ℕ) → number_or_dash_at xs ≡ Ok y → xs ≡ number_or_dash y.0 ++ y.1
 number_or_dash_at-is xs y e =
-    let w = bind_ok (word_of xs) _ y e in
+    let w = bind_ok (front_word xs) _ y e in
     let n = bind_ok (some_or why.Word (dash_or_number w.0.0)) _ y w.2 in
     same_pair number_or_dash n.0 w.0.1 y xs n.2
-    (word_of-is xs w.0 w.1 ∙ ap (λ x. x ++ w.0.1) (dash_by w.0.0 n.0 (bytes_eq w.0.0 (codes "-")) (decimal_of most_frames w.0.0) refl refl (some_is why.Word _ n.0 n.1)))
+    (front_word-is xs w.0 w.1 ∙ ap (λ x. x ++ w.0.1) (dash_by w.0.0 n.0 (bytes_eq w.0.0 (codes "-")) (decimal_of most_frames w.0.0) refl refl (some_is why.Word _ n.0 n.1)))
 
 expect_by : (want : List ℕ) (w : List ℕ × List ℕ) (r : List ℕ) (t : Bool) (x : ReportWhy) → bytes_eq w.0 want ≡ t → cond t (Ok w.1) (Err x) ≡ Ok r → (w.0 ≡ want) × (w.1 ≡ r)
 expect_by want w r true x t e = ((bytes_eq-Decides w.0 want).0 t, cc (e))
@@ -126,9 +126,9 @@ expect_by want w r false x t e = absurd (cc)
 
 pub expect_word-is : (want xs r : List ℕ) → expect_word want xs ≡ Ok r → xs ≡ want ++ r
 expect_word-is want xs r e =
-    let w = bind_ok (word_of xs) _ r e in
+    let w = bind_ok (front_word xs) _ r e in
     let same = expect_by want w.0 r (bytes_eq w.0.0 want) (not_word want w.0.0) refl w.2 in
-    word_of-is xs w.0 w.1 ∙ ap (λ x. x ++ w.0.1) same.0 ∙ ap (λ x. want ++ x) same.1
+    front_word-is xs w.0 w.1 ∙ ap (λ x. x ++ w.0.1) same.0 ∙ ap (λ x. want ++ x) same.1
 
 expect_joined : (want : List ℕ) (wants : List (List ℕ)) (xs r : List ℕ) → expect_words (want ∷ wants) xs ≡ Ok r → xs ≡ join_with_byte 32 (want ∷ wants) ++ 32 ∷ r
 expect_joined want [] xs r e =
@@ -195,11 +195,11 @@ xrun_by-is w rest y e =
 xrun_of-is : (w rest : List ℕ) (y : Answer × List ℕ) → w ≡ codes "EPIPE" → xrun_of rest ≡ Ok y → w ++ rest ≡ answer_text y.0 ++ y.1
 xrun_of-is w rest y v e =
     let a = bind_ok (space_of rest) _ y e in
-    let u = bind_ok (word_of a.0) _ y a.2 in
+    let u = bind_ok (front_word a.0) _ y a.2 in
     let x = bind_ok (xrun_by u.0.0 u.0.1) _ y u.2 in
     same_pair answer_text (Failed (Xrun x.0.0)) x.0.1 y (w ++ rest) x.2
     (ap (λ p. p ++ rest) v ∙ ap (λ r. codes "EPIPE" ++ r) (space_of-is rest a.0 a.1)
-    ∙ ap (λ r. codes "EPIPE " ++ r) (word_of-is a.0 u.0 u.1 ∙ xrun_by-is u.0.0 u.0.1 x.0 x.1))
+    ∙ ap (λ r. codes "EPIPE " ++ r) (front_word-is a.0 u.0 u.1 ∙ xrun_by-is u.0.0 u.0.1 x.0 x.1))
 
 busy_of-is : (w rest : List ℕ) (y : Answer × List ℕ) → w ≡ codes "EBUSY" → busy_of rest ≡ Ok y → w ++ rest ≡ answer_text y.0 ++ y.1
 busy_of-is w rest y v e =
@@ -212,8 +212,8 @@ busy_of-is w rest y v e =
     ∙ ap (λ r. codes "EBUSY " ++ (number_or_dash u.0.0 ++ r)) (next_number-is most_frames u.0.1 s.0 small_frames s.1)
     ∙ ap (λ r. codes "EBUSY " ++ r) (sym (append_assoc (number_or_dash u.0.0) (32 ∷ decimal s.0.0) s.0.1)))
 
-count_of-is : (w rest : List ℕ) (y : Answer × List ℕ) → count_of w rest ≡ Ok y → w ++ rest ≡ answer_text y.0 ++ y.1
-count_of-is w rest y e =
+count_and_rest-is : (w rest : List ℕ) (y : Answer × List ℕ) → count_and_rest w rest ≡ Ok y → w ++ rest ≡ answer_text y.0 ++ y.1
+count_and_rest-is w rest y e =
     let n = bind_ok (some_or why.Word (decimal_of most_frames w)) _ y e in
     same_pair answer_text (Count n.0) rest y (w ++ rest) n.2 (ap (λ x. x ++ rest) (decimal_of-is most_frames n.0 w small_frames (some_is why.Word _ n.0 n.1)))
 
@@ -221,7 +221,7 @@ longer_answer-is : (w rest : List ℕ) (y : Answer × List ℕ) → longer_answe
 longer_answer-is w rest y e =
     let P : Type 0 = w ++ rest ≡ answer_text y.0 ++ y.1 in
     word_choice w (codes "EPIPE") _ _ y P (xrun_of-is w rest y)
-    (λ g. word_choice w (codes "EBUSY") _ _ y P (busy_of-is w rest y) (count_of-is w rest y) g) e
+    (λ g. word_choice w (codes "EBUSY") _ _ y P (busy_of-is w rest y) (count_and_rest-is w rest y) g) e
 
 -- each value of a table is named by its text
 abbrev pub AreNamed : {A : Type 0} → (A → List ℕ) → List (List ℕ × A) → Type 0
@@ -247,8 +247,8 @@ answer_by-is None w rest y o e = longer_answer-is w rest y e
 -- an answer that is read is spelled so
 pub answer_at-is : (xs : List ℕ) (y : Answer × List ℕ) → answer_at xs ≡ Ok y → xs ≡ answer_text y.0 ++ y.1
 answer_at-is xs y e =
-    let w = bind_ok (word_of xs) _ y e in
-    word_of-is xs w.0 w.1 ∙ answer_by-is (row_of plain_answers w.0.0) w.0.0 w.0.1 y refl w.2
+    let w = bind_ok (front_word xs) _ y e in
+    front_word-is xs w.0 w.1 ∙ answer_by-is (row_of plain_answers w.0.0) w.0.0 w.0.1 y refl w.2
 
 states_named : AreNamed state_name states
 states_named = (refl, (refl, (refl, (refl, (refl, (refl, (refl, (refl, tt))))))))
@@ -256,7 +256,7 @@ states_named = (refl, (refl, (refl, (refl, (refl, (refl, (refl, (refl, tt)))))))
 -- a state that is read is spelled so
 pub state_at-is : (xs : List ℕ) (y : PcmState × List ℕ) → state_at xs ≡ Ok y → xs ≡ state_name y.0 ++ y.1
 state_at-is xs y e =
-    let w = bind_ok (word_of xs) _ y e in
+    let w = bind_ok (front_word xs) _ y e in
     let s = bind_ok (some_or why.Word (row_of states w.0.0)) _ y w.2 in
     same_pair state_name s.0 w.0.1 y xs s.2
-    (word_of-is xs w.0 w.1 ∙ ap (λ x. x ++ w.0.1) (row_of-is state_name states w.0.0 s.0 states_named (some_is why.Word _ s.0 s.1)))
+    (front_word-is xs w.0 w.1 ∙ ap (λ x. x ++ w.0.1) (row_of-is state_name states w.0.0 s.0 states_named (some_is why.Word _ s.0 s.1)))

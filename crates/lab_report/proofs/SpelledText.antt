@@ -24,12 +24,12 @@ use Rattle.lab_report.specs.declared.request.Request.{Request}
 use Rattle.lab_report.specs.declared.row.Row.{Row}
 use Rattle.lab_report.specs.Answers.{answer_at, state_at}
 use Rattle.lab_report.specs.Causes.{some_or}
-use Rattle.lab_report.specs.Reading.{State, nothing, row_at, client_at, reader_at, segment_at, run_at, played_at, with_segment, with_run, with_played, tail_by, below_rows, after_head, head_at, version_of, with_line, next_line, report_at, lines_after, report_of, Answers}
+use Rattle.lab_report.specs.Reading.{State, nothing, row_of_line, client_and_rest, reader_and_rest, segment_at, run_at, played_run, with_segment, with_run, with_played, tail_by, below_rows, after_head, head_at, version_of, with_line, next_line, report_at, lines_after, report_in_text, Answers}
 use Rattle.lab_report.specs.Requests.{requests_of}
 use Rattle.lab_report.specs.Text.{client_name, reader_name, number_or_dash, answer_text, front_text, row_line, segment_line, run_line, played_line, report_text}
-use Rattle.lab_report.specs.Words.{lines_of, onto_first, is_feed, is_space, word_of, space_of, feed_of, next_number, most_frames, number_or_dash_at, expect_word, expect_words}
+use Rattle.lab_report.specs.Words.{lines_of, onto_first, is_feed, is_space, front_word, space_of, feed_of, next_number, most_frames, number_or_dash_at, expect_word, expect_words}
 use Rattle.lab_report.proofs.Read.{bind_ok, some_is, past_by, on_line-ok}
-use Rattle.lab_report.proofs.Spelled.{small_frames, small_byte, word_of-is, space_of-is, feed_of-is, next_number-is, number_or_dash_at-is, word_choice, expect_word-is, expect_words-is, answer_at-is, state_at-is}
+use Rattle.lab_report.proofs.Spelled.{small_frames, small_byte, front_word-is, space_of-is, feed_of-is, next_number-is, number_or_dash_at-is, word_choice, expect_word-is, expect_words-is, answer_at-is, state_at-is}
 
 -- a line has a line feed at its end at most
 abbrev pub IsOneLine : List ℕ → Type 0
@@ -95,9 +95,9 @@ row_parts : (line f a s m r1 r2 r3 r4 r5 r6 after : List ℕ)
 row_parts line f a s m r1 r2 r3 r4 r5 r6 after e1 e2 e3 e4 e5 e6 e7 = rw (e1, e2, e3, e4, e5, e6, e7) (simp append_assoc)
 
 -- a row's line is spelled as the row
-row_at-spelled : (script : Script) (request : Request) (line : List ℕ) (row : Row) → IsOneLine line → row_at script request line ≡ Ok row → line ≡ row_line script row
-unfolding row_at
-row_at-spelled script request line row h e =
+row_of_line-spelled : (script : Script) (request : Request) (line : List ℕ) (row : Row) → IsOneLine line → row_of_line script request line ≡ Ok row → line ≡ row_line script row
+unfolding row_of_line
+row_of_line-spelled script request line row h e =
     let front = bind_ok (expect_words (slice_split is_space (front_text script request)) line) _ row e in
     let answer = bind_ok (answer_at front.0) _ row front.2 in
     let before = bind_ok (space_of answer.0.1) _ row answer.2 in
@@ -135,21 +135,21 @@ reader-named script w n e =
 named_pair : (f : ℕ → List ℕ) (n : ℕ) (r : List ℕ) (y : ℕ × List ℕ) (xs : List ℕ) → ◌≡◌ {A = Result (ℕ × List ℕ) ReportWhy} (Ok (n, r)) (Ok y) → xs ≡ 32 ∷ (f n ++ r) → xs ≡ 32 ∷ (f y.0 ++ y.1)
 named_pair f n r y xs e h = let same : ◌≡◌ {A = ℕ × List ℕ} (n, r) y = cc (e) in h ∙ ap (λ (p : ℕ × List ℕ). 32 ∷ (f p.0 ++ p.1)) same
 
-client_at-is : (script : Script) (xs : List ℕ) (y : ℕ × List ℕ) → client_at script xs ≡ Ok y → xs ≡ 32 ∷ (client_name script y.0 ++ y.1)
-client_at-is script xs y e =
+client_and_rest-is : (script : Script) (xs : List ℕ) (y : ℕ × List ℕ) → client_and_rest script xs ≡ Ok y → xs ≡ 32 ∷ (client_name script y.0 ++ y.1)
+client_and_rest-is script xs y e =
     let a = bind_ok (space_of xs) _ y e in
-    let w = bind_ok (word_of a.0) _ y a.2 in
+    let w = bind_ok (front_word a.0) _ y a.2 in
     let n = bind_ok (some_or why.Word (position (is_client w.0.0) script.clients)) _ y w.2 in
     named_pair (client_name script) n.0 w.0.1 y xs n.2
-    (space_of-is xs a.0 a.1 ∙ ap (λ r. 32 ∷ r) (word_of-is a.0 w.0 w.1 ∙ ap (λ x. x ++ w.0.1) (client-named script w.0.0 n.0 (some_is why.Word _ n.0 n.1))))
+    (space_of-is xs a.0 a.1 ∙ ap (λ r. 32 ∷ r) (front_word-is a.0 w.0 w.1 ∙ ap (λ x. x ++ w.0.1) (client-named script w.0.0 n.0 (some_is why.Word _ n.0 n.1))))
 
-reader_at-is : (script : Script) (xs : List ℕ) (y : ℕ × List ℕ) → reader_at script xs ≡ Ok y → xs ≡ 32 ∷ (reader_name script y.0 ++ y.1)
-reader_at-is script xs y e =
+reader_and_rest-is : (script : Script) (xs : List ℕ) (y : ℕ × List ℕ) → reader_and_rest script xs ≡ Ok y → xs ≡ 32 ∷ (reader_name script y.0 ++ y.1)
+reader_and_rest-is script xs y e =
     let a = bind_ok (space_of xs) _ y e in
-    let w = bind_ok (word_of a.0) _ y a.2 in
+    let w = bind_ok (front_word a.0) _ y a.2 in
     let n = bind_ok (some_or why.Word (position (is_reader w.0.0) script.readers)) _ y w.2 in
     named_pair (reader_name script) n.0 w.0.1 y xs n.2
-    (space_of-is xs a.0 a.1 ∙ ap (λ r. 32 ∷ r) (word_of-is a.0 w.0 w.1 ∙ ap (λ x. x ++ w.0.1) (reader-named script w.0.0 n.0 (some_is why.Word _ n.0 n.1))))
+    (space_of-is xs a.0 a.1 ∙ ap (λ r. 32 ∷ r) (front_word-is a.0 w.0 w.1 ∙ ap (λ x. x ++ w.0.1) (reader-named script w.0.0 n.0 (some_is why.Word _ n.0 n.1))))
 
 segment_parts : (xs n a b c d r1 r2 r3 r4 r5 after : List ℕ)
     → xs ≡ 32 ∷ (n ++ r1) → r1 ≡ 32 ∷ (a ++ r2) → r2 ≡ 32 ∷ (b ++ r3) → r3 ≡ 32 ∷ (c ++ r4) → r4 ≡ 32 ∷ (d ++ r5) → r5 ≡ 10 ∷ after
@@ -160,7 +160,7 @@ segment_parts xs n a b c d r1 r2 r3 r4 r5 after e1 e2 e3 e4 e5 e6 = rw (e1, e2, 
 segment_at-spelled : (script : Script) (xs : List ℕ) (y : ℕ × Segment) → IsOneLine (codes "segment" ++ xs) → segment_at script xs ≡ Ok y → codes "segment" ++ xs ≡ segment_line script y
 unfolding segment_at
 segment_at-spelled script xs y h e =
-    let client = bind_ok (client_at script xs) _ y e in
+    let client = bind_ok (client_and_rest script xs) _ y e in
     let source = bind_ok (next_number most_frames client.0.1) _ y client.2 in
     let card = bind_ok (next_number most_frames source.0.1) _ y source.2 in
     let whole = bind_ok (next_number most_frames card.0.1) _ y card.2 in
@@ -172,7 +172,7 @@ segment_at-spelled script xs y h e =
     let name : List ℕ = client_name script client.0.0 in
     one_line (codes "segment" ++ xs) ((((codes "segment " ++ name ++ 32 ∷ decimal source.0.0) ++ 32 ∷ decimal card.0.0) ++ 32 ∷ decimal whole.0.0) ++ 32 ∷ decimal part.0.0) feed.0 h
     (segment_parts xs name (decimal source.0.0) (decimal card.0.0) (decimal whole.0.0) (decimal part.0.0) client.0.1 source.0.1 card.0.1 whole.0.1 part.0.1 feed.0
-    (client_at-is script xs client.0 client.1) (next_number-is most_frames client.0.1 source.0 small_frames source.1)
+    (client_and_rest-is script xs client.0 client.1) (next_number-is most_frames client.0.1 source.0 small_frames source.1)
     (next_number-is most_frames source.0.1 card.0 small_frames card.1) (next_number-is most_frames card.0.1 whole.0 small_frames whole.1)
     (next_number-is 255 whole.0.1 part.0 small_byte part.1) feed.1)
     ∙ ap (segment_line script) same
@@ -185,7 +185,7 @@ run_parts xs n a b r1 r2 r3 after e1 e2 e3 e4 = rw (e1, e2, e3, e4) (simp append
 run_at-spelled : (script : Script) (xs : List ℕ) (y : ℕ × ℕ × ℕ) → IsOneLine (codes "run" ++ xs) → run_at script xs ≡ Ok y → codes "run" ++ xs ≡ run_line script y
 unfolding run_at
 run_at-spelled script xs y h e =
-    let reader = bind_ok (reader_at script xs) _ y e in
+    let reader = bind_ok (reader_and_rest script xs) _ y e in
     let first = bind_ok (next_number most_frames reader.0.1) _ y reader.2 in
     let count = bind_ok (next_number most_frames first.0.1) _ y first.2 in
     let end = bind_ok (feed_of count.0.1) _ y count.2 in
@@ -194,7 +194,7 @@ run_at-spelled script xs y h e =
     let name : List ℕ = reader_name script reader.0.0 in
     one_line (codes "run" ++ xs) ((codes "run " ++ name ++ 32 ∷ decimal first.0.0) ++ 32 ∷ decimal count.0.0) feed.0 h
     (run_parts xs name (decimal first.0.0) (decimal count.0.0) reader.0.1 first.0.1 count.0.1 feed.0
-    (reader_at-is script xs reader.0 reader.1) (next_number-is most_frames reader.0.1 first.0 small_frames first.1)
+    (reader_and_rest-is script xs reader.0 reader.1) (next_number-is most_frames reader.0.1 first.0 small_frames first.1)
     (next_number-is most_frames first.0.1 count.0 small_frames count.1) feed.1)
     ∙ ap (run_line script) same
 
@@ -203,9 +203,9 @@ played_parts : (xs a b r1 r2 after : List ℕ) → xs ≡ 32 ∷ (a ++ r1) → r
 played_parts xs a b r1 r2 after e1 e2 e3 = rw (e1, e2, e3) (simp append_assoc)
 
 -- the line of what was played is spelled so
-played_at-spelled : (xs : List ℕ) (y : ℕ × ℕ) → IsOneLine (codes "played" ++ xs) → played_at xs ≡ Ok y → codes "played" ++ xs ≡ played_line y.0 y.1
-unfolding played_at
-played_at-spelled xs y h e =
+played_run-spelled : (xs : List ℕ) (y : ℕ × ℕ) → IsOneLine (codes "played" ++ xs) → played_run xs ≡ Ok y → codes "played" ++ xs ≡ played_line y.0 y.1
+unfolding played_run
+played_run-spelled xs y h e =
     let first = bind_ok (next_number most_frames xs) _ y e in
     let count = bind_ok (next_number most_frames first.0.1) _ y first.2 in
     let end = bind_ok (feed_of count.0.1) _ y count.2 in
@@ -296,8 +296,8 @@ past_staged requests t h past o = record { headless = λ e. absurd (cc (h, e)); 
 
 version_of-is : (xs r : List ℕ) → version_of xs ≡ Ok r → xs ≡ codes "1" ++ r
 version_of-is xs r e =
-    let w = bind_ok (word_of xs) _ r e in
-    word_of-is xs w.0 w.1
+    let w = bind_ok (front_word xs) _ r e in
+    front_word-is xs w.0 w.1
     ∙ word_choice w.0.0 (codes "1") (Ok w.0.1) (Err why.Word) r (w.0.0 ++ w.0.1 ≡ codes "1" ++ r)
     (λ v f. let same : w.0.1 ≡ r = cc (f) in ap (λ x. x ++ w.0.1) v ∙ ap (λ x. codes "1" ++ x) same) (λ f. absurd (cc (f))) w.2
 
@@ -327,11 +327,11 @@ head-next script requests s line t headless one e st =
 row-next : (script : Script) (requests : List Request) (s : State) (request : Request) (line : List ℕ) (t : State) → s.head ≡ true → IsOneLine line
     → slice_get requests (length s.rows) ≡ Some request → after_head script s (Some request) line ≡ Ok t → IsStaged requests s → IsNext script requests s t line
 row-next script requests s request line t head one g e st =
-    let row = bind_ok (row_at script request line) (λ row. Ok (record s { rows = s.rows ++ row ∷ [] })) t e in
+    let row = bind_ok (row_of_line script request line) (λ row. Ok (record s { rows = s.rows ++ row ∷ [] })) t e in
     let b = st.bare (slice_get_within requests (length s.rows) request g) in
     next_is script requests s (record s { rows = s.rows ++ row.0 ∷ [] }) t line row.2 (record {
       text = row_more (head_text s.head) (flat_map (row_line script) s.rows) (tail_so_far script s) line (flat_map (row_line script) (s.rows ++ row.0 ∷ [])) (bare_tail script s b)
-          (flat_map-more (row_line script) s.rows row.0 ∙ ap (λ r. flat_map (row_line script) s.rows ++ r) (sym (row_at-spelled script request line row.0 one row.1)));
+          (flat_map-more (row_line script) s.rows row.0 ∙ ap (λ r. flat_map (row_line script) s.rows ++ r) (sym (row_of_line-spelled script request line row.0 one row.1)));
       staged = record {
         headless = λ n. absurd (cc (head, n));
         bare = λ l. record { segments = b.segments; runs = b.runs; played = b.played; ended = b.ended };
@@ -373,8 +373,8 @@ run-next script requests s line rest t b one is e =
 played-next : (script : Script) (requests : List Request) (s : State) (line rest : List ℕ) (t : State) → IsBelow requests s → IsOneLine line → line ≡ codes "played" ++ rest
     → with_played s rest ≡ Ok t → IsNext script requests s t line
 played-next script requests s line rest t b one is e =
-    let a = bind_ok (played_at rest) (λ played. Ok (record s { played = Some played })) t e in
-    let said : line ≡ played_line a.0.0 a.0.1 = is ∙ played_at-spelled rest a.0 (subst IsOneLine is one) a.1 in
+    let a = bind_ok (played_run rest) (λ played. Ok (record s { played = Some played })) t e in
+    let said : line ≡ played_line a.0.0 a.0.1 = is ∙ played_run-spelled rest a.0 (subst IsOneLine is one) a.1 in
     next_is script requests s (record s { played = Some a.0 }) t line a.2 (record {
       text = ap (λ r. head_text s.head ++ flat_map (row_line script) s.rows ++ (flat_map (segment_line script) s.segments ++ flat_map (run_line script) s.runs ++ r ++ end_text s.ended)) (sym said)
           ∙ played_more (head_text s.head ++ flat_map (row_line script) s.rows) (flat_map (segment_line script) s.segments) (flat_map (run_line script) s.runs) (played_text s.played) (end_text s.ended) line
@@ -409,8 +409,8 @@ tail-next script requests s line word rest t b one is e =
 below-next : (script : Script) (requests : List Request) (s : State) (o : Option (ℕ × ℕ)) (line : List ℕ) (t : State) → s.head ≡ true → length requests ≤ length s.rows → s.ended ≡ false
     → s.played ≡ o → IsOneLine line → below_rows script s o line ≡ Ok t → IsStaged requests s → IsNext script requests s t line
 below-next script requests s None line t head past ended p one e st =
-    let w = bind_ok (word_of line) _ t e in
-    tail-next script requests s line w.0.0 w.0.1 t (record { head = head; past = past; played = p; ended = ended }) one (word_of-is line w.0 w.1) w.2
+    let w = bind_ok (front_word line) _ t e in
+    tail-next script requests s line w.0.0 w.0.1 t (record { head = head; past = past; played = p; ended = ended }) one (front_word-is line w.0 w.1) w.2
 below-next script requests s (Some played) line t head past ended p one e st =
     let a = bind_ok (expect_word (codes "end") line) _ t e in
     let f = bind_ok (feed_of a.0) _ t a.2 in
@@ -466,11 +466,11 @@ lines_after-spelled script requests s number (line ∷ lines) report one e st =
     ∙ ap (λ r. r ++ joined lines) n.text ∙ append_assoc (text_so_far script s) line (joined lines)
 
 -- a text that is read as a report is the report's text
-pub report_of-spelled : (script : Script) (text : List ℕ) (report : Report) → report_of script text ≡ Ok report → text ≡ report_text script report
-report_of-spelled script text report e =
+pub report_in_text-spelled : (script : Script) (text : List ℕ) (report : Report) → report_in_text script text ≡ Ok report → text ≡ report_text script report
+report_in_text-spelled script text report e =
     sym (lines_after-spelled script (requests_of script) nothing 0 (lines_of text) report (lines_of-lines text) e (nothing-staged (requests_of script)) ∙ joined-lines_of text)
 
 -- what is read has the text that it was read from
-pub answers-spelled : (script : Script) (text : List ℕ) (r : Result Report ReportError) → Answers r (report_of script text) → IfOk r (λ report. text ≡ report_text script report)
-answers-spelled script text (Ok report) h = report_of-spelled script text report h
+pub answers-spelled : (script : Script) (text : List ℕ) (r : Result Report ReportError) → Answers r (report_in_text script text) → IfOk r (λ report. text ≡ report_text script report)
+answers-spelled script text (Ok report) h = report_in_text-spelled script text report h
 answers-spelled script text (Err e) h = tt

@@ -16,7 +16,7 @@ use Rattle.lab_report.specs.Answers.{answer_at, state_at}
 use Rattle.lab_report.specs.Causes.{◌>>=◌, some_or}
 use Rattle.lab_report.specs.Requests.{requests_of}
 use Rattle.lab_report.specs.Text.{front_text}
-use Rattle.lab_report.specs.Words.{lines_of, is_space, word_of, space_of, feed_of, next_number, most_frames, number_or_dash_at, expect_word, expect_words}
+use Rattle.lab_report.specs.Words.{lines_of, is_space, front_word, space_of, feed_of, next_number, most_frames, number_or_dash_at, expect_word, expect_words}
 
 -- the lines that are read: the head, the rows, the segments, the runs, what was played, and the end
 pub record State : Type 0 where
@@ -45,8 +45,8 @@ row_end rest = do
   Ok (state.0, seen.0)
 
 -- the row of a line that is about this request
-unfoldable pub row_at : Script → Request → List ℕ → Result Row ReportWhy
-row_at script request line = do
+unfoldable pub row_of_line : Script → Request → List ℕ → Result Row ReportWhy
+row_of_line script request line = do
   front ← expect_words (slice_split is_space (front_text script request)) line
   answer ← answer_at front
   before ← space_of answer.1
@@ -57,12 +57,12 @@ row_at script request line = do
   Ok (record { phase = request.phase; actor = request.actor; op = request.op; answer = answer.0; state = state.0; seen = seen.0 })
 
 -- the client that is named after a space, by its number, and the rest
-abbrev pub client_at : Script → List ℕ → Result (ℕ × List ℕ) ReportWhy
-client_at script rest = (space_of rest) >>= (λ more. (word_of more) >>= (λ word. (some_or why.Word (position (is_client word.0) script.clients)) >>= (λ n. Ok (n, word.1))))
+abbrev pub client_and_rest : Script → List ℕ → Result (ℕ × List ℕ) ReportWhy
+client_and_rest script rest = (space_of rest) >>= (λ more. (front_word more) >>= (λ word. (some_or why.Word (position (is_client word.0) script.clients)) >>= (λ n. Ok (n, word.1))))
 
 -- the reader that is named after a space, by its number, and the rest
-abbrev pub reader_at : Script → List ℕ → Result (ℕ × List ℕ) ReportWhy
-reader_at script rest = (space_of rest) >>= (λ more. (word_of more) >>= (λ word. (some_or why.Word (position (is_reader word.0) script.readers)) >>= (λ n. Ok (n, word.1))))
+abbrev pub reader_and_rest : Script → List ℕ → Result (ℕ × List ℕ) ReportWhy
+reader_and_rest script rest = (space_of rest) >>= (λ more. (front_word more) >>= (λ word. (some_or why.Word (position (is_reader word.0) script.readers)) >>= (λ n. Ok (n, word.1))))
 
 -- the numbers of a segment, at the end of its line
 unfoldable pub segment_end : List ℕ → Result Segment ReportWhy
@@ -77,7 +77,7 @@ segment_end rest = do
 -- `segment NAME SOURCE CARD WHOLE PART`, after its first word
 unfoldable pub segment_at : Script → List ℕ → Result (ℕ × Segment) ReportWhy
 segment_at script rest = do
-  client ← client_at script rest
+  client ← client_and_rest script rest
   source ← next_number most_frames client.1
   card ← next_number most_frames source.1
   whole ← next_number most_frames card.1
@@ -88,15 +88,15 @@ segment_at script rest = do
 -- `run NAME FIRST COUNT`, after its first word
 unfoldable pub run_at : Script → List ℕ → Result (ℕ × ℕ × ℕ) ReportWhy
 run_at script rest = do
-  reader ← reader_at script rest
+  reader ← reader_and_rest script rest
   first ← next_number most_frames reader.1
   count ← next_number most_frames first.1
   end ← feed_of count.1
   Ok (reader.0, first.0, count.0)
 
 -- `played FIRST COUNT`, after its first word
-unfoldable pub played_at : List ℕ → Result (ℕ × ℕ) ReportWhy
-played_at rest = do
+unfoldable pub played_run : List ℕ → Result (ℕ × ℕ) ReportWhy
+played_run rest = do
   first ← next_number most_frames rest
   count ← next_number most_frames first.1
   end ← feed_of count.1
@@ -112,7 +112,7 @@ with_run script s rest = (run_at script rest) >>= (λ run. Ok (record s { runs =
 
 -- what was played
 abbrev pub with_played : State → List ℕ → Result State ReportWhy
-with_played s rest = (played_at rest) >>= (λ played. Ok (record s { played = Some played }))
+with_played s rest = (played_run rest) >>= (λ played. Ok (record s { played = Some played }))
 
 -- a line below the rows, by its first word: segments are before runs
 abbrev pub tail_by : Script → State → List ℕ → List ℕ → Result State ReportWhy
@@ -122,22 +122,22 @@ tail_by script s word rest =
     else (if bytes_eq word (codes "played") then with_played s rest else Err why.Word))
 
 -- the line `end`
-abbrev pub end_at : State → List ℕ → Result State ReportWhy
-end_at s line = (expect_word (codes "end") line) >>= (λ rest. (feed_of rest) >>= (λ u. Ok (record s { ended = true })))
+abbrev pub end_line : State → List ℕ → Result State ReportWhy
+end_line s line = (expect_word (codes "end") line) >>= (λ rest. (feed_of rest) >>= (λ u. Ok (record s { ended = true })))
 
 -- a line below the rows
 abbrev pub below_rows : Script → State → Option (ℕ × ℕ) → List ℕ → Result State ReportWhy
-below_rows script s None line = (word_of line) >>= (λ word. tail_by script s word.0 word.1)
-below_rows script s (Some played) line = end_at s line
+below_rows script s None line = (front_word line) >>= (λ word. tail_by script s word.0 word.1)
+below_rows script s (Some played) line = end_line s line
 
 -- a line after the head: the row of the next request, or where there is none, a line below the rows
 abbrev pub after_head : Script → State → Option Request → List ℕ → Result State ReportWhy
-after_head script s (Some request) line = (row_at script request line) >>= (λ row. Ok (record s { rows = s.rows ++ row ∷ [] }))
+after_head script s (Some request) line = (row_of_line script request line) >>= (λ row. Ok (record s { rows = s.rows ++ row ∷ [] }))
 after_head script s None line = if s.ended then Err why.Extra else below_rows script s s.played line
 
 -- the rest after the word `1`, the version of the form
 abbrev pub version_of : List ℕ → Result (List ℕ) ReportWhy
-version_of rest = (word_of rest) >>= (λ word. if bytes_eq word.0 (codes "1") then Ok word.1 else Err why.Word)
+version_of rest = (front_word rest) >>= (λ word. if bytes_eq word.0 (codes "1") then Ok word.1 else Err why.Word)
 
 -- the line `dmixlab 1`
 abbrev pub head_at : State → List ℕ → Result State ReportWhy
@@ -178,8 +178,8 @@ lines_after script requests s number (line ∷ lines) =
     on_line (next_line number) (with_line script requests s line) (λ next. lines_after script requests next (next_line number) lines)
 
 -- the report of a script that a text is, or its first refusal
-abbrev pub report_of : Script → List ℕ → Result Report ReportError
-report_of script text = lines_after script (requests_of script) nothing 0 (lines_of text)
+abbrev pub report_in_text : Script → List ℕ → Result Report ReportError
+report_in_text script text = lines_after script (requests_of script) nothing 0 (lines_of text)
 
 -- an error of a call is the one that is said, unless memory ran out
 abbrev pub RefusesAt : {X : Type 0} → ReportWhy → ReportError → Result X ReportError → Type 0

@@ -30,9 +30,9 @@ abbrev pub is_end : ℕ → Bool
 is_end b = is_space b || is_feed b
 
 -- the word at the front of what is left of a line, and the rest
-abbrev pub word_of : List ℕ → Result (List ℕ × List ℕ) ReportWhy
-word_of [] = Err why.Ended
-word_of (b ∷ bs) = Ok (before_first is_end (b ∷ bs), drop (position_or_len is_end (b ∷ bs)) (b ∷ bs))
+abbrev pub front_word : List ℕ → Result (List ℕ × List ℕ) ReportWhy
+front_word [] = Err why.Ended
+front_word (b ∷ bs) = Ok (before_first is_end (b ∷ bs), drop (position_or_len is_end (b ∷ bs)) (b ∷ bs))
 
 -- what follows a space, where a further word must follow
 abbrev pub space_of : List ℕ → Result (List ℕ) ReportWhy
@@ -45,14 +45,14 @@ feed_of [] = Err why.Ended
 feed_of (b ∷ bs) = if is_feed b then Ok tt else Err why.Extra
 
 -- a word has a byte, and no leading zero
-abbrev pub is_plain : List ℕ → Bool
-is_plain [] = false
-is_plain (b ∷ []) = true
-is_plain (b ∷ c ∷ bs) = not (b == 48)
+abbrev pub lacks_leading_zero : List ℕ → Bool
+lacks_leading_zero [] = false
+lacks_leading_zero (b ∷ []) = true
+lacks_leading_zero (b ∷ c ∷ bs) = not (b == 48)
 
 -- the decimal form of a number: digits without leading zeros
 abbrev pub is_decimal : List ℕ → Bool
-is_decimal word = is_plain word && all_ascii_digits word
+is_decimal word = lacks_leading_zero word && all_ascii_digits word
 
 -- a number up to a limit
 abbrev pub within : ℕ → ℕ → Option ℕ
@@ -64,7 +64,7 @@ decimal_of most word = if is_decimal word then within most (digits_value 10 word
 
 -- a number up to a limit, and the rest
 abbrev pub number_at : ℕ → List ℕ → Result (ℕ × List ℕ) ReportWhy
-number_at most rest = (word_of rest) >>= (λ word. (some_or why.Number (decimal_of most word.0)) >>= (λ n. Ok (n, word.1)))
+number_at most rest = (front_word rest) >>= (λ word. (some_or why.Number (decimal_of most word.0)) >>= (λ n. Ok (n, word.1)))
 
 -- the greatest number of 64 bits
 abbrev pub most_frames : ℕ
@@ -80,7 +80,7 @@ dash_or_number word = if bytes_eq word (codes "-") then Some None else option_ma
 
 -- a number or `-`, and the rest
 abbrev pub number_or_dash_at : List ℕ → Result (Option ℕ × List ℕ) ReportWhy
-number_or_dash_at rest = (word_of rest) >>= (λ word. (some_or why.Word (dash_or_number word.0)) >>= (λ n. Ok (n, word.1)))
+number_or_dash_at rest = (front_word rest) >>= (λ word. (some_or why.Word (dash_or_number word.0)) >>= (λ n. Ok (n, word.1)))
 
 -- why a word isn't the one that must follow: where that is a number, it may be no number at all
 abbrev pub not_word : List ℕ → List ℕ → ReportWhy
@@ -88,7 +88,7 @@ not_word want word = if is_decimal want && not (is_some (decimal_of 4294967295 w
 
 -- the rest after a word that must be this one
 abbrev pub expect_word : List ℕ → List ℕ → Result (List ℕ) ReportWhy
-expect_word want rest = (word_of rest) >>= (λ word. if bytes_eq word.0 want then Ok word.1 else Err (not_word want word.0))
+expect_word want rest = (front_word rest) >>= (λ word. if bytes_eq word.0 want then Ok word.1 else Err (not_word want word.0))
 
 -- the rest after words that must be these, each with a space after it
 abbrev pub expect_words : List (List ℕ) → List ℕ → Result (List ℕ) ReportWhy

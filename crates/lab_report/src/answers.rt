@@ -1,7 +1,7 @@
 //! The answers and states of rows, as they are read.
 ghost use Rattle.std.specs.Prelude.{◌≡◌};
 ghost use Rattle.lab_script.specs.Keys.{row_of};
-ghost use Rattle.lab_report.specs.Answers.{plain_answers, states, avail_of, frame_and_channel, late_of, overtaken_of, xrun_by, xrun_of, busy_of, count_of, longer_answer, answer_at, state_at};
+ghost use Rattle.lab_report.specs.Answers.{plain_answers, states, avail_and_rest, frame_and_channel, late_and_rest, overtaken_of, xrun_by, xrun_of, busy_of, count_and_rest, longer_answer, answer_at, state_at};
 ghost use Rattle.lab_report.specs.Causes.{Gives};
 
 use crate::error::ReportWhy;
@@ -51,7 +51,7 @@ fn state_of(word: &[u8]) -> Option<State>
 
 /// `avail A`, after its word.
 fn avail_of(rest: &[u8]) -> Result<(XrunWhy, &[u8]), ReportWhy>
-    ensures { Gives (λ x. (x.0, x.1.now)) result (avail_of rest.now) }
+    ensures { Gives (λ x. (x.0, x.1.now)) result (avail_and_rest rest.now) }
 {
     let (avail, rest) = next_number(u64::MAX, rest)?;
     Ok((XrunWhy::Avail { avail, seen: 0 }, rest))
@@ -68,7 +68,7 @@ fn place_of(rest: &[u8]) -> Result<((u64, u8), &[u8]), ReportWhy>
 
 /// `late F C`, after its word.
 fn late_of(rest: &[u8]) -> Result<(XrunWhy, &[u8]), ReportWhy>
-    ensures { Gives (λ x. (x.0, x.1.now)) result (late_of rest.now) }
+    ensures { Gives (λ x. (x.0, x.1.now)) result (late_and_rest rest.now) }
 {
     let ((frame, channel), rest) = place_of(rest)?;
     Ok((
@@ -137,7 +137,7 @@ fn busy_of(rest: &[u8]) -> Result<(Answer, &[u8]), ReportWhy>
 
 /// A number of frames.
 fn count_of<'a>(word: &[u8], rest: &'a [u8]) -> Result<(Answer, &'a [u8]), ReportWhy>
-    ensures { Gives (λ a. (a.0, a.1.now)) result (count_of word.now rest.now) }
+    ensures { Gives (λ a. (a.0, a.1.now)) result (count_and_rest word.now rest.now) }
 {
     match decimal_of(u64::MAX, word) {
         Some(n) => Ok((Answer::Count(n), rest)),

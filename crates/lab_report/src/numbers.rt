@@ -3,14 +3,14 @@ ghost use Rattle.std.specs.Prelude.{◌≡◌, ◌+◌, ◌-◌, ◌*◌, ◌≤
 ghost use Rattle.std.specs.Str.{all_ascii_digits};
 ghost use Rattle.std.specs.Str.Parse.{digits_value};
 ghost use Rattle.lab_report.specs.Causes.{Gives};
-ghost use Rattle.lab_report.specs.Words.{is_plain, is_decimal, within, decimal_of, number_at, next_number, dash_or_number, number_or_dash_at};
+ghost use Rattle.lab_report.specs.Words.{lacks_leading_zero, is_decimal, within, decimal_of, number_at, next_number, dash_or_number, number_or_dash_at};
 
 use crate::error::ReportWhy;
 use crate::words::{space_of, word_of};
 
 /// Whether a word has a byte, and no leading zero.
 fn is_plain(word: &[u8]) -> bool
-    ensures { result ≡ is_plain word.now }
+    ensures { result ≡ lacks_leading_zero word.now }
 {
     match word {
         [] => false,

@@ -3,7 +3,7 @@ ghost use Rattle.std.specs.Prelude.{◌≡◌, ◌++◌, All, string_bytes, IfEr
 ghost use Rattle.std.specs.List.{flat_map};
 ghost use Rattle.lab_script.specs.Limits.{IsScript};
 ghost use Rattle.lab_report.specs.Ranges.{IsReportInRange};
-ghost use Rattle.lab_report.specs.Reading.{report_of};
+ghost use Rattle.lab_report.specs.Reading.{report_in_text};
 ghost use Rattle.lab_report.specs.Text.{report_text, row_line, segment_line, run_line, tail_text, IsReportOf, IsRowOf, IsSegmentOf, IsRunOf, IsTailOf};
 
 use crate::report::Report;
@@ -130,7 +130,7 @@ pub fn print_report(alloc: Global, report: &Report, script: &Script) -> Result<V
 
     // What is printed is read as the same report, where its numbers are within their types, as each report's are.
     ensures back { IsReportInRange report.now
-        → IfOk result (λ bytes. report_of script.now bytes.items ≡ Ok report.now) }
+        → IfOk result (λ bytes. report_in_text script.now bytes.items ≡ Ok report.now) }
     ensures only { IfErr result (λ error. error ≡ PcmError.Memory) }
 {
     let mut text = String::new(alloc);

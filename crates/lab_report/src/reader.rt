@@ -4,7 +4,7 @@ ghost use Rattle.std.specs.Option.{ForSome};
 ghost use Rattle.lab_script.specs.Limits.{IsActor, IsScript};
 ghost use Rattle.lab_report.specs.declared.request.Request.{Request};
 ghost use Rattle.lab_report.specs.Causes.{Gives};
-ghost use Rattle.lab_report.specs.Reading.{view, nothing, tail_by, end_at, below_rows, after_head, version_of, head_at, with_line, next_line, report_at, lines_after, report_of, Answers};
+ghost use Rattle.lab_report.specs.Reading.{view, nothing, tail_by, end_line, below_rows, after_head, version_of, head_at, with_line, next_line, report_at, lines_after, report_in_text, Answers};
 ghost use Rattle.lab_report.specs.Words.{lines_of};
 ghost use Rattle.lab_report.specs.Requests.{requests_of};
 ghost use Rattle.lab_report.specs.Text.{report_text, IsReportOf};
@@ -57,7 +57,7 @@ fn add_tail(draft: &mut Draft, script: &Script, word: &[u8], rest: &[u8]) -> Res
 
 /// The line `end`.
 fn add_end(draft: &mut Draft, line: &[u8]) -> Result<(), ReportWhy>
-    ensures { Gives (λ u. view draft.new) result (end_at (view draft.old) line.now) }
+    ensures { Gives (λ u. view draft.new) result (end_line (view draft.old) line.now) }
 {
     let rest = expect_word(b"end", line)?;
     feed_of(rest)?;
@@ -245,7 +245,7 @@ pub fn read_report(alloc: Global, text: &[u8], script: &Script) -> Result<Report
     requires { IsScript script.now }
 
     // The answer is what the text says, unless memory ran out.
-    ensures exact { Answers result (report_of script.now text.now) }
+    ensures exact { Answers result (report_in_text script.now text.now) }
 
     // What is read is a report of the script: its rows are those of the script's lines, in order.
     ensures of { IfOk result (IsReportOf script.now) }

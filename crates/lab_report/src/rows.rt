@@ -3,7 +3,7 @@ ghost use Rattle.std.specs.Prelude.{◌≡◌, length};
 ghost use Rattle.std.specs.List.{slice_split};
 ghost use Rattle.lab_script.specs.Limits.{IsActor};
 ghost use Rattle.lab_report.specs.Causes.{Gives};
-ghost use Rattle.lab_report.specs.Reading.{row_at, row_end};
+ghost use Rattle.lab_report.specs.Reading.{row_of_line, row_end};
 ghost use Rattle.lab_report.specs.Text.{front_text};
 ghost use Rattle.lab_report.specs.Words.{is_space, expect_words};
 
@@ -55,7 +55,7 @@ pub fn row_at(
     line: &[u8],
 ) -> Result<Row, ReportWhy>
     requires { IsActor (length script.now.clients) (length script.now.readers) request.actor }
-    ensures { Gives (λ r. r) result (row_at script.now request line.now) }
+    ensures { Gives (λ r. r) result (row_of_line script.now request line.now) }
 {
     let rest = after_front(front, script, request, line)?;
     let (answer, rest) = answer_at(rest)?;

@@ -3,7 +3,7 @@ ghost use Rattle.std.specs.Prelude.{◌≡◌, ◌≤◌, ◌<◌, length, IfOk}
 ghost use Rattle.std.specs.List.{position};
 ghost use Rattle.lab_script.specs.Draft.{is_client, is_reader};
 ghost use Rattle.lab_report.specs.Causes.{Gives};
-ghost use Rattle.lab_report.specs.Reading.{client_at, reader_at, segment_at, segment_end, run_at, played_at};
+ghost use Rattle.lab_report.specs.Reading.{client_and_rest, reader_and_rest, segment_at, segment_end, run_at, played_run};
 
 use crate::error::ReportWhy;
 use crate::numbers::next_number;
@@ -31,7 +31,7 @@ fn reader_named(readers: &[ReaderLine], name: &[u8]) -> Option<usize>
 
 /// The client that is named after a space, by its number, and the rest.
 fn client_at<'a>(script: &Script, rest: &'a [u8]) -> Result<(usize, &'a [u8]), ReportWhy>
-    ensures value { Gives (λ n. (n.0, n.1.now)) result (client_at script.now rest.now) }
+    ensures value { Gives (λ n. (n.0, n.1.now)) result (client_and_rest script.now rest.now) }
     ensures within { IfOk result (λ n. n.0 < length script.now.clients) }
 {
     let rest = space_of(rest)?;
@@ -44,7 +44,7 @@ fn client_at<'a>(script: &Script, rest: &'a [u8]) -> Result<(usize, &'a [u8]), R
 
 /// The reader that is named after a space, by its number, and the rest.
 fn reader_at<'a>(script: &Script, rest: &'a [u8]) -> Result<(usize, &'a [u8]), ReportWhy>
-    ensures value { Gives (λ n. (n.0, n.1.now)) result (reader_at script.now rest.now) }
+    ensures value { Gives (λ n. (n.0, n.1.now)) result (reader_and_rest script.now rest.now) }
     ensures within { IfOk result (λ n. n.0 < length script.now.readers) }
 {
     let rest = space_of(rest)?;
@@ -85,9 +85,9 @@ pub fn segment_at(script: &Script, rest: &[u8]) -> Result<(u32, Segment), Report
 }
 
 /// The first frame and the number of frames of `played FIRST COUNT`, after its first word.
-#[tactic(auto, unfolding(crate::specs::Reading::played_at))]
+#[tactic(auto, unfolding(crate::specs::Reading::played_run))]
 pub fn played_at(rest: &[u8]) -> Result<(u64, u64), ReportWhy>
-    ensures { Gives (λ p. p) result (played_at rest.now) }
+    ensures { Gives (λ p. p) result (played_run rest.now) }
 {
     let (first, rest) = next_number(u64::MAX, rest)?;
     let (count, rest) = next_number(u64::MAX, rest)?;

@@ -2,7 +2,7 @@
 ghost use Rattle.std.specs.Prelude.{◌≡◌, ◌<◌, ◌∷◌, [], length, IfNone, IfSome};
 ghost use Rattle.std.specs.List.{position, slice_split};
 ghost use Rattle.lab_report.specs.Causes.{Gives};
-ghost use Rattle.lab_report.specs.Words.{is_space, is_end, word_of, space_of, feed_of, not_word, expect_word, expect_words};
+ghost use Rattle.lab_report.specs.Words.{is_space, is_end, front_word, space_of, feed_of, not_word, expect_word, expect_words};
 
 use crate::error::ReportWhy;
 use crate::numbers::{decimal_of, is_decimal};
@@ -23,7 +23,7 @@ fn end_place(rest: &[u8]) -> Option<usize>
 
 /// The word at the front of what is left of a line, and the rest.
 pub fn word_of(rest: &[u8]) -> Result<(&[u8], &[u8]), ReportWhy>
-    ensures { Gives (λ w. (w.0.now, w.1.now)) result (word_of rest.now) }
+    ensures { Gives (λ w. (w.0.now, w.1.now)) result (front_word rest.now) }
 {
     if rest.is_empty() {
         return Err(ReportWhy::Ended);

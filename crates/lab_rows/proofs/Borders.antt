@@ -88,7 +88,7 @@ with-reader script stage n x reportable is = record {
 }
 
 -- what a stage is in besides its places and claims
-held : (script : Script) (stage : Stage) (lobby : Lobby) (claims : List owners.Row) → CanBeReported script stage
+held : (script : Script) (stage : Stage) (lobby : Lobby) (claims : List owners.ClaimRow) → CanBeReported script stage
     → CanBeReported script (record stage { lobby = lobby; claims = claims })
 held script stage lobby claims reportable = record {
   all_clients = reportable.all_clients;
@@ -108,7 +108,7 @@ attached-reportable n at lobby = by_test (list_any is_free lobby.places) (positi
     by_test true None = tt
     by_test false place = tt
 
-claim-reportable : (shared : Share) (claims : List owners.Row) (channels : List ℕ) (at : ℕ) → IfSome (claim_refusal shared claims channels at) HasErrorText
+claim-reportable : (shared : Share) (claims : List owners.ClaimRow) (channels : List ℕ) (at : ℕ) → IfSome (claim_refusal shared claims channels at) HasErrorText
 claim-reportable share.Dmix claims channels at = tt
 claim-reportable share.Dshare claims channels at = by_test (list_all (is_free_channel claims at) channels)
   where

@@ -25,7 +25,7 @@ use Rattle.lab_run.specs.Rules.{AtPort, Rules}
 use Rattle.lab_run.specs.Stage.{Session, Setup, Stage, after_close, after_open, attached_client, claimed_client, client_at, close_client, close_reader, no_reader, open_client, open_client_with, open_reader, open_reader_with, reader_at}
 use Rattle.lab_run.proofs.RowsGrow.{HasMore, items-more}
 use Rattle.lab_run.proofs.SliceLaws.{lines-get_slices}
-use Rattle.lab_rows.specs.Growth.{AreGrown, BordersKeepFrames, IsGrownReader, StagesGrow, frames_of}
+use Rattle.lab_rows.specs.Growth.{AreGrown, BordersKeepFrames, IsGrownReader, StagesGrow, frames_of_readers}
 
 -- ---- the lines of a phase
 
@@ -70,9 +70,9 @@ phase-grow session stage next lines may =
 -- ---- openings and closings
 
 -- a reader in the place of one with the same frames
-frames-set : (xs : List (AtPort × Reader)) (n : ℕ) (d y : AtPort × Reader) → y.1.frames ≡ (slice_index_or xs n d).1.frames → frames_of (slice_set xs n y) ≡ frames_of xs
+frames-set : (xs : List (AtPort × Reader)) (n : ℕ) (d y : AtPort × Reader) → y.1.frames ≡ (slice_index_or xs n d).1.frames → frames_of_readers (slice_set xs n y) ≡ frames_of_readers xs
 frames-set [] n d y same = refl
-frames-set (x ∷ xs) zero d y same = ap (λ (frames : List ℕ). frames ∷ frames_of xs) same
+frames-set (x ∷ xs) zero d y same = ap (λ (frames : List ℕ). frames ∷ frames_of_readers xs) same
 frames-set (x ∷ xs) (suc n) d y same = ap (λ (others : List (List ℕ)). x.1.frames ∷ others) (frames-set xs n d y same)
 
 -- of a client
@@ -101,38 +101,38 @@ module _ (session : Session) (stage : Stage) (number : ℕ) where
 -- of a reader
 module _ (session : Session) (stage : Stage) (number : ℕ) where
   open_reader_with-keeps : (setup : Option Setup) (reader : AtPort × Reader) → reader.1.frames ≡ (reader_at session stage number).1.frames
-      → frames_of (open_reader_with session stage number setup reader).readers ≡ frames_of stage.readers
+      → frames_of_readers (open_reader_with session stage number setup reader).readers ≡ frames_of_readers stage.readers
   open_reader_with-keeps None reader same = refl
   open_reader_with-keeps (Some setup) (a, reader) same = frames-set stage.readers number (no_reader session.ring) _ same
 
-  open_reader-keeps : (own : Option CaptureStream) → frames_of (open_reader session stage number (reader_at session stage number) own).readers ≡ frames_of stage.readers
+  open_reader-keeps : (own : Option CaptureStream) → frames_of_readers (open_reader session stage number (reader_at session stage number) own).readers ≡ frames_of_readers stage.readers
   open_reader-keeps (Some r) = refl
   open_reader-keeps None = open_reader_with-keeps (slice_index_or session.readers number None) (reader_at session stage number) refl
 
-  close_reader-keeps : (own : Option CaptureStream) → frames_of (close_reader session stage number (reader_at session stage number) own).readers ≡ frames_of stage.readers
+  close_reader-keeps : (own : Option CaptureStream) → frames_of_readers (close_reader session stage number (reader_at session stage number) own).readers ≡ frames_of_readers stage.readers
   close_reader-keeps None = refl
   close_reader-keeps (Some r) = frames-set stage.readers number (no_reader session.ring) _ refl
 
-open-keeps : (session : Session) (stage : Stage) (who : Actor) → frames_of (after_open session stage who).readers ≡ frames_of stage.readers
+open-keeps : (session : Session) (stage : Stage) (who : Actor) → frames_of_readers (after_open session stage who).readers ≡ frames_of_readers stage.readers
 open-keeps session stage actor.Card = refl
-open-keeps session stage (actor.Client n) = ap frames_of (open_client-keeps session stage n (client_at session stage n) (client_at session stage n).1.own)
+open-keeps session stage (actor.Client n) = ap frames_of_readers (open_client-keeps session stage n (client_at session stage n) (client_at session stage n).1.own)
 open-keeps session stage (actor.Reader n) = open_reader-keeps session stage n (reader_at session stage n).1.own
 
-close-keeps : (session : Session) (stage : Stage) (who : Actor) → frames_of (after_close session stage who).readers ≡ frames_of stage.readers
+close-keeps : (session : Session) (stage : Stage) (who : Actor) → frames_of_readers (after_close session stage who).readers ≡ frames_of_readers stage.readers
 close-keeps session stage actor.Card = refl
-close-keeps session stage (actor.Client n) = ap frames_of (close_client-keeps session stage n (client_at session stage n) (client_at session stage n).1.own)
+close-keeps session stage (actor.Client n) = ap frames_of_readers (close_client-keeps session stage n (client_at session stage n) (client_at session stage n).1.own)
 close-keeps session stage (actor.Reader n) = close_reader-keeps session stage n (reader_at session stage n).1.own
 
 pub borders-keep_frames : BordersKeepFrames
 borders-keep_frames session stage next number who = record {
-  opens = λ is. ap (λ (s : Stage). frames_of s.readers) is ∙ open-keeps session stage who;
-  closes = λ is. ap (λ (s : Stage). frames_of s.readers) is ∙ close-keeps session stage who;
+  opens = λ is. ap (λ (s : Stage). frames_of_readers s.readers) is ∙ open-keeps session stage who;
+  closes = λ is. ap (λ (s : Stage). frames_of_readers s.readers) is ∙ close-keeps session stage who;
 }
 
 -- ---- an item
 
 -- the same frames are grown by none
-same-grow : (xs ys : List (AtPort × Reader)) → frames_of ys ≡ frames_of xs → AreGrown xs ys
+same-grow : (xs ys : List (AtPort × Reader)) → frames_of_readers ys ≡ frames_of_readers xs → AreGrown xs ys
 same-grow [] [] same = tt
 same-grow (x ∷ xs) (y ∷ ys) same = (
   ([], ap (λ (all : List (List ℕ)). slice_index_or all 0 []) same ∙ sym (append-nil x.1.frames)),

@@ -27,7 +27,7 @@ use Rattle.lab_run.specs.Rules.{AtPort}
 use Rattle.lab_run.specs.ScriptWords.{IsReached}
 use Rattle.lab_run.specs.Stage.{Session, Setup, Stage, no_reader, reader_at}
 use Rattle.lab_run.proofs.ScriptWords.{stages-of_scripts}
-use Rattle.lab_rows.specs.Sizes.{AreFrames, IsPlayed, IsRecorded, StagesHaveSizes}
+use Rattle.lab_rows.specs.Sizes.{AreWholeFrames, IsPlayed, IsRecorded, StagesHaveSizes}
 use Rattle.lab_rows.proofs.Captured.{reader_at-within, run-within}
 use Rattle.lab_rows.proofs.Stages.{reached-reportable}
 
@@ -54,7 +54,7 @@ reached-few script wavs session done others stage is =
     omega (arith, at, first, few, most)
 
 -- whole frames
-frames-whole : (channels frames : ℕ) (samples : List ℤ) → 1 ≤ channels → channels ≤ 8 → frames ≤ 4194304 → length samples ≡ frames * channels → AreFrames channels samples
+frames-whole : (channels frames : ℕ) (samples : List ℤ) → 1 ≤ channels → channels ≤ 8 → frames ≤ 4194304 → length samples ≡ frames * channels → AreWholeFrames channels samples
 frames-whole channels frames samples some few_channels few is = record {
   some_channel = some;
   few_channels = few_channels;

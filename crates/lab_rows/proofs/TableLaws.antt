@@ -13,7 +13,7 @@ use Rattle.pcm_states.specs.declared.calls.Facts.{Facts}
 use Rattle.pcm_states.specs.declared.calls.Outcome.{Outcome}
 use Rattle.pcm_states.specs.declared.states.State.{State}
 use Rattle.pcm_states.specs.declared.states.State.TheVariants as state
-use Rattle.pcm_states.specs.Table.{Cell, already, done_in, draining, ebadfd, eio, enodev, filling, first_outcome, if_empty, if_gone, if_late, if_none_left, if_over, if_played, moving, next_of, outcome_of, resuming, call_row, starting, still_draining, stopped_by, to}
+use Rattle.pcm_states.specs.Table.{Cell, already, done_in, draining, ebadfd, eio, enodev, filling, first_outcome, if_empty, if_gone, if_late, if_none_left, if_over, if_played, moving, next_of, cell_outcome, resuming, call_row, starting, still_draining, stopped_by, to}
 use Rattle.pcm_stream.specs.Status.{is_refusal, nothing_found, refusal_in, refusal_of}
 use Rattle.pcm_stream.specs.declared.direction.Direction.{Direction}
 use Rattle.pcm_stream.specs.declared.status.Status.{Status}
@@ -80,7 +80,7 @@ leads false call.HwParams state.Open is = tt
 leads capture c state.Suspended is = absurd is
 leads capture c s is = tt
 
-cell-reports : (cell : Cell) (s : State) (c : Call) (f : Facts) → LeadsTo cell → HasStateText s → IsOutcome (outcome_of cell s c f)
+cell-reports : (cell : Cell) (s : State) (c : Call) (f : Facts) → LeadsTo cell → HasStateText s → IsOutcome (cell_outcome cell s c f)
 cell-reports (to t) s c f leads is = (tt, leads)
 cell-reports ebadfd s c f leads is = (tt, is)
 cell-reports enodev s c f leads is = (tt, is)

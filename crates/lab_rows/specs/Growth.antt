@@ -16,8 +16,8 @@ use Rattle.lab_run.specs.Rules.{AtPort}
 use Rattle.lab_run.specs.Stage.{Session, Stage}
 
 -- the frames of each reader
-abbrev pub frames_of : List (AtPort × Reader) → List (List ℕ)
-frames_of readers = map (λ (reader : AtPort × Reader). reader.1.frames) readers
+abbrev pub frames_of_readers : List (AtPort × Reader) → List (List ℕ)
+frames_of_readers readers = map (λ (reader : AtPort × Reader). reader.1.frames) readers
 
 -- a reader's frames are those of another, with some more after them
 abbrev pub IsGrownReader : AtPort × Reader → AtPort × Reader → Type 0
@@ -45,9 +45,9 @@ StagesGrow =
 pub record KeepsFrames (session : Session) (stage next : Stage) (number : ℕ)
     (who : Actor) : Type 0 where
   pub opens : ItemMay session stage (item.Opens number who) next
-      → frames_of next.readers ≡ frames_of stage.readers
+      → frames_of_readers next.readers ≡ frames_of_readers stage.readers
   pub closes : ItemMay session stage (item.Closes number who) next
-      → frames_of next.readers ≡ frames_of stage.readers
+      → frames_of_readers next.readers ≡ frames_of_readers stage.readers
 
 -- each opening and closing
 abbrev pub BordersKeepFrames : Type 0
@@ -70,12 +70,12 @@ samples_from session capture number (frames ∷ others) =
     samples_of session capture number frames ∷ samples_from session capture (number + 1) others
 
 module _ (session : Session) (capture : Option Sound) where
-  recorded_from-frames : (number : ℕ) (xs : List (AtPort × Reader)) → recorded_from session capture number xs ≡ samples_from session capture number (frames_of xs)
+  recorded_from-frames : (number : ℕ) (xs : List (AtPort × Reader)) → recorded_from session capture number xs ≡ samples_from session capture number (frames_of_readers xs)
   recorded_from-frames number [] = refl
   recorded_from-frames number (x ∷ xs) = ap (λ more. samples_of session capture number x.1.frames ∷ more) (recorded_from-frames (number + 1) xs)
 
   -- readers of the same frames have the same samples
-  pub recorded_from-same : (number : ℕ) (xs ys : List (AtPort × Reader)) → frames_of xs ≡ frames_of ys
+  pub recorded_from-same : (number : ℕ) (xs ys : List (AtPort × Reader)) → frames_of_readers xs ≡ frames_of_readers ys
       → recorded_from session capture number xs ≡ recorded_from session capture number ys
   recorded_from-same number xs ys same =
       recorded_from-frames number xs ∙ ap (samples_from session capture number) same ∙ sym (recorded_from-frames number ys)

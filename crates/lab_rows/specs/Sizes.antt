@@ -11,7 +11,7 @@ use Rattle.lab_run.specs.ScriptWords.{IsReached}
 use Rattle.lab_run.specs.Stage.{Session, Stage}
 
 -- samples are whole frames of 1 to 8 channels, at most 4,194,304 frames of 8
-pub record AreFrames (channels : ℕ) (samples : List ℤ) : Type 0 where
+pub record AreWholeFrames (channels : ℕ) (samples : List ℤ) : Type 0 where
   pub some_channel : 1 ≤ channels
   pub few_channels : channels ≤ 8
   pub whole : length samples % channels ≡ 0
@@ -22,12 +22,12 @@ pub record IsPlayed (script : Script) (outcome : Outcome) : Type 0 where
   pub first : outcome.report.first ≡ first_frame script.card
   pub few_frames : outcome.report.frames ≤ 4194304
   pub each : length outcome.played ≡ outcome.report.frames * script.card.channels
-  pub frames : AreFrames script.card.channels outcome.played
+  pub frames : AreWholeFrames script.card.channels outcome.played
 
 -- what the reader of a number read: whole frames of its line's channels, no more frames than the card played
 pub record IsRecorded (script : Script) (outcome : Outcome) (number : ℕ)
     (line : ReaderLine) : Type 0 where
-  pub frames : AreFrames (length (read_by script.card line))
+  pub frames : AreWholeFrames (length (read_by script.card line))
       (slice_index_or outcome.recorded number [])
   pub captured : length (slice_index_or outcome.recorded number []) ≤ outcome.report.frames * length
       (read_by script.card line)

@@ -20,7 +20,7 @@ use Rattle.pcm_stream.specs.Status.{is_moving, refusal_of}
 use Rattle.dmix_client.specs.Calls.{Answered, with_accepted, accepted_if, avail_answer, avail_in, commit_count, delay_answer, delay_in, in_draining, after_drop, has_frames, is_running, after_pause, pending_of, after_prepare, with_new_base, after_resume, start_count, after_start, started_in, sync_count, after_sync, taken_of, with_number, written_after}
 use Rattle.dmix_client.specs.Course.{if_admitted, admitted_by, commit_at, commits, drain_course, drain_on, drains, fills, go_on, lay_each, lay_frame, lay_frames, lay_on, looks, nothing, number_course, course_with_number, one_frame_more, one_more, pause_call, pause_course, resumes, start_course, starts, starts_taking, sync_course, syncs, takes_more, write_on, writes_on}
 use Rattle.dmix_client.specs.Course as client_calls
-use Rattle.dmix_client.specs.Rewind.{back_of, back_on, checks, left_of, rewind_course, rewind_on, rewindable_course, rewindable_of, rewinds, after_rewind, take_each, take_frames, takes_back, without_frames}
+use Rattle.dmix_client.specs.Rewind.{back_of, back_on, checks, rewind_left, rewind_course, rewind_on, rewindable_course, rewindable_of, rewinds, after_rewind, take_each, take_frames, takes_back, without_frames}
 use Rattle.dmix_client.specs.View.{ring_sample}
 use Rattle.dmix_client.specs.Writes.{count_with, frames_in, ring_with, starts_with}
 use Rattle.lab_report.specs.declared.row.Answer.{Answer}
@@ -278,17 +278,17 @@ module _ (from member : ℕ) where
   take_each-alike place frame bindings f g (suc n) =
       (record { frame = refl; channel = refl; kind = refl }, take_each-alike place frame bindings f g n, λ word. refl, refl)
 
-  left_of-word : (n left channels : ℕ) (ended : Ended) → SameCommit (left_of n left channels ended) (left_of n left channels (without_word ended))
-  left_of-word n left channels ended = by_all (nat_eq left channels) refl
+  rewind_left-word : (n left channels : ℕ) (ended : Ended) → SameCommit (rewind_left n left channels ended) (rewind_left n left channels (without_word ended))
+  rewind_left-word n left channels ended = by_all (nat_eq left channels) refl
     where
-      by_all : (all : Bool) → nat_eq left channels ≡ all → SameCommit (left_of n left channels ended) (left_of n left channels (without_word ended))
+      by_all : (all : Bool) → nat_eq left channels ≡ all → SameCommit (rewind_left n left channels ended) (rewind_left n left channels (without_word ended))
       by_all true is = rw is refl
       by_all false is = rw is refl
 
   back_on-alike : (n channels : ℕ) (x y : ℕ × Ended) (m o : Course Commit) → SameEnd x y → Alike from SameCommit m o → Alike from SameCommit (back_on x n channels m) (back_on y n channels o)
   back_on-alike n channels (left, Whole) y m o is rest = rw is rest
-  back_on-alike n channels (left, Late word) y m o is rest = rw is (left_of-word n left channels (Late word))
-  back_on-alike n channels (left, Stopped) y m o is rest = rw is (left_of-word n left channels Stopped)
+  back_on-alike n channels (left, Late word) y m o is rest = rw is (rewind_left-word n left channels (Late word))
+  back_on-alike n channels (left, Stopped) y m o is rest = rw is (rewind_left-word n left channels Stopped)
 
   take_frames-alike : (place card : ℕ) (bindings : List ℕ) (f g : ℕ → ℕ → ℤ) (first n : ℕ)
       → Alike from SameCommit (take_frames place card bindings f first n) (take_frames member card bindings g first n)

@@ -5,7 +5,7 @@ use Rattle.std.proofs.lemmas.Bool.Decides.{nat_tests}
 use Rattle.std.specs.Prelude.{Bool, true, false, ◌&&◌, is_none, nat_lt, if◌then◌else◌, List, [], ◌∷◌}
 use Rattle.std.specs.List.{AllByRecursion, list_all}
 use Rattle.snd_base.specs.declared.errors.PcmError.{PcmError}
-use Rattle.dshare.specs.Owners.{AreFree, Row, busy, last_frames, owner_of}
+use Rattle.dshare.specs.Owners.{AreFree, ClaimRow, busy, last_frames, owner_of}
 use Rattle.lab_run.specs.Claims.{ClaimIsOwners, is_free_channel}
 
 both-left : (a b : Bool) → (a && b) ≡ true → a ≡ true
@@ -38,7 +38,7 @@ no-owner : (owner : Option ℕ) → is_none owner ≡ true → owner ≡ None
 no-owner None is = refl
 no-owner (Some n) is = absurd (false≢true is)
 
-free : (claims : List Row) (position : ℕ) (channels : List ℕ) → list_all (is_free_channel claims position) channels ≡ true → AreFree claims position channels
+free : (claims : List ClaimRow) (position : ℕ) (channels : List ℕ) → list_all (is_free_channel claims position) channels ≡ true → AreFree claims position channels
 free claims position [] is = tt
 free claims position (c ∷ channels) is = (
   record {
@@ -48,14 +48,14 @@ free claims position (c ∷ channels) is = (
   free claims position channels (both-right _ _ is),
 )
 
-free-test : (claims : List Row) (position : ℕ) (channels : List ℕ) → AreFree claims position channels → list_all (is_free_channel claims position) channels ≡ true
+free-test : (claims : List ClaimRow) (position : ℕ) (channels : List ℕ) → AreFree claims position channels → list_all (is_free_channel claims position) channels ≡ true
 free-test claims position [] all = refl
 free-test claims position (c ∷ channels) all = both _ _ (both _ _ (unowned all.0.unowned) (silent-test position (last_frames claims c) all.0.silent)) (free-test claims position channels all.1)
   where
     unowned : owner_of claims c ≡ None → is_none (owner_of claims c) ≡ true
     unowned e = rw e refl
 
-pub claim-owners : (claims : List Row) (channels : List ℕ) (position : ℕ) → ClaimIsOwners claims channels position
+pub claim-owners : (claims : List ClaimRow) (channels : List ℕ) (position : ℕ) → ClaimIsOwners claims channels position
 claim-owners claims channels position = record {
   granted = λ is. by_test (list_all (is_free_channel claims position) channels) refl is;
   free = λ all. rw (free-test claims position channels all) refl;

@@ -17,7 +17,7 @@ use Rattle.pcm_states.specs.declared.calls.Facts.{Facts}
 use Rattle.pcm_states.specs.declared.calls.Outcome.{Outcome}
 use Rattle.pcm_states.specs.declared.states.State.{State}
 use Rattle.pcm_states.specs.declared.states.State.TheVariants.{Draining, Prepared, Running, Setup}
-use Rattle.pcm_states.specs.Table.{Cell, already, done_in, draining, ebadfd, eio, enodev, filling, first_outcome, if_empty, if_gone, if_late, if_none_left, if_over, if_played, moving, next_of, outcome_of, resuming, call_row, starting, still_draining, stopped_by, to}
+use Rattle.pcm_states.specs.Table.{Cell, already, done_in, draining, ebadfd, eio, enodev, filling, first_outcome, if_empty, if_gone, if_late, if_none_left, if_over, if_played, moving, next_of, cell_outcome, resuming, call_row, starting, still_draining, stopped_by, to}
 use Rattle.course.specs.Course.{◌>>=◌, Course, ends}
 use Rattle.wav_io.specs.Sound.{Sound}
 use Rattle.dmix_client.specs.declared.commit.Commit.{Commit}
@@ -35,7 +35,7 @@ use Rattle.lab_script.specs.declared.line.Op.TheVariants as op
 use Rattle.lab_report.specs.declared.row.Answer.{Answer}
 use Rattle.lab_report.specs.declared.row.Answer.TheVariants.{Done, Failed}
 use Rattle.lab_run.specs.Client.{after_call, call_answer, begins, call_of, count_answer, done_answer, line_by, line_if, reported_error, write_course}
-use Rattle.lab_run.specs.LateRows.{IsNext, LateRowsNameNext, NamesNext, is_rewind}
+use Rattle.lab_run.specs.LateRows.{IsNextSample, LateRowsNameNext, NamesNext, is_rewind}
 use Rattle.lab_run.specs.Rules.{MayGet, MayLay, MayLoad, Rules}
 use Rattle.lab_run.proofs.Results.{All, All-any, All-then, Takes-all}
 
@@ -111,7 +111,7 @@ module _ (Q : ℕ → ℕ → Type 0) where
   still call.Drain = tt
   still other = tt
 
-  cell-late : (cell : Cell) (s : State) (c : Call) (f : Facts) → IfSome f.late (LateWhy Q) → LateIn Q (outcome_of cell s c f).answer
+  cell-late : (cell : Cell) (s : State) (c : Call) (f : Facts) → IfSome f.late (LateWhy Q) → LateIn Q (cell_outcome cell s c f).answer
   cell-late (to t) s c f late = tt
   cell-late ebadfd s c f late = tt
   cell-late enodev s c f late = tt
@@ -136,18 +136,18 @@ module _ (Q : ℕ → ℕ → Type 0) where
 
 -- a call of a client, after which it is so
 abbrev Missed : {T : Type 0} → Answered T → Type 0
-Missed (d, r) = LateIn (IsNext d) r
+Missed (d, r) = LateIn (IsNextSample d) r
 
 -- a commit's late sample is the first that isn't placed
-commit-missed : (c : PlaybackStream) (x : Commit) → IfSome (late_of c x) (LateWhy (IsNext (committed_by c x)))
+commit-missed : (c : PlaybackStream) (x : Commit) → IfSome (late_of c x) (LateWhy (IsNextSample (committed_by c x)))
 commit-missed c x = by_end x.ended
   where
-    by_end : (e : Ended) → IfSome (late_at e (end_of_commit c x) (end_channel c x)) (LateWhy (IsNext (committed_by c x)))
+    by_end : (e : Ended) → IfSome (late_at e (end_of_commit c x) (end_channel c x)) (LateWhy (IsNextSample (committed_by c x)))
     by_end ended.Whole = tt
     by_end (ended.Late word) = (refl, refl)
     by_end ended.Stopped = tt
 
-going_on-missed : (c : PlaybackStream) (state refused : State) (r : Result (Unit {0}) PcmError) → LateIn (IsNext c) r → Missed (going_on_by r c state refused)
+going_on-missed : (c : PlaybackStream) (state refused : State) (r : Result (Unit {0}) PcmError) → LateIn (IsNextSample c) r → Missed (going_on_by r c state refused)
 going_on-missed c state refused (Ok done) late = tt
 going_on-missed c state refused (Err e) late = late
 
@@ -160,7 +160,7 @@ after_sync-missed c asked (Some p) x = by_stop (is_stop x.ended)
 
     by_stop : (b : Bool) → Missed (if b then stopped_in (committed_by (seen_at c p) x) else with_outcome (committed_by (seen_at c p) x) (next_of c.status.state asked f))
     by_stop true = tt
-    by_stop false = next-late (IsNext (committed_by (seen_at c p) x)) c.status.state asked f (commit-missed (seen_at c p) x)
+    by_stop false = next-late (IsNextSample (committed_by (seen_at c p) x)) c.status.state asked f (commit-missed (seen_at c p) x)
 
 after_start-missed : (c : PlaybackStream) (state : State) (cursor : Cursor) (load : Option Position) (x : Commit) → Missed (after_start c state cursor load x)
 after_start-missed c state cursor None x = tt
@@ -172,12 +172,12 @@ after_start-missed c state cursor (Some p) x = by_gone p.gone
     by_stop : (b : Bool) → Missed (if b then stopped_in (committed_by from x) else going_on (committed_by from x) state (next_of Prepared call.Start (found_at p (late_of from x))))
     by_stop true = tt
     by_stop false = going_on-missed (committed_by from x) state _ (next_of Prepared call.Start (found_at p (late_of from x))).answer
-        (next-late (IsNext (committed_by from x)) Prepared call.Start (found_at p (late_of from x)) (commit-missed from x))
+        (next-late (IsNextSample (committed_by from x)) Prepared call.Start (found_at p (late_of from x)) (commit-missed from x))
 
     by_gone : (b : Bool) → Missed (if b then going_on (seen_at c p) state (next_of Prepared call.Start (found_at p None))
         else (if is_stop x.ended then stopped_in (committed_by from x) else going_on (committed_by from x) state (next_of Prepared call.Start (found_at p (late_of from x)))))
     by_gone true = going_on-missed (seen_at c p) state _ (next_of Prepared call.Start (found_at p None)).answer
-        (next-late (IsNext (seen_at c p)) Prepared call.Start (found_at p None) tt)
+        (next-late (IsNextSample (seen_at c p)) Prepared call.Start (found_at p None) tt)
     by_gone false = by_stop (is_stop x.ended)
 
 resumed-missed : (c : PlaybackStream) (cursor : Cursor) (load : Option Position) (x : Commit) → Missed (after_resume c cursor load x)
@@ -203,7 +203,7 @@ written-missed c n x = by_test (nat_lt 0 n && nat_eq (avail_of c) 0) (is_stop x.
     by_test true stop = tt
     by_test false true = tt
     by_test false false = accepted-missed (taken_of c n) (with_outcome (committed_by c x) (next_of Running call.Transfer f))
-        (next-late (IsNext (committed_by c x)) Running call.Transfer f (commit-missed c x))
+        (next-late (IsNextSample (committed_by c x)) Running call.Transfer f (commit-missed c x))
 
 -- ---- the calls
 
@@ -253,7 +253,7 @@ write-missed c cursor n = All-if Missed (is_running c.status.state) (writes_on c
 
 start-missed : (c : PlaybackStream) (cursor : Cursor) → All Missed (start_course c [] cursor)
 start-missed c cursor = All-if Missed (nat_eq c.stretch.written 0) (ends (with_outcome c (next_of c.status.state call.Start f))) (starts c Running cursor c.stretch.written [])
-    (next-late (IsNext c) c.status.state call.Start f tt) (starts-missed c Running cursor c.stretch.written [])
+    (next-late (IsNextSample c) c.status.state call.Start f tt) (starts-missed c Running cursor c.stretch.written [])
   where
     f : Facts
     f = record (nothing_found Playback) { queued = 0 }
@@ -285,11 +285,11 @@ rewindable-missed c floor = All-if Missed (is_running c.status.state) (course_wi
     (numbered-missed (rewindable_of floor) (checks c) (checks-missed c)) tt
 
 -- a call's refusal isn't late
-refusal-missed : (c : PlaybackStream) (asked : Call) → IfSome (refusal_of Playback c.status asked) (LateErr (IsNext c))
+refusal-missed : (c : PlaybackStream) (asked : Call) → IfSome (refusal_of Playback c.status asked) (LateErr (IsNextSample c))
 refusal-missed c asked = by_stop c.status.stopped
   where
     Q : ℕ → ℕ → Type 0
-    Q = IsNext c
+    Q = IsNextSample c
 
     by_refusal : (e : PcmError) (test : Bool) → LateErr Q e → IfSome (if test then Some e else None) (LateErr Q)
     by_refusal e true late = late
@@ -306,7 +306,7 @@ refusal-missed c asked = by_stop c.status.stopped
 admitted-missed : {T : Type 0} (c : PlaybackStream) (asked : Call) (m : Course (Answered T)) → All Missed m → All Missed (if_admitted c asked m)
 admitted-missed {T = T} c asked m all = by_refusal (refusal_of Playback c.status asked) (refusal-missed c asked)
   where
-    by_refusal : (refusal : Option PcmError) → IfSome refusal (LateErr (IsNext c)) → All Missed (admitted_by refusal c m)
+    by_refusal : (refusal : Option PcmError) → IfSome refusal (LateErr (IsNextSample c)) → All Missed (admitted_by refusal c m)
     by_refusal None late = all
     by_refusal (Some e) late = late
 
@@ -314,21 +314,21 @@ admitted-missed {T = T} c asked m all = by_refusal (refusal_of Playback c.status
 
 -- an answer of a report
 abbrev Named : PlaybackStream × Answer → Type 0
-Named (d, answer) = LateAnswer (IsNext d) answer
+Named (d, answer) = LateAnswer (IsNextSample d) answer
 
 done-named : (m : Course (Answered (Unit {0}))) → All Missed m → All Named (call_answer done_answer m)
 done-named m all = All-then Missed Named m (λ done. ends (done.0, done_answer done.1)) all named
   where
     named : (x : Answered (Unit {0})) → Missed x → Named (x.0, done_answer x.1)
     named (d, Ok done) late = tt
-    named (d, Err e) late = reported-late (IsNext d) e late
+    named (d, Err e) late = reported-late (IsNextSample d) e late
 
 count-named : (m : Course (Answered ℕ)) → All Missed m → All Named (call_answer count_answer m)
 count-named m all = All-then Missed Named m (λ done. ends (done.0, count_answer done.1)) all named
   where
     named : (x : Answered ℕ) → Missed x → Named (x.0, count_answer x.1)
     named (d, Ok n) late = tt
-    named (d, Err e) late = reported-late (IsNext d) e late
+    named (d, Err e) late = reported-late (IsNextSample d) e late
 
 call-named : (wav : Sound) (marks : Marks) (c : PlaybackStream) (asked : Op) → is_rewind asked ≡ false → All Named (call_of wav marks c asked)
 call-named wav marks c (op.Write n) not = count-named _ (admitted-missed c call.Transfer _ (write-missed c marks.cursor _))
@@ -354,11 +354,11 @@ late-rows rules phase wav number a b client after c asked answer is not may =
     marks : Marks
     marks = (begins client.own asked a).marks
 
-    stays : (given : Answer) → LateAnswer (IsNext c) given → NamesNext client given
-    stays given named = record { own = c; is_own = is; late = λ frame channel late. subst (LateAnswer (IsNext c)) late named }
+    stays : (given : Answer) → LateAnswer (IsNextSample c) given → NamesNext client given
+    stays given named = record { own = c; is_own = is; late = λ frame channel late. subst (LateAnswer (IsNextSample c)) late named }
 
     called : (o : Op) (x : PlaybackStream × Answer) → Named x → NamesNext (after_call client c o x).0 (after_call client c o x).1
-    called o (d, given) named = record { own = d; is_own = refl; late = λ frame channel late. subst (LateAnswer (IsNext d)) late named }
+    called o (d, given) named = record { own = d; is_own = refl; late = λ frame channel late. subst (LateAnswer (IsNextSample d)) late named }
 
     by_call : (o : Op) → is_rewind o ≡ false → All (λ x. NamesNext x.0 x.1) (call_of wav marks c o >>= λ done. ends (after_call client c o done))
     by_call o not = All-then Named (λ x. NamesNext x.0 x.1) (call_of wav marks c o) (λ done. ends (after_call client c o done)) (call-named wav marks c o not) (called o)

@@ -20,20 +20,20 @@ use Rattle.dmix_client.specs.declared.commit.Commit.{Commit}
 use Rattle.dmix_client.specs.declared.stream.PlaybackStream.{PlaybackStream}
 use Rattle.dmix_client.specs.Calls.{Answered, committed_by, facts_of, found_at, is_running, is_stop, late_at, over_of, seen_at, with_outcome, stopped_in, after_sync, with_number}
 use Rattle.dmix_client.specs.Course.{if_admitted, admitted_by, nothing}
-use Rattle.dmix_client.specs.Rewind.{back_of, back_on, checks, last_channel, last_laid, left_of, rewind_course, rewind_on, rewindable_of, rewinds, after_rewind, take_each, take_frames, take_on, taken_back, takes_back, without_frames}
+use Rattle.dmix_client.specs.Rewind.{back_of, back_on, checks, last_channel, last_laid, rewind_left, rewind_course, rewind_on, rewindable_of, rewinds, after_rewind, take_each, take_frames, take_on, taken_back, takes_back, without_frames}
 use Rattle.dmix_client.specs.View.{ring_sample}
 use Rattle.lab_script.specs.declared.line.Op.{Op}
 use Rattle.lab_script.specs.declared.line.Op.TheVariants as op
 use Rattle.lab_report.specs.declared.row.Answer.{Answer}
 use Rattle.lab_run.specs.Client.{after_call, begins, call_of, count_answer, line_by, line_if}
-use Rattle.lab_run.specs.LateRows.{IsLast, LateRewindsNameLast, NamesLast}
+use Rattle.lab_run.specs.LateRows.{IsLastSample, LateRewindsNameLast, NamesLast}
 use Rattle.lab_run.specs.Rules.{MayGet, MayLay, MayLoad, Rules}
 use Rattle.lab_run.proofs.LateLaws.{All-if, LateAnswer, LateErr, LateIn, LateWhy, next-late, reported-late}
 use Rattle.lab_run.proofs.Results.{All, All-then, Takes-all}
 
 -- a call of a client, after which it is so
 abbrev Kept : {T : Type 0} → Answered T → Type 0
-Kept (d, r) = LateIn (IsLast d) r
+Kept (d, r) = LateIn (IsLastSample d) r
 
 -- where a rewind was late, a sample is left
 abbrev HasSome : Ended → ℕ → Type 0
@@ -57,18 +57,18 @@ each-left member frame bindings sample_of (suc n) = by_end (each-left member fra
     by_end rest (ended.Late word) = omega arith
     by_end rest ended.Stopped = tt
 
-left_of-some : (n left channels : ℕ) (how : Ended) → HasSome how left → HasLeft (left_of n left channels how)
-left_of-some n left channels ended.Whole some = by_test (nat_eq left channels)
+rewind_left-some : (n left channels : ℕ) (how : Ended) → HasSome how left → HasLeft (rewind_left n left channels how)
+rewind_left-some n left channels ended.Whole some = by_test (nat_eq left channels)
   where
     by_test : (b : Bool) → HasLeft (if b then record { frames = n + 1; part = 0; ended = ended.Whole } else record { frames = n; part = left; ended = ended.Whole })
     by_test true = tt
     by_test false = tt
-left_of-some n left channels (ended.Late word) some = by_test (nat_eq left channels)
+rewind_left-some n left channels (ended.Late word) some = by_test (nat_eq left channels)
   where
     by_test : (b : Bool) → HasLeft (if b then record { frames = n + 1; part = 0; ended = ended.Late word } else record { frames = n; part = left; ended = ended.Late word })
     by_test true = omega arith
     by_test false = omega (arith, some)
-left_of-some n left channels ended.Stopped some = by_test (nat_eq left channels)
+rewind_left-some n left channels ended.Stopped some = by_test (nat_eq left channels)
   where
     by_test : (b : Bool) → HasLeft (if b then record { frames = n + 1; part = 0; ended = ended.Stopped } else record { frames = n; part = left; ended = ended.Stopped })
     by_test true = tt
@@ -84,8 +84,8 @@ frames-left member card bindings samples first (suc n) =
   where
     by_end : All HasLeft (take_frames member card bindings samples first n) → (end : ℕ × Ended) → IsLeftOf end → All HasLeft (back_on end n (length bindings) (take_frames member card bindings samples first n))
     by_end rest (left, ended.Whole) some = rest
-    by_end rest (left, ended.Late word) some = left_of-some n left (length bindings) (ended.Late word) some
-    by_end rest (left, ended.Stopped) some = left_of-some n left (length bindings) ended.Stopped some
+    by_end rest (left, ended.Late word) some = rewind_left-some n left (length bindings) (ended.Late word) some
+    by_end rest (left, ended.Stopped) some = rewind_left-some n left (length bindings) ended.Stopped some
 
 number-kept : (number : PlaybackStream → ℕ) (done : Answered (Unit {0})) → Kept done → Kept (with_number number done)
 number-kept number (c, Ok done) late = tt
@@ -100,19 +100,19 @@ rewound-kept c n left some = by_stop (is_stop left.ended)
     f : Facts
     f = found_at (record { frame = 0; gone = false }) (late_at left.ended (last_laid done) (last_channel done))
 
-    named : (how : Ended) → HasSome how (left.frames + left.part) → IfSome (late_at how (last_laid done) (last_channel done)) (LateWhy (IsLast done))
+    named : (how : Ended) → HasSome how (left.frames + left.part) → IfSome (late_at how (last_laid done) (last_channel done)) (LateWhy (IsLastSample done))
     named ended.Whole some = tt
     named (ended.Late word) some = (refl, refl, omega (arith, some))
     named ended.Stopped some = tt
 
     by_stop : (b : Bool) → Kept (if b then stopped_in done else with_number (λ d. n) (with_outcome done (next_of Running call.Transfer f)))
     by_stop true = tt
-    by_stop false = number-kept (λ d. n) (with_outcome done (next_of Running call.Transfer f)) (next-late (IsLast done) Running call.Transfer f (named left.ended some))
+    by_stop false = number-kept (λ d. n) (with_outcome done (next_of Running call.Transfer f)) (next-late (IsLastSample done) Running call.Transfer f (named left.ended some))
 
 -- the load before it finds nothing late
 after_sync-kept : (c : PlaybackStream) (load : Option Position) → Kept (after_sync c call.Transfer load nothing)
 after_sync-kept c None = tt
-after_sync-kept c (Some p) = next-late (IsLast (committed_by (seen_at c p) nothing)) c.status.state call.Transfer
+after_sync-kept c (Some p) = next-late (IsLastSample (committed_by (seen_at c p) nothing)) c.status.state call.Transfer
     (facts_of (committed_by (seen_at c p) nothing) p (over_of (seen_at c p) p) None) tt
 
 rewind_on-kept : (floor : Cursor) (n : ℕ) (done : Answered (Unit {0})) → Kept done → All Kept (rewind_on floor [] n done)
@@ -135,11 +135,11 @@ rewind-kept c floor n = All-if Kept (is_running c.status.state) (rewinds c [] fl
     (All-then Kept Kept (checks c) (rewind_on floor [] n) (checks-kept c) (rewind_on-kept floor n)) tt
 
 -- a refusal isn't late
-refusal-kept : (c : PlaybackStream) → IfSome (refusal_of Playback c.status call.Transfer) (LateErr (IsLast c))
+refusal-kept : (c : PlaybackStream) → IfSome (refusal_of Playback c.status call.Transfer) (LateErr (IsLastSample c))
 refusal-kept c = by_stop c.status.stopped
   where
     Q : ℕ → ℕ → Type 0
-    Q = IsLast c
+    Q = IsLastSample c
 
     by_refusal : (e : PcmError) (test : Bool) → LateErr Q e → IfSome (if test then Some e else None) (LateErr Q)
     by_refusal e true late = late
@@ -156,12 +156,12 @@ refusal-kept c = by_stop c.status.stopped
 admitted-kept : (c : PlaybackStream) (m : Course (Answered ℕ)) → All Kept m → All Kept (if_admitted c call.Transfer m)
 admitted-kept c m all = by_refusal (refusal_of Playback c.status call.Transfer) (refusal-kept c)
   where
-    by_refusal : (refusal : Option PcmError) → IfSome refusal (LateErr (IsLast c)) → All Kept (admitted_by refusal c m)
+    by_refusal : (refusal : Option PcmError) → IfSome refusal (LateErr (IsLastSample c)) → All Kept (admitted_by refusal c m)
     by_refusal None late = all
     by_refusal (Some e) late = late
 
 abbrev Named : PlaybackStream × Answer → Type 0
-Named (d, answer) = LateAnswer (IsLast d) answer
+Named (d, answer) = LateAnswer (IsLastSample d) answer
 
 call-named : (wav : Sound) (marks : Marks) (c : PlaybackStream) (n : ℕ) → All Named (call_of wav marks c (op.Rewind n))
 call-named wav marks c n = All-then Kept Named (if_admitted c call.Transfer (rewind_course c [] marks.floor n)) (λ done. ends (done.0, count_answer done.1))
@@ -169,7 +169,7 @@ call-named wav marks c n = All-then Kept Named (if_admitted c call.Transfer (rew
   where
     named : (x : Answered ℕ) → Kept x → Named (x.0, count_answer x.1)
     named (d, Ok m) late = tt
-    named (d, Err e) late = reported-late (IsLast d) e late
+    named (d, Err e) late = reported-late (IsLastSample d) e late
 
 pub late-rewinds : (rules : Rules) (phase : ℕ) (wav : Sound) (number : ℕ) → LateRewindsNameLast rules phase wav number
 late-rewinds rules phase wav number a b client after c n answer is may =
@@ -184,8 +184,8 @@ late-rewinds rules phase wav number a b client after c n answer is may =
     marks = (begins client.own asked a).marks
 
     called : (x : PlaybackStream × Answer) → Named x → NamesLast (after_call client c asked x).0 (after_call client c asked x).1
-    called (d, given) named = record { own = d; is_own = refl; late = λ frame channel late. subst (LateAnswer (IsLast d)) late named }
+    called (d, given) named = record { own = d; is_own = refl; late = λ frame channel late. subst (LateAnswer (IsLastSample d)) late named }
 
     by_stop : (stopped : Bool) → All (λ x. NamesLast x.0 x.1) (line_if stopped wav marks client c asked)
-    by_stop true = record { own = c; is_own = is; late = λ frame channel late. subst (LateAnswer (IsLast c)) late tt }
+    by_stop true = record { own = c; is_own = is; late = λ frame channel late. subst (LateAnswer (IsLastSample c)) late tt }
     by_stop false = All-then Named (λ x. NamesLast x.0 x.1) (call_of wav marks c asked) (λ done. ends (after_call client c asked done)) (call-named wav marks c n) called

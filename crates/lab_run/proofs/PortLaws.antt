@@ -23,7 +23,7 @@ use Rattle.course.specs.AtPort.{LaysAt, LoadsAt, NoGet, TakesAt}
 use Rattle.course.specs.Course.{Course}
 use Rattle.lab_run.specs.ActorPart.{DoesGet, DoesLay, DoesLoad, Doing, Each, with_late, with_position}
 use Rattle.lab_run.specs.Alike.{Alike, IsFromOn, IsSamePlace}
-use Rattle.lab_run.specs.PortSteps.{CountsDown, IsAnswered, IsAtPort, IsPart, ask_count, last_kind, with_gate}
+use Rattle.lab_run.specs.PortSteps.{CountsDown, IsAnswered, IsAtPort, IsActorPart, ask_count, last_kind, with_gate}
 use Rattle.lab_run.specs.Rules.{AtPort, left_after, lets_pass, with_asks, with_gate_stop, with_stop}
 use Rattle.lab_run.proofs.MarksLaws.{entry-alike}
 use Rattle.lab_run.proofs.AlikeLaws.{Takes-alike, without_word}
@@ -232,7 +232,7 @@ module _ {S T : Type 0} (P : mixport.Ghosts S) (G : gates.Ghosts T) (shown_laid 
 
   -- a course that was taken, and one that is like it
   pub course-part : {X Y : Type 0} (R : X → Y → Type 0) (s t : S × T) (w : Doing) (m : Course X) (n : Course Y) (x : X) → Alike from R m n
-      → IsAtPort P left by_gate first ring from s w → TakesAt P G s m t x → IsPart P left by_gate first ring from R t w n x
+      → IsAtPort P left by_gate first ring from s w → TakesAt P G s m t x → IsActorPart P left by_gate first ring from R t w n x
   course-part R s t w m n x alike at takes =
       let part = Takes-alike (LoadsAt P G) (LaysAt P G) NoGet DoesLoad (DoesLay ring) (DoesGet ring) (IsAtPort P left by_gate first ring from) from R
       load-at lay-part (λ s t w frame g at step. absurd step) s t w m n x alike at takes in

@@ -13,7 +13,7 @@ use Rattle.pcm_states.specs.declared.calls.Call.{Call}
 use Rattle.pcm_states.specs.declared.calls.Call.TheVariants as call
 use Rattle.pcm_states.specs.declared.calls.Facts.{Facts}
 use Rattle.pcm_states.specs.declared.calls.Outcome.{Outcome}
-use Rattle.pcm_states.specs.Table.{Cell, already, done_in, draining, ebadfd, eio, enodev, filling, first_outcome, if_empty, if_gone, if_none_left, if_over, moving, next_of, outcome_of, resuming, call_row, starting, stopped_by, to}
+use Rattle.pcm_states.specs.Table.{Cell, already, done_in, draining, ebadfd, eio, enodev, filling, first_outcome, if_empty, if_gone, if_none_left, if_over, moving, next_of, cell_outcome, resuming, call_row, starting, stopped_by, to}
 use Rattle.dmix_client.specs.declared.commit.Commit.{Commit}
 use Rattle.dmix_client.specs.declared.stream.PlaybackStream.{PlaybackStream}
 use Rattle.dmix_client.specs.Calls.{Answered, with_accepted, accepted_if, committed_by, end_channel, end_of_commit, facts_of, found_at, going_on, going_on_by, over_of, with_new_base, after_resume, seen_at, with_outcome, after_start, after_sync, taken_of, with_number, written_after}
@@ -45,7 +45,7 @@ abbrev with_late : Facts → ℕ → ℕ → ℕ → Facts
 with_late f frame channel word = record f { late = Some (why.Late frame channel word) }
 
 cell-word : (cell : Cell) (s : State) (c : Call) (f : Facts) (frame channel word : ℕ)
-    → SameOutcome (outcome_of cell s c (with_late f frame channel word)) (outcome_of cell s c (with_late f frame channel 0))
+    → SameOutcome (cell_outcome cell s c (with_late f frame channel word)) (cell_outcome cell s c (with_late f frame channel 0))
 cell-word (to t) s c f frame channel word = same _
 cell-word ebadfd s c f frame channel word = same _
 cell-word enodev s c f frame channel word = same _

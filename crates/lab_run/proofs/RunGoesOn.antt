@@ -16,7 +16,7 @@ use Rattle.lab_script.specs.declared.line.Line.{Line}
 use Rattle.lab_script.specs.declared.line.Op.{Op}
 use Rattle.lab_report.specs.declared.row.Row.{Row}
 use Rattle.lab_run.specs.Items.{ItemsMay, PhaseMay, client_kinds, items_text, reader_kinds, rules_of}
-use Rattle.lab_run.specs.LabRun.{AreWithin, GoesOn}
+use Rattle.lab_run.specs.LabRun.{AreWithin, CanGoOn}
 use Rattle.lab_run.specs.Lines.{EachMay, Kind, LinesMay}
 use Rattle.lab_run.specs.Phases.{is_client, is_reader, on_the_way, ops_by, played_at, played_in, phase_positions, published_by}
 use Rattle.lab_run.specs.Rules.{AtPort, May, MayGet, MayLay, MayLoad, Rules, lets_pass, with_asks, with_stop, with_stop_by}
@@ -162,7 +162,7 @@ items-append session first between after (one ∷ items) more (next, may, others
 least : (p : ℕ) → 0 ≤ p
 least p = omega arith
 
-pub goes-on : (session : Session) (done others : List Item) (stage : Stage) → ItemsMay session (first_stage session) done stage → GoesOn session done others stage
+pub goes-on : (session : Session) (done others : List Item) (stage : Stage) → ItemsMay session (first_stage session) done stage → CanGoOn session done others stage
 goes-on session done others stage may = record {
   may = items-append session (first_stage session) stage (items_text session stage others) done others may more;
   more = (items-more session stage (items_text session stage others) others more).more;

@@ -18,7 +18,7 @@ use Rattle.lab_script.specs.declared.line.Item.TheVariants as item
 use Rattle.lab_script.specs.declared.line.Line.{Line}
 use Rattle.lab_script.specs.declared.script.Script.{Script}
 use Rattle.lab_script.specs.Limits.{IsItem, IsLine}
-use Rattle.lab_script.specs.Script.{IsPublished, first_frame, frames_played, is_gone, phase_at, phases_of, position_after, unplugs}
+use Rattle.lab_script.specs.Script.{IsCardPosition, first_frame, frames_played, is_gone, phase_at, phases_of, position_after_phases, unplugs}
 use Rattle.lab_script.specs.Script as script_words
 use Rattle.lab_run.specs.Claims.{claim_refusal}
 use Rattle.lab_run.specs.Client.{Client}
@@ -373,8 +373,8 @@ phases-of_scripts script wavs session done others lines stage is = record {
     next = ap (λ ps. slice_index_or ps (stage.phases + 1 - 1) []) card.body
         ∙ first-of (phases_of done) (phases_of others) (stage.phases + 1 - 1) lines [] (omega (arith, card.phases))
 
-    begins : stage.position ≡ position_after script (stage.phases + 1 - 1)
-    begins = (stages-of_scripts script wavs session done (item.Phase lines ∷ others) stage is).position ∙ ap (position_after script) (omega arith)
+    begins : stage.position ≡ position_after_phases script (stage.phases + 1 - 1)
+    begins = (stages-of_scripts script wavs session done (item.Phase lines ∷ others) stage is).position ∙ ap (position_after_phases script) (omega arith)
 
     period : session.card.period ≡ script.card.period
     period = ap (λ c. c.period) is.session_is.card
@@ -384,14 +384,14 @@ phases-of_scripts script wavs session done others lines stage is = record {
         ∙ ap frames_played (take-one (phases_of done) (phases_of others) lines (stage.phases + 1) (omega (arith, card.phases)))
         ∙ sum_by-append script_words.played_in (phases_of done) (lines ∷ []) ∙ omega (arith, sum_by-cons script_words.played_in lines [])
 
-    position : stage.position + played_in lines ≡ position_after script (stage.phases + 1)
+    position : stage.position + played_in lines ≡ position_after_phases script (stage.phases + 1)
     position = omega (arith, card.position, frames, played_in-lines (length script.clients) (length script.readers) lines each)
 
-    by_way : (q : ℕ) → In q (phase_positions session.card.period stage.position lines) → IsPublished script (stage.phases + 1) q
+    by_way : (q : ℕ) → In q (phase_positions session.card.period stage.position lines) → IsCardPosition script (stage.phases + 1) q
     by_way q (inl first) = inl (sym first ∙ begins)
     by_way q (inr there) = of_way (published-on_the_way session.card.period stage.position lines q there)
       where
-        of_way : IsOnTheWay session.card.period stage.position lines q → IsPublished script (stage.phases + 1) q
+        of_way : IsOnTheWay session.card.period stage.position lines q → IsCardPosition script (stage.phases + 1) q
         of_way (multiple k same low high) =
             inr (inl (k, same ∙ ap (λ (n : ℕ). k * n) period, omega (arith, low, begins), omega (arith, high, position)))
         of_way (behind n few same) =
@@ -407,7 +407,7 @@ phases-of_scripts script wavs session done others lines stage is = record {
               ),
             ))
 
-    by_words : (q : ℕ) → IsPublished script (stage.phases + 1) q → In q (phase_positions session.card.period stage.position lines)
+    by_words : (q : ℕ) → IsCardPosition script (stage.phases + 1) q → In q (phase_positions session.card.period stage.position lines)
     by_words q (inl first) = inl (begins ∙ sym first)
     by_words q (inr (inl (k, same, low, high))) = on_the_way-published session.card.period stage.position lines q
         (multiple k (same ∙ ap (λ (n : ℕ). k * n) (sym period)) (omega (arith, low, begins)) (omega (arith, high, position)))

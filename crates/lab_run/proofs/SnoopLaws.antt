@@ -15,7 +15,7 @@ use Rattle.snoop_core.specs.declared.port.Frame.{Frame}
 use Rattle.snoop_core.specs.declared.port.Got.{Got}
 use Rattle.snoop_core.specs.declared.port.Got.TheVariants as got
 use Rattle.snoop_core.specs.declared.port.SnoopPort as snoopport
-use Rattle.snoop_core.specs.Port.{IsPast, ShowsFrom, SnoopView, frame_if, frame_of}
+use Rattle.snoop_core.specs.Port.{IsPast, ShowsFrom, SnoopView, frame_if, numbered_frame}
 use Rattle.course.specs.AtSnoopPort.{GetsAtSnoop, LoadsAtSnoop, NoLay, TakesAtSnoop}
 use Rattle.course.specs.Course.{Course, Takes}
 use Rattle.lab_run.specs.ActorPart.{DoesGet, DoesLay, DoesLoad, Doing, Each, with_overtaken, with_position}
@@ -124,7 +124,7 @@ module _ {S T : Type 0} (P : snoopport.Ghosts S) (G : gates.Ghosts T) (shown_got
           by_gate_is = refl;
           loads = Composes-none_after P.loaded first s.0 t.0 found.loads composes at.loads step.loaded_nothing;
           late = at.late;
-          overtaken = all_past-stays s.0 t.0 (frame_if got.Whole (frame_of frame samples)) found.overtaken step.got_it same at.overtaken;
+          overtaken = all_past-stays s.0 t.0 (frame_if got.Whole (numbered_frame frame samples)) found.overtaken step.got_it same at.overtaken;
         },
       )
     where
@@ -148,7 +148,7 @@ module _ {S T : Type 0} (P : snoopport.Ghosts S) (G : gates.Ghosts T) (shown_got
           loads = Composes-none_after P.loaded first s.0 t.0 found.loads composes at.loads step.loaded_nothing;
           late = at.late;
           overtaken = Each-more _ found.overtaken (frame, channel)
-              (all_past-stays s.0 t.0 (frame_if (got.Overtaken channel word) (frame_of frame samples)) found.overtaken step.got_it same at.overtaken) (word, step.overtaken);
+              (all_past-stays s.0 t.0 (frame_if (got.Overtaken channel word) (numbered_frame frame samples)) found.overtaken step.got_it same at.overtaken) (word, step.overtaken);
         },
       )
     where
@@ -169,7 +169,7 @@ module _ {S T : Type 0} (P : snoopport.Ghosts S) (G : gates.Ghosts T) (shown_got
           by_gate_is = refl;
           loads = Composes-none_after P.loaded first s.0 t.0 found.loads composes at.loads step.loaded_nothing;
           late = at.late;
-          overtaken = all_past-stays s.0 t.0 (frame_if got.Stopped (frame_of frame samples)) found.overtaken step.got_it same at.overtaken;
+          overtaken = all_past-stays s.0 t.0 (frame_if got.Stopped (numbered_frame frame samples)) found.overtaken step.got_it same at.overtaken;
         },
       )
     where

@@ -56,7 +56,7 @@ reaped_reader ring reader = reaped_reader_if (is_reader_stopped reader.1.own) ri
 -- the places and the claims
 pub record Held : Type 0 where
   pub lobby : Lobby
-  pub claims : List owners.Row
+  pub claims : List owners.ClaimRow
 
 abbrev pub held_of : Stage → Held
 held_of stage = record { lobby = stage.lobby; claims = stage.claims }

@@ -141,7 +141,7 @@ pub record IsOneRun (session : Session) (capture : Option Sound) (body : List It
 
 -- a stage that the first items of a body may reach is one from which the others can go on: with the rows so far and more after them, and
 -- with no more stops by an actor's own gate
-pub record GoesOn (session : Session) (done others : List Item) (stage : Stage) : Type 0 where
+pub record CanGoOn (session : Session) (done others : List Item) (stage : Stage) : Type 0 where
   pub may : ItemsMay session (first_stage session) (done ++ others)
       (items_text session stage others)
   pub more : List Row

@@ -15,8 +15,8 @@ use Rattle.lab_run.specs.Lines.{LineMay}
 use Rattle.lab_run.specs.Rules.{AtPort, Rules}
 
 -- a frame and channel are those of the first sample that a client hasn't placed
-abbrev pub IsNext : PlaybackStream → ℕ → ℕ → Type 0
-IsNext c frame channel =
+abbrev pub IsNextSample : PlaybackStream → ℕ → ℕ → Type 0
+IsNextSample c frame channel =
     (frame ≡ c.stretch.card + c.stretch.committed)
     × (channel ≡ slice_index c.setup.bindings
     (slice_index (rising c.setup.bindings) c.stretch.part))
@@ -31,7 +31,7 @@ pub record NamesNext (after : Client) (answer : Answer) : Type 0 where
   pub own : PlaybackStream
   pub is_own : after.own ≡ Some own
   pub late : (frame channel : ℕ) → answer ≡ Failed (Xrun (Late frame channel 0))
-      → IsNext own frame channel
+      → IsNextSample own frame channel
 
 -- each line but a rewind that a phase allows to an open client
 abbrev pub LateRowsNameNext : Rules → ℕ → Sound → ℕ → Type 0
@@ -42,8 +42,8 @@ LateRowsNameNext rules phase wav number =
     → NamesNext after answer
 
 -- a frame and channel are those of the last sample of its stretch that a client has in the card's ring
-abbrev pub IsLast : PlaybackStream → ℕ → ℕ → Type 0
-IsLast c frame channel =
+abbrev pub IsLastSample : PlaybackStream → ℕ → ℕ → Type 0
+IsLastSample c frame channel =
     (frame ≡ last_laid c) × (channel ≡ last_channel c) × (0 < c.stretch.committed + c.stretch.part)
 
 -- an open client after a rewind: where it was late, the row names the last sample that it couldn't take back
@@ -51,7 +51,7 @@ pub record NamesLast (after : Client) (answer : Answer) : Type 0 where
   pub own : PlaybackStream
   pub is_own : after.own ≡ Some own
   pub late : (frame channel : ℕ) → answer ≡ Failed (Xrun (Late frame channel 0))
-      → IsLast own frame channel
+      → IsLastSample own frame channel
 
 -- each rewind that a phase allows to an open client
 abbrev pub LateRewindsNameLast : Rules → ℕ → Sound → ℕ → Type 0

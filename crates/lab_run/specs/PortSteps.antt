@@ -118,7 +118,7 @@ pub record IsAtPort {S T : Type 0} (P : mixport.Ghosts S) (left : T → Option �
   pub overtaken : doing.1.overtaken ≡ []
 
 -- a course that was taken at a port and its gate is a part of an actor: one that is like it was done so, from how the actor was to how it is
-pub record IsPart {S T X Y : Type 0} (P : mixport.Ghosts S) (left : T → Option ℕ)
+pub record IsActorPart {S T X Y : Type 0} (P : mixport.Ghosts S) (left : T → Option ℕ)
     (by_gate : T → ℕ) (first : S) (ring : Geometry) (from : ℕ) (R : X → Y → Type 0)
     (t : S × T) (before : Doing) (n : Course Y) (x : X) : Type 0 where
   pub after : Doing

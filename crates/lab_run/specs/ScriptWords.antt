@@ -6,7 +6,7 @@ use Rattle.lab_script.specs.declared.line.Item.TheVariants as item
 use Rattle.lab_script.specs.declared.line.Line.{Line}
 use Rattle.lab_script.specs.declared.script.Script.{Script}
 use Rattle.lab_script.specs.Limits.{IsScript}
-use Rattle.lab_script.specs.Script.{IsPublished, is_gone, phase_at, phases_of, position_after}
+use Rattle.lab_script.specs.Script.{IsCardPosition, is_gone, phase_at, phases_of, position_after_phases}
 use Rattle.lab_run.specs.Items.{ItemsMay, rules_of}
 use Rattle.lab_run.specs.Openings.{IsSessionOf}
 use Rattle.lab_run.specs.Rules.{Rules}
@@ -23,7 +23,7 @@ pub record IsReached (script : Script) (wavs : List Sound) (session : Session)
 -- these items' phases are done, and the card is where the script has it after so many phases
 pub record IsAfterPhases (script : Script) (done : List Item) (stage : Stage) : Type 0 where
   pub phases : stage.phases ≡ length (phases_of done)
-  pub position : stage.position ≡ position_after script stage.phases
+  pub position : stage.position ≡ position_after_phases script stage.phases
   pub gone : stage.gone ≡ is_gone script (stage.phases + 1)
 
 -- what a phase allows is what the script has of the phase of this number: its lines, the position at its end, whether the card is gone, and
@@ -31,10 +31,10 @@ pub record IsAfterPhases (script : Script) (done : List Item) (stage : Stage) : 
 pub record AreRulesOf (script : Script) (phase : ℕ) (lines : List Line)
     (rules : Rules) : Type 0 where
   pub lines_are : phase_at script phase ≡ lines
-  pub position : rules.at.position ≡ position_after script phase
+  pub position : rules.at.position ≡ position_after_phases script phase
   pub gone : rules.at.gone ≡ is_gone script phase
-  pub published : (q : ℕ) → Contains rules.published q → IsPublished script phase q
-  pub publishes : (q : ℕ) → IsPublished script phase q → Contains rules.published q
+  pub published : (q : ℕ) → Contains rules.published q → IsCardPosition script phase q
+  pub publishes : (q : ℕ) → IsCardPosition script phase q → Contains rules.published q
 
 -- each stage of a run of a script
 abbrev pub StagesAreOfScripts : Type 0

@@ -54,7 +54,7 @@ pub record Stage : Type 0 where
   pub position : ℕ
   pub gone : Bool
   pub lobby : Lobby
-  pub claims : List owners.Row
+  pub claims : List owners.ClaimRow
   pub clients : List (AtPort × Client)
   pub readers : List (AtPort × Reader)
   pub rows : List Row
@@ -83,8 +83,8 @@ first_stage session = record {
   rows = [];
 }
 
-abbrev pub row_at : Stage → Actor → Op → Answer → State → Option ℕ → Row
-row_at stage actor asked answer after seen =
+abbrev pub stage_row : Stage → Actor → Op → Answer → State → Option ℕ → Row
+stage_row stage actor asked answer after seen =
     record {
       phase = stage.phases;
       actor = actor;
@@ -104,8 +104,8 @@ client_at session stage number = slice_index_or stage.clients number (no_client 
 abbrev pub reader_at : Session → Stage → ℕ → AtPort × Reader
 reader_at session stage number = slice_index_or stage.readers number (no_reader session.ring)
 
-abbrev pub with_client : ℕ → AtPort × Client → Stage → Stage
-with_client number client stage = record stage { clients = slice_set stage.clients number client }
+abbrev pub with_client_at : ℕ → AtPort × Client → Stage → Stage
+with_client_at number client stage = record stage { clients = slice_set stage.clients number client }
 
 abbrev pub with_reader : ℕ → AtPort × Reader → Stage → Stage
 with_reader number reader stage = record stage { readers = slice_set stage.readers number reader }
@@ -130,18 +130,18 @@ opened_reader ring setup =
 
 -- an opening that is refused
 abbrev pub refused_open : Actor → PcmError → Stage → Stage
-refused_open who e stage = with_row (row_at stage who op.Opens (Failed e) state.Open None) stage
+refused_open who e stage = with_row (stage_row stage who op.Opens (Failed e) state.Open None) stage
 
 -- an opening that went well
 abbrev pub done_open : Actor → Stage → Stage
-done_open who stage = with_row (row_at stage who op.Opens Done state.Prepared None) stage
+done_open who stage = with_row (stage_row stage who op.Opens Done state.Prepared None) stage
 
 -- a client with a configuration that claimed its channels attaches; where that is refused it claimed none
 abbrev pub attached_client : Session → Stage → ℕ → Setup → AtPort × Client
     → Lobby × Result (Unit {0}) PcmError → Stage
 attached_client session stage number setup (a, client) (lobby, Ok done) =
     done_open (actor.Client number)
-    (with_client number
+    (with_client_at number
     (renewed_port session.ring a, record client { own = Some (opened_client session.ring number setup) })
     (record stage {
       lobby = lobby;
@@ -198,16 +198,16 @@ ended_reader ring (a, reader) = (renewed_port ring a, record reader { own = None
 abbrev pub lobby_without : Geometry → ℕ → AtPort → Lobby → Lobby
 lobby_without ring number a lobby = left_by number (high_frame ring a.marks) lobby
 
-abbrev pub claims_without : Session → AtPort → PlaybackStream → List owners.Row → List owners.Row
+abbrev pub claims_without : Session → AtPort → PlaybackStream → List owners.ClaimRow → List owners.ClaimRow
 claims_without session a c claims =
     with_release session.card.share c.setup.bindings (high_frame session.ring a.marks) claims
 
 abbrev pub close_client : Session → Stage → ℕ → AtPort × Client → Option PlaybackStream → Stage
 close_client session stage number client None =
-    with_row (row_at stage (actor.Client number) op.Closes (Failed BadState) state.Open None) stage
+    with_row (stage_row stage (actor.Client number) op.Closes (Failed BadState) state.Open None) stage
 close_client session stage number client (Some c) =
-    with_row (row_at stage (actor.Client number) op.Closes Done state.Open c.seen)
-    (with_client number (ended_client session.ring client)
+    with_row (stage_row stage (actor.Client number) op.Closes Done state.Open c.seen)
+    (with_client_at number (ended_client session.ring client)
     (record stage {
       lobby = lobby_without session.ring number client.0 stage.lobby;
       claims = claims_without session client.0 c stage.claims;
@@ -216,9 +216,9 @@ close_client session stage number client (Some c) =
 abbrev pub close_reader : Session → Stage → ℕ → AtPort × Reader → Option reading.CaptureStream
     → Stage
 close_reader session stage number reader None =
-    with_row (row_at stage (actor.Reader number) op.Closes (Failed BadState) state.Open None) stage
+    with_row (stage_row stage (actor.Reader number) op.Closes (Failed BadState) state.Open None) stage
 close_reader session stage number reader (Some r) =
-    with_row (row_at stage (actor.Reader number) op.Closes Done state.Open r.seen)
+    with_row (stage_row stage (actor.Reader number) op.Closes Done state.Open r.seen)
     (with_reader number (ended_reader session.ring reader) stage)
 
 -- ---- of an actor

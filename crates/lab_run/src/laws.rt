@@ -19,7 +19,7 @@ ghost use Rattle.lab_run.specs.Alike.{CallsAreAlike, ReadsAreAlike, SameFrom};
 ghost use Rattle.lab_run.specs.Claims.{ClaimIsOwners};
 ghost use Rattle.lab_run.specs.Client.{client_kind};
 ghost use Rattle.lab_run.specs.Items.{ItemsMay};
-ghost use Rattle.lab_run.specs.LabRun.{GoesOn, IsOneRun};
+ghost use Rattle.lab_run.specs.LabRun.{CanGoOn, IsOneRun};
 ghost use Rattle.lab_run.specs.OwnRows.{AreAlone, HaveLines};
 ghost use Rattle.lab_run.specs.LateRows.{LateRewindsNameLast, LateRowsNameNext};
 ghost use Rattle.lab_run.specs.Reader.{reader_kind};
@@ -58,7 +58,7 @@ pub fn actors_are_alone()
 /// It does nothing.
 pub fn runs_go_on()
     ensures { (session : Session) (done others : List Item) (stage : Stage) →
-        ItemsMay session (first_stage session) done stage → GoesOn session done others stage }
+        ItemsMay session (first_stage session) done stage → CanGoOn session done others stage }
 {}
 
 /// Each call of a client and of a reader is the course of it in a run, but for the samples that it
@@ -155,7 +155,7 @@ pub fn late_rows_name_samples()
 ///
 /// It does nothing.
 pub fn claims_are_of_owners()
-    ensures { (claims : List owners.Row) (channels : List ℕ) (position : ℕ) →
+    ensures { (claims : List owners.ClaimRow) (channels : List ℕ) (position : ℕ) →
         ClaimIsOwners claims channels position }
 {}
 

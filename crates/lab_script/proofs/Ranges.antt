@@ -14,7 +14,7 @@ use Rattle.lab_script.specs.Causes.{◌>>=◌, refuse_if, some_or}
 use Rattle.lab_script.specs.Draft.{divides}
 use Rattle.lab_script.specs.Keys.{row_of, keys_of, key_value, keys_from, value_of, check_of, number_in, word_after, number_or_zero, number_given, number_within, small_where, stop_of, stop_given, name_of, file_of, file_where, bindings_where, bound, numbers_of}
 use Rattle.lab_script.specs.Limits.{IsIn, IsInWhere, IsStopWhere, IsFileWhere, IsBoundWhere}
-use Rattle.lab_script.specs.Word.{number_of, is_name, is_file}
+use Rattle.lab_script.specs.Word.{number_of_word, is_name, is_file}
 
 -- what a value after a step says
 pub bind_ok : {A B : Type 0} (r : Result A ScriptWhy) (f : A → Result B ScriptWhy) (y : B) → (r >>= f) ≡ Ok y → (x : A) × (r ≡ Ok x) × (f x ≡ Ok y)
@@ -35,13 +35,13 @@ at_least a b e = grind (arith, nat_tests)
 pub below : (a b : ℕ) → nat_le a b ≡ false → b < a
 below a b e = grind (arith, nat_tests)
 
-pub number_in-range : (least most : ℕ) (w : List ℕ) (n : ℕ) → number_in least most w ≡ Ok n → (number_of w ≡ Some n) × IsIn least most n
+pub number_in-range : (least most : ℕ) (w : List ℕ) (n : ℕ) → number_in least most w ≡ Ok n → (number_of_word w ≡ Some n) × IsIn least most n
 number_in-range least most w n e =
-    let a = bind_ok (some_or why.Number (number_of w)) (λ m. (refuse_if (not (nat_le least m)) why.Range) >>= (λ u. (refuse_if (not (nat_le m most)) why.Range) >>= (λ v. Ok m))) n e in
+    let a = bind_ok (some_or why.Number (number_of_word w)) (λ m. (refuse_if (not (nat_le least m)) why.Range) >>= (λ u. (refuse_if (not (nat_le m most)) why.Range) >>= (λ v. Ok m))) n e in
     let b = bind_ok (refuse_if (not (nat_le least a.0)) why.Range) (λ u. (refuse_if (not (nat_le a.0 most)) why.Range) >>= (λ v. Ok a.0)) n a.2 in
     let d = bind_ok (refuse_if (not (nat_le a.0 most)) why.Range) (λ v. Ok a.0) n b.2 in
     let same : a.0 ≡ n = cc (d.2) in
-    let some : number_of w ≡ Some a.0 = some_is why.Number (number_of w) a.0 a.1 in (
+    let some : number_of_word w ≡ Some a.0 = some_is why.Number (number_of_word w) a.0 a.1 in (
       some ∙ ap Some same,
       record {
         low = subst (λ (m : ℕ). least ≤ m) same (at_least least a.0 (not_refused _ _ b.0 b.1));

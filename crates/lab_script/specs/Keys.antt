@@ -15,7 +15,7 @@ use Rattle.lab_script.specs.declared.script.Share.{Share}
 use Rattle.lab_script.specs.declared.script.Share.TheVariants as share
 use Rattle.lab_script.specs.declared.script.Stop.{Stop}
 use Rattle.lab_script.specs.declared.script.Stop.TheVariants as stop
-use Rattle.lab_script.specs.Word.{number_of, parts_of, is_name, is_file}
+use Rattle.lab_script.specs.Word.{number_of_word, parts_of, is_name, is_file}
 use Rattle.lab_script.specs.Causes.{◌>>=◌, refuse_if, some_or}
 
 -- the keys of the card's line; a period above half the ring is no matter of its range
@@ -64,7 +64,7 @@ row_of (row ∷ rows) word = if bytes_eq word row.0 then Some row.1 else row_of 
 -- a word that must be a number from least to most
 abbrev pub number_in : ℕ → ℕ → List ℕ → Result ℕ ScriptWhy
 number_in least most word = do
-  n ← some_or why.Number (number_of word)
+  n ← some_or why.Number (number_of_word word)
   ranged ← refuse_if (not (nat_le least n)) why.Range
   within ← refuse_if (not (nat_le n most)) why.Range
   Ok n
@@ -122,7 +122,7 @@ word_after key (k ∷ word ∷ words) = if bytes_eq k key then Some word else wo
 
 -- the number that a word means, or 0
 abbrev pub number_or_zero : List ℕ → ℕ
-number_or_zero word = option_map_or (λ n. n) (number_of word) 0
+number_or_zero word = option_map_or (λ n. n) (number_of_word word) 0
 
 -- the number after a key, or another one where it isn't given
 abbrev pub number_given : List ℕ → ℕ → List (List ℕ) → ℕ

@@ -32,8 +32,8 @@ abbrev pub first_frame : CardLine → ℕ
 first_frame card = card.lap * card.ring
 
 -- the position of the card after so many phases
-abbrev pub position_after : Script → ℕ → ℕ
-position_after script phases = first_frame script.card + frames_played (take phases (phases_of script.body))
+abbrev pub position_after_phases : Script → ℕ → ℕ
+position_after_phases script phases = first_frame script.card + frames_played (take phases (phases_of script.body))
 
 -- the lines of the phase of this number, from 1
 abbrev pub phase_at : Script → ℕ → List Line
@@ -41,11 +41,11 @@ phase_at script phase = slice_index_or (phases_of script.body) (phase - 1) []
 
 -- a position that the card publishes in the phase of this number, or has before it: where the phase begins, a multiple of the
 -- period on the way, or after one of its lines
-abbrev pub IsPublished : Script → ℕ → ℕ → Type 0
-IsPublished script phase position =
-    (position ≡ position_after script (phase - 1))
-    ⊎ (((k : ℕ) × (position ≡ k * script.card.period) × (position_after script (phase - 1) ≤ position) × (position < position_after script phase))
-    ⊎ ((lines : ℕ) × (lines ≤ length (phase_at script phase)) × (position ≡ position_after script (phase - 1) + played_in (take lines (phase_at script phase)))))
+abbrev pub IsCardPosition : Script → ℕ → ℕ → Type 0
+IsCardPosition script phase position =
+    (position ≡ position_after_phases script (phase - 1))
+    ⊎ (((k : ℕ) × (position ≡ k * script.card.period) × (position_after_phases script (phase - 1) ≤ position) × (position < position_after_phases script phase))
+    ⊎ ((lines : ℕ) × (lines ≤ length (phase_at script phase)) × (position ≡ position_after_phases script (phase - 1) + played_in (take lines (phase_at script phase)))))
 
 -- it is asked of the card
 abbrev pub is_of_card : Actor → Bool

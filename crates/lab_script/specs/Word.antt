@@ -22,8 +22,8 @@ abbrev pub parts_of : List ℕ → List (List ℕ)
 parts_of word = slice_split is_comma word
 
 -- the number that a word means: it has 1 to 19 decimal digits
-abbrev pub number_of : List ℕ → Option ℕ
-number_of word = if nat_le 1 (length word) && nat_le (length word) 19 && all_ascii_digits word then Some (digits_value 10 word) else None
+abbrev pub number_of_word : List ℕ → Option ℕ
+number_of_word word = if nat_le 1 (length word) && nat_le (length word) 19 && all_ascii_digits word then Some (digits_value 10 word) else None
 
 -- a lower-case letter
 abbrev pub is_lower : ℕ → Bool

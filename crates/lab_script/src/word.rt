@@ -3,7 +3,7 @@ ghost use Rattle.std.specs.Prelude.{◌≡◌, ◌≤◌, ◌<◌, ◌∷◌, []
 ghost use Rattle.std.specs.List.{list_all, position};
 ghost use Rattle.std.specs.Str.{all_ascii_digits};
 ghost use Rattle.std.specs.Str.Parse.{digits_value};
-ghost use Rattle.lab_script.specs.Word.{parts_of, number_of, is_name, is_name_byte, is_file, is_file_byte, begins_lower, is_reserved};
+ghost use Rattle.lab_script.specs.Word.{parts_of, number_of_word, is_name, is_name_byte, is_file, is_file_byte, begins_lower, is_reserved};
 
 /// Where a byte is first.
 fn place_of(bytes: &[u8], byte: u8) -> Option<usize>
@@ -44,7 +44,7 @@ fn digits_value(word: &[u8]) -> u64
 
 /// The number that a word means, where it has 1 to 19 decimal digits.
 pub fn read_number(word: &[u8]) -> Option<u64>
-    ensures { result ≡ number_of word.now }
+    ensures { result ≡ number_of_word word.now }
 {
     if word.is_empty() || word.len() > 19 {
         return None;

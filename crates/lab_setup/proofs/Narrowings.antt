@@ -8,7 +8,7 @@ use Rattle.hw_space.specs.declared.param_box.ParamBox.{ParamBox}
 use Rattle.hw_space.specs.ChoiceLaws.{IsChoice-unique, Leaves-unique}
 use Rattle.hw_space.specs.Choices.{IsChoice}
 use Rattle.hw_space.specs.Narrowings.{with_value}
-use Rattle.hw_space.specs.Settled.{Leaves, left_of}
+use Rattle.hw_space.specs.Settled.{Leaves, space_left}
 use Rattle.hw_space.specs.Widest.{widest}
 use Rattle.lab_script.specs.declared.script.CardLine.{CardLine}
 use Rattle.lab_run.specs.Openings.{IsChosen, IsNarrowed, Values}
@@ -90,8 +90,8 @@ IsChosen-unique card values (Err e) (Err f) one other = refl
 
 -- what a call narrowed that was refused
 pub IsNarrowed-refused : (values : Values) (b x : ParamBox) (r : Result (Unit {0}) Empty) (e : Empty) → r ≡ Err e → IsNarrowed b values None
-    → IsNarrowed b values (left_of r x)
-IsNarrowed-refused values b x r e is none = subst (λ (q : Result (Unit {0}) Empty). IsNarrowed b values (left_of q x)) (sym is) none
+    → IsNarrowed b values (space_left r x)
+IsNarrowed-refused values b x r e is none = subst (λ (q : Result (Unit {0}) Empty). IsNarrowed b values (space_left q x)) (sym is) none
 
 -- a choice from what values leave of the card's space, or that they leave nothing
 pub IsChosen-narrowed : (card : CardLine) (values : Values) (w d : ParamBox) (r : Result Config Empty) → w ≡ widest card.channels card.rate card.ring

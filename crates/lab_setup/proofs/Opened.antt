@@ -11,7 +11,7 @@ use Rattle.lab_script.specs.declared.script.Stop.{Stop}
 use Rattle.lab_script.specs.Limits.{IsBoundWhere, IsCardLine, IsIn, IsStopWhere}
 use Rattle.lab_run.specs.Openings.{AreParams, IsChosen, client_values, values_of}
 use Rattle.lab_run.specs.Stage.{Setup}
-use Rattle.lab_setup.specs.Usable.{IsInRange, IsUsable}
+use Rattle.lab_setup.specs.Usable.{IsConfigInRange, IsUsable}
 use Rattle.lab_setup.proofs.BoundTo.{bound-below}
 use Rattle.lab_setup.proofs.ParamLaws.{AreParams-IsValid}
 
@@ -24,7 +24,7 @@ IsChosen-file card line wav channels rate r channels_are rate_is chosen =
 
 -- an opening with such bindings and parameters can be used
 pub IsUsable-opened : (card : CardLine) (channels bound start : ℕ) (given : Option (List ℕ)) (stop : Option Stop) (setup : Setup) → IsCardLine card
-    → IsInRange setup.config channels card.channels card.ring
+    → IsConfigInRange setup.config channels card.channels card.ring
     → IsBoundWhere card.channels given → bound ≤ card.channels → setup.bindings ≡ unwrap_or given (identity bound) → length setup.bindings ≡ channels
     → AreParams setup.config start stop setup.params → IsIn 1 65536 start → IsStopWhere stop → setup.lead < card.ring
     → IsUsable card.channels card.ring setup

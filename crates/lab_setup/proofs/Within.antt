@@ -3,8 +3,8 @@ use Rattle.std.proofs.Common.{◌≡◌, ℕ, ◌/◌, refl, sym, ap, subst, ari
 use Rattle.std.specs.Prelude.{Bool, true, false, if◌then◌else◌, Option, Some, None, Result, Ok, Err, IfOk}
 use Rattle.pcm_interval.specs.declared.empty.Empty.{Empty}
 use Rattle.pcm_interval.specs.declared.interval.Interval.{Interval}
-use Rattle.pcm_interval.specs.IntervalLaws.{IsWithin-max, IsWithin-min, IsWithin-trans, refined-IsWithin_left, refined-IsWithin_right}
-use Rattle.pcm_interval.specs.Intervals.{IsWithin, refinement}
+use Rattle.pcm_interval.specs.IntervalLaws.{IsIntervalWithin-max, IsIntervalWithin-min, IsIntervalWithin-trans, refined-IsWithin_left, refined-IsWithin_right}
+use Rattle.pcm_interval.specs.Intervals.{IsIntervalWithin, refinement}
 use Rattle.pcm_interval.specs.MaskLaws.{common_mask-IsMaskWithin_left}
 use Rattle.hw_space.specs.declared.choice.Choice.{Choice}
 use Rattle.hw_space.specs.declared.choice.Choice.TheVariants.{Settle, FirstAccess, FirstFormat, First, Last, Near}
@@ -24,7 +24,7 @@ use Rattle.hw_space.specs.Params.{kind_of}
 use Rattle.hw_space.specs.Settled.{Leaves}
 use Rattle.hw_space.specs.Widest.{whole_from_to, widest}
 use Rattle.lab_run.specs.Openings.{IsNarrowed, Values}
-use Rattle.lab_setup.specs.Usable.{IsInRange}
+use Rattle.lab_setup.specs.Usable.{IsConfigInRange}
 
 -- a narrowed space is within the space
 narrowed-IsBoxWithin : (b : ParamBox) (q : Quantity) (i : Interval) → IsBoxWithin (with_refined b q i) b
@@ -74,14 +74,14 @@ with_access-IsBoxWithin : (b : ParamBox) (n : ℕ) → IsBoxWithin (with_access 
 with_access-IsBoxWithin b n = record {
   access = common_mask-IsMaskWithin_left b.access _;
   format = (IsBoxWithin-refl b).format;
-  parts = λ q. subst (λ (i : Interval). IsWithin i (part b q)) (sym (each_part b (with_access b n) refl refl refl refl refl refl refl refl refl refl refl q)) ((IsBoxWithin-refl b).parts q);
+  parts = λ q. subst (λ (i : Interval). IsIntervalWithin i (part b q)) (sym (each_part b (with_access b n) refl refl refl refl refl refl refl refl refl refl refl q)) ((IsBoxWithin-refl b).parts q);
 }
 
 with_format-IsBoxWithin : (b : ParamBox) (n : ℕ) → IsBoxWithin (with_format b n) b
 with_format-IsBoxWithin b n = record {
   access = (IsBoxWithin-refl b).access;
   format = common_mask-IsMaskWithin_left b.format _;
-  parts = λ q. subst (λ (i : Interval). IsWithin i (part b q)) (sym (each_part b (with_format b n) refl refl refl refl refl refl refl refl refl refl refl q)) ((IsBoxWithin-refl b).parts q);
+  parts = λ q. subst (λ (i : Interval). IsIntervalWithin i (part b q)) (sym (each_part b (with_format b n) refl refl refl refl refl refl refl refl refl refl refl q)) ((IsBoxWithin-refl b).parts q);
 }
 
 with_kind_value-IsBoxWithin : (b : ParamBox) (k : ParamKind) (n : ℕ) → IsBoxWithin (with_kind_value b k n) b
@@ -114,10 +114,10 @@ IsNarrowed-IsBoxWithin ((p, v) ∷ more) b d narrow =
     (Leaves-IsBoxWithin (with_value b p v) narrow.0 b narrow.1 (with_kind_value-IsBoxWithin b (kind_of p) v))
 
 -- what is chosen with a number of channels has that number, and is within the card's space
-chosen-IsInRange : (most speed ring channels period : ℕ) (more : Values) (d : ParamBox) (config : Config)
+chosen-IsConfigInRange : (most speed ring channels period : ℕ) (more : Values) (d : ParamBox) (config : Config)
     → IsNarrowed (widest most speed ring) ((param.Channels, channels) ∷ more) (Some d) → IsChoice d period (Ok config)
-    → IsInRange config channels most ring
-chosen-IsInRange most speed ring channels period more d config narrow choice =
+    → IsConfigInRange config channels most ring
+chosen-IsConfigInRange most speed ring channels period more d config narrow choice =
     let last = choice.0 in
     let within_first : IsBoxWithin last (with_value (widest most speed ring) param.Channels channels) =
     IsBoxWithin-trans last d (with_value (widest most speed ring) param.Channels channels) (Chooses-IsBoxWithin (choices period) d last choice.1)
@@ -126,16 +126,16 @@ chosen-IsInRange most speed ring channels period more d config narrow choice =
     let within_widest : IsBoxWithin last (widest most speed ring) =
     IsBoxWithin-trans last (with_value (widest most speed ring) param.Channels channels) (widest most speed ring) within_first
     (narrowed-IsBoxWithin (widest most speed ring) quantity.Channels (point channels)) in
-    let both : IsWithin last.channels (refinement (whole_from_to 1 most) (point channels)) =
+    let both : IsIntervalWithin last.channels (refinement (whole_from_to 1 most) (point channels)) =
     IsBoxWithin-part last (widest most speed ring) quantity.Channels (refinement (whole_from_to 1 most) (point channels)) within_first in
-    let at_point : IsWithin last.channels (point channels) =
-    IsWithin-trans last.channels (refinement (whole_from_to 1 most) (point channels)) (point channels) both (refined-IsWithin_right (whole_from_to 1 most) (point channels)) in
-    let low = IsWithin-min last.channels (point channels) at_point in
-    let high = IsWithin-max last.channels (point channels) at_point in
-    let few = IsWithin-max last.channels (whole_from_to 1 most) (within_widest.parts quantity.Channels) in
-    let period_low = IsWithin-min last.period_size (whole_from_to 16 (ring / 2)) (within_widest.parts quantity.PeriodSize) in
-    let buffer_low = IsWithin-min last.buffer_size (whole_from_to 32 ring) (within_widest.parts quantity.BufferSize) in
-    let buffer_high = IsWithin-max last.buffer_size (whole_from_to 32 ring) (within_widest.parts quantity.BufferSize) in
+    let at_point : IsIntervalWithin last.channels (point channels) =
+    IsIntervalWithin-trans last.channels (refinement (whole_from_to 1 most) (point channels)) (point channels) both (refined-IsWithin_right (whole_from_to 1 most) (point channels)) in
+    let low = IsIntervalWithin-min last.channels (point channels) at_point in
+    let high = IsIntervalWithin-max last.channels (point channels) at_point in
+    let few = IsIntervalWithin-max last.channels (whole_from_to 1 most) (within_widest.parts quantity.Channels) in
+    let period_low = IsIntervalWithin-min last.period_size (whole_from_to 16 (ring / 2)) (within_widest.parts quantity.PeriodSize) in
+    let buffer_low = IsIntervalWithin-min last.buffer_size (whole_from_to 32 ring) (within_widest.parts quantity.BufferSize) in
+    let buffer_high = IsIntervalWithin-max last.buffer_size (whole_from_to 32 ring) (within_widest.parts quantity.BufferSize) in
     let is_min : last.channels.min ≡ config.channels = ap (λ (i : Interval). i.min) choice.2.channels in
     let is_max : last.channels.max ≡ config.channels = ap (λ (i : Interval). i.max) choice.2.channels in
     let period_min : last.period_size.min ≡ config.period_size = ap (λ (i : Interval). i.min) choice.2.period_size in
@@ -150,10 +150,10 @@ chosen-IsInRange most speed ring channels period more d config narrow choice =
     }
 
 -- the same of an answer
-pub IsInRange-choice : (most speed ring channels period : ℕ) (more : Values) (w d : ParamBox) (r : Result Config Empty)
+pub IsConfigInRange-choice : (most speed ring channels period : ℕ) (more : Values) (w d : ParamBox) (r : Result Config Empty)
     → w ≡ widest most speed ring → IsNarrowed w ((param.Channels, channels) ∷ more) (Some d) → IsChoice d period r
-    → IfOk r (λ config. IsInRange config channels most ring)
-IsInRange-choice most speed ring channels period more w d (Ok config) is narrow choice =
-    chosen-IsInRange most speed ring channels period more d config
+    → IfOk r (λ config. IsConfigInRange config channels most ring)
+IsConfigInRange-choice most speed ring channels period more w d (Ok config) is narrow choice =
+    chosen-IsConfigInRange most speed ring channels period more d config
     (subst (λ (x : ParamBox). IsNarrowed x ((param.Channels, channels) ∷ more) (Some d)) is narrow) choice
-IsInRange-choice most speed ring channels period more w d (Err e) is narrow choice = tt
+IsConfigInRange-choice most speed ring channels period more w d (Err e) is narrow choice = tt

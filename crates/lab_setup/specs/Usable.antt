@@ -6,7 +6,7 @@ use Rattle.sw_limits.specs.Params.{IsValid}
 use Rattle.lab_run.specs.Stage.{Setup}
 
 -- what was chosen for so many channels: so many channels, no more than the card has, and a buffer within the ring
-pub record IsInRange (config : Config) (channels most ring : ℕ) : Type 0 where
+pub record IsConfigInRange (config : Config) (channels most ring : ℕ) : Type 0 where
   pub channels_are : config.channels ≡ channels
   pub few : config.channels ≤ most
   pub period_least : 16 ≤ config.period_size

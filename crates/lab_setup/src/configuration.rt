@@ -1,10 +1,10 @@
 //! The configuration of a stream: what the card leaves to it by choice.
 ghost use Rattle.std.specs.Prelude.{◌≡◌, IfOk};
 ghost use Rattle.hw_space.specs.Params.{HasInterval};
-ghost use Rattle.hw_space.specs.Settled.{left_of};
+ghost use Rattle.hw_space.specs.Settled.{space_left};
 ghost use Rattle.lab_run.specs.Openings.{IsChosen, IsNarrowed, value_if, values_of};
 ghost use Rattle.lab_script.specs.Limits.{IsCardLine};
-ghost use Rattle.lab_setup.specs.Usable.{IsInRange};
+ghost use Rattle.lab_setup.specs.Usable.{IsConfigInRange};
 
 use hw_space::{Config, Param, Slave, Space};
 use lab_script::CardLine;
@@ -23,7 +23,7 @@ pub(crate) struct Wanted {
 /// Gives a parameter a value, where there is one. `Empty` comes exactly where no space is left.
 fn set_if(space: &mut Space, param: Param, value: Option<u32>) -> Result<(), Empty>
     requires { HasInterval param }
-    ensures { IsNarrowed space.old (value_if param value) (left_of result space.new) }
+    ensures { IsNarrowed space.old (value_if param value) (space_left result space.new) }
 {
     match value {
         None => Ok(()),
@@ -35,7 +35,7 @@ fn set_if(space: &mut Space, param: Param, value: Option<u32>) -> Result<(), Emp
 fn narrow(space: &mut Space, wanted: &Wanted) -> Result<(), Empty>
     ensures { IsNarrowed space.old
         (values_of wanted.now.channels wanted.now.rate wanted.now.period wanted.now.buffer)
-        (left_of result space.new) }
+        (space_left result space.new) }
 {
     space.set(Param::Channels, wanted.channels)?;
     space.set(Param::Rate, wanted.rate)?;
@@ -50,7 +50,7 @@ pub(crate) fn configuration(card: &CardLine, wanted: &Wanted) -> Result<Config, 
     ensures chosen { IsChosen card.now
         (values_of wanted.now.channels wanted.now.rate wanted.now.period wanted.now.buffer) result }
     ensures range { IfOk result
-        (λ config. IsInRange config wanted.now.channels card.now.channels card.now.ring) }
+        (λ config. IsConfigInRange config wanted.now.channels card.now.channels card.now.ring) }
 {
     let slave = Slave {
         channels: card.channels,

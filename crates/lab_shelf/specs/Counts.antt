@@ -4,12 +4,12 @@ use Rattle.lab_shelf.specs.declared.fault.ShelfFault.{ShelfFault}
 use Rattle.lab_shelf.specs.declared.fault.ShelfFault.TheVariants.{Failed, Memory}
 
 -- one more, up to the greatest value of a counter
-abbrev pub one_more : ℕ → ℕ
-one_more count = min (count + 1) (2 ^ 64 - 1)
+abbrev pub count_more : ℕ → ℕ
+count_more count = min (count + 1) (2 ^ 64 - 1)
 
 -- the count rose, or is at the greatest value of a counter
 abbrev pub Rose : ℕ → ℕ → Type 0
-Rose before now = one_more before ≤ now
+Rose before now = count_more before ≤ now
 
 -- the count of a kind of call: it rises where such a call fails, and never falls
 abbrev pub IsFaultCount : {T : Type 0} → Result T ShelfFault → ℕ → ℕ → Type 0
@@ -27,5 +27,5 @@ Foreseen (Err Memory) (Some works) = ⊤
 -- a count of faults after a call: one more where the call failed
 abbrev pub count_after : {T : Type 0} → Result T ShelfFault → ℕ → ℕ
 count_after (Ok x) count = count
-count_after (Err Failed) count = one_more count
+count_after (Err Failed) count = count_more count
 count_after (Err Memory) count = count

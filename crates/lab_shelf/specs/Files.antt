@@ -58,8 +58,8 @@ IsPartFinished before after name head =
     (after ≡ before) ⊎ ((k : ℕ) × (k ≤ length head) × (after ≡ option_map (λ files. with_change (with_first_bytes (take k head)) files name) before))
 
 -- there is a file of this name, where the files are known
-abbrev pub IsHeld : Option Files → List ℕ → Type 0
-IsHeld files name = IfSome files (λ m. IsSome (bytes_under m name))
+abbrev pub HasFileNamed : Option Files → List ℕ → Type 0
+HasFileNamed files name = IfSome files (λ m. IsSome (bytes_under m name))
 
 -- where the files are known and there is one of this name, it has as many bytes as the head
 abbrev pub HasRoom : Option Files → List ℕ → List ℕ → Type 0

@@ -7,7 +7,7 @@ use Rattle.std.specs.List.{list_any}
 use Rattle.lab_shelf.specs.declared.fault.ShelfFault.{ShelfFault}
 use Rattle.lab_shelf.specs.declared.fault.ShelfFault.TheVariants.{Failed, Memory}
 use Rattle.lab_shelf.specs.Files.{Files, bytes_under, with_file, with_change}
-use Rattle.lab_shelf.specs.Counts.{one_more}
+use Rattle.lab_shelf.specs.Counts.{count_more}
 
 -- a shelf in memory: its files, the numbers of the calls that fail, how many calls it had, and its two counts of faults
 pub record ShelfState : Type 0 where
@@ -57,7 +57,7 @@ files_of entries = from_entries (map (λ e. (e.0.items, e.1.items)) entries)
 
 -- a write works where the number of its call isn't listed
 abbrev pub write_answers : List ℕ → ℕ → Bool
-write_answers failing calls = not (list_any (λ n. nat_eq n (one_more calls)) failing)
+write_answers failing calls = not (list_any (λ n. nat_eq n (count_more calls)) failing)
 
 -- a fetch works where the number of its call isn't listed and there is a file of this name
 abbrev pub fetch_answers : ShelfState → List ℕ → Bool
@@ -65,24 +65,24 @@ fetch_answers s name = write_answers s.failing s.calls && is_some (bytes_under s
 
 -- what a fetch leaves: its call is counted, and a fault
 abbrev pub after_fetch : {T : Type 0} → Result T ShelfFault → ShelfState → ShelfState
-after_fetch (Ok x) s = record s { calls = one_more s.calls }
-after_fetch (Err Failed) s = record s { calls = one_more s.calls; fetch_faults = one_more s.fetch_faults }
-after_fetch (Err Memory) s = record s { calls = one_more s.calls }
+after_fetch (Ok x) s = record s { calls = count_more s.calls }
+after_fetch (Err Failed) s = record s { calls = count_more s.calls; fetch_faults = count_more s.fetch_faults }
+after_fetch (Err Memory) s = record s { calls = count_more s.calls }
 
 -- what a store leaves: its call is counted, and a fault; the file is changed only where it works
 abbrev pub after_store : {T : Type 0} → Result T ShelfFault → ShelfState → List ℕ → List ℕ → ShelfState
-after_store (Ok x) s name bytes = record s { files = with_file s.files name bytes; calls = one_more s.calls }
-after_store (Err Failed) s name bytes = record s { calls = one_more s.calls; write_faults = one_more s.write_faults }
-after_store (Err Memory) s name bytes = record s { calls = one_more s.calls }
+after_store (Ok x) s name bytes = record s { files = with_file s.files name bytes; calls = count_more s.calls }
+after_store (Err Failed) s name bytes = record s { calls = count_more s.calls; write_faults = count_more s.write_faults }
+after_store (Err Memory) s name bytes = record s { calls = count_more s.calls }
 
 -- what a put leaves: its call is counted, and a fault; the bytes are taken only where it works
 abbrev pub after_put : {T : Type 0} → Result T ShelfFault → SinkState → List ℕ → SinkState
-after_put (Ok x) s bytes = record s { taken = s.taken ++ bytes; calls = one_more s.calls }
-after_put (Err Failed) s bytes = record s { calls = one_more s.calls; faults = one_more s.faults }
-after_put (Err Memory) s bytes = record s { calls = one_more s.calls }
+after_put (Ok x) s bytes = record s { taken = s.taken ++ bytes; calls = count_more s.calls }
+after_put (Err Failed) s bytes = record s { calls = count_more s.calls; faults = count_more s.faults }
+after_put (Err Memory) s bytes = record s { calls = count_more s.calls }
 
 -- what a change of a file in place leaves: its call is counted, and a fault; the file is changed only where it works
 abbrev pub after_change : {T : Type 0} → Result T ShelfFault → ShelfState → (List ℕ → List ℕ) → List ℕ → ShelfState
-after_change (Ok x) s make name = record s { files = with_change make s.files name; calls = one_more s.calls }
-after_change (Err Failed) s make name = record s { calls = one_more s.calls; write_faults = one_more s.write_faults }
-after_change (Err Memory) s make name = record s { calls = one_more s.calls }
+after_change (Ok x) s make name = record s { files = with_change make s.files name; calls = count_more s.calls }
+after_change (Err Failed) s make name = record s { calls = count_more s.calls; write_faults = count_more s.write_faults }
+after_change (Err Memory) s make name = record s { calls = count_more s.calls }

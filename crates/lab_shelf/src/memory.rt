@@ -1,7 +1,7 @@
 //! The forms in memory, whose calls fail where the caller lists their numbers.
 ghost use Rattle.std.specs.Prelude.{◌≡◌, ◌≢◌, ◌≤◌, ◌↔◌, ◌++◌, [], None, Some, Err, IsErrOf, IsTrue, IfOk, OnOk, OnErr, vec_len};
 ghost use Rattle.std.specs.Option.{option_copied};
-ghost use Rattle.lab_shelf.specs.Files.{bytes_under, with_file, with_change, with_first_bytes, piece, IsPartWritten, IsPartAppended, IsPartFinished, IsHeld, HasRoom, TookPart};
+ghost use Rattle.lab_shelf.specs.Files.{bytes_under, with_file, with_change, with_first_bytes, piece, IsPartWritten, IsPartAppended, IsPartFinished, HasFileNamed, HasRoom, TookPart};
 ghost use Rattle.lab_shelf.specs.Counts.{IsFaultCount, Foreseen};
 ghost use Rattle.lab_shelf.specs.States.{files_of, fetch_answers, write_answers, after_fetch, after_store, after_change, after_put};
 
@@ -160,7 +160,7 @@ impl Shelf for MemoryShelf {
     }
 
     fn append(&mut self, name: &[u8], bytes: &[u8]) -> Result<(), ShelfFault>
-        ensures held { OnOk result (IsHeld (Some self.old.files) name.now) }
+        ensures held { OnOk result (HasFileNamed (Some self.old.files) name.now) }
         ensures foreseen { Foreseen result (Some (fetch_answers self.old name.now)) }
         ensures after { self.new ≡ after_change result self.old
             (λ content. content ++ bytes.now) name.now }
@@ -188,7 +188,7 @@ impl Shelf for MemoryShelf {
 
     fn finish(&mut self, name: &[u8], head: &[u8]) -> Result<(), ShelfFault>
         requires room { HasRoom (Some self.old.files) name.now head.now }
-        ensures held { OnOk result (IsHeld (Some self.old.files) name.now) }
+        ensures held { OnOk result (HasFileNamed (Some self.old.files) name.now) }
         ensures foreseen { Foreseen result (Some (fetch_answers self.old name.now)) }
         ensures after { self.new ≡ after_change result self.old
             (with_first_bytes head.now) name.now }

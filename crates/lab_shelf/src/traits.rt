@@ -1,7 +1,7 @@
 //! What a program asks of its files and of a stream that it writes to.
 ghost use Rattle.std.specs.Prelude.{◌≡◌, ◌≢◌, ◌≤◌, ◌++◌, ℕ, List, Bool, Option, None, Some, Err, IsErrOf, IfOk, IfSome, OnOk, OnErr, vec_len};
 ghost use Rattle.std.specs.Option.{option_map};
-ghost use Rattle.lab_shelf.specs.Files.{Files, bytes_under, with_file, with_change, with_first_bytes, piece, IsPartWritten, IsPartAppended, IsPartFinished, IsHeld, HasRoom, TookPart};
+ghost use Rattle.lab_shelf.specs.Files.{Files, bytes_under, with_file, with_change, with_first_bytes, piece, IsPartWritten, IsPartAppended, IsPartFinished, HasFileNamed, HasRoom, TookPart};
 ghost use Rattle.lab_shelf.specs.Counts.{IsFaultCount, Foreseen};
 
 use crate::fault::ShelfFault;
@@ -90,7 +90,7 @@ pub trait Shelf {
     /// for the bytes. No other file changes. A reliable shelf whose files are known answers `Failed`
     /// only where it holds none of this name.
     fn append(&mut self, name: &[u8], bytes: &[u8]) -> Result<(), ShelfFault>
-        ensures held { OnOk result (IsHeld (files self.old) name.now) }
+        ensures held { OnOk result (HasFileNamed (files self.old) name.now) }
         ensures ok { OnOk result (files self.new ≡ option_map
             (λ held_files. with_change (λ content. content ++ bytes.now) held_files name.now)
             (files self.old)) }
@@ -110,7 +110,7 @@ pub trait Shelf {
     /// files are known answers `Failed` only where it holds none of this name.
     fn finish(&mut self, name: &[u8], head: &[u8]) -> Result<(), ShelfFault>
         requires room { HasRoom (files self.old) name.now head.now }
-        ensures held { OnOk result (IsHeld (files self.old) name.now) }
+        ensures held { OnOk result (HasFileNamed (files self.old) name.now) }
         ensures ok { OnOk result (files self.new ≡ option_map
             (λ held_files. with_change (with_first_bytes head.now) held_files name.now)
             (files self.old)) }

@@ -69,9 +69,9 @@ IsCauseOf Write given = ⊥
 IsCauseOf Memory given = ⊤
 
 -- a call that only reads answers what the files give, seen by a view, or stops at the cause that they give
-abbrev pub Follows : {X Y : Type 0} → (X → Y) → Result X Stop → Result Y Cause → Type 0
-Follows view (Ok x) given = given ≡ Ok (view x)
-Follows view (Err stop) given = IsCauseOf stop given
+abbrev pub AnswersOrStops : {X Y : Type 0} → (X → Y) → Result X Stop → Result Y Cause → Type 0
+AnswersOrStops view (Ok x) given = given ≡ Ok (view x)
+AnswersOrStops view (Err stop) given = IsCauseOf stop given
 
 -- a call that only reads stops neither for the words nor for a write, and for a read only where the count of fetches that
 -- failed rose; the count never falls

@@ -4,7 +4,7 @@ ghost use Rattle.std.specs.Option.{ForSome, option_map};
 ghost use Rattle.lab_shelf.specs.Files.{TookPart};
 ghost use Rattle.lab_stop.specs.declared.stop.Stop.TheVariants as stops;
 ghost use Rattle.lab_stop.specs.Causes.{first_bytes, fetched_from, piece_bytes};
-ghost use Rattle.lab_stop.specs.Stops.{FetchFaults, Follows, IsWriteStop, Misses, WriteFaults};
+ghost use Rattle.lab_stop.specs.Stops.{FetchFaults, AnswersOrStops, IsWriteStop, Misses, WriteFaults};
 
 use crate::stop::Stop;
 use lab_shelf::{Shelf, ShelfFault, Sink};
@@ -26,7 +26,7 @@ pub fn fetch_piece<S: Shelf>(
     from: u64,
 ) -> Result<Vec<u8>, Stop>
     ensures bytes { ForSome (S.files shelf.old)
-        (λ files. Follows (λ v. v.items) result (fetched_from files name.now from piece_bytes)) }
+        (λ files. AnswersOrStops (λ v. v.items) result (fetched_from files name.now from piece_bytes)) }
     ensures most { IfOk result (λ v. vec_len v ≤ piece_bytes) }
     ensures files { S.files shelf.new ≡ S.files shelf.old }
     ensures faults { FetchFaults result (S.fetch_faults shelf.old) (S.fetch_faults shelf.new) }
@@ -56,7 +56,7 @@ pub fn fetch_most<S: Shelf>(
     most: u64,
 ) -> Result<Vec<u8>, Stop>
     ensures bytes { ForSome (S.files shelf.old)
-        (λ files. Follows (λ v. v.items) result (first_bytes files name.now most)) }
+        (λ files. AnswersOrStops (λ v. v.items) result (first_bytes files name.now most)) }
     ensures most { IfOk result (λ v. vec_len v ≤ most) }
     ensures files { S.files shelf.new ≡ S.files shelf.old }
     ensures faults { FetchFaults result (S.fetch_faults shelf.old) (S.fetch_faults shelf.new) }

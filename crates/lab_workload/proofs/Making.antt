@@ -26,7 +26,7 @@ use Rattle.lab_script.specs.Limits.{IsScript}
 use Rattle.lab_script.specs.Reading.{script_of}
 use Rattle.lab_shelf.specs.Files.{Files, IsPartWritten, TookPart, with_file}
 use Rattle.lab_workload.specs.Stored.{InputInPart, IsReadBack, made_input, script_name, with_input, with_workload}
-use Rattle.lab_workload.specs.Made.{HasPutSummary, HasPutSummaryPart, IsMade, IsMadePart, IsOnlyMade, StoppedAtEnd, StoppedBefore, StoppedAfterRun, StoppedInRun, made_outcome, made_report, output_name, report_name, with_made, with_run}
+use Rattle.lab_workload.specs.Made.{HasPutSummary, HasPutSummaryPart, IsMade, IsMadePart, IsOnlyMade, StoppedAtEnd, StoppedBefore, StoppedAfterRun, StoppedInRun, made_outcome, made_report, output_name, report_name, with_made, with_run_files}
 use Rattle.lab_workload.proofs.Reading.{input-made}
 use Rattle.lab_workload.proofs.Unmixed.{AreUnmixed-made}
 
@@ -101,14 +101,14 @@ module _ (w : Workload) (stops : Stops) (input : RunInput) (wavs : List Sound) (
     of-workload : HasPlayed (made_input w) output_name stops outcome between ran (Some []) (Some report)
     of-workload = subst (λ (i : RunInput). HasPlayed i output_name stops outcome between ran (Some []) (Some report)) input_is played
 
-    ran-files : ran ≡ option_map (with_run w outcome) before
+    ran-files : ran ≡ option_map (with_run_files w outcome) before
     ran-files =
         of-workload.files
         ∙ (ap (option_map (finished_files (output_files (made_script w.clients w.phases) output_name) (sounds_of outcome)))
         (stored-workload w wavs text before between wavs_are text_is is_stored) ∙ behind before)
       where
         behind : (o : Option Files) → option_map (finished_files (output_files (made_script w.clients w.phases) output_name) (sounds_of outcome)) (option_map (with_workload w) o)
-            ≡ option_map (with_run w outcome) o
+            ≡ option_map (with_run_files w outcome) o
         behind None = refl
         behind (Some files) = refl
 
@@ -121,7 +121,7 @@ module _ (w : Workload) (stops : Stops) (input : RunInput) (wavs : List Sound) (
         ∙ (ap (λ (bytes : List ℕ). option_map (λ files. with_file files report_name bytes) ran) report-is
         ∙ (ap (option_map (λ files. with_file files report_name (made_report w outcome))) ran-files ∙ behind before))
       where
-        behind : (o : Option Files) → option_map (λ files. with_file files report_name (made_report w outcome)) (option_map (with_run w outcome) o) ≡ option_map (with_made w outcome) o
+        behind : (o : Option Files) → option_map (λ files. with_file files report_name (made_report w outcome)) (option_map (with_run_files w outcome) o) ≡ option_map (with_made w outcome) o
         behind None = refl
         behind (Some files) = refl
 

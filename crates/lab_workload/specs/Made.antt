@@ -33,14 +33,14 @@ abbrev pub made_report : Workload → Outcome → List ℕ
 made_report w outcome = report_text (made_script w.clients w.phases) outcome.report
 
 -- the files, with a workload stored, and then what a run of it writes
-abbrev pub with_run : Workload → Outcome → Files → Files
-with_run w outcome files =
+abbrev pub with_run_files : Workload → Outcome → Files → Files
+with_run_files w outcome files =
     finished_files (output_files (made_script w.clients w.phases) output_name)
     (sounds_of outcome) (with_workload w files)
 
 -- the files, with the report stored as well
 abbrev pub with_made : Workload → Outcome → Files → Files
-with_made w outcome files = with_file (with_run w outcome files) report_name (made_report w outcome)
+with_made w outcome files = with_file (with_run_files w outcome files) report_name (made_report w outcome)
 
 -- what a run of a workload leaves where each of its lines has the one answer that it has by itself
 abbrev pub made_outcome : Workload → Session → Outcome
@@ -107,7 +107,7 @@ pub record StoppedAfterRun (w : Workload) (stops : Stops) (before after : Option
   pub session : Session
   pub outcome : Outcome
   pub is : IsRunOf (made_input w) session stops outcome
-  pub files : IsPartWritten (option_map (with_run w outcome) before) after
+  pub files : IsPartWritten (option_map (with_run_files w outcome) before) after
       report_name (made_report w outcome)
   pub text : taken_after ≡ taken
 

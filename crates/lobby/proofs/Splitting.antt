@@ -9,7 +9,7 @@ use Rattle.sum_table.specs.declared.view.View.{View}
 use Rattle.sum_table.specs.Cuts.{part_of, with_places, without_places}
 use Rattle.sum_table.specs.Joins.{HasSplit, KeepsSeat}
 use Rattle.sum_table.specs.Seats.{key_of, places_of_seat, ring_of, view_of}
-use Rattle.lobby.specs.Lobbies.{IsPart}
+use Rattle.lobby.specs.Lobbies.{IsSplitSeat}
 use Rattle.lobby.specs.Seats.{ArePlaces, IsPlace, seat_at}
 
 -- so many seats of one place were split off
@@ -20,7 +20,7 @@ pub record IsSplitting (whole rest : MixSeat) (seats : List (Option MixSeat)) (n
   pub part : part_of (view_of rest) 1 ≡ part_of (view_of whole) 1
   pub places : places_of_seat rest + n ≡ places_of_seat whole
   pub count : length seats ≡ n
-  pub each : (place : ℕ) → place < n → (s : MixSeat) × (seat_at seats place ≡ Some s) × IsPart whole place s
+  pub each : (place : ℕ) → place < n → (s : MixSeat) × (seat_at seats place ≡ Some s) × IsSplitSeat whole place s
 
 without-none : (v : View) → without_places v 0 ≡ v
 without-none v = let same : v.places - 0 ≡ v.places = omega arith in ap (λ (n : ℕ). with_places v n) same
@@ -68,7 +68,7 @@ IsSplitting-more whole rest after one seats n is split = record {
         let here : place ≡ n = omega arith in (
           one,
           get_or_push seats (Some one) None place (is.count ∙ sym here),
-          subst (λ i. IsPart whole i one) (sym here) (record {
+          subst (λ i. IsSplitSeat whole i one) (sym here) (record {
             is_place = record { of_ring = split.new_ring ∙ is.stays.ring; of_key = split.new_key ∙ is.stays.key; member = split.new_member; places = split.new_places };
             view = split.new_view ∙ is.part;
             seen = split.new_seen ∙ is.stays.seen;

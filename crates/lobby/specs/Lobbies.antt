@@ -42,7 +42,7 @@ reaped_of l = l.reaped
 
 -- a lobby later, with the same places of one ring, and the same number of reaped clients; the seat that the places were split from
 -- did nothing
-pub record GoesOn (l m : Lobby) : Type 0 where
+pub record IsLaterLobby (l m : Lobby) : Type 0 where
   pub base : base_of m ≡ base_of l
   pub ring : ring_of_lobby m ≡ ring_of_lobby l
   pub key : key_of_lobby m ≡ key_of_lobby l
@@ -50,7 +50,7 @@ pub record GoesOn (l m : Lobby) : Type 0 where
   pub same_reaped : reaped_of m ≡ reaped_of l
 
 -- the seat of a place that was split off: it has seen what the whole seat had seen
-pub record IsPart (whole : MixSeat) (place : ℕ) (s : MixSeat) : Type 0 where
+pub record IsSplitSeat (whole : MixSeat) (place : ℕ) (s : MixSeat) : Type 0 where
   pub is_place : IsPlace (ring_of whole) (key_of whole) place s
   pub view : view_of s ≡ part_of (view_of whole) 1
   pub seen : seen_of s ≡ seen_of whole
@@ -62,7 +62,7 @@ pub record IsNewLobby (whole : MixSeat) (l : Lobby) : Type 0 where
   pub ring : ring_of_lobby l ≡ ring_of whole
   pub key : key_of_lobby l ≡ key_of whole
   pub places : places_of_lobby l ≡ places_of_seat whole
-  pub each : (place : ℕ) → place < places_of_seat whole → (s : MixSeat) × (seat_at (free_seats l) place ≡ Some s) × IsPart whole place s
+  pub each : (place : ℕ) → place < places_of_seat whole → (s : MixSeat) × (seat_at (free_seats l) place ≡ Some s) × IsSplitSeat whole place s
   pub saw_none : seen_of_lobby l ≡ first_frame (key_of whole).geometry
   pub reaped_none : reaped_of l ≡ 0
 

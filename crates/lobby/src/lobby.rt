@@ -37,7 +37,7 @@ impl<'a> Lobby<'a> {
     ghost use Rattle.sum_table.specs.Known.{free_from};
     ghost use Rattle.sum_table.specs.Players.{player_key, player_ring, position_of_player};
     ghost use Rattle.lobby.specs.Loads.{HasLoaded, HasLoadedBeside, PlayerStays};
-    ghost use Rattle.lobby.specs.Lobbies.{Attaches, CanTakeBack, GoesOn, IsNewLobby, IsSilentSeat, JoinsAll, LoadsAt, Outcome, TakesBack, free_seats, key_of_lobby, reaped_of, ring_of_lobby, seen_of_lobby};
+    ghost use Rattle.lobby.specs.Lobbies.{Attaches, CanTakeBack, IsLaterLobby, IsNewLobby, IsSilentSeat, JoinsAll, LoadsAt, Outcome, TakesBack, free_seats, key_of_lobby, reaped_of, ring_of_lobby, seen_of_lobby};
     ghost use Rattle.lobby.specs.Seats.{AreFree, KeepsLasts, last_of, lowest_free};
 
     /// A lobby of all places that the seat has, each free, with members from 0 upwards. The caller shows that nothing was
@@ -78,7 +78,7 @@ impl<'a> Lobby<'a> {
         ensures free { (place : ℕ) → lowest_free (free_seats self.old) ≡ Some place
             → Attaches (λ p s t. HasLoaded s t p) place self.old self.new result }
         ensures silent { IfOk result (IsSilentSeat self.old (seen_of_lobby self.new)) }
-        ensures goes { GoesOn self.old self.new }
+        ensures goes { IsLaterLobby self.old self.new }
     {
         let Some(place) = lowest_free(self.seats.as_slice()) else {
             return Err(self.full());
@@ -102,7 +102,7 @@ impl<'a> Lobby<'a> {
             → Attaches (λ p s t. HasLoadedBeside player.old s player.new t p) place
             self.old self.new result }
         ensures silent { IfOk result (IsSilentSeat self.old (seen_of_lobby self.new)) }
-        ensures goes { GoesOn self.old self.new }
+        ensures goes { IsLaterLobby self.old self.new }
         ensures published_last { IsSome (lowest_free (free_seats self.old))
             → seen_of_lobby self.new ≡ position_of_player player.old }
         ensures player { PlayerStays player.old player.new }
@@ -127,7 +127,7 @@ impl<'a> Lobby<'a> {
     // The seat of the lowest free place loads the position.
     fn load_at(&mut self, place: usize) -> Position
         requires { lowest_free (free_seats self.old) ≡ Some place }
-        ensures goes { GoesOn self.old self.new }
+        ensures goes { IsLaterLobby self.old self.new }
         ensures loads { LoadsAt (λ s t. HasLoaded s t result)
             (free_seats self.old) place (free_seats self.new) }
         ensures lasts { KeepsLasts (free_seats self.old) (free_seats self.new) }
@@ -146,7 +146,7 @@ impl<'a> Lobby<'a> {
         requires free { lowest_free (free_seats self.old) ≡ Some place }
         requires one_ring { OneRing (player_ring player.old) (player_key player.old)
             (ring_of_lobby self.old) (key_of_lobby self.old) }
-        ensures goes { GoesOn self.old self.new }
+        ensures goes { IsLaterLobby self.old self.new }
         ensures loads { LoadsAt (λ s t. HasLoadedBeside player.old s player.new t result)
             (free_seats self.old) place (free_seats self.new) }
         ensures lasts { KeepsLasts (free_seats self.old) (free_seats self.new) }
@@ -165,7 +165,7 @@ impl<'a> Lobby<'a> {
     // Hands out the seat of the lowest free place that is silent at a position.
     fn hand_out(&mut self, position: u64) -> Result<MixSeat<'a>, PcmError>
         requires { IsSome (lowest_free (free_seats self.old)) }
-        ensures goes { GoesOn self.old self.new }
+        ensures goes { IsLaterLobby self.old self.new }
         ensures outcome { Outcome position (free_seats self.old) (free_seats self.old)
             result (free_seats self.new) }
         ensures silent { IfOk result (IsSilentSeat self.old position) }

@@ -7,7 +7,7 @@ use Rattle.sum_table.specs.declared.seats.mix.MixSeat.{MixSeat}
 use Rattle.sum_table.specs.Joins.{OneRing}
 use Rattle.sum_table.specs.Seats.{IsLaterSeat, IsLaterSeat-same, key_of, ring_of}
 use Rattle.lobby.specs.declared.lobby.Lobby.{Lobby}
-use Rattle.lobby.specs.Lobbies.{GoesOn, IsSilentSeat, key_of_lobby, ring_of_lobby}
+use Rattle.lobby.specs.Lobbies.{IsLaterLobby, IsSilentSeat, key_of_lobby, ring_of_lobby}
 
 pub stays : (s : MixSeat) → IsLaterSeat s s
 stays s = IsLaterSeat-same s
@@ -16,11 +16,11 @@ stays s = IsLaterSeat-same s
 abbrev pub IsOfLobby : Lobby → MixSeat → Type 0
 IsOfLobby l s = OneRing (ring_of s) (key_of s) (ring_of_lobby l) (key_of_lobby l)
 
-goes_on : (l m : Lobby) (s : MixSeat) → GoesOn l m → IsOfLobby l s → IsOfLobby m s
+goes_on : (l m : Lobby) (s : MixSeat) → IsLaterLobby l m → IsOfLobby l s → IsOfLobby m s
 goes_on l m s goes is = (is.0 ∙ sym goes.ring, is.1 ∙ sym goes.key)
 
 -- the seats that are out are of the lobby's ring after an attach, whether or not there was room for the new one
-pub seats_out : (l m : Lobby) (p : ℕ) (xs ys : List MixSeat) (s : MixSeat) (b : Bool) → GoesOn l m → All (IsOfLobby l) xs → IsSilentSeat l p s
+pub seats_out : (l m : Lobby) (p : ℕ) (xs ys : List MixSeat) (s : MixSeat) (b : Bool) → IsLaterLobby l m → All (IsOfLobby l) xs → IsSilentSeat l p s
     → ys ≡ cond b (xs ++ s ∷ []) xs → All (IsOfLobby m) ys
 seats_out l m p xs ys s b goes were silent is = subst (All (IsOfLobby m)) (sym is) (by_room b) where
   before : All (IsOfLobby m) xs

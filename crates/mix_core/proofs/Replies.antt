@@ -17,7 +17,7 @@ use Rattle.mix_core.specs.declared.port.Kind.TheVariants.{Added}
 use Rattle.mix_core.specs.KeptLaws.{kept_rows-kept}
 use Rattle.mix_core.specs.LegalLaws.{AreReplies-last}
 use Rattle.snd_base.specs.declared.geometry.Geometry.{Geometry}
-use Rattle.mix_core.specs.Run.{AreRepliesSince, IsAnswered, IsReplied, IsReplySince, IsRun, Keeps, is_kept, kept_rows}
+use Rattle.mix_core.specs.Run.{AreRepliesSince, IsAnswered, IsReplied, IsReplySince, IsRun, KeepsAdds, is_kept, kept_rows}
 use Rattle.mix_core.specs.Stands.{Stands}
 use Rattle.mix_core.specs.TurnLaws.{CanMiss, Stands-missed}
 use Rattle.mix_core.specs.View.{MayAdd, View}
@@ -123,7 +123,7 @@ IsRun-none v = record {
 
 -- one more event
 pub IsRun-more : (u v w : View) (st su : List Entry) (es : List Event) (rs : List Reply) (e : Event) (r : Reply)
-    → Keeps st (zip es rs) → IsRun u v es rs → IsAnswered v w st su e r → IsRun u w (es ++ e ∷ []) (rs ++ r ∷ [])
+    → KeepsAdds st (zip es rs) → IsRun u v es rs → IsAnswered v w st su e r → IsRun u w (es ++ e ∷ []) (rs ++ r ∷ [])
 IsRun-more u v w st su es rs e r keeps run one =
     let rows : List Row = zip es rs in
     let more : zip (es ++ e ∷ []) (rs ++ r ∷ []) ≡ rows ++ (e, r) ∷ [] = zip-more es rs e r run.one_each in

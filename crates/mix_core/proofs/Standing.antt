@@ -23,12 +23,12 @@ use Rattle.mix_core.specs.Laid.{a_withdrawal, last_entry, marks_of, own_entries,
 use Rattle.mix_core.specs.LegalLaws.{AreLeast, marks_of-least}
 use Rattle.mix_core.specs.MarkLaws.{without_last-more}
 use Rattle.mix_core.specs.OwnLaws.{last_entry-more, own-more, own-more_other, standing_of-other, standing_of-own}
-use Rattle.mix_core.specs.Run.{IsAnswered, IsHeldSince, IsLastOf, IsReplied, IsReplySince, Keeps, MayWithdraw, kept_rows}
+use Rattle.mix_core.specs.Run.{IsAnswered, IsHeldSince, IsLastOf, IsReplied, IsReplySince, KeepsAdds, MayWithdraw, kept_rows}
 use Rattle.mix_core.specs.Stands.{Stands}
 use Rattle.mix_core.specs.View.{View}
 
 -- a row that places nothing
-pub keeps-nothing : (st : List Entry) (rows : List Row) (r : Row) → entry_of r ≡ None → Keeps st rows → Keeps st (rows ++ r ∷ [])
+pub keeps-nothing : (st : List Entry) (rows : List Row) (r : Row) → entry_of r ≡ None → KeepsAdds st rows → KeepsAdds st (rows ++ r ∷ [])
 keeps-nothing st rows r none k =
     let same : laid_of (rows ++ r ∷ []) ≡ laid_of rows = filter_map-append entry_of rows (r ∷ []) ∙ rw none (append-nil (laid_of rows)) in
     record {
@@ -37,7 +37,7 @@ keeps-nothing st rows r none k =
     }
 
 -- a take places nothing, whatever its reply
-pub keeps-replied : (st : List Entry) (r : Reply) (rows : List Row) → Keeps st rows → Keeps st (rows ++ (Take, r) ∷ [])
+pub keeps-replied : (st : List Entry) (r : Reply) (rows : List Row) → KeepsAdds st rows → KeepsAdds st (rows ++ (Take, r) ∷ [])
 keeps-replied st r rows k = keeps-nothing st rows (Take, r) (none r) k where
   none : (r : Reply) → entry_of (Take, r) ≡ None
   none In = refl
@@ -51,7 +51,7 @@ keeps-replied st r rows k = keeps-nothing st rows (Take, r) (none r) k where
 laid_of-more : (rows : List Row) (r : Row) (e : Entry) → entry_of r ≡ Some e → laid_of (rows ++ r ∷ []) ≡ laid_of rows ++ e ∷ []
 laid_of-more rows r e some = filter_map-append entry_of rows (r ∷ []) ∙ rw some refl
 
-pub keeps-add : (st : List Entry) (rows : List Row) (r : Row) (e : Entry) → entry_of r ≡ Some e → e.kind ≡ Added → Keeps st rows → Keeps (st ++ e ∷ []) (rows ++ r ∷ [])
+pub keeps-add : (st : List Entry) (rows : List Row) (r : Row) (e : Entry) → entry_of r ≡ Some e → e.kind ≡ Added → KeepsAdds st rows → KeepsAdds (st ++ e ∷ []) (rows ++ r ∷ [])
 keeps-add st rows r e some kind k =
     let es : List Entry = laid_of rows in
     let more : laid_of (rows ++ r ∷ []) ≡ es ++ e ∷ [] = laid_of-more rows r e some in
@@ -121,7 +121,7 @@ at_last st m i d last =
 
 -- a withdrawal takes the last standing add of its member away
 pub keeps-withdrawal : (st : List Entry) (rows : List Row) (r : Row) (e x : Entry) (i : ℕ) → entry_of r ≡ Some e → e.kind ≡ Withdrawn → AtLast st e.member i x
-    → Keeps st rows → Keeps (take i st ++ drop (i + 1) st) (rows ++ r ∷ [])
+    → KeepsAdds st rows → KeepsAdds (take i st ++ drop (i + 1) st) (rows ++ r ∷ [])
 keeps-withdrawal st rows r e x i some kind last k =
     let es : List Entry = laid_of rows in
     let m : ℕ = e.member in
@@ -147,7 +147,7 @@ keeps-withdrawal st rows r e x i some kind last k =
     }
 
 -- the last standing add among the rows of a run is the last in the whole history
-pub last-since : (h rows : List Row) (st : List Entry) (m f c : ℕ) (s : ℤ) → Keeps st rows → IsSample (last_entry (standing_of m (laid_of rows))) f c s
+pub last-since : (h rows : List Row) (st : List Entry) (m f c : ℕ) (s : ℤ) → KeepsAdds st rows → IsSample (last_entry (standing_of m (laid_of rows))) f c s
     → IsSample (last_entry (standing_of m (laid_of (h ++ kept_rows rows)))) f c s
 last-since h rows st m f c s k is =
     let es : List Entry = laid_of rows in
@@ -162,7 +162,7 @@ last-since h rows st m f c s k is =
     subst (λ o. IsSample o f c s) (sym (ap last_entry whole ∙ last_entry-more (standing_of m (laid_of h) ++ last.0) last.1)) (last.3, last.4, last.5)
 
 -- so what a run may withdraw, the whole history may
-pub held-since : (g : Geometry) (members : ℕ) (h rows : List Row) (st : List Entry) (m f c : ℕ) (s : ℤ) → Keeps st rows → IsHeldSince g members h rows m f c s
+pub held-since : (g : Geometry) (members : ℕ) (h rows : List Row) (st : List Entry) (m f c : ℕ) (s : ℤ) → KeepsAdds st rows → IsHeldSince g members h rows m f c s
     → IsHeld g members (h ++ kept_rows rows) m f c s
 held-since g members h rows st m f c s k held = record {
   member_in_range = held.member_in_range;
@@ -172,7 +172,7 @@ held-since g members h rows st m f c s k held = record {
 }
 
 -- an entry that its member may withdraw, by the standing adds of the run
-pub since-may : (v : View) (h rows : List Row) (st : List Entry) (e x : Entry) (i : ℕ) → Keeps st rows → AtLast st e.member i x → Stands v (h ++ kept_rows rows) → MayWithdraw v e x
+pub since-may : (v : View) (h rows : List Row) (st : List Entry) (e x : Entry) (i : ℕ) → KeepsAdds st rows → AtLast st e.member i x → Stands v (h ++ kept_rows rows) → MayWithdraw v e x
     → IsHeldSince v.geometry (length v.marks) h rows e.member e.frame e.channel e.sample
 since-may v h rows st e x i k last s may = record {
   member_in_range = may.member_in_range;
@@ -183,7 +183,7 @@ since-may v h rows st e x i k last s may = record {
 }
 
 -- and what the run may withdraw, the core sees that it may
-pub may-since : (v : View) (h rows : List Row) (st : List Entry) (e x : Entry) (i : ℕ) → Keeps st rows → AtLast st e.member i x → Stands v (h ++ kept_rows rows)
+pub may-since : (v : View) (h rows : List Row) (st : List Entry) (e x : Entry) (i : ℕ) → KeepsAdds st rows → AtLast st e.member i x → Stands v (h ++ kept_rows rows)
     → IsHeldSince v.geometry (length v.marks) h rows e.member e.frame e.channel e.sample → MayWithdraw v e x
 may-since v h rows st e x i k last s held =
     let one : IsSample (Some x) e.frame e.channel e.sample = subst (λ o. IsSample o e.frame e.channel e.sample) (ap last_entry (sym (k.holds e.member) ∙ last.own_is) ∙ last_entry-more last.early x) held.last in
@@ -227,7 +227,7 @@ answered-outside v st e x i last not_may = record {
 pub answered-late : (v : View) (st : List Entry) (m f c : ℕ) (s : ℤ) (x : Entry) (i : ℕ) → AtLast st m i x → MayWithdraw v (a_withdrawal m f c s) x → f < first_free v.next c
     → IsAnswered v v st st (Withdraw m f c s) Late
 answered-late v st m f c s x i last may taken =
-    let held : (h rows : List Row) → Keeps st rows → Stands v (h ++ kept_rows rows) → IsHeldSince v.geometry (length v.marks) h rows m f c s = λ h rows k stands.
+    let held : (h rows : List Row) → KeepsAdds st rows → Stands v (h ++ kept_rows rows) → IsHeldSince v.geometry (length v.marks) h rows m f c s = λ h rows k stands.
     since-may v h rows st (a_withdrawal m f c s) x i k last stands may in
     record {
       geometry = refl;
@@ -247,7 +247,7 @@ answered-late v st m f c s x i last may taken =
 pub answered-in : (v w : View) (st : List Entry) (m f c : ℕ) (s : ℤ) (x : Entry) (i : ℕ) → AtLast st m i x → MayWithdraw v (a_withdrawal m f c s) x → IsLaidBy v w (a_withdrawal m f c s)
     → IsAnswered v w st (take i st ++ drop (i + 1) st) (Withdraw m f c s) In
 answered-in v w st m f c s x i last may laid =
-    let held : (h rows : List Row) → Keeps st rows → Stands v (h ++ kept_rows rows) → IsHeldSince v.geometry (length v.marks) h rows m f c s = λ h rows k stands.
+    let held : (h rows : List Row) → KeepsAdds st rows → Stands v (h ++ kept_rows rows) → IsHeldSince v.geometry (length v.marks) h rows m f c s = λ h rows k stands.
     since-may v h rows st (a_withdrawal m f c s) x i k last stands may in
     record {
       geometry = laid.geometry;
@@ -272,7 +272,7 @@ since-other g members h rows (Withdraw m f c s) r other is = absurd other
 since-other g members h rows Take r other is = is
 since-other g members h rows Publish r other is = is
 
-pub answered-other : (v w : View) (st su : List Entry) (e : Event) (r : Reply) → IsOther e → IsReplied v w e r → ((rows : List Row) → Keeps st rows → Keeps su (rows ++ (e, r) ∷ []))
+pub answered-other : (v w : View) (st su : List Entry) (e : Event) (r : Reply) → IsOther e → IsReplied v w e r → ((rows : List Row) → KeepsAdds st rows → KeepsAdds su (rows ++ (e, r) ∷ []))
     → IsAnswered v w st su e r
 answered-other v w st su e r other one keeps = record {
   geometry = one.geometry;

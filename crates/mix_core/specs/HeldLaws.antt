@@ -18,11 +18,11 @@ use Rattle.mix_core.specs.History.{IsHeld, IsInside, IsLegal, IsReply, IsSample,
 use Rattle.mix_core.specs.HistoryLaws.{laid_of-append_rows}
 use Rattle.mix_core.specs.Laid.{EndsIn, a_withdrawal, an_add, count, last_entry, marks_with, marks_after, marks_of, own_entries, stand_after, standing_of, standing_with, without_last}
 use Rattle.mix_core.specs.LegalLaws.{AreLeast, AreReplies-keep, entry_of-cases, marks_of-least, may_lay}
-use Rattle.mix_core.specs.MarkLaws.{Each, Each-right, IsBehind, IsHolding, IsHolding-add, IsHolding-withdraw, each_counted, each_filter, last_cases, later_up_to, place_up_to, standing-each, without_last-more}
+use Rattle.mix_core.specs.MarkLaws.{Each, Each-right, IsBeforeCursor, IsHolding, IsHolding-add, IsHolding-withdraw, each_counted, each_filter, last_cases, later_up_to, place_up_to, standing-each, without_last-more}
 use Rattle.mix_core.specs.Marks.{withdrawn_at}
 use Rattle.mix_core.specs.OwnLaws.{last_entry-more, marks_of-other, marks_of-own, standing_of-other, standing_of-own}
 use Rattle.mix_core.specs.Stands.{Stands}
-use Rattle.mix_core.specs.Turn.{Continues, TurnEndsIn, TurnLaid, core_of}
+use Rattle.mix_core.specs.Turn.{ContinuesRows, TurnEndsIn, TurnLaid, core_of}
 use Rattle.mix_core.specs.TurnLaws.{Stands-late}
 use Rattle.mix_core.specs.View.{View, cursor_at, marks_at}
 
@@ -58,7 +58,7 @@ holds-laid g members h e may x = by_kind e.kind may where
   by_kind Withdrawn may =
       let last = last_is (standing_of e.member (laid_of h)) e.frame e.channel e.sample may.last in
       let was : IsHolding g (marks_of g e.member (laid_of h)) (last.0 ++ last.1 ∷ []) x.holding.0 = subst (λ zs. IsHolding g (marks_of g e.member (laid_of h)) zs x.holding.0) last.2 x.holding.1 in
-      let before : Each (IsBehind g (marks_of g e.member (laid_of h)).cursor) (last.1 ∷ []) = Each-right (IsBehind g (marks_of g e.member (laid_of h)).cursor) last.0 (last.1 ∷ []) was.before in
+      let before : Each (IsBeforeCursor g (marks_of g e.member (laid_of h)).cursor) (last.1 ∷ []) = Each-right (IsBeforeCursor g (marks_of g e.member (laid_of h)).cursor) last.0 (last.1 ∷ []) was.before in
       let near : e.frame < first_free (marks_of g e.member (laid_of h)).cursor e.channel =
       subst (λ d. e.frame < first_free (marks_of g e.member (laid_of h)).cursor d) last.4 (subst (λ f. f < first_free (marks_of g e.member (laid_of h)).cursor last.1.channel) last.3 before.0.1) in
       let from_last : IsFrom (marks_of g e.member (laid_of h)).floor last.1.frame last.1.channel =
@@ -108,8 +108,8 @@ held-entry v h m early x st inside is =
     let g : Geometry = v.geometry in
     let marks_is : marks_at v m ≡ marks_of g m (laid_of h) = st.agrees.marks m _ inside in
     let holds : HoldsAdds g (marks_of g m (laid_of h)) (standing_of m (laid_of h)) = legal-holds g (length v.marks) h m st.legal in
-    let b : Each (IsBehind g (marks_of g m (laid_of h)).cursor) (x ∷ []) =
-    Each-right (IsBehind g (marks_of g m (laid_of h)).cursor) early (x ∷ []) (subst (Each (IsBehind g (marks_of g m (laid_of h)).cursor)) is holds.holding.1.before) in
+    let b : Each (IsBeforeCursor g (marks_of g m (laid_of h)).cursor) (x ∷ []) =
+    Each-right (IsBeforeCursor g (marks_of g m (laid_of h)).cursor) early (x ∷ []) (subst (Each (IsBeforeCursor g (marks_of g m (laid_of h)).cursor)) is holds.holding.1.before) in
     let Counted : Entry → Type 0 = λ e. 1 ≤ count (laid_of h) e.frame e.channel in
     let counted : Each Counted (standing_of m (laid_of h)) = standing-each Counted (own_entries m (laid_of h)) (each_filter Counted (λ (e : Entry). e.member == m) (laid_of h) (each_counted (laid_of h))) in
     let one : Each Counted (x ∷ []) = Each-right Counted early (x ∷ []) (subst (Each Counted) is counted) in
@@ -151,7 +151,7 @@ missed-back v h m f c s held taken st =
 -- an entry that goes on a history legally, at a frame and channel that weren't taken, has the reply In
 abbrev pub MayIn : View → Entry → Type 0
 MayIn v e =
-    (h : List Row) → Stands v h → Continues v.geometry (length v.marks) h e → is_taken (taken_words h) e.frame e.channel ≡ false
+    (h : List Row) → Stands v h → ContinuesRows v.geometry (length v.marks) h e → is_taken (taken_words h) e.frame e.channel ≡ false
     → IsReply v.geometry (length v.marks) h (entry_row e)
 
 pub may_in-add : (v : View) (m f c : ℕ) (s : ℤ) → m < length v.marks → c < v.geometry.channels → IsFrom (cursor_at v m) f c

@@ -190,38 +190,38 @@ last-same xs ys x y same =
       last_item (z ∷ zs) x y is = last_item zs x y (ap (drop 1) is)
 
 -- an entry is before a cursor
-abbrev pub IsBehind : Geometry → Cursor → Entry → Type 0
-IsBehind g at e = (e.channel < g.channels) × (e.frame < first_free at e.channel)
+abbrev pub IsBeforeCursor : Geometry → Cursor → Entry → Type 0
+IsBeforeCursor g at e = (e.channel < g.channels) × (e.frame < first_free at e.channel)
 
 -- entries rise by frame and channel
 abbrev pub AreRising : Geometry → List Entry → Type 0
 AreRising g [] = ⊤
-AreRising g (e ∷ es) = Each (λ x. IsBehind g (place_at x) e) es × AreRising g es
+AreRising g (e ∷ es) = Each (λ x. IsBeforeCursor g (place_at x) e) es × AreRising g es
 
-pub AreRising-more : (g : Geometry) (es : List Entry) (e : Entry) → AreRising g es → Each (IsBehind g (place_at e)) es → AreRising g (es ++ e ∷ [])
+pub AreRising-more : (g : Geometry) (es : List Entry) (e : Entry) → AreRising g es → Each (IsBeforeCursor g (place_at e)) es → AreRising g (es ++ e ∷ [])
 AreRising-more g [] e rising before = (tt, tt)
-AreRising-more g (x ∷ xs) e rising before = (Each-append (λ y. IsBehind g (place_at y) x) xs (e ∷ []) rising.0 (before.0, tt), AreRising-more g xs e rising.1 before.1)
+AreRising-more g (x ∷ xs) e rising before = (Each-append (λ y. IsBeforeCursor g (place_at y) x) xs (e ∷ []) rising.0 (before.0, tt), AreRising-more g xs e rising.1 before.1)
 
-pub AreRising-less : (g : Geometry) (es : List Entry) (e : Entry) → AreRising g (es ++ e ∷ []) → AreRising g es × Each (IsBehind g (place_at e)) es
+pub AreRising-less : (g : Geometry) (es : List Entry) (e : Entry) → AreRising g (es ++ e ∷ []) → AreRising g es × Each (IsBeforeCursor g (place_at e)) es
 AreRising-less g [] e rising = (tt, tt)
 AreRising-less g (x ∷ xs) e rising =
-    let rest : AreRising g xs × Each (IsBehind g (place_at e)) xs = AreRising-less g xs e rising.1 in
-    let last : Each (λ y. IsBehind g (place_at y) x) (e ∷ []) = Each-right (λ y. IsBehind g (place_at y) x) xs (e ∷ []) rising.0 in
-    ((Each-left (λ y. IsBehind g (place_at y) x) xs (e ∷ []) rising.0, rest.0), (last.0, rest.1))
+    let rest : AreRising g xs × Each (IsBeforeCursor g (place_at e)) xs = AreRising-less g xs e rising.1 in
+    let last : Each (λ y. IsBeforeCursor g (place_at y) x) (e ∷ []) = Each-right (λ y. IsBeforeCursor g (place_at y) x) xs (e ∷ []) rising.0 in
+    ((Each-left (λ y. IsBeforeCursor g (place_at y) x) xs (e ∷ []) rising.0, rest.0), (last.0, rest.1))
 
 -- which standing adds may still be withdrawn: all are before the cursor; after those that are before the floor they end
 -- in these, which rise
 pub record IsHolding (g : Geometry) (m : Marks) (held free : List Entry) : Type 0 where
-  pub before : Each (IsBehind g m.cursor) held
+  pub before : Each (IsBeforeCursor g m.cursor) held
   pub rising : AreRising g free
-  pub ends : (early : List Entry) × (held ≡ early ++ free) × Each (IsBehind g m.floor) early
+  pub ends : (early : List Entry) × (held ≡ early ++ free) × Each (IsBeforeCursor g m.floor) early
 
 -- what may still be withdrawn after an add
 abbrev pub free_after : Bool → List Entry → Entry → List Entry
 free_after true free e = e ∷ []
 free_after false free e = free ++ e ∷ []
 
-pub behind_up : (g : Geometry) (a b : Cursor) → ((d : ℕ) → d < g.channels → first_free a d ≤ first_free b d) → (x : Entry) → IsBehind g a x → IsBehind g b x
+pub behind_up : (g : Geometry) (a b : Cursor) → ((d : ℕ) → d < g.channels → first_free a d ≤ first_free b d) → (x : Entry) → IsBeforeCursor g a x → IsBeforeCursor g b x
 behind_up g a b up x is = (is.0, omega (arith, is.1, up x.channel is.0))
 
 pub IsHolding-add : (g : Geometry) (m : Marks) (held free : List Entry) (e : Entry) → IsHolding g m held free
@@ -232,20 +232,20 @@ IsHolding-add g m held free e x cursor_high channel from =
     let c : ℕ = e.channel in
     let behind_it : first_free (cursor_after g f c) c ≡ f + 1 = first_free-behind_low g f c c channel (omega arith) in
     let grows : (d : ℕ) → d < g.channels → first_free m.cursor d ≤ first_free (cursor_after g f c) d = λ d d_in. first_free-behind_grows g m.cursor f c d from d_in in
-    let self : IsBehind g (cursor_after g f c) e = (channel, omega (arith, behind_it)) in
-    let all : Each (IsBehind g (cursor_after g f c)) (held ++ e ∷ []) =
-    Each-append (IsBehind g (cursor_after g f c)) held (e ∷ []) (Each-of (IsBehind g m.cursor) (IsBehind g (cursor_after g f c)) held (behind_up g m.cursor (cursor_after g f c) grows) x.before) (self, tt) in
+    let self : IsBeforeCursor g (cursor_after g f c) e = (channel, omega (arith, behind_it)) in
+    let all : Each (IsBeforeCursor g (cursor_after g f c)) (held ++ e ∷ []) =
+    Each-append (IsBeforeCursor g (cursor_after g f c)) held (e ∷ []) (Each-of (IsBeforeCursor g m.cursor) (IsBeforeCursor g (cursor_after g f c)) held (behind_up g m.cursor (cursor_after g f c) grows) x.before) (self, tt) in
     elim (cases_Bool (is_before m.cursor m.high)) [
       | inl before ↦ rw before (record {
         before = all;
         rising = (tt, tt);
-        ends = (held, refl, Each-of (IsBehind g m.cursor) (IsBehind g m.high) held (behind_up g m.cursor m.high (λ d d_in. cursor_high d)) x.before);
+        ends = (held, refl, Each-of (IsBeforeCursor g m.cursor) (IsBeforeCursor g m.high) held (behind_up g m.cursor m.high (λ d d_in. cursor_high d)) x.before);
       })
       | inr level ↦
-          let parted : Each (IsBehind g m.cursor) (x.ends.0 ++ free) = subst (Each (IsBehind g m.cursor)) x.ends.1 x.before in
-          let at_place : Each (IsBehind g (place_at e)) free =
-          Each-of (IsBehind g m.cursor) (IsBehind g (place_at e)) free (behind_up g m.cursor (place_at e) (λ d d_in. up_to_place m.cursor f c d from))
-          (Each-right (IsBehind g m.cursor) x.ends.0 free parted) in
+          let parted : Each (IsBeforeCursor g m.cursor) (x.ends.0 ++ free) = subst (Each (IsBeforeCursor g m.cursor)) x.ends.1 x.before in
+          let at_place : Each (IsBeforeCursor g (place_at e)) free =
+          Each-of (IsBeforeCursor g m.cursor) (IsBeforeCursor g (place_at e)) free (behind_up g m.cursor (place_at e) (λ d d_in. up_to_place m.cursor f c d from))
+          (Each-right (IsBeforeCursor g m.cursor) x.ends.0 free parted) in
           rw level (record {
             before = all;
             rising = AreRising-more g free e x.rising at_place;
@@ -259,8 +259,8 @@ pub IsHolding-last : (g : Geometry) (m : Marks) (early free : List Entry) (e : E
 IsHolding-last g m early free e x from = elim (last_cases free) [
   | inl none ↦
       let all_early : early ++ e ∷ [] ≡ x.ends.0 = x.ends.1 ∙ (ap (λ es. x.ends.0 ++ es) none ∙ append-nil x.ends.0) in
-      let low : Each (IsBehind g m.floor) (early ++ e ∷ []) = subst (Each (IsBehind g m.floor)) (sym all_early) x.ends.2 in
-      let own : Each (IsBehind g m.floor) (e ∷ []) = Each-right (IsBehind g m.floor) early (e ∷ []) low in
+      let low : Each (IsBeforeCursor g m.floor) (early ++ e ∷ []) = subst (Each (IsBeforeCursor g m.floor)) (sym all_early) x.ends.2 in
+      let own : Each (IsBeforeCursor g m.floor) (e ∷ []) = Each-right (IsBeforeCursor g m.floor) early (e ∷ []) low in
       absurd (omega (arith, own.0.1, from))
   | inr some ↦
       let joined : early ++ e ∷ [] ≡ (x.ends.0 ++ some.0) ++ some.1 ∷ [] = x.ends.1 ∙ (ap (λ es. x.ends.0 ++ es) some.2 ∙ sym (append_assoc x.ends.0 some.0 (some.1 ∷ []))) in
@@ -275,11 +275,11 @@ IsHolding-withdraw g m early free e x from =
     let last : free ≡ without_last free ++ e ∷ [] = IsHolding-last g m early free e x from in
     let joined : early ++ e ∷ [] ≡ (x.ends.0 ++ without_last free) ++ e ∷ [] = x.ends.1 ∙ (ap (λ es. x.ends.0 ++ es) last ∙ sym (append_assoc x.ends.0 (without_last free) (e ∷ []))) in
     let same : early ≡ x.ends.0 ++ without_last free = (last-same early (x.ends.0 ++ without_last free) e e joined).0 in
-    let less : AreRising g (without_last free) × Each (IsBehind g (place_at e)) (without_last free) = AreRising-less g (without_last free) e (subst (AreRising g) last x.rising) in
-    let low : Each (IsBehind g (place_at e)) x.ends.0 =
-    Each-of (IsBehind g m.floor) (IsBehind g (place_at e)) x.ends.0 (behind_up g m.floor (place_at e) (λ d d_in. up_to_place m.floor e.frame e.channel d from)) x.ends.2 in
+    let less : AreRising g (without_last free) × Each (IsBeforeCursor g (place_at e)) (without_last free) = AreRising-less g (without_last free) e (subst (AreRising g) last x.rising) in
+    let low : Each (IsBeforeCursor g (place_at e)) x.ends.0 =
+    Each-of (IsBeforeCursor g m.floor) (IsBeforeCursor g (place_at e)) x.ends.0 (behind_up g m.floor (place_at e) (λ d d_in. up_to_place m.floor e.frame e.channel d from)) x.ends.2 in
     record {
-      before = subst (Each (IsBehind g (place_at e))) (sym same) (Each-append (IsBehind g (place_at e)) x.ends.0 (without_last free) low less.1);
+      before = subst (Each (IsBeforeCursor g (place_at e))) (sym same) (Each-append (IsBeforeCursor g (place_at e)) x.ends.0 (without_last free) low less.1);
       rising = less.0;
       ends = (x.ends.0, same, x.ends.2);
     }

@@ -52,7 +52,7 @@ pub record IsRun (v w : View) (es : List Event) (rs : List Reply) : Type 0 where
   pub stands : (h : List Row) → Stands v h → Stands w (h ++ kept_rows (zip es rs))
 
 -- a list holds the standing adds of all members after some rows, and these follow whatever was before the rows
-pub record Keeps (st : List Entry) (rows : List Row) : Type 0 where
+pub record KeepsAdds (st : List Entry) (rows : List Row) : Type 0 where
   pub holds : (m : ℕ) → own_entries m st ≡ standing_of m (laid_of rows)
   pub backed : (m : ℕ) (before : List Entry) → fold stand_after before (own_entries m (laid_of rows)) ≡ before ++ standing_of m (laid_of rows)
 
@@ -69,9 +69,9 @@ pub record IsAnswered (v w : View) (st su : List Entry) (e : Event) (r : Reply) 
   pub geometry : w.geometry ≡ v.geometry
   pub members : length w.marks ≡ length v.marks
   pub gone : w.gone ≡ v.gone
-  pub reply : (h rows : List Row) → Keeps st rows → Stands v (h ++ kept_rows rows) → IsReplySince v.geometry (length v.marks) h rows (e, r)
-  pub stands : (h rows : List Row) → Keeps st rows → Stands v (h ++ kept_rows rows) → Stands w ((h ++ kept_rows rows) ++ kept_rows ((e, r) ∷ []))
-  pub keeps : (rows : List Row) → Keeps st rows → Keeps su (rows ++ (e, r) ∷ [])
+  pub reply : (h rows : List Row) → KeepsAdds st rows → Stands v (h ++ kept_rows rows) → IsReplySince v.geometry (length v.marks) h rows (e, r)
+  pub stands : (h rows : List Row) → KeepsAdds st rows → Stands v (h ++ kept_rows rows) → Stands w ((h ++ kept_rows rows) ++ kept_rows ((e, r) ∷ []))
+  pub keeps : (rows : List Row) → KeepsAdds st rows → KeepsAdds su (rows ++ (e, r) ∷ [])
 
 -- the last standing add of a member is at a place of the list
 pub record IsLastOf (st : List Entry) (m i : ℕ) : Type 0 where

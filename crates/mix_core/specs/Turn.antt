@@ -51,13 +51,13 @@ abbrev pub continues : Kind → Geometry → ℕ → List Row → ℕ → ℕ �
 continues Added g members h m f c s = ⊤
 continues Withdrawn g members h m f c s = IsHeld g members h m f c s
 
-abbrev pub Continues : Geometry → ℕ → List Row → Entry → Type 0
-Continues g members h e = continues e.kind g members h e.member e.frame e.channel e.sample
+abbrev pub ContinuesRows : Geometry → ℕ → List Row → Entry → Type 0
+ContinuesRows g members h e = continues e.kind g members h e.member e.frame e.channel e.sample
 
 -- entries do, one after the other
 abbrev pub AllContinue : Geometry → ℕ → List Row → List Entry → Type 0
 AllContinue g members h [] = ⊤
-AllContinue g members h (e ∷ es) = Continues g members h e × AllContinue g members (h ++ entry_row e ∷ []) es
+AllContinue g members h (e ∷ es) = ContinuesRows g members h e × AllContinue g members (h ++ entry_row e ∷ []) es
 
 -- the turn holds the core that a reference borrows
 abbrev pub HoldsCore : Turn → MutBor View → Type 0
@@ -88,7 +88,7 @@ pub record TurnLaid (t u : Turn) (es : List Entry) : Type 0 where
 -- a turn's add of an entry was late: each history that the core represented has this add at its end
 abbrev pub TurnMissed : Turn → Turn → Entry → Type 0
 TurnMissed t u e =
-    (h : List Row) → Stands (core_of t) h → Continues (core_of t).geometry (length (core_of t).marks) h e → Stands (core_of u) (h ++ late_row e ∷ [])
+    (h : List Row) → Stands (core_of t) h → ContinuesRows (core_of t).geometry (length (core_of t).marks) h e → Stands (core_of u) (h ++ late_row e ∷ [])
 
 -- the words that a turn finds at a frame and channel are at most one, which the core has there
 abbrev pub AreFound : List ℕ → ℕ → Type 0

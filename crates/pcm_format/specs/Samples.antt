@@ -30,11 +30,11 @@ silence_of S16Le = 0
 silence_of S16Be = 0
 
 -- the sample of 16 bits that bytes represent
-abbrev pub sample_of : Format → List ℕ → ℤ
-sample_of S8 bytes = cast_signed w8 (slice_index bytes 0) *ℤ pos 256
-sample_of U8 bytes = (pos (slice_index bytes 0) -ℤ pos 128) *ℤ pos 256
-sample_of S16Le bytes = cast_signed w16 (from_le_bytes w16 bytes)
-sample_of S16Be bytes = cast_signed w16 (from_be_bytes w16 bytes)
+abbrev pub sample_of_bytes : Format → List ℕ → ℤ
+sample_of_bytes S8 bytes = cast_signed w8 (slice_index bytes 0) *ℤ pos 256
+sample_of_bytes U8 bytes = (pos (slice_index bytes 0) -ℤ pos 128) *ℤ pos 256
+sample_of_bytes S16Le bytes = cast_signed w16 (from_le_bytes w16 bytes)
+sample_of_bytes S16Be bytes = cast_signed w16 (from_be_bytes w16 bytes)
 
 -- a sample divided by 256, rounded down: the divisor is positive, so the remainder isn't negative
 abbrev pub high_part : ℤ → ℤ

@@ -4,17 +4,17 @@ ghost use Rattle.std.specs.Int.{w16};
 ghost use Rattle.pcm_format.specs.declared.areas.Areas.{Areas};
 ghost use Rattle.pcm_format.specs.declared.format.Format.TheVariants.{S8, U8, S16Le, S16Be};
 ghost use Rattle.pcm_format.specs.Places.{HoldsRange, place_of};
-ghost use Rattle.pcm_format.specs.Samples.{high_part, bytes_of_sample, sample_of};
+ghost use Rattle.pcm_format.specs.Samples.{high_part, bytes_of_sample, sample_of_bytes};
 
 /// A sample that is printed in a format of 16 bits and read back is that sample. In a format of 8
 /// bits it is read back as the multiple of 256 at or below it.
 pub fn printed_samples_are_read_back()
-    ensures s8 { (z : ℤ) → FitsSigned w16 z → sample_of S8 (bytes_of_sample S8 z)
+    ensures s8 { (z : ℤ) → FitsSigned w16 z → sample_of_bytes S8 (bytes_of_sample S8 z)
         ≡ high_part z *ℤ pos 256 }
-    ensures u8 { (z : ℤ) → FitsSigned w16 z → sample_of U8 (bytes_of_sample U8 z)
+    ensures u8 { (z : ℤ) → FitsSigned w16 z → sample_of_bytes U8 (bytes_of_sample U8 z)
         ≡ high_part z *ℤ pos 256 }
-    ensures s16_le { (z : ℤ) → FitsSigned w16 z → sample_of S16Le (bytes_of_sample S16Le z) ≡ z }
-    ensures s16_be { (z : ℤ) → FitsSigned w16 z → sample_of S16Be (bytes_of_sample S16Be z) ≡ z }
+    ensures s16_le { (z : ℤ) → FitsSigned w16 z → sample_of_bytes S16Le (bytes_of_sample S16Le z) ≡ z }
+    ensures s16_be { (z : ℤ) → FitsSigned w16 z → sample_of_bytes S16Be (bytes_of_sample S16Be z) ≡ z }
 {}
 
 /// The high part of a sample is the sample divided by 256, rounded down.

@@ -1,6 +1,6 @@
 //! The bytes of one sample.
 ghost use Rattle.std.specs.Prelude.{◌≡◌, length};
-ghost use Rattle.pcm_format.specs.Samples.{bytes_of, sample_of, bytes_of_sample};
+ghost use Rattle.pcm_format.specs.Samples.{bytes_of, sample_of_bytes, bytes_of_sample};
 
 use crate::format::Format;
 
@@ -11,7 +11,7 @@ use crate::format::Format;
 /// times 256. The formats are those of alsa/pcm.h.
 pub fn read_sample(format: Format, bytes: &[u8]) -> i16
     requires { length bytes.now ≡ bytes_of format }
-    ensures { result ≡ sample_of format bytes.now }
+    ensures { result ≡ sample_of_bytes format bytes.now }
 {
     match format {
         Format::S8 => i16::from(bytes[0].cast_signed()) * 256,

@@ -5,8 +5,8 @@ use Rattle.std.proofs.Math.Nat.{div-add-mod', div-one, div-mul-le_self, eq_of_mu
 use Rattle.std.proofs.lemmas.Bool.{and_from, and_parts, both_ways, cases_Bool, cases_eq, cases_lt, or_cases, or_left, or_right, cond-true, cond-false, false≢true, leb-true, ltb-true, ltb-false}
 use Rattle.std.proofs.lemmas.Bool.Decides.{nat_tests}
 use Rattle.pcm_interval.specs.declared.interval.Interval.{Interval}
-use Rattle.pcm_interval.specs.Intervals.{IsNonEmpty, IsWithin, IsMember, bit_of}
-use Rattle.pcm_interval.specs.IntervalLaws.{IsNonEmpty-le, IsWithin-from_places, IsWithin-max, IsWithin-min}
+use Rattle.pcm_interval.specs.Intervals.{IsNonEmpty, IsIntervalWithin, IsMember, bit_of}
+use Rattle.pcm_interval.specs.IntervalLaws.{IsNonEmpty-le, IsIntervalWithin-from_places, IsIntervalWithin-max, IsIntervalWithin-min}
 use Rattle.pcm_interval.specs.Arithmetic.{interval_between, product_of, quotient_of, scaled_product_of, scaled_quotient_of, end_max, is_broken, rounded_up, lower_end_of, lower_is_open, upper_end_of, upper_is_open}
 
 -- ---- fractions and their ends
@@ -74,24 +74,24 @@ upper_end-le m e n d m_open n_open e_pos d_pos low opens =
     ]
 
 -- so the interval between two fractions that are not further out lies within
-between-IsWithin : (low_n low_d low_m low_e : ℕ) (low_o low_p : Bool) (high_n high_d high_m high_e : ℕ) (high_o high_p : Bool) (whole part : Bool)
+between-IsIntervalWithin : (low_n low_d low_m low_e : ℕ) (low_o low_p : Bool) (high_n high_d high_m high_e : ℕ) (high_o high_p : Bool) (whole part : Bool)
     → 0 < low_d → 0 < low_e → low_n * low_e ≤ low_m * low_d → (low_n * low_e ≡ low_m * low_d → IsTrue low_o → IsTrue low_p) → low_m / low_e ≤ end_max
     → 0 < high_d → 0 < high_e → high_m * high_d ≤ high_n * high_e → (high_m * high_d ≡ high_n * high_e → IsTrue high_o → IsTrue high_p)
     → (IsTrue whole → IsTrue part)
-    → IsWithin (interval_between low_m low_e low_p high_m high_e high_p part) (interval_between low_n low_d low_o high_n high_d high_o whole)
+    → IsIntervalWithin (interval_between low_m low_e low_p high_m high_e high_p part) (interval_between low_n low_d low_o high_n high_d high_o whole)
 unfolding interval_between
-between-IsWithin low_n low_d low_m low_e low_o low_p high_n high_d high_m high_e high_o high_p whole part ld le low lows uncut hd he high highs integer =
-    IsWithin-from_places _ _
+between-IsIntervalWithin low_n low_d low_m low_e low_o low_p high_n high_d high_m high_e high_o high_p whole part ld le low lows uncut hd he high highs integer =
+    IsIntervalWithin-from_places _ _
     (lower_end-le low_n low_d low_m low_e low_o low_p ld le low lows uncut)
     (upper_end-le high_m high_e high_n high_d high_p high_o he hd high highs)
     integer
 
 -- ---- ends of intervals
 
-open_lower : (a c : Interval) → IsWithin a c → c.min ≡ a.min → IsTrue c.openmin → IsTrue a.openmin
+open_lower : (a c : Interval) → IsIntervalWithin a c → c.min ≡ a.min → IsTrue c.openmin → IsTrue a.openmin
 open_lower a c h same = ⊎_elim (λ (less : c.min < a.min). absurd (omega arith)) (λ (at : (a.min ≡ c.min) × (IsTrue c.openmin → IsTrue a.openmin)). at.1) h.lower
 
-open_upper : (a c : Interval) → IsWithin a c → a.max ≡ c.max → IsTrue c.openmax → IsTrue a.openmax
+open_upper : (a c : Interval) → IsIntervalWithin a c → a.max ≡ c.max → IsTrue c.openmax → IsTrue a.openmax
 open_upper a c h same = ⊎_elim (λ (less : a.max < c.max). absurd (omega arith)) (λ (at : (a.max ≡ c.max) × (IsTrue c.openmax → IsTrue a.openmax)). at.1) h.upper
 
 either : (v w x y : Bool) → (IsTrue v → IsTrue x) → (IsTrue w → IsTrue y) → IsTrue (v || w) → IsTrue (x || y)
@@ -154,19 +154,19 @@ max-positive a filled min = omega (arith, IsNonEmpty-le a filled, min)
 abbrev product_by : Interval → Interval → ℕ → Bool → Interval
 product_by a b k integer = interval_between (a.min * b.min) k (a.openmin || b.openmin) (a.max * b.max) k (a.openmax || b.openmax) integer
 
-product_by-IsWithin : (a b c d : Interval) (k : ℕ) (part whole : Bool) → IsNonEmpty a → IsNonEmpty b → IsWithin a c → IsWithin b d
+product_by-IsIntervalWithin : (a b c d : Interval) (k : ℕ) (part whole : Bool) → IsNonEmpty a → IsNonEmpty b → IsIntervalWithin a c → IsIntervalWithin b d
     → 1 ≤ c.min → 1 ≤ d.min → 1 ≤ k → a.min * b.min / k ≤ end_max → (IsTrue whole → IsTrue part)
-    → IsWithin (product_by a b k part) (product_by c d k whole)
-product_by-IsWithin a b c d k part whole filled_a filled_b in_c in_d c_min d_min k_min uncut integer =
-    let a_low = IsWithin-min a c in_c in
-    let b_low = IsWithin-min b d in_d in
-    let a_high = IsWithin-max a c in_c in
-    let b_high = IsWithin-max b d in_d in
+    → IsIntervalWithin (product_by a b k part) (product_by c d k whole)
+product_by-IsIntervalWithin a b c d k part whole filled_a filled_b in_c in_d c_min d_min k_min uncut integer =
+    let a_low = IsIntervalWithin-min a c in_c in
+    let b_low = IsIntervalWithin-min b d in_d in
+    let a_high = IsIntervalWithin-max a c in_c in
+    let b_high = IsIntervalWithin-max b d in_d in
     let a_pos : 0 < a.max = max-positive a filled_a (omega arith) in
     let b_pos : 0 < b.max = max-positive b filled_b (omega arith) in
     let low = mul-order_by c.min a.min d.min b.min k (c.min * d.min * k) (a.min * b.min * k) a_low b_low (omega arith) (omega arith) k_min refl refl in
     let high = mul-order_by a.max c.max b.max d.max k (a.max * b.max * k) (c.max * d.max * k) a_high b_high (omega arith) (omega arith) k_min refl refl in
-    between-IsWithin (c.min * d.min) k (a.min * b.min) k (c.openmin || d.openmin) (a.openmin || b.openmin)
+    between-IsIntervalWithin (c.min * d.min) k (a.min * b.min) k (c.openmin || d.openmin) (a.openmin || b.openmin)
     (c.max * d.max) k (a.max * b.max) k (c.openmax || d.openmax) (a.openmax || b.openmax) whole part
     k_min k_min low.0
     (λ same. let ends = low.3 same in either c.openmin d.openmin a.openmin b.openmin (open_lower a c in_c ends.0) (open_lower b d in_d ends.1))
@@ -175,35 +175,35 @@ product_by-IsWithin a b c d k part whole filled_a filled_b in_c in_d c_min d_min
     (λ same. let ends = high.3 same in either c.openmax d.openmax a.openmax b.openmax (open_upper a c in_c ends.0) (open_upper b d in_d ends.1))
     integer
 
-pub product_of-IsWithin : (a b c d : Interval) → IsNonEmpty a → IsNonEmpty b → IsWithin a c → IsWithin b d
-    → 1 ≤ c.min → 1 ≤ d.min → a.min * b.min ≤ end_max → IsWithin (product_of a b) (product_of c d)
+pub product_of-IsIntervalWithin : (a b c d : Interval) → IsNonEmpty a → IsNonEmpty b → IsIntervalWithin a c → IsIntervalWithin b d
+    → 1 ≤ c.min → 1 ≤ d.min → a.min * b.min ≤ end_max → IsIntervalWithin (product_of a b) (product_of c d)
 unfolding product_of
-product_of-IsWithin a b c d filled_a filled_b in_c in_d c_min d_min uncut =
-    product_by-IsWithin a b c d 1 (a.integer && b.integer) (c.integer && d.integer) filled_a filled_b in_c in_d c_min d_min (omega arith)
+product_of-IsIntervalWithin a b c d filled_a filled_b in_c in_d c_min d_min uncut =
+    product_by-IsIntervalWithin a b c d 1 (a.integer && b.integer) (c.integer && d.integer) filled_a filled_b in_c in_d c_min d_min (omega arith)
     (omega (arith, div-one (a.min * b.min)))
     (both_flags c.integer d.integer a.integer b.integer in_c.integer in_d.integer)
 
-pub scaled_product_of-IsWithin : (a b c d : Interval) (k : ℕ) → IsNonEmpty a → IsNonEmpty b → IsWithin a c → IsWithin b d
-    → 1 ≤ c.min → 1 ≤ d.min → 1 ≤ k → a.min * b.min / k ≤ end_max → IsWithin (scaled_product_of a b k) (scaled_product_of c d k)
+pub scaled_product_of-IsIntervalWithin : (a b c d : Interval) (k : ℕ) → IsNonEmpty a → IsNonEmpty b → IsIntervalWithin a c → IsIntervalWithin b d
+    → 1 ≤ c.min → 1 ≤ d.min → 1 ≤ k → a.min * b.min / k ≤ end_max → IsIntervalWithin (scaled_product_of a b k) (scaled_product_of c d k)
 unfolding scaled_product_of
-scaled_product_of-IsWithin a b c d k filled_a filled_b in_c in_d c_min d_min k_min uncut =
-    product_by-IsWithin a b c d k false false filled_a filled_b in_c in_d c_min d_min k_min uncut (λ h. h)
+scaled_product_of-IsIntervalWithin a b c d k filled_a filled_b in_c in_d c_min d_min k_min uncut =
+    product_by-IsIntervalWithin a b c d k false false filled_a filled_b in_c in_d c_min d_min k_min uncut (λ h. h)
 
-pub scaled_quotient_of-IsWithin : (a : Interval) (k : ℕ) (b c d : Interval) → IsNonEmpty a → IsNonEmpty b → IsWithin a c → IsWithin b d
-    → 1 ≤ c.min → 1 ≤ d.min → 1 ≤ k → a.min * k / b.max ≤ end_max → IsWithin (scaled_quotient_of a k b) (scaled_quotient_of c k d)
+pub scaled_quotient_of-IsIntervalWithin : (a : Interval) (k : ℕ) (b c d : Interval) → IsNonEmpty a → IsNonEmpty b → IsIntervalWithin a c → IsIntervalWithin b d
+    → 1 ≤ c.min → 1 ≤ d.min → 1 ≤ k → a.min * k / b.max ≤ end_max → IsIntervalWithin (scaled_quotient_of a k b) (scaled_quotient_of c k d)
 unfolding scaled_quotient_of
-scaled_quotient_of-IsWithin a k b c d filled_a filled_b in_c in_d c_min d_min k_min uncut =
-    let a_low = IsWithin-min a c in_c in
-    let b_low = IsWithin-min b d in_d in
-    let a_high = IsWithin-max a c in_c in
-    let b_high = IsWithin-max b d in_d in
+scaled_quotient_of-IsIntervalWithin a k b c d filled_a filled_b in_c in_d c_min d_min k_min uncut =
+    let a_low = IsIntervalWithin-min a c in_c in
+    let b_low = IsIntervalWithin-min b d in_d in
+    let a_high = IsIntervalWithin-max a c in_c in
+    let b_high = IsIntervalWithin-max b d in_d in
     let a_pos : 0 < a.max = max-positive a filled_a (omega arith) in
     let b_pos : 0 < b.max = max-positive b filled_b (omega arith) in
     let low = mul-order_by c.min a.min b.max d.max k (c.min * k * b.max) (a.min * k * d.max) a_low b_high (omega arith) (omega arith) k_min
     (omega arith) (omega arith) in
     let high = mul-order_by a.max c.max d.min b.min k (a.max * k * d.min) (c.max * k * b.min) a_high b_low (omega arith) (omega arith) k_min
     (omega arith) (omega arith) in
-    between-IsWithin (c.min * k) d.max (a.min * k) b.max (c.openmin || d.openmax) (a.openmin || b.openmax)
+    between-IsIntervalWithin (c.min * k) d.max (a.min * k) b.max (c.openmin || d.openmax) (a.openmin || b.openmax)
     (c.max * k) d.min (a.max * k) b.min (c.openmax || d.openmin) (a.openmax || b.openmin) false false
     (omega arith) b_pos low.0
     (λ same. let ends = low.3 same in either c.openmin d.openmax a.openmin b.openmax (open_lower a c in_c ends.0) (open_upper b d in_d ends.1))
@@ -217,13 +217,13 @@ quotient_of-scaled : (a b : Interval) → scaled_quotient_of a 1 b ≡ quotient_
 unfolding quotient_of scaled_quotient_of
 quotient_of-scaled a b = simp mul-one
 
-pub quotient_of-IsWithin : (a b c d : Interval) → IsNonEmpty a → IsNonEmpty b → IsWithin a c → IsWithin b d
-    → 1 ≤ c.min → 1 ≤ d.min → a.min / b.max ≤ end_max → IsWithin (quotient_of a b) (quotient_of c d)
-quotient_of-IsWithin a b c d filled_a filled_b in_c in_d c_min d_min uncut =
+pub quotient_of-IsIntervalWithin : (a b c d : Interval) → IsNonEmpty a → IsNonEmpty b → IsIntervalWithin a c → IsIntervalWithin b d
+    → 1 ≤ c.min → 1 ≤ d.min → a.min / b.max ≤ end_max → IsIntervalWithin (quotient_of a b) (quotient_of c d)
+quotient_of-IsIntervalWithin a b c d filled_a filled_b in_c in_d c_min d_min uncut =
     let uncut_one : a.min * 1 / b.max ≤ end_max = rw mul-one uncut in
-    let scaled = scaled_quotient_of-IsWithin a 1 b c d filled_a filled_b in_c in_d c_min d_min (omega arith) uncut_one in
-    subst (λ (q : Interval). IsWithin q (quotient_of c d)) (quotient_of-scaled a b)
-    (subst (λ (q : Interval). IsWithin (scaled_quotient_of a 1 b) q) (quotient_of-scaled c d) scaled)
+    let scaled = scaled_quotient_of-IsIntervalWithin a 1 b c d filled_a filled_b in_c in_d c_min d_min (omega arith) uncut_one in
+    subst (λ (q : Interval). IsIntervalWithin q (quotient_of c d)) (quotient_of-scaled a b)
+    (subst (λ (q : Interval). IsIntervalWithin (scaled_quotient_of a 1 b) q) (quotient_of-scaled c d) scaled)
 
 -- ---- fractions of members are members, where they are at most the greatest number
 

@@ -5,7 +5,7 @@ use Rattle.std.proofs.Math.Nat.{div-add-mod', mul-mod_left, mul-le-mul_right, le
 use Rattle.std.proofs.lemmas.Bool.{or_left, or_right, or_cases, cond-true, cond-false, cases_Bool, cases_lt, cases_order, cond_both, both_ways, false_from_ne_true, false≢true}
 use Rattle.std.proofs.lemmas.Bool.Decides.{nat_tests}
 use Rattle.pcm_interval.specs.declared.interval.Interval.{Interval}
-use Rattle.pcm_interval.specs.Intervals.{IsEmpty, IsNonEmpty, IsWithin, IsMember, IsNormal, is_empty, is_point, with_ends_closed, refinement, common_part, normal_form, lower_place, upper_place, bit_of, size_of}
+use Rattle.pcm_interval.specs.Intervals.{IsEmpty, IsNonEmpty, IsIntervalWithin, IsMember, IsNormal, is_empty, is_point, with_ends_closed, refinement, common_part, normal_form, lower_place, upper_place, bit_of, size_of}
 
 -- ---- places
 
@@ -17,25 +17,25 @@ pub IsNonEmpty-from_places : (i : Interval) → lower_place i < upper_place i �
 IsNonEmpty-from_places i h = grind (arith, nat_tests)
 
 -- one interval lies within another where its ends lie there
-pub IsWithin-lower_place : (a b : Interval) → IsWithin a b → lower_place b ≤ lower_place a
-IsWithin-lower_place a b h = grind (arith, nat_tests)
+pub IsIntervalWithin-lower_place : (a b : Interval) → IsIntervalWithin a b → lower_place b ≤ lower_place a
+IsIntervalWithin-lower_place a b h = grind (arith, nat_tests)
 
-pub IsWithin-upper_place : (a b : Interval) → IsWithin a b → upper_place a ≤ upper_place b
-IsWithin-upper_place a b h = grind (arith, nat_tests)
+pub IsIntervalWithin-upper_place : (a b : Interval) → IsIntervalWithin a b → upper_place a ≤ upper_place b
+IsIntervalWithin-upper_place a b h = grind (arith, nat_tests)
 
-pub IsWithin-from_places : (a b : Interval) → lower_place b ≤ lower_place a → upper_place a ≤ upper_place b
-    → (IsTrue b.integer → IsTrue a.integer) → IsWithin a b
-IsWithin-from_places a b lower upper integer = record { lower = grind (arith, nat_tests); upper = grind (arith, nat_tests); integer = integer }
+pub IsIntervalWithin-from_places : (a b : Interval) → lower_place b ≤ lower_place a → upper_place a ≤ upper_place b
+    → (IsTrue b.integer → IsTrue a.integer) → IsIntervalWithin a b
+IsIntervalWithin-from_places a b lower upper integer = record { lower = grind (arith, nat_tests); upper = grind (arith, nat_tests); integer = integer }
 
 -- ---- within is an order
 
-pub IsWithin-refl : (a : Interval) → IsWithin a a
-IsWithin-refl a = record { lower = inr (refl, λ h. h); upper = inr (refl, λ h. h); integer = λ h. h }
+pub IsIntervalWithin-refl : (a : Interval) → IsIntervalWithin a a
+IsIntervalWithin-refl a = record { lower = inr (refl, λ h. h); upper = inr (refl, λ h. h); integer = λ h. h }
 
-pub IsWithin-trans : (a b c : Interval) → IsWithin a b → IsWithin b c → IsWithin a c
-IsWithin-trans a b c h g = IsWithin-from_places a c
-    (omega (arith, IsWithin-lower_place a b h, IsWithin-lower_place b c g))
-    (omega (arith, IsWithin-upper_place a b h, IsWithin-upper_place b c g))
+pub IsIntervalWithin-trans : (a b c : Interval) → IsIntervalWithin a b → IsIntervalWithin b c → IsIntervalWithin a c
+IsIntervalWithin-trans a b c h g = IsIntervalWithin-from_places a c
+    (omega (arith, IsIntervalWithin-lower_place a b h, IsIntervalWithin-lower_place b c g))
+    (omega (arith, IsIntervalWithin-upper_place a b h, IsIntervalWithin-upper_place b c g))
     (λ e. h.integer (g.integer e))
 
 -- an end's place gives its number and whether it is open
@@ -72,23 +72,23 @@ same_from_places a b lower upper integer =
     let high = same_upper a.max b.max a.openmax b.openmax upper in
     same_fields a b low.0 high.0 low.1 high.1 integer
 
-pub IsWithin-antisym : (a b : Interval) → IsWithin a b → IsWithin b a → a ≡ b
-IsWithin-antisym a b h g = same_from_places a b
-    (omega (arith, IsWithin-lower_place a b h, IsWithin-lower_place b a g))
-    (omega (arith, IsWithin-upper_place a b h, IsWithin-upper_place b a g))
+pub IsIntervalWithin-antisym : (a b : Interval) → IsIntervalWithin a b → IsIntervalWithin b a → a ≡ b
+IsIntervalWithin-antisym a b h g = same_from_places a b
+    (omega (arith, IsIntervalWithin-lower_place a b h, IsIntervalWithin-lower_place b a g))
+    (omega (arith, IsIntervalWithin-upper_place a b h, IsIntervalWithin-upper_place b a g))
     (same_flag a.integer b.integer g.integer h.integer)
 
 -- its numbers too
-pub IsWithin-min : (a b : Interval) → IsWithin a b → b.min ≤ a.min
-IsWithin-min a b h = grind (arith, nat_tests)
+pub IsIntervalWithin-min : (a b : Interval) → IsIntervalWithin a b → b.min ≤ a.min
+IsIntervalWithin-min a b h = grind (arith, nat_tests)
 
-pub IsWithin-max : (a b : Interval) → IsWithin a b → a.max ≤ b.max
-IsWithin-max a b h = grind (arith, nat_tests)
+pub IsIntervalWithin-max : (a b : Interval) → IsIntervalWithin a b → a.max ≤ b.max
+IsIntervalWithin-max a b h = grind (arith, nat_tests)
 
 -- what holds an interval that is not empty is not empty
-pub IsNonEmpty-IsWithin : (a b : Interval) → IsWithin a b → IsNonEmpty a → IsNonEmpty b
-IsNonEmpty-IsWithin a b h filled = IsNonEmpty-from_places b
-    (omega (arith, IsNonEmpty-places a filled, IsWithin-lower_place a b h, IsWithin-upper_place a b h))
+pub IsNonEmpty-IsIntervalWithin : (a b : Interval) → IsIntervalWithin a b → IsNonEmpty a → IsNonEmpty b
+IsNonEmpty-IsIntervalWithin a b h filled = IsNonEmpty-from_places b
+    (omega (arith, IsNonEmpty-places a filled, IsIntervalWithin-lower_place a b h, IsIntervalWithin-upper_place a b h))
 
 -- the lower end of an interval that is not empty is at most its upper end
 pub IsNonEmpty-le : (i : Interval) → IsNonEmpty i → i.min ≤ i.max
@@ -116,18 +116,18 @@ common_part-integer : (a b : Interval) → IsTrue (common_part a b).integer → 
 unfolding common_part
 common_part-integer a b h = or_cases a.integer b.integer h
 
-common_part-IsWithin_left : (a b : Interval) → IsWithin (common_part a b) a
-common_part-IsWithin_left a b = IsWithin-from_places (common_part a b) a
+common_part-IsWithin_left : (a b : Interval) → IsIntervalWithin (common_part a b) a
+common_part-IsWithin_left a b = IsIntervalWithin-from_places (common_part a b) a
     (omega (arith, common_part-lower_place a b)) (omega (arith, common_part-upper_place a b)) (common_part-integer_left a b)
 
-common_part-IsWithin_right : (a b : Interval) → IsWithin (common_part a b) b
-common_part-IsWithin_right a b = IsWithin-from_places (common_part a b) b
+common_part-IsWithin_right : (a b : Interval) → IsIntervalWithin (common_part a b) b
+common_part-IsWithin_right a b = IsIntervalWithin-from_places (common_part a b) b
     (omega (arith, common_part-lower_place a b)) (omega (arith, common_part-upper_place a b)) (common_part-integer_right a b)
 
-common_part-greatest : (s a b : Interval) → IsWithin s a → IsWithin s b → IsWithin s (common_part a b)
-common_part-greatest s a b in_a in_b = IsWithin-from_places s (common_part a b)
-    (omega (arith, common_part-lower_place a b, IsWithin-lower_place s a in_a, IsWithin-lower_place s b in_b))
-    (omega (arith, common_part-upper_place a b, IsWithin-upper_place s a in_a, IsWithin-upper_place s b in_b))
+common_part-greatest : (s a b : Interval) → IsIntervalWithin s a → IsIntervalWithin s b → IsIntervalWithin s (common_part a b)
+common_part-greatest s a b in_a in_b = IsIntervalWithin-from_places s (common_part a b)
+    (omega (arith, common_part-lower_place a b, IsIntervalWithin-lower_place s a in_a, IsIntervalWithin-lower_place s b in_b))
+    (omega (arith, common_part-upper_place a b, IsIntervalWithin-upper_place s a in_a, IsIntervalWithin-upper_place s b in_b))
     (λ h. ⊎_elim in_a.integer in_b.integer (common_part-integer a b h))
 
 -- the normal form, case by case
@@ -160,33 +160,33 @@ normal_form-cases i P at_empty at_integer at_fraction =
     ]
 
 -- with its ends closed an interval lies within itself
-with_ends_closed-IsWithin : (i : Interval) → IsNonEmpty i → IsWithin (with_ends_closed i) i
-with_ends_closed-IsWithin i filled =
-    IsWithin-from_places (with_ends_closed i) i (grind (arith, nat_tests)) (grind (arith, nat_tests)) (λ h. h)
+with_ends_closed-IsIntervalWithin : (i : Interval) → IsNonEmpty i → IsIntervalWithin (with_ends_closed i) i
+with_ends_closed-IsIntervalWithin i filled =
+    IsIntervalWithin-from_places (with_ends_closed i) i (grind (arith, nat_tests)) (grind (arith, nat_tests)) (λ h. h)
 
 -- and what is integer with closed ends lies within it
-with_ends_closed-greatest : (s i : Interval) → IsNonEmpty i → IsTrue i.integer → IsNormal s → IsWithin s i → IsWithin s (with_ends_closed i)
+with_ends_closed-greatest : (s i : Interval) → IsNonEmpty i → IsTrue i.integer → IsNormal s → IsIntervalWithin s i → IsIntervalWithin s (with_ends_closed i)
 with_ends_closed-greatest s i filled integer normal within =
     let open_low = normal.lower (within.integer integer) in
     let open_high = normal.upper (within.integer integer) in
-    let low = IsWithin-lower_place s i within in
-    let high = IsWithin-upper_place s i within in
-    IsWithin-from_places s (with_ends_closed i) (grind (arith, nat_tests)) (grind (arith, nat_tests)) (λ h. within.integer integer)
+    let low = IsIntervalWithin-lower_place s i within in
+    let high = IsIntervalWithin-upper_place s i within in
+    IsIntervalWithin-from_places s (with_ends_closed i) (grind (arith, nat_tests)) (grind (arith, nat_tests)) (λ h. within.integer integer)
 
 -- a point is integer
-point-integer : (s i : Interval) → IsNonEmpty s → IsNormal s → IsWithin s i → IsTrue (is_point i) → IsTrue s.integer
+point-integer : (s i : Interval) → IsNonEmpty s → IsNormal s → IsIntervalWithin s i → IsTrue (is_point i) → IsTrue s.integer
 point-integer s i filled normal within point =
-    let low = IsWithin-lower_place s i within in
-    let high = IsWithin-upper_place s i within in
+    let low = IsIntervalWithin-lower_place s i within in
+    let high = IsIntervalWithin-upper_place s i within in
     let room = IsNonEmpty-places s filled in
     normal.point (grind (arith, nat_tests))
 
 -- the normal form lies within
-normal_form-IsWithin : (i : Interval) → IsWithin (normal_form i) i
-normal_form-IsWithin i = normal_form-cases i (λ n. IsWithin n i)
-    (λ empty. IsWithin-refl i)
-    (λ filled integer. with_ends_closed-IsWithin i filled)
-    (λ filled fraction. IsWithin-from_places (record i { integer = is_point i }) i (omega arith) (omega arith) (λ h. absurd (both_ways i.integer fraction h)))
+normal_form-IsIntervalWithin : (i : Interval) → IsIntervalWithin (normal_form i) i
+normal_form-IsIntervalWithin i = normal_form-cases i (λ n. IsIntervalWithin n i)
+    (λ empty. IsIntervalWithin-refl i)
+    (λ filled integer. with_ends_closed-IsIntervalWithin i filled)
+    (λ filled fraction. IsIntervalWithin-from_places (record i { integer = is_point i }) i (omega arith) (omega arith) (λ h. absurd (both_ways i.integer fraction h)))
 
 normal_form-IsNormal : (i : Interval) → IsNonEmpty (normal_form i) → IsNormal (normal_form i)
 normal_form-IsNormal i = normal_form-cases i (λ n. IsNonEmpty n → IsNormal n)
@@ -194,12 +194,12 @@ normal_form-IsNormal i = normal_form-cases i (λ n. IsNonEmpty n → IsNormal n)
     (λ before integer filled. record { lower = λ h. refl; upper = λ h. refl; point = λ h. integer })
     (λ before fraction filled. record { lower = grind (arith, nat_tests); upper = grind (arith, nat_tests); point = grind (arith, nat_tests) })
 
-normal_form-greatest : (s i : Interval) → IsNonEmpty s → IsNormal s → IsWithin s i → IsWithin s (normal_form i)
-normal_form-greatest s i filled normal within = normal_form-cases i (λ n. IsWithin s n)
+normal_form-greatest : (s i : Interval) → IsNonEmpty s → IsNormal s → IsIntervalWithin s i → IsIntervalWithin s (normal_form i)
+normal_form-greatest s i filled normal within = normal_form-cases i (λ n. IsIntervalWithin s n)
     (λ empty. within)
     (λ before integer. with_ends_closed-greatest s i before integer normal within)
-    (λ before fraction. IsWithin-from_places s (record i { integer = is_point i })
-    (IsWithin-lower_place s i within) (IsWithin-upper_place s i within) (point-integer s i filled normal within))
+    (λ before fraction. IsIntervalWithin-from_places s (record i { integer = is_point i })
+    (IsIntervalWithin-lower_place s i within) (IsIntervalWithin-upper_place s i within) (point-integer s i filled normal within))
 
 -- of an empty common part nothing is left
 pub refined-empty : (a b : Interval) → IsEmpty (common_part a b) → IsEmpty (refinement a b)
@@ -207,13 +207,13 @@ unfolding refinement
 refined-empty a b h = subst IsEmpty (sym (normal_form-empty (common_part a b) h)) h
 
 -- it lies within both
-pub refined-IsWithin_left : (a b : Interval) → IsWithin (refinement a b) a
+pub refined-IsWithin_left : (a b : Interval) → IsIntervalWithin (refinement a b) a
 unfolding refinement
-refined-IsWithin_left a b = IsWithin-trans (normal_form (common_part a b)) (common_part a b) a (normal_form-IsWithin (common_part a b)) (common_part-IsWithin_left a b)
+refined-IsWithin_left a b = IsIntervalWithin-trans (normal_form (common_part a b)) (common_part a b) a (normal_form-IsIntervalWithin (common_part a b)) (common_part-IsWithin_left a b)
 
-pub refined-IsWithin_right : (a b : Interval) → IsWithin (refinement a b) b
+pub refined-IsWithin_right : (a b : Interval) → IsIntervalWithin (refinement a b) b
 unfolding refinement
-refined-IsWithin_right a b = IsWithin-trans (normal_form (common_part a b)) (common_part a b) b (normal_form-IsWithin (common_part a b)) (common_part-IsWithin_right a b)
+refined-IsWithin_right a b = IsIntervalWithin-trans (normal_form (common_part a b)) (common_part a b) b (normal_form-IsIntervalWithin (common_part a b)) (common_part-IsWithin_right a b)
 
 -- it has the normal form
 pub refined-IsNormal : (a b : Interval) → IsNonEmpty (refinement a b) → IsNormal (refinement a b)
@@ -221,28 +221,28 @@ unfolding refinement
 refined-IsNormal a b filled = normal_form-IsNormal (common_part a b) filled
 
 -- and every interval of normal form that lies within both lies within it
-pub refined-greatest : (s a b : Interval) → IsNonEmpty s → IsNormal s → IsWithin s a → IsWithin s b → IsWithin s (refinement a b)
+pub refined-greatest : (s a b : Interval) → IsNonEmpty s → IsNormal s → IsIntervalWithin s a → IsIntervalWithin s b → IsIntervalWithin s (refinement a b)
 unfolding refinement
 refined-greatest s a b filled normal in_a in_b = normal_form-greatest s (common_part a b) filled normal (common_part-greatest s a b in_a in_b)
 
 -- so it is not empty
-pub refined-IsNonEmpty : (s a b : Interval) → IsNonEmpty s → IsNormal s → IsWithin s a → IsWithin s b → IsNonEmpty (refinement a b)
+pub refined-IsNonEmpty : (s a b : Interval) → IsNonEmpty s → IsNormal s → IsIntervalWithin s a → IsIntervalWithin s b → IsNonEmpty (refinement a b)
 refined-IsNonEmpty s a b filled normal in_a in_b =
-    IsNonEmpty-IsWithin s (refinement a b) (refined-greatest s a b filled normal in_a in_b) filled
+    IsNonEmpty-IsIntervalWithin s (refinement a b) (refined-greatest s a b filled normal in_a in_b) filled
 
 -- smaller ones leave a smaller one
-pub refined-IsWithin : (a b c d : Interval) → IsNonEmpty (refinement a b) → IsWithin a c → IsWithin b d → IsWithin (refinement a b) (refinement c d)
-refined-IsWithin a b c d filled in_c in_d =
+pub refined-IsIntervalWithin : (a b c d : Interval) → IsNonEmpty (refinement a b) → IsIntervalWithin a c → IsIntervalWithin b d → IsIntervalWithin (refinement a b) (refinement c d)
+refined-IsIntervalWithin a b c d filled in_c in_d =
     refined-greatest (refinement a b) c d filled (refined-IsNormal a b filled)
-    (IsWithin-trans (refinement a b) a c (refined-IsWithin_left a b) in_c)
-    (IsWithin-trans (refinement a b) b d (refined-IsWithin_right a b) in_d)
+    (IsIntervalWithin-trans (refinement a b) a c (refined-IsWithin_left a b) in_c)
+    (IsIntervalWithin-trans (refinement a b) b d (refined-IsWithin_right a b) in_d)
 
 -- a refinement changes nothing exactly where an interval has the normal form and lies within the other
-pub refined-same : (s x : Interval) → IsNonEmpty s → IsNormal s → IsWithin s x → refinement s x ≡ s
-refined-same s x filled normal within = IsWithin-antisym (refinement s x) s (refined-IsWithin_left s x) (refined-greatest s s x filled normal (IsWithin-refl s) within)
+pub refined-same : (s x : Interval) → IsNonEmpty s → IsNormal s → IsIntervalWithin s x → refinement s x ≡ s
+refined-same s x filled normal within = IsIntervalWithin-antisym (refinement s x) s (refined-IsWithin_left s x) (refined-greatest s s x filled normal (IsIntervalWithin-refl s) within)
 
-pub IsWithin-from_same : (s x : Interval) → refinement s x ≡ s → IsWithin s x
-IsWithin-from_same s x same = subst (λ (r : Interval). IsWithin r x) same (refined-IsWithin_right s x)
+pub IsIntervalWithin-from_same : (s x : Interval) → refinement s x ≡ s → IsIntervalWithin s x
+IsIntervalWithin-from_same s x same = subst (λ (r : Interval). IsIntervalWithin r x) same (refined-IsWithin_right s x)
 
 pub IsNormal-from_same : (s x : Interval) → IsNonEmpty s → refinement s x ≡ s → IsNormal s
 IsNormal-from_same s x filled same =
@@ -397,8 +397,8 @@ same_size a b low high room integer same =
 pub size_of-refined : (a b : Interval) → IsNonEmpty (refinement a b) → refinement a b ≢ a → size_of (refinement a b) < size_of a
 size_of-refined a b filled changed =
     let within = refined-IsWithin_left a b in
-    let low = IsWithin-lower_place (refinement a b) a within in
-    let high = IsWithin-upper_place (refinement a b) a within in
+    let low = IsIntervalWithin-lower_place (refinement a b) a within in
+    let high = IsIntervalWithin-upper_place (refinement a b) a within in
     let room = IsNonEmpty-places (refinement a b) filled in
     elim (cases_lt (size_of (refinement a b)) (size_of a)) [
       | inl smaller ↦ smaller

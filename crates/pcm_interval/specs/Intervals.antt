@@ -23,7 +23,7 @@ abbrev pub IsUpperWithin : Interval → Interval → Type 0
 IsUpperWithin a b = (a.max < b.max) ⊎ ((a.max ≡ b.max) × (IsTrue b.openmax → IsTrue a.openmax))
 
 -- one interval lies within another
-pub record IsWithin (a b : Interval) : Type 0 where
+pub record IsIntervalWithin (a b : Interval) : Type 0 where
   pub lower : IsLowerWithin a b
   pub upper : IsUpperWithin a b
   pub integer : IsTrue b.integer → IsTrue a.integer

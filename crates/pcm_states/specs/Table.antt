@@ -104,18 +104,18 @@ still_draining Drain = refused_in Draining Again
 still_draining _ = done_in Draining
 
 -- what a cell says, in the state that it is under and for the call of its row
-abbrev pub outcome_of : Cell → State → Call → Facts → Outcome
-outcome_of (to s) _ _ _ = done_in s
-outcome_of ebadfd s _ _ = refused_in s BadState
-outcome_of enodev s _ _ = refused_in s NoDevice
-outcome_of eio s _ _ = refused_in s NotSupported
-outcome_of already s _ _ = refused_in s (error.Xrun Already)
-outcome_of starting _ _ f = first_outcome (if_empty f ∷ if_gone f ∷ if_late f ∷ []) (done_in Running)
-outcome_of filling _ _ f = if f.starts then first_outcome (if_gone f ∷ if_late f ∷ []) (done_in Running) else done_in Prepared
-outcome_of moving _ _ f = first_outcome (if_gone f ∷ if_over f ∷ if_late f ∷ []) (done_in Running)
-outcome_of draining _ call f = first_outcome (if_gone f ∷ if_late f ∷ if_played f ∷ []) (still_draining call)
-outcome_of resuming _ _ f = first_outcome (if_none_left f ∷ if_gone f ∷ if_late f ∷ []) (done_in Running)
+abbrev pub cell_outcome : Cell → State → Call → Facts → Outcome
+cell_outcome (to s) _ _ _ = done_in s
+cell_outcome ebadfd s _ _ = refused_in s BadState
+cell_outcome enodev s _ _ = refused_in s NoDevice
+cell_outcome eio s _ _ = refused_in s NotSupported
+cell_outcome already s _ _ = refused_in s (error.Xrun Already)
+cell_outcome starting _ _ f = first_outcome (if_empty f ∷ if_gone f ∷ if_late f ∷ []) (done_in Running)
+cell_outcome filling _ _ f = if f.starts then first_outcome (if_gone f ∷ if_late f ∷ []) (done_in Running) else done_in Prepared
+cell_outcome moving _ _ f = first_outcome (if_gone f ∷ if_over f ∷ if_late f ∷ []) (done_in Running)
+cell_outcome draining _ call f = first_outcome (if_gone f ∷ if_late f ∷ if_played f ∷ []) (still_draining call)
+cell_outcome resuming _ _ f = first_outcome (if_none_left f ∷ if_gone f ∷ if_late f ∷ []) (done_in Running)
 
 -- the state and the answer after a call
 abbrev pub next_of : State → Call → Facts → Outcome
-next_of state call facts = outcome_of (call_row facts.capture call state) state call facts
+next_of state call facts = cell_outcome (call_row facts.capture call state) state call facts

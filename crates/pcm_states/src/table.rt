@@ -1,6 +1,6 @@
 //! The state table: what comes of each call in each state.
 ghost use Rattle.std.specs.Prelude.{◌≡◌, [], ◌∷◌};
-ghost use Rattle.pcm_states.specs.Table.{next_of, done_in, refused_in, first_outcome, if_gone, if_late, outcome_of, starting, filling, moving, draining, resuming};
+ghost use Rattle.pcm_states.specs.Table.{next_of, done_in, refused_in, first_outcome, if_gone, if_late, cell_outcome, starting, filling, moving, draining, resuming};
 ghost use Rattle.pcm_states.specs.declared.states.State.TheVariants.{Prepared, Running, Draining, Paused};
 ghost use Rattle.pcm_states.specs.declared.calls.Call.TheVariants.{Start, Transfer, Resume};
 
@@ -81,7 +81,7 @@ fn refused(state: State, error: PcmError) -> Outcome
 
 /// The outcome of a start in PREPARED.
 fn start(facts: Facts) -> Outcome
-    ensures { result ≡ outcome_of starting Prepared Start facts }
+    ensures { result ≡ cell_outcome starting Prepared Start facts }
 {
     if !facts.capture && facts.queued == 0 {
         return refused(State::Prepared, PcmError::Xrun(XrunWhy::Empty));
@@ -91,7 +91,7 @@ fn start(facts: Facts) -> Outcome
 
 /// The outcome of a transfer in PREPARED.
 fn fill(facts: Facts) -> Outcome
-    ensures { result ≡ outcome_of filling Prepared Transfer facts }
+    ensures { result ≡ cell_outcome filling Prepared Transfer facts }
 {
     if facts.starts {
         run(facts)
@@ -102,7 +102,7 @@ fn fill(facts: Facts) -> Outcome
 
 /// The outcome of a transfer or a sync in RUNNING.
 fn move_frames(facts: Facts) -> Outcome
-    ensures { result ≡ outcome_of moving Running Transfer facts }
+    ensures { result ≡ cell_outcome moving Running Transfer facts }
 {
     match facts.over {
         Some((avail, seen)) if !facts.gone => refused(
@@ -115,7 +115,7 @@ fn move_frames(facts: Facts) -> Outcome
 
 /// The outcome of a resume in PAUSED.
 fn resume(facts: Facts) -> Outcome
-    ensures { result ≡ outcome_of resuming Paused Resume facts }
+    ensures { result ≡ cell_outcome resuming Paused Resume facts }
 {
     if facts.queued == 0 {
         return done(State::Prepared);
@@ -138,7 +138,7 @@ fn run(facts: Facts) -> Outcome
 
 /// The outcome of a drain, and of a sync while it lasts.
 fn drain(call: Call, facts: Facts) -> Outcome
-    ensures { result ≡ outcome_of draining Draining call facts }
+    ensures { result ≡ cell_outcome draining Draining call facts }
 {
     if facts.gone {
         return refused(State::Disconnected, PcmError::NoDevice);

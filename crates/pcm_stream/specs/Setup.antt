@@ -6,7 +6,7 @@ use Rattle.snd_base.specs.declared.geometry.Geometry.{Geometry}
 use Rattle.bindings.specs.Bound.{AreBindings, identity}
 use Rattle.hw_space.specs.declared.config.Config.{Config}
 use Rattle.sw_limits.specs.declared.params.SwParams.{SwParams}
-use Rattle.sw_limits.specs.Params.{Tells}
+use Rattle.sw_limits.specs.Params.{IsVerdict}
 use Rattle.pcm_stream.specs.declared.setup.Setup.{Setup}
 
 -- the setup of a stream that isn't configured
@@ -40,8 +40,8 @@ with_params setup params = record setup { params = params }
 
 -- an answer says of software parameters that they are valid, or which of their defects is the first
 abbrev pub Checks : Result (Unit {0}) PcmError → SwParams → ℕ → Type 0
-Checks (Ok done) params boundary = Tells (Ok done) params boundary
-Checks (Err (Invalid why)) params boundary = Tells (Err why) params boundary
+Checks (Ok done) params boundary = IsVerdict (Ok done) params boundary
+Checks (Err (Invalid why)) params boundary = IsVerdict (Err why) params boundary
 Checks (Err other) params boundary = ⊥
 
 -- a stream at a ring can run with a configuration and bindings

@@ -7,7 +7,7 @@ use Rattle.plug_chain.specs.declared.interpolation.Course.{Course}
 use Rattle.plug_chain.specs.Courses.{IsAdvance}
 use Rattle.plug_chain.specs.Growth.{Appends, Extends}
 use Rattle.plug_chain.specs.Held.{samples_of}
-use Rattle.plug_chain.specs.Rates.{AreRates, IsAt, IsUnderway, RatePair, known_samples, known_count, output_count, output_frame, output_frames, resampled_samples, silence}
+use Rattle.plug_chain.specs.Rates.{AreRates, IsRateAt, IsUnderway, RatePair, known_samples, known_count, output_count, output_frame, output_frames, resampled_samples, silence}
 use Rattle.plug_chain.proofs.Places.{known_count-is, output_count-is, output_frame-known}
 use Rattle.plug_chain.proofs.Ranges.{flat_map-range_add, flat_map-range_one, flat_map-range_same}
 
@@ -57,7 +57,7 @@ output_frames-known r frames x rates =
 
 -- ---- a course underway
 
-pub IsUnderway-start : (r : RatePair) (channels : ℕ) (frames all : List (List ℤ)) (last : List ℤ) (place : ℕ) (old : List ℤ) → IsAt r channels frames last place
+pub IsUnderway-start : (r : RatePair) (channels : ℕ) (frames all : List (List ℤ)) (last : List ℤ) (place : ℕ) (old : List ℤ) → IsRateAt r channels frames last place
     → IsUnderway r all (length frames) place old old
 IsUnderway-start r channels frames all last place old at = record {
   count = 0;
@@ -116,7 +116,7 @@ Appends-end r frames place old new rates underway past near =
     }
 
 -- no frame more, and some frames more after others
-pub IsAdvance-none : (r : RatePair) (channels : ℕ) (frames : List (List ℤ)) (course : Course) (old : List ℤ) → IsAt r channels frames (samples_of course.last) course.place
+pub IsAdvance-none : (r : RatePair) (channels : ℕ) (frames : List (List ℤ)) (course : Course) (old : List ℤ) → IsRateAt r channels frames (samples_of course.last) course.place
     → IsAdvance r channels frames frames course old old
 IsAdvance-none r channels frames course old at = record { at = at; appends = Appends-none (known_samples r frames) old }
 

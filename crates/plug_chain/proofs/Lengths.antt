@@ -5,7 +5,7 @@ use Rattle.std.proofs.lemmas.List.{nil_from_length}
 use Rattle.std.proofs.lemmas.Nat.{le-div}
 use Rattle.std.specs.List.{flat_map, range_with_len}
 use Rattle.std.specs.Prelude.{min}
-use Rattle.plug_chain.specs.Frames.{Conversion, frame_bytes, frame_count, frame_of, first_frames, frames_of, samples_in}
+use Rattle.plug_chain.specs.Frames.{Conversion, frame_bytes, frame_count, frame_from_bytes, first_frames, frames_of_bytes, samples_in}
 use Rattle.plug_chain.specs.Plugs.{known_of, plug_of}
 use Rattle.plug_chain.specs.Rates.{AreRates, RatePair, frame_between, frame_at, known_samples, output_count, output_frame, output_frames}
 use Rattle.plug_chain.specs.Tables.{IsTable}
@@ -23,9 +23,9 @@ length-first_frames : (c : Conversion) (n : ℕ) (bytes : List ℕ) → length (
 length-first_frames c zero bytes = refl
 length-first_frames c (suc n) bytes = ap (λ (m : ℕ). suc m) (length-first_frames c n (drop (frame_bytes c) bytes))
 
-length-frames_of : (c : Conversion) (bytes : List ℕ) → length (frames_of c bytes) ≡ frame_count c bytes
-unfolding frames_of
-length-frames_of c bytes = length-first_frames c (frame_count c bytes) bytes
+length-frames_of_bytes : (c : Conversion) (bytes : List ℕ) → length (frames_of_bytes c bytes) ≡ frame_count c bytes
+unfolding frames_of_bytes
+length-frames_of_bytes c bytes = length-first_frames c (frame_count c bytes) bytes
 
 -- each frame has the table's outputs
 length-get_or-first_frames : (c : Conversion) (n i : ℕ) (bytes : List ℕ) → i < n → length (get_or (first_frames c n bytes) i []) ≡ c.table.outputs
@@ -33,15 +33,15 @@ length-get_or-first_frames c zero i bytes low = absurd (omega arith)
 length-get_or-first_frames c (suc n) zero bytes low = length-output_samples c.table (samples_in c.from c.table.inputs (take (frame_bytes c) bytes))
 length-get_or-first_frames c (suc n) (suc i) bytes low = length-get_or-first_frames c n i (drop (frame_bytes c) bytes) (omega arith)
 
-length-frame_at : (c : Conversion) (bytes : List ℕ) (i : ℕ) → 0 < frame_count c bytes → length (frame_at (frames_of c bytes) i) ≡ c.table.outputs
-unfolding frames_of
+length-frame_at : (c : Conversion) (bytes : List ℕ) (i : ℕ) → 0 < frame_count c bytes → length (frame_at (frames_of_bytes c bytes) i) ≡ c.table.outputs
+unfolding frames_of_bytes
 length-frame_at c bytes i some =
-    length-get_or-first_frames c (frame_count c bytes) (min i (length (frames_of c bytes) - 1)) bytes (omega (arith, some, length-frames_of c bytes))
+    length-get_or-first_frames c (frame_count c bytes) (min i (length (frames_of_bytes c bytes) - 1)) bytes (omega (arith, some, length-frames_of_bytes c bytes))
 
-length-output_frame : (c : Conversion) (bytes : List ℕ) (j : ℕ) → 0 < frame_count c bytes → length (output_frame c.rates (frames_of c bytes) j) ≡ c.table.outputs
+length-output_frame : (c : Conversion) (bytes : List ℕ) (j : ℕ) → 0 < frame_count c bytes → length (output_frame c.rates (frames_of_bytes c bytes) j) ≡ c.table.outputs
 unfolding output_frame
 length-output_frame c bytes j some =
-    length-between _ c.rates.output (frame_at (frames_of c bytes) (j * c.rates.input / c.rates.output)) (frame_at (frames_of c bytes) (j * c.rates.input / c.rates.output + 1))
+    length-between _ c.rates.output (frame_at (frames_of_bytes c bytes) (j * c.rates.input / c.rates.output)) (frame_at (frames_of_bytes c bytes) (j * c.rates.input / c.rates.output + 1))
     ∙ length-frame_at c bytes (j * c.rates.input / c.rates.output) some
 
 -- ---- all of them
@@ -58,14 +58,14 @@ output_count-none r rates = output_count-is r 0 0 rates.some_input (omega arith)
 length-plug_of_by : (n : ℕ) (c : Conversion) (bytes : List ℕ) → AreRates c.rates → frame_count c bytes ≡ n → length (plug_of c bytes) ≡ output_count c.rates n * c.table.outputs
 unfolding output_frames
 length-plug_of_by zero c bytes rates none =
-    let count : output_count c.rates (length (frames_of c bytes)) ≡ 0 = ap (output_count c.rates) (length-frames_of c bytes ∙ none) ∙ output_count-none c.rates rates in
+    let count : output_count c.rates (length (frames_of_bytes c bytes)) ≡ 0 = ap (output_count c.rates) (length-frames_of_bytes c bytes ∙ none) ∙ output_count-none c.rates rates in
     let nothing : 0 ≡ 0 * c.table.outputs = omega arith in
-    ap (λ (k : ℕ). length (flat_map (output_frame c.rates (frames_of c bytes)) (range_with_len 0 k))) count
+    ap (λ (k : ℕ). length (flat_map (output_frame c.rates (frames_of_bytes c bytes)) (range_with_len 0 k))) count
     ∙ nothing
     ∙ ap (λ (k : ℕ). k * c.table.outputs) (sym (output_count-none c.rates rates))
 length-plug_of_by (suc n) c bytes rates some =
-    length-flat_map-range (output_frame c.rates (frames_of c bytes)) 0 (output_count c.rates (length (frames_of c bytes))) c.table.outputs (λ j. length-output_frame c bytes j (omega (arith, some)))
-    ∙ ap (λ (k : ℕ). output_count c.rates k * c.table.outputs) (length-frames_of c bytes ∙ some)
+    length-flat_map-range (output_frame c.rates (frames_of_bytes c bytes)) 0 (output_count c.rates (length (frames_of_bytes c bytes))) c.table.outputs (λ j. length-output_frame c bytes j (omega (arith, some)))
+    ∙ ap (λ (k : ℕ). output_count c.rates k * c.table.outputs) (length-frames_of_bytes c bytes ∙ some)
 
 -- a conversion has the table's outputs in each output frame
 pub length-plug_of : (c : Conversion) (bytes : List ℕ) → AreRates c.rates → length (plug_of c bytes) ≡ output_count c.rates (frame_count c bytes) * c.table.outputs
@@ -90,13 +90,13 @@ length-plug_of-append c bytes more rates table =
 frame_count-nil : (c : Conversion) → frame_count c [] ≡ 0
 frame_count-nil c = let none : 0 / frame_bytes c ≤ 0 = div-le_self 0 (frame_bytes c) in omega (arith, none)
 
-frames_of-nil : (c : Conversion) → frames_of c [] ≡ []
-unfolding frames_of
-frames_of-nil c = ap (λ (n : ℕ). first_frames c n []) (frame_count-nil c)
+frames_of_bytes-nil : (c : Conversion) → frames_of_bytes c [] ≡ []
+unfolding frames_of_bytes
+frames_of_bytes-nil c = ap (λ (n : ℕ). first_frames c n []) (frame_count-nil c)
 
 pub known_of-nil : (c : Conversion) → known_of c [] ≡ []
 unfolding output_frames
-known_of-nil c = ap (known_samples c.rates) (frames_of-nil c)
+known_of-nil c = ap (known_samples c.rates) (frames_of_bytes-nil c)
 
 pub plug_of-nil : (c : Conversion) → AreRates c.rates → plug_of c [] ≡ []
 plug_of-nil c rates = nil_from_length (plug_of c []) (length-plug_of_by 0 c [] rates (frame_count-nil c) ∙ (let none : output_count c.rates 0 * c.table.outputs ≡ 0 = omega (arith, ap (λ (n : ℕ). n * c.table.outputs) (output_count-none c.rates rates)) in none))

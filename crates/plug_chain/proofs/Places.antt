@@ -6,7 +6,7 @@ use Rattle.std.proofs.lemmas.Bool.{cases_lt}
 use Rattle.std.proofs.lemmas.List.{get_or_append_left, get_or_default}
 use Rattle.std.proofs.lemmas.Nat.{div-add-mod', div-mul-add, div_below, le-div, mod-mul-add, mod_below}
 use Rattle.std.specs.Prelude.{min}
-use Rattle.plug_chain.specs.Rates.{AreRates, IsAt, RatePair, frame_between, frame_at, known_count, output_count, output_frame, silence}
+use Rattle.plug_chain.specs.Rates.{AreRates, IsRateAt, RatePair, frame_between, frame_at, known_count, output_count, output_frame, silence}
 use Rattle.plug_chain.proofs.Lines.{between-none, between-same, between-whole}
 
 -- the number of the first frame past n frames, counted by output frames
@@ -54,7 +54,7 @@ output_frame-at r frames j i part low is =
     ∙ ap (λ (k : ℕ). frame_between k r.output (frame_at frames i) (frame_at frames (i + 1))) part_is
 
 -- what the last frame is
-last_is : (r : RatePair) (channels : ℕ) (frames : List (List ℤ)) (last : List ℤ) (place m : ℕ) → IsAt r channels frames last place → length frames ≡ suc m → get_or frames m [] ≡ last
+last_is : (r : RatePair) (channels : ℕ) (frames : List (List ℤ)) (last : List ℤ) (place m : ℕ) → IsRateAt r channels frames last place → length frames ≡ suc m → get_or frames m [] ≡ last
 last_is r channels frames last place m at many =
     let within : m < length frames = omega (arith, many) in
     get_or_default frames m [] (silence channels) within ∙ ap (λ (k : ℕ). get_or frames k (silence channels)) (let e : m ≡ length frames - 1 = omega (arith, many) in e) ∙ sym at.last_is
@@ -103,7 +103,7 @@ pub output_frame-known : (r : RatePair) (frames : List (List ℤ)) (x : List ℤ
 output_frame-known r frames x j rates known = known_by (length frames) r frames x j rates refl known
 
 -- the next output frame, where it lies before the frame that came
-next_before : (n : ℕ) (r : RatePair) (channels : ℕ) (frames : List (List ℤ)) (x last : List ℤ) (start place j : ℕ) → IsAt r channels frames last start
+next_before : (n : ℕ) (r : RatePair) (channels : ℕ) (frames : List (List ℤ)) (x last : List ℤ) (start place j : ℕ) → IsRateAt r channels frames last start
     → length frames ≡ n → place < r.output → j * r.input + r.output ≡ n * r.output + place
     → output_frame r (frames ++ x ∷ []) j ≡ frame_between place r.output last x
 next_before zero r channels frames x last start place j at many low is = absurd (omega arith)
@@ -115,7 +115,7 @@ next_before (suc m) r channels frames x last start place j at many low is =
     ∙ ap (λ f. frame_between place r.output last f) (frame_at-seam frames x (m + 1) (omega (arith, many))))
 
 -- the next output frame, where one more frame came
-pub output_frame-next : (r : RatePair) (channels : ℕ) (frames : List (List ℤ)) (x last : List ℤ) (start place j : ℕ) → AreRates r → IsAt r channels frames last start
+pub output_frame-next : (r : RatePair) (channels : ℕ) (frames : List (List ℤ)) (x last : List ℤ) (start place j : ℕ) → AreRates r → IsRateAt r channels frames last start
     → length last ≡ length x → place ≤ r.output → j * r.input + r.output ≡ length frames * r.output + place
     → output_frame r (frames ++ x ∷ []) j ≡ frame_between place r.output last x
 output_frame-next r channels frames x last start place j rates at same within is = elim (cases_lt place r.output) [
@@ -130,7 +130,7 @@ output_frame-next r channels frames x last start place j rates at same within is
       ∙ ap (λ (k : ℕ). frame_between k r.output last x) (sym place_is))))
 ]
 
-last_by : (n : ℕ) (r : RatePair) (channels : ℕ) (frames : List (List ℤ)) (last : List ℤ) (start place j : ℕ) → AreRates r → IsAt r channels frames last start
+last_by : (n : ℕ) (r : RatePair) (channels : ℕ) (frames : List (List ℤ)) (last : List ℤ) (start place j : ℕ) → AreRates r → IsRateAt r channels frames last start
     → length frames ≡ n → place < r.output → j * r.input + r.output ≡ n * r.output + place
     → output_frame r frames j ≡ last
 last_by zero r channels frames last start place j rates at many low is = absurd (omega arith)
@@ -143,7 +143,7 @@ last_by (suc m) r channels frames last start place j rates at many low is =
     ∙ between-same place r.output last rates.some_output))
 
 -- the next output frame, after the last frame
-pub output_frame-last : (r : RatePair) (channels : ℕ) (frames : List (List ℤ)) (last : List ℤ) (start place j : ℕ) → AreRates r → IsAt r channels frames last start
+pub output_frame-last : (r : RatePair) (channels : ℕ) (frames : List (List ℤ)) (last : List ℤ) (start place j : ℕ) → AreRates r → IsRateAt r channels frames last start
     → place < r.output → j * r.input + r.output ≡ length frames * r.output + place
     → output_frame r frames j ≡ last
 output_frame-last r channels frames last start place j rates at within is = last_by (length frames) r channels frames last start place j rates at refl within is

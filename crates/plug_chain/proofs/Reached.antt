@@ -3,41 +3,41 @@ use Rattle.std.proofs.Common.{◌≡◌, ℕ, suc, ◌≤◌, ◌<◌, ◌++◌,
 use Rattle.std.proofs.lemmas.List.{append-nil}
 use Rattle.plug_chain.specs.declared.interpolation.Course.{Course}
 use Rattle.plug_chain.specs.Courses.{Advances, IsAdvance}
-use Rattle.plug_chain.specs.Frames.{Conversion, frame_bytes, frame_of, frames_of, samples_in}
+use Rattle.plug_chain.specs.Frames.{Conversion, frame_bytes, frame_from_bytes, frames_of_bytes, samples_in}
 use Rattle.plug_chain.specs.Held.{samples_of}
-use Rattle.plug_chain.specs.Rates.{IsAt}
+use Rattle.plug_chain.specs.Rates.{IsRateAt}
 use Rattle.plug_chain.specs.Samples.{bytes_of, wide_sample}
 use Rattle.plug_chain.specs.declared.wide.Wide.{Wide}
 use Rattle.plug_chain.proofs.Courses.{IsAdvance-none, IsAdvance-trans}
-use Rattle.plug_chain.proofs.Cuts.{frames_of-more, frames_of-short}
+use Rattle.plug_chain.proofs.Cuts.{frames_of_bytes-more, frames_of_bytes-short}
 
 -- from some frames to others, which with those of the rest are all
 pub record HasReached (c : Conversion) (frames : List (List ℤ)) (bytes rest : List ℕ) (course : Course) (old new : List ℤ) : Type 0 where
   pub reached : List (List ℤ)
   pub goes : IsAdvance c.rates c.table.outputs frames reached course old new
-  pub left : reached ++ frames_of c rest ≡ frames ++ frames_of c bytes
+  pub left : reached ++ frames_of_bytes c rest ≡ frames ++ frames_of_bytes c bytes
 
 pub HasReached-start : (c : Conversion) (frames : List (List ℤ)) (bytes : List ℕ) (course : Course) (old : List ℤ)
-    → IsAt c.rates c.table.outputs frames (samples_of course.last) course.place → HasReached c frames bytes bytes course old old
+    → IsRateAt c.rates c.table.outputs frames (samples_of course.last) course.place → HasReached c frames bytes bytes course old old
 HasReached-start c frames bytes course old at = record { reached = frames; goes = IsAdvance-none c.rates c.table.outputs frames course old at; left = refl }
 
 pub HasReached-more : (c : Conversion) (frames : List (List ℤ)) (bytes rest : List ℕ) (start course : Course) (old mid new : List ℤ) → 1 ≤ frame_bytes c → frame_bytes c ≤ length rest
-    → HasReached c frames bytes rest start old mid → Advances c.rates c.table.outputs (frame_of c (take (frame_bytes c) rest) ∷ []) start course mid new
+    → HasReached c frames bytes rest start old mid → Advances c.rates c.table.outputs (frame_from_bytes c (take (frame_bytes c) rest) ∷ []) start course mid new
     → HasReached c frames bytes (drop (frame_bytes c) rest) course old new
 HasReached-more c frames bytes rest start course old mid new some enough so_far advances =
-    let one : List (List ℤ) = frame_of c (take (frame_bytes c) rest) ∷ [] in
+    let one : List (List ℤ) = frame_from_bytes c (take (frame_bytes c) rest) ∷ [] in
     record {
-      reached = so_far.reached ++ frame_of c (take (frame_bytes c) rest) ∷ [];
-      goes = IsAdvance-trans c.rates c.table.outputs frames so_far.reached (so_far.reached ++ frame_of c (take (frame_bytes c) rest) ∷ []) start course old mid new so_far.goes
+      reached = so_far.reached ++ frame_from_bytes c (take (frame_bytes c) rest) ∷ [];
+      goes = IsAdvance-trans c.rates c.table.outputs frames so_far.reached (so_far.reached ++ frame_from_bytes c (take (frame_bytes c) rest) ∷ []) start course old mid new so_far.goes
           (advances so_far.reached so_far.goes.at);
-      left = append_assoc so_far.reached (frame_of c (take (frame_bytes c) rest) ∷ []) (frames_of c (drop (frame_bytes c) rest))
-          ∙ (ap (λ xs. so_far.reached ++ xs) (sym (frames_of-more c rest some enough)) ∙ so_far.left);
+      left = append_assoc so_far.reached (frame_from_bytes c (take (frame_bytes c) rest) ∷ []) (frames_of_bytes c (drop (frame_bytes c) rest))
+          ∙ (ap (λ xs. so_far.reached ++ xs) (sym (frames_of_bytes-more c rest some enough)) ∙ so_far.left);
     }
 
 pub HasReached-end : (c : Conversion) (frames : List (List ℤ)) (bytes rest : List ℕ) (course : Course) (old new : List ℤ) → length rest < frame_bytes c
-    → HasReached c frames bytes rest course old new → IsAdvance c.rates c.table.outputs frames (frames ++ frames_of c bytes) course old new
+    → HasReached c frames bytes rest course old new → IsAdvance c.rates c.table.outputs frames (frames ++ frames_of_bytes c bytes) course old new
 HasReached-end c frames bytes rest course old new short so_far =
-    let all : so_far.reached ≡ frames ++ frames_of c bytes = sym (ap (λ xs. so_far.reached ++ xs) (frames_of-short c rest short) ∙ append-nil so_far.reached) ∙ so_far.left in
+    let all : so_far.reached ≡ frames ++ frames_of_bytes c bytes = sym (ap (λ xs. so_far.reached ++ xs) (frames_of_bytes-short c rest short) ∙ append-nil so_far.reached) ∙ so_far.left in
     subst (λ xs. IsAdvance c.rates c.table.outputs frames xs course old new) all so_far.goes
 
 -- one sample more of a frame

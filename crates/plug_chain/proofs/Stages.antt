@@ -11,16 +11,16 @@ use Rattle.plug_chain.specs.declared.interpolation.Course.{Course}
 use Rattle.plug_chain.specs.declared.wide.Wide.{Wide}
 use Rattle.plug_chain.specs.declared.wide.Wide.TheVariants.{S8, U8, S16Le, S16Be, S24Packed, S32Le}
 use Rattle.plug_chain.specs.Courses.{Advances, IsAdvance}
-use Rattle.plug_chain.specs.Frames.{Conversion, frame_bytes, frame_of, frames_of, rest_of, samples_in}
+use Rattle.plug_chain.specs.Frames.{Conversion, frame_bytes, frame_from_bytes, frames_of_bytes, rest_of, samples_in}
 use Rattle.plug_chain.specs.Growth.{Appends}
-use Rattle.plug_chain.specs.Held.{part_of, samples_of}
-use Rattle.plug_chain.specs.Plugs.{Continues, HasTaken}
-use Rattle.plug_chain.specs.Rates.{IsAt, RatePair, known_samples}
+use Rattle.plug_chain.specs.Held.{part_bytes, samples_of}
+use Rattle.plug_chain.specs.Plugs.{Continues, HasTakenBytes}
+use Rattle.plug_chain.specs.Rates.{IsRateAt, RatePair, known_samples}
 use Rattle.plug_chain.specs.Samples.{bytes_of}
 use Rattle.plug_chain.specs.Tables.{ChannelTable, IsTable, output_channel, output_samples}
 use Rattle.plug_chain.specs.Views.{conversion_of, stage_of}
 use Rattle.plug_chain.proofs.Courses.{IsAdvance-none, IsAdvance-trans}
-use Rattle.plug_chain.proofs.Cuts.{frames_of-append, frames_of-front, frames_of-short, rest_of-append, rest_of-front, rest_of-short}
+use Rattle.plug_chain.proofs.Cuts.{frames_of_bytes-append, frames_of_bytes-front, frames_of_bytes-short, rest_of-append, rest_of-front, rest_of-short}
 
 -- two facts of what was returned
 pub on_ok_both : {T E P Q R : Type 0} (r : Result T E) → (P → Q → R) → OnOk r P → OnOk r Q → OnOk r R
@@ -72,77 +72,77 @@ Advances-trans r channels first more start middle course old mid new one rest = 
 
 -- what the begun frame and the bytes after it give, whatever came before
 pub Continues-by : (v : Converter) (p q : Progress) (bytes : List ℕ) (old new : List ℤ) → IsTable v.table
-    → Advances v.rates v.table.outputs (frames_of (conversion_of v) (part_of p.part ++ bytes)) p.course q.course old new
-    → part_of q.part ≡ rest_of (conversion_of v) (part_of p.part ++ bytes)
+    → Advances v.rates v.table.outputs (frames_of_bytes (conversion_of v) (part_bytes p.part ++ bytes)) p.course q.course old new
+    → part_bytes q.part ≡ rest_of (conversion_of v) (part_bytes p.part ++ bytes)
     → Continues (stage_of v p) (stage_of v q) bytes old new
 Continues-by v p q bytes old new table advances part =
     let c : Conversion = conversion_of v in
     let some : 1 ≤ frame_bytes (conversion_of v) = frame_bytes-some (conversion_of v) table in
-    let all : (fed : List ℕ) → HasTaken (stage_of v p) fed → frames_of (conversion_of v) (fed ++ bytes) ≡ frames_of (conversion_of v) fed ++ frames_of (conversion_of v) (part_of p.part ++ bytes) =
-    λ fed taken. frames_of-append (conversion_of v) fed bytes some
-    ∙ ap (λ (xs : List ℕ). frames_of (conversion_of v) fed ++ frames_of (conversion_of v) (xs ++ bytes)) (sym taken.part)
+    let all : (fed : List ℕ) → HasTakenBytes (stage_of v p) fed → frames_of_bytes (conversion_of v) (fed ++ bytes) ≡ frames_of_bytes (conversion_of v) fed ++ frames_of_bytes (conversion_of v) (part_bytes p.part ++ bytes) =
+    λ fed taken. frames_of_bytes-append (conversion_of v) fed bytes some
+    ∙ ap (λ (xs : List ℕ). frames_of_bytes (conversion_of v) fed ++ frames_of_bytes (conversion_of v) (xs ++ bytes)) (sym taken.part)
     in
     record {
       conversion = refl;
       stage = λ fed taken. record {
         part = part ∙ (ap (λ (xs : List ℕ). rest_of (conversion_of v) (xs ++ bytes)) taken.part ∙ sym (rest_of-append (conversion_of v) fed bytes some));
-        course = subst (λ (xs : List (List ℤ)). IsAt v.rates v.table.outputs xs (samples_of q.course.last) q.course.place) (sym (all fed taken)) (advances (frames_of (conversion_of v) fed) taken.course).at;
+        course = subst (λ (xs : List (List ℤ)). IsRateAt v.rates v.table.outputs xs (samples_of q.course.last) q.course.place) (sym (all fed taken)) (advances (frames_of_bytes (conversion_of v) fed) taken.course).at;
       };
       appends = λ fed taken.
-          subst (λ (xs : List (List ℤ)). Appends (known_samples v.rates (frames_of (conversion_of v) fed)) (known_samples v.rates xs) old new) (sym (all fed taken)) (advances (frames_of (conversion_of v) fed) taken.course).appends;
+          subst (λ (xs : List (List ℤ)). Appends (known_samples v.rates (frames_of_bytes (conversion_of v) fed)) (known_samples v.rates xs) old new) (sym (all fed taken)) (advances (frames_of_bytes (conversion_of v) fed) taken.course).appends;
     }
 
 -- bytes from the beginning of a frame on
-pub Continues-whole : (v : Converter) (p q : Progress) (bytes : List ℕ) (old new : List ℤ) → IsTable v.table → part_of p.part ≡ []
-    → Advances v.rates v.table.outputs (frames_of (conversion_of v) bytes) p.course q.course old new → part_of q.part ≡ rest_of (conversion_of v) bytes
+pub Continues-whole : (v : Converter) (p q : Progress) (bytes : List ℕ) (old new : List ℤ) → IsTable v.table → part_bytes p.part ≡ []
+    → Advances v.rates v.table.outputs (frames_of_bytes (conversion_of v) bytes) p.course q.course old new → part_bytes q.part ≡ rest_of (conversion_of v) bytes
     → Continues (stage_of v p) (stage_of v q) bytes old new
 Continues-whole v p q bytes old new table none advances part =
-    let all : bytes ≡ part_of p.part ++ bytes = ap (λ (xs : List ℕ). xs ++ bytes) (sym none) in
+    let all : bytes ≡ part_bytes p.part ++ bytes = ap (λ (xs : List ℕ). xs ++ bytes) (sym none) in
     Continues-by v p q bytes old new table
-    (subst (λ (xs : List ℕ). Advances v.rates v.table.outputs (frames_of (conversion_of v) xs) p.course q.course old new) all advances)
+    (subst (λ (xs : List ℕ). Advances v.rates v.table.outputs (frames_of_bytes (conversion_of v) xs) p.course q.course old new) all advances)
     (part ∙ ap (rest_of (conversion_of v)) all)
 
 -- bytes that end within the begun frame
-pub Continues-short : (v : Converter) (p q : Progress) (bytes : List ℕ) (old : List ℤ) → IsTable v.table → part_of q.part ≡ part_of p.part ++ bytes
-    → length (part_of q.part) < frame_bytes (conversion_of v) → q.course ≡ p.course → Continues (stage_of v p) (stage_of v q) bytes old old
+pub Continues-short : (v : Converter) (p q : Progress) (bytes : List ℕ) (old : List ℤ) → IsTable v.table → part_bytes q.part ≡ part_bytes p.part ++ bytes
+    → length (part_bytes q.part) < frame_bytes (conversion_of v) → q.course ≡ p.course → Continues (stage_of v p) (stage_of v q) bytes old old
 Continues-short v p q bytes old table part short same =
-    let short_all : length (part_of p.part ++ bytes) < frame_bytes (conversion_of v) = subst (λ (xs : List ℕ). length xs < frame_bytes (conversion_of v)) part short in
+    let short_all : length (part_bytes p.part ++ bytes) < frame_bytes (conversion_of v) = subst (λ (xs : List ℕ). length xs < frame_bytes (conversion_of v)) part short in
     Continues-by v p q bytes old old table
-    (subst (λ (xs : List (List ℤ)). Advances v.rates v.table.outputs xs p.course q.course old old) (sym (frames_of-short (conversion_of v) (part_of p.part ++ bytes) short_all))
+    (subst (λ (xs : List (List ℤ)). Advances v.rates v.table.outputs xs p.course q.course old old) (sym (frames_of_bytes-short (conversion_of v) (part_bytes p.part ++ bytes) short_all))
     (subst (λ (x : Course). Advances v.rates v.table.outputs [] p.course x old old) (sym same) (Advances-none v.rates v.table.outputs p.course old)))
-    (part ∙ sym (rest_of-short (conversion_of v) (part_of p.part ++ bytes) short_all))
+    (part ∙ sym (rest_of-short (conversion_of v) (part_bytes p.part ++ bytes) short_all))
 
 -- bytes that fill the begun frame, and bytes after them
 pub Continues-full : (v : Converter) (p q : Progress) (filled behind bytes : List ℕ) (middle : Course) (old mid new : List ℤ) → IsTable v.table
-    → filled ++ behind ≡ part_of p.part ++ bytes → length filled ≡ frame_bytes (conversion_of v)
-    → Advances v.rates v.table.outputs (frame_of (conversion_of v) filled ∷ []) p.course middle old mid
-    → Advances v.rates v.table.outputs (frames_of (conversion_of v) behind) middle q.course mid new
-    → part_of q.part ≡ rest_of (conversion_of v) behind
+    → filled ++ behind ≡ part_bytes p.part ++ bytes → length filled ≡ frame_bytes (conversion_of v)
+    → Advances v.rates v.table.outputs (frame_from_bytes (conversion_of v) filled ∷ []) p.course middle old mid
+    → Advances v.rates v.table.outputs (frames_of_bytes (conversion_of v) behind) middle q.course mid new
+    → part_bytes q.part ≡ rest_of (conversion_of v) behind
     → Continues (stage_of v p) (stage_of v q) bytes old new
 Continues-full v p q filled behind bytes middle old mid new table all whole first more part =
     let some : 1 ≤ frame_bytes (conversion_of v) = frame_bytes-some (conversion_of v) table in
     let enough : frame_bytes (conversion_of v) ≤ length filled = omega (arith, whole) in
     let front : take (frame_bytes (conversion_of v)) filled ≡ filled = ap (λ (n : ℕ). take n filled) (sym whole) ∙ take-length filled in
     let back : drop (frame_bytes (conversion_of v)) filled ≡ [] = ap (λ (n : ℕ). drop n filled) (sym whole) ∙ drop-length filled in
-    let frames : frames_of (conversion_of v) (filled ++ behind) ≡ frame_of (conversion_of v) filled ∷ frames_of (conversion_of v) behind =
-    frames_of-front (conversion_of v) filled behind some enough
-    ∙ (ap (λ (xs : List ℕ). frame_of (conversion_of v) xs ∷ frames_of (conversion_of v) (drop (frame_bytes (conversion_of v)) filled ++ behind)) front
-    ∙ ap (λ (xs : List ℕ). frame_of (conversion_of v) filled ∷ frames_of (conversion_of v) (xs ++ behind)) back)
+    let frames : frames_of_bytes (conversion_of v) (filled ++ behind) ≡ frame_from_bytes (conversion_of v) filled ∷ frames_of_bytes (conversion_of v) behind =
+    frames_of_bytes-front (conversion_of v) filled behind some enough
+    ∙ (ap (λ (xs : List ℕ). frame_from_bytes (conversion_of v) xs ∷ frames_of_bytes (conversion_of v) (drop (frame_bytes (conversion_of v)) filled ++ behind)) front
+    ∙ ap (λ (xs : List ℕ). frame_from_bytes (conversion_of v) filled ∷ frames_of_bytes (conversion_of v) (xs ++ behind)) back)
     in
     let rest : rest_of (conversion_of v) (filled ++ behind) ≡ rest_of (conversion_of v) behind =
     rest_of-front (conversion_of v) filled behind some enough ∙ ap (λ (xs : List ℕ). rest_of (conversion_of v) (xs ++ behind)) back
     in
     Continues-by v p q bytes old new table
-    (subst (λ (xs : List (List ℤ)). Advances v.rates v.table.outputs xs p.course q.course old new) (sym frames ∙ ap (frames_of (conversion_of v)) all)
-    (Advances-trans v.rates v.table.outputs (frame_of (conversion_of v) filled) (frames_of (conversion_of v) behind) p.course middle q.course old mid new first more))
+    (subst (λ (xs : List (List ℤ)). Advances v.rates v.table.outputs xs p.course q.course old new) (sym frames ∙ ap (frames_of_bytes (conversion_of v)) all)
+    (Advances-trans v.rates v.table.outputs (frame_from_bytes (conversion_of v) filled) (frames_of_bytes (conversion_of v) behind) p.course middle q.course old mid new first more))
     (part ∙ (sym rest ∙ ap (rest_of (conversion_of v)) all))
 
 -- no bytes
-pub HasTaken-none : (v : Converter) (p : Progress) → IsTable v.table → part_of p.part ≡ [] → IsAt v.rates v.table.outputs [] (samples_of p.course.last) p.course.place
-    → HasTaken (stage_of v p) []
-HasTaken-none v p table none at =
+pub HasTakenBytes-none : (v : Converter) (p : Progress) → IsTable v.table → part_bytes p.part ≡ [] → IsRateAt v.rates v.table.outputs [] (samples_of p.course.last) p.course.place
+    → HasTakenBytes (stage_of v p) []
+HasTakenBytes-none v p table none at =
     let short : length {A = ℕ} [] < frame_bytes (conversion_of v) = frame_bytes-some (conversion_of v) table in
     record {
       part = none ∙ sym (rest_of-short (conversion_of v) [] short);
-      course = subst (λ (xs : List (List ℤ)). IsAt v.rates v.table.outputs xs (samples_of p.course.last) p.course.place) (sym (frames_of-short (conversion_of v) [] short)) at;
+      course = subst (λ (xs : List (List ℤ)). IsRateAt v.rates v.table.outputs xs (samples_of p.course.last) p.course.place) (sym (frames_of_bytes-short (conversion_of v) [] short)) at;
     }

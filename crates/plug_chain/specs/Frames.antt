@@ -22,22 +22,22 @@ samples_in from (suc n) bytes =
     wide_sample from (take (bytes_of from) bytes) ∷ samples_in from n (drop (bytes_of from) bytes)
 
 -- the output channels of one frame's bytes
-abbrev pub frame_of : Conversion → List ℕ → List ℤ
-frame_of c bytes = output_samples c.table (samples_in c.from c.table.inputs bytes)
+abbrev pub frame_from_bytes : Conversion → List ℕ → List ℤ
+frame_from_bytes c bytes = output_samples c.table (samples_in c.from c.table.inputs bytes)
 
 -- the first n frames
 abbrev pub first_frames : Conversion → ℕ → List ℕ → List (List ℤ)
 first_frames c zero bytes = []
 first_frames c (suc n) bytes =
-    frame_of c (take (frame_bytes c) bytes) ∷ first_frames c n (drop (frame_bytes c) bytes)
+    frame_from_bytes c (take (frame_bytes c) bytes) ∷ first_frames c n (drop (frame_bytes c) bytes)
 
 -- how many whole frames there are
 abbrev pub frame_count : Conversion → List ℕ → ℕ
 frame_count c bytes = length bytes / frame_bytes c
 
 -- all whole frames
-unfoldable pub frames_of : Conversion → List ℕ → List (List ℤ)
-frames_of c bytes = first_frames c (frame_count c bytes) bytes
+unfoldable pub frames_of_bytes : Conversion → List ℕ → List (List ℤ)
+frames_of_bytes c bytes = first_frames c (frame_count c bytes) bytes
 
 -- the bytes after the last whole frame
 unfoldable pub rest_of : Conversion → List ℕ → List ℕ

@@ -8,5 +8,5 @@ abbrev pub samples_of : Frame → List ℤ
 samples_of f = take f.len f.samples
 
 -- the bytes of a begun frame
-abbrev pub part_of : Part → List ℕ
-part_of p = take p.len p.bytes
+abbrev pub part_bytes : Part → List ℕ
+part_bytes p = take p.len p.bytes

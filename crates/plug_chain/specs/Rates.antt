@@ -65,7 +65,7 @@ abbrev pub silence : ℕ → List ℤ
 silence channels = replicate channels (pos 0)
 
 -- after these frames this frame is the last, and the next output frame lies so many parts past the frame before it
-pub record IsAt (r : RatePair) (channels : ℕ) (frames : List (List ℤ)) (last : List ℤ)
+pub record IsRateAt (r : RatePair) (channels : ℕ) (frames : List (List ℤ)) (last : List ℤ)
     (place : ℕ) : Type 0 where
   pub last_is : last ≡ slice_index_or frames (length frames - 1) (silence channels)
   pub place_is : known_count r (length frames) * r.input + r.output

@@ -2,7 +2,7 @@
 use Rattle.std.specs.Prelude.{ℕ, ◌+◌, ◌*◌, ◌-◌, ◌^◌, nat_lt, if◌then◌else◌, List, [], ◌∷◌, ℤ, pos, ◌-ℤ◌}
 use Rattle.std.specs.Int.{int_div_euclid}
 use Rattle.pcm_format.specs.declared.format.Format.TheVariants as formats
-use Rattle.pcm_format.specs.Samples.{sample_of}
+use Rattle.pcm_format.specs.Samples.{sample_of_bytes}
 use Rattle.plug_chain.specs.declared.wide.Wide.{Wide}
 use Rattle.plug_chain.specs.declared.wide.Wide.TheVariants.{S8, U8, S16Le, S16Be, S24Packed, S32Le}
 
@@ -26,9 +26,9 @@ signed_number bits n = if nat_lt n (2 ^ (bits - 1)) then pos n else pos n -ℤ p
 
 -- the sample of 16 bits that bytes represent: a number of more bits is divided and rounded down
 abbrev pub wide_sample : Wide → List ℕ → ℤ
-wide_sample S8 bytes = sample_of formats.S8 bytes
-wide_sample U8 bytes = sample_of formats.U8 bytes
-wide_sample S16Le bytes = sample_of formats.S16Le bytes
-wide_sample S16Be bytes = sample_of formats.S16Be bytes
+wide_sample S8 bytes = sample_of_bytes formats.S8 bytes
+wide_sample U8 bytes = sample_of_bytes formats.U8 bytes
+wide_sample S16Le bytes = sample_of_bytes formats.S16Le bytes
+wide_sample S16Be bytes = sample_of_bytes formats.S16Be bytes
 wide_sample S24Packed bytes = int_div_euclid (signed_number 24 (low_first bytes)) (pos (2 ^ 8))
 wide_sample S32Le bytes = int_div_euclid (signed_number 32 (low_first bytes)) (pos (2 ^ 16))

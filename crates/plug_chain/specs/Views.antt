@@ -2,7 +2,7 @@
 use Rattle.plug_chain.specs.declared.converter.Converter.{Converter}
 use Rattle.plug_chain.specs.declared.converter.Progress.{Progress}
 use Rattle.plug_chain.specs.Frames.{Conversion}
-use Rattle.plug_chain.specs.Held.{samples_of, part_of}
+use Rattle.plug_chain.specs.Held.{samples_of, part_bytes}
 use Rattle.plug_chain.specs.Plugs.{Stage}
 
 -- how a converter converts
@@ -14,7 +14,7 @@ abbrev pub stage_of : Converter → Progress → Stage
 stage_of c p =
     record {
       conversion = conversion_of c;
-      part = part_of p.part;
+      part = part_bytes p.part;
       last = samples_of p.course.last;
       place = p.course.place;
     }

@@ -1,9 +1,9 @@
 //! Bytes cut into frames, and frames made into output frames.
 ghost use Rattle.std.specs.Prelude.{◌≡◌, ◌<◌, ◌≤◌, [], ◌∷◌, ◌++◌, length, OnOk, IfOk};
-ghost use Rattle.plug_chain.specs.Held.{part_of, samples_of};
+ghost use Rattle.plug_chain.specs.Held.{part_bytes, samples_of};
 ghost use Rattle.plug_chain.specs.Growth.{Extends};
-ghost use Rattle.plug_chain.specs.Frames.{frame_bytes, frame_of, frames_of, rest_of, samples_in};
-ghost use Rattle.plug_chain.specs.Plugs.{Continues, HasTaken, IsStage};
+ghost use Rattle.plug_chain.specs.Frames.{frame_bytes, frame_from_bytes, frames_of_bytes, rest_of, samples_in};
+ghost use Rattle.plug_chain.specs.Plugs.{Continues, HasTakenBytes, IsStage};
 ghost use Rattle.plug_chain.specs.Courses.{Advances, IsOn};
 ghost use Rattle.plug_chain.specs.Views.{conversion_of, stage_of};
 
@@ -42,7 +42,7 @@ impl Converter {
     /// Where a conversion begins.
     pub(crate) fn start(&self) -> Progress
         ensures stage { IsStage (stage_of self.now result) }
-        ensures nothing { HasTaken (stage_of self.now result) [] }
+        ensures nothing { HasTakenBytes (stage_of self.now result) [] }
     {
         Progress {
             part: Part::empty(),
@@ -77,7 +77,7 @@ impl Converter {
         requires course { IsOn self.now.rates self.now.table.outputs course.old }
         ensures course { OnOk result (IsOn self.now.rates self.now.table.outputs course.new) }
         ensures ok { OnOk result (Advances self.now.rates self.now.table.outputs
-            (frame_of (conversion_of self.now) bytes.now ∷ []) course.old course.new
+            (frame_from_bytes (conversion_of self.now) bytes.now ∷ []) course.old course.new
             out.old.items out.new.items) }
         ensures grows { Extends out.old.items out.new.items }
     {
@@ -98,7 +98,7 @@ impl Converter {
         requires { IsOn self.now.rates self.now.table.outputs course.old }
         ensures course { OnOk result (IsOn self.now.rates self.now.table.outputs course.new) }
         ensures ok { OnOk result (Advances self.now.rates self.now.table.outputs
-            (frames_of (conversion_of self.now) bytes.now) course.old course.new
+            (frames_of_bytes (conversion_of self.now) bytes.now) course.old course.new
             out.old.items out.new.items) }
         ensures rest { IfOk result (λ rest. rest.now ≡ rest_of (conversion_of self.now) bytes.now) }
         ensures grows { Extends out.old.items out.new.items }
@@ -121,12 +121,12 @@ impl Converter {
         out: &mut Vec<i16>,
     ) -> Result<(), AllocError>
         requires stage { IsStage (stage_of self.now progress.old) }
-        requires whole { part_of progress.old.part ≡ [] }
+        requires whole { part_bytes progress.old.part ≡ [] }
         ensures stage { OnOk result (IsStage (stage_of self.now progress.new)) }
         ensures ok { OnOk result (Advances self.now.rates self.now.table.outputs
-            (frames_of (conversion_of self.now) bytes.now) progress.old.course progress.new.course
+            (frames_of_bytes (conversion_of self.now) bytes.now) progress.old.course progress.new.course
             out.old.items out.new.items) }
-        ensures part { OnOk result (part_of progress.new.part
+        ensures part { OnOk result (part_bytes progress.new.part
             ≡ rest_of (conversion_of self.now) bytes.now) }
         ensures grows { Extends out.old.items out.new.items }
     {
@@ -137,10 +137,10 @@ impl Converter {
 
     /// Takes the bytes that the begun frame lacks, and returns the bytes after them.
     fn fill<'a>(&self, part: &mut Part, bytes: &'a [u8]) -> &'a [u8]
-        requires { length (part_of part.old) ≤ frame_bytes (conversion_of self.now) }
-        ensures same { part_of part.new ++ result.now ≡ part_of part.old ++ bytes.now }
-        ensures most { length (part_of part.new) ≤ frame_bytes (conversion_of self.now) }
-        ensures short { length (part_of part.new) < frame_bytes (conversion_of self.now)
+        requires { length (part_bytes part.old) ≤ frame_bytes (conversion_of self.now) }
+        ensures same { part_bytes part.new ++ result.now ≡ part_bytes part.old ++ bytes.now }
+        ensures most { length (part_bytes part.new) ≤ frame_bytes (conversion_of self.now) }
+        ensures short { length (part_bytes part.new) < frame_bytes (conversion_of self.now)
             → result.now ≡ [] }
     {
         let missing = self.frame_bytes() - part.as_slice().len();

@@ -51,11 +51,11 @@ pub(crate) struct Part {
 
 impl Part {
     ghost use Rattle.std.specs.Prelude.{◌≡◌, ◌+◌, [], ◌++◌, length};
-    ghost use Rattle.plug_chain.specs.Held.{part_of};
+    ghost use Rattle.plug_chain.specs.Held.{part_bytes};
 
     /// No bytes.
     pub(crate) fn empty() -> Part
-        ensures { part_of result ≡ [] }
+        ensures { part_bytes result ≡ [] }
     {
         Part {
             bytes: [0; 32],
@@ -65,8 +65,8 @@ impl Part {
 
     /// Adds bytes at the end.
     pub(crate) fn extend(&mut self, more: &[u8])
-        requires { length (part_of self.old) + length more.now ≤ 32 }
-        ensures { part_of self.new ≡ part_of self.old ++ more.now }
+        requires { length (part_bytes self.old) + length more.now ≤ 32 }
+        ensures { part_bytes self.new ≡ part_bytes self.old ++ more.now }
     {
         let start = self.len as usize;
         let end = start + more.len();
@@ -76,7 +76,7 @@ impl Part {
 
     /// The bytes that have come.
     pub(crate) fn as_slice(&self) -> &[u8]
-        ensures { result.now ≡ part_of self.now }
+        ensures { result.now ≡ part_bytes self.now }
     {
         &self.bytes[..self.len as usize]
     }

@@ -4,7 +4,7 @@ ghost use Rattle.std.specs.Int.{int_div_euclid};
 ghost use Rattle.plug_chain.specs.Held.{samples_of};
 ghost use Rattle.plug_chain.specs.Growth.{Extends};
 ghost use Rattle.plug_chain.specs.Rates.{AreRates, IsRise, frame_between, on_line};
-ghost use Rattle.plug_chain.specs.Courses.{Advances, Ends, IsAfter, IsOn};
+ghost use Rattle.plug_chain.specs.Courses.{Advances, Ends, IsCourseAfter, IsOn};
 
 use crate::frame::Frame;
 use crate::rates::Rates;
@@ -82,7 +82,7 @@ impl Rates {
         requires { channels ≤ 8 }
         ensures rates { AreRates self }
         ensures course { IsOn self channels result }
-        ensures empty { IsAfter self channels [] result }
+        ensures empty { IsCourseAfter self channels [] result }
     {
         Course {
             last: Frame::silent(channels),

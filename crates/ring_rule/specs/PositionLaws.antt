@@ -10,26 +10,26 @@ use lib.ListN.{get_elem?}
 use Rattle.atomic_table.proofs.Lists.{at_longer}
 use Rattle.snd_base.specs.declared.geometry.Geometry.{Geometry}
 use Rattle.snd_base.specs.Places.{first_frame}
-use Rattle.ring_rule.specs.Positions.{IsPosition, Rising, has_all, last_of, last_position}
+use Rattle.ring_rule.specs.Positions.{IsPosition, Rising, has_all, last_number, last_position}
 
 -- the last of some numbers and one more is that one
-pub last_of-more : (d : ℕ) (xs : List ℕ) (x : ℕ) → last_of d (xs ++ x ∷ []) ≡ x
-last_of-more d [] x = refl
-last_of-more d (y ∷ ys) x = last_of-more y ys x
+pub last_number-more : (d : ℕ) (xs : List ℕ) (x : ℕ) → last_number d (xs ++ x ∷ []) ≡ x
+last_number-more d [] x = refl
+last_number-more d (y ∷ ys) x = last_number-more y ys x
 
 -- numbers that never fall, and one that is not below the last of them
-pub Rising-more : (d : ℕ) (xs : List ℕ) (x : ℕ) → Rising d xs → last_of d xs ≤ x → Rising d (xs ++ x ∷ [])
+pub Rising-more : (d : ℕ) (xs : List ℕ) (x : ℕ) → Rising d xs → last_number d xs ≤ x → Rising d (xs ++ x ∷ [])
 Rising-more d [] x rising up = (up, tt)
 Rising-more d (y ∷ ys) x rising up = (rising.0, Rising-more y ys x rising.1 up)
 
-pub Rising-least : (d : ℕ) (xs : List ℕ) → Rising d xs → d ≤ last_of d xs
+pub Rising-least : (d : ℕ) (xs : List ℕ) → Rising d xs → d ≤ last_number d xs
 Rising-least d [] rising = omega arith
 Rising-least d (x ∷ xs) rising = omega (arith, rising.0, Rising-least x xs rising.1)
 
 -- the last position is one, and a position stays one
 pub IsPosition-last : (g : Geometry) (ps : List ℕ) → IsPosition g ps (last_position g ps)
 IsPosition-last g ps = from (first_frame g) ps where
-  from : (d : ℕ) (xs : List ℕ) → (last_of d xs ≡ d) ⊎ ((i : ℕ) × (get_elem? xs i ≡ some (last_of d xs)))
+  from : (d : ℕ) (xs : List ℕ) → (last_number d xs ≡ d) ⊎ ((i : ℕ) × (get_elem? xs i ≡ some (last_number d xs)))
   from d [] = inl refl
   from d (x ∷ xs) = elim (from x xs) [
     | inl same ↦ inr (0, ap some (sym same))

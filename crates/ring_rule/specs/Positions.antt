@@ -7,9 +7,9 @@ use Rattle.snd_base.specs.declared.geometry.Geometry.{Geometry}
 use Rattle.snd_base.specs.Places.{first_frame}
 
 -- the last one of some numbers, or another where there is none
-abbrev pub last_of : ℕ → List ℕ → ℕ
-last_of d [] = d
-last_of d (x ∷ xs) = last_of x xs
+abbrev pub last_number : ℕ → List ℕ → ℕ
+last_number d [] = d
+last_number d (x ∷ xs) = last_number x xs
 
 -- the numbers never fall, from one on
 abbrev pub Rising : ℕ → List ℕ → Type 0
@@ -18,7 +18,7 @@ Rising d (x ∷ xs) = (d ≤ x) × Rising x xs
 
 -- the position that was published last, or the first frame
 abbrev pub last_position : Geometry → List ℕ → ℕ
-last_position g ps = last_of (first_frame g) ps
+last_position g ps = last_number (first_frame g) ps
 
 -- a position is the first frame or one of those that were published
 abbrev pub IsPosition : Geometry → List ℕ → ℕ → Type 0

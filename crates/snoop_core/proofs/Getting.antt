@@ -10,7 +10,7 @@ use Rattle.mix_core.specs.declared.gate.StepKind.TheVariants.{Look}
 use Rattle.snoop_core.specs.declared.port.Frame.{Frame}
 use Rattle.snoop_core.specs.declared.port.Got.TheVariants.{Whole, Overtaken, Stopped}
 use Rattle.snoop_core.specs.declared.turn.SnoopTurn.{SnoopTurn}
-use Rattle.snoop_core.specs.Port.{Gets, frame_of}
+use Rattle.snoop_core.specs.Port.{Gets, numbered_frame}
 use Rattle.snoop_core.specs.Stored.{IsCaptured, sample_at}
 use Rattle.snoop_core.specs.Turn.{IsSame, TurnFinds, TurnGot, TurnLoaded, core_of, word_of_turn, view_of_turn}
 use Rattle.snoop_core.specs.View.{IsFoundWord, Represents, SnoopCoreView, geometry_of, next_frame, word_at}
@@ -77,7 +77,7 @@ pub gets-whole : {T : Type 0} (stops : T → ℕ) (asked : T → T → List Step
     → IsLoading t u f (geometry_of (core_of t)).channels out
     → first_frame (geometry_of (core_of t)) ≤ f → f < (core_of t).position
     → asked g h (replicate (geometry_of (core_of t)).channels Look) Go → stops h ≡ stops g
-    → Gets view_of_turn word_of_turn TurnLoaded TurnGot TurnFinds stops asked t g (frame_of f out) Whole u h
+    → Gets view_of_turn word_of_turn TurnLoaded TurnGot TurnFinds stops asked t g (numbered_frame f out) Whole u h
 gets-whole stops asked t u g h f out l least before asks told =
     let v : SnoopCoreView = core_of t in
     let kept : IsKept v f = l.kept (omega (arith, (geometry_of v).channels_least)) in
@@ -85,7 +85,7 @@ gets-whole stops asked t u g h f out l least before asks told =
       view_is = view-same t u l.same;
       got_it = record {
         same = l.same;
-        each = all-one (λ (x : Frame). (xs : List ℤ) → Represents v xs → IsCaptured (geometry_of v) xs x) (frame_of f out) (λ xs r. record {
+        each = all-one (λ (x : Frame). (xs : List ℤ) → Represents v xs → IsCaptured (geometry_of v) xs x) (numbered_frame f out) (λ xs r. record {
           least = least;
           whole = subst (λ (y : Cursor). f < y.frame) r.next (omega (arith, before, kept.published));
           size = l.size;
@@ -108,7 +108,7 @@ pub gets-overtaken : {T : Type 0} (stops : T → ℕ) (asked : T → T → List 
     → IsLoading t u f c out → c < (geometry_of (core_of t)).channels
     → IsFoundWord (core_of t) f c word → laps_of word ≢ lap (geometry_of (core_of t)) f + 1
     → asked g h (replicate (c + 1) Look) Go → stops h ≡ stops g
-    → Gets view_of_turn word_of_turn TurnLoaded TurnGot TurnFinds stops asked t g (frame_of f out) (Overtaken c word) u h
+    → Gets view_of_turn word_of_turn TurnLoaded TurnGot TurnFinds stops asked t g (numbered_frame f out) (Overtaken c word) u h
 gets-overtaken stops asked t u g h f c word out l in_range found other asks told =
     let v : SnoopCoreView = core_of t in
     let past : lap (geometry_of v) f + 1 < laps_of word = omega (arith, found.by_laps.not_before, other) in
@@ -141,7 +141,7 @@ gets-overtaken stops asked t u g h f c word out l in_range found other asks told
 pub gets-stopped : {T : Type 0} (stops : T → ℕ) (asked : T → T → List StepKind → Pass → Type 0) (t u : SnoopTurn) (g h : T) (f c : ℕ) (out : List ℤ)
     → IsLoading t u f c out → c < (geometry_of (core_of t)).channels
     → asked g h (replicate (c + 1) Look) Stop → stops h ≡ stops g + 1
-    → Gets view_of_turn word_of_turn TurnLoaded TurnGot TurnFinds stops asked t g (frame_of f out) Stopped u h
+    → Gets view_of_turn word_of_turn TurnLoaded TurnGot TurnFinds stops asked t g (numbered_frame f out) Stopped u h
 gets-stopped stops asked t u g h f c out l in_range asks told =
     let v : SnoopCoreView = core_of t in
     let first : f + (geometry_of v).frames < v.position → c ≡ 0 = λ early. at_first c (λ some. omega (arith, early, (l.kept some).published, (l.kept some).not_over)) in

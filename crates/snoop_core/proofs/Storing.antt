@@ -9,8 +9,8 @@ use Rattle.snd_base.specs.declared.places.Cursor.{Cursor}
 use Rattle.snd_base.specs.PlaceLaws.{suc-le-end_frame, word_index-lt, word_index-same}
 use Rattle.snd_base.specs.Places.{cursor_after, end_frame, lap, slot, word_index}
 use Rattle.snoop_core.specs.Ring.{ArePartStored, HoldsSamples, IsFrameStored, IsSampleStored, IsSoundRing, RingView, after_samples, word_in}
-use Rattle.snoop_core.specs.Stored.{next_at}
-use Rattle.snoop_core.specs.StoredLaws.{HaveLaps-written, HoldLast-written, IsWritten, next_at-more}
+use Rattle.snoop_core.specs.Stored.{next_after_stored}
+use Rattle.snoop_core.specs.StoredLaws.{HaveLaps-written, HoldLast-written, IsWritten, next_after_stored-more}
 use Rattle.snoop_core.specs.Word.{HoldsSample}
 
 -- one word of the list was written
@@ -58,10 +58,10 @@ IsSampleStored-stored v new x s fits holds =
       next = refl;
       sound = IsSoundRing-stored v new x s fits holds;
       holds = λ xs h.
-          let at_next : (y : Cursor) → y ≡ v.next → v.next ≡ next_at g xs → IsWritten g (next_at g xs) new (word_in g v.words) (word_in g (set v.words at new)) =
+          let at_next : (y : Cursor) → y ≡ v.next → v.next ≡ next_after_stored g xs → IsWritten g (next_after_stored g xs) new (word_in g v.words) (word_in g (set v.words at new)) =
           λ y e is. subst (λ (n : Cursor). IsWritten g n new (word_in g v.words) (word_in g (set v.words at new))) is (written g v.next v.words new s.room s.next_channel) in
           record {
-            next = ap (λ (n : Cursor). cursor_after g n.frame n.channel) h.next ∙ sym (next_at-more g xs x);
+            next = ap (λ (n : Cursor). cursor_after g n.frame n.channel) h.next ∙ sym (next_after_stored-more g xs x);
             words = HoldLast-written g new x (word_in g v.words) (word_in g (set v.words at new)) xs (at_next v.next refl h.next)
                 (subst (λ (n : Cursor). HoldsSample new (lap g n.frame + 1) x) h.next holds) h.words;
           };

@@ -38,8 +38,8 @@ got_of (Ok (loaded.Overtaken channel word)) = Overtaken channel word
 got_of (Err e) = Stopped
 
 -- the frame of a number and its samples
-abbrev pub frame_of : ℕ → List ℤ → Frame
-frame_of n xs = record { number = n; samples = xs }
+abbrev pub numbered_frame : ℕ → List ℤ → Frame
+numbered_frame n xs = record { number = n; samples = xs }
 
 -- a fact of a load that got the frame, and of the channel and word of one that was overtaken
 abbrev pub OnGot : Got → Type 0 → Type 0

@@ -3,7 +3,7 @@ use Rattle.std.specs.Prelude.{◌≡◌, ℕ, ◌+◌, ◌*◌, ◌<◌, List, [
 use Rattle.snd_base.specs.declared.geometry.Geometry.{Geometry}
 use Rattle.snd_base.specs.declared.places.Cursor.{Cursor}
 use Rattle.snd_base.specs.Places.{IsWithin, cursor_after, first_frame, word_index}
-use Rattle.snoop_core.specs.Stored.{HaveLaps, HoldLast, next_at}
+use Rattle.snoop_core.specs.Stored.{HaveLaps, HoldLast, next_after_stored}
 
 -- a ring: its geometry, the words slot by slot, and the frame and channel that are stored next
 pub record RingView : Type 0 where
@@ -27,7 +27,7 @@ pub record IsSoundRing (v : RingView) : Type 0 where
 
 -- a ring holds the last of some samples, which were stored in it
 pub record HoldsSamples (v : RingView) (xs : List ℤ) : Type 0 where
-  pub next : v.next ≡ next_at v.geometry xs
+  pub next : v.next ≡ next_after_stored v.geometry xs
   pub words : HoldLast v.geometry (ring_word v) xs
 
 -- a ring in which nothing is stored

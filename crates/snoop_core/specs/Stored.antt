@@ -17,13 +17,13 @@ abbrev pub sample_at : Geometry → List ℤ → ℕ → ℕ → ℤ
 sample_at g xs f c = slice_index_or xs (stored_place g f c) (pos 0)
 
 -- the frame and channel that are stored next
-abbrev pub next_at : Geometry → List ℤ → Cursor
-next_at g xs = next_word g (length xs)
+abbrev pub next_after_stored : Geometry → List ℤ → Cursor
+next_after_stored g xs = next_word g (length xs)
 
 -- a frame is the stored one of its number: all its channels were stored, and these are its samples
 pub record IsCaptured (g : Geometry) (xs : List ℤ) (frame : Frame) : Type 0 where
   pub least : first_frame g ≤ frame.number
-  pub whole : frame.number < (next_at g xs).frame
+  pub whole : frame.number < (next_after_stored g xs).frame
   pub size : length frame.samples ≡ g.channels
   pub samples : (c : ℕ) → c < g.channels → slice_index_or frame.samples c (pos 0) ≡ sample_at g xs frame.number c
 
@@ -46,5 +46,5 @@ HaveLaps g next word = (f c : ℕ) → IsLast g next f c → laps_of (word f c) 
 
 -- each word holds the last sample that was stored there, or what a new ring has
 pub record HoldLast (g : Geometry) (word : ℕ → ℕ → ℕ) (xs : List ℤ) : Type 0 where
-  pub last : (f c : ℕ) → IsLast g (next_at g xs) f c → HoldsSample (word f c) (lap g f + 1) (sample_at g xs f c)
-  pub unused : (f c : ℕ) → IsUnused g (next_at g xs) f c → HoldsSample (word f c) g.first_lap (pos 0)
+  pub last : (f c : ℕ) → IsLast g (next_after_stored g xs) f c → HoldsSample (word f c) (lap g f + 1) (sample_at g xs f c)
+  pub unused : (f c : ℕ) → IsUnused g (next_after_stored g xs) f c → HoldsSample (word f c) g.first_lap (pos 0)

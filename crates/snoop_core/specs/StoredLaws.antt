@@ -10,7 +10,7 @@ use Rattle.snd_base.specs.declared.geometry.Geometry.{Geometry}
 use Rattle.snd_base.specs.declared.places.Cursor.{Cursor}
 use Rattle.snd_base.specs.PlaceLaws.{div-lt_same, first_free-behind_low, mod-same, mod-window, next_word-suc}
 use Rattle.snd_base.specs.Places.{cursor_after, first_frame, first_free, lap, next_word, slot}
-use Rattle.snoop_core.specs.Stored.{HaveLaps, HoldLast, IsCaptured, IsLast, IsUnused, next_at, stored_place, sample_at}
+use Rattle.snoop_core.specs.Stored.{HaveLaps, HoldLast, IsCaptured, IsLast, IsUnused, next_after_stored, stored_place, sample_at}
 use Rattle.snoop_core.specs.Word.{HoldsSample, HoldsSample-fields, laps_of, sample_of}
 use Rattle.snoop_core.specs.declared.port.Frame.{Frame}
 
@@ -83,10 +83,10 @@ by_laps g next word f c laps by in_range least stored =
 
 -- a word with the frame's own lap holds the frame's sample
 pub own_sample : (g : Geometry) (word : ℕ → ℕ → ℕ) (xs : List ℤ) (f c : ℕ) → HoldLast g word xs → BySlots g word
-    → c < g.channels → first_frame g ≤ f → f < first_free (next_at g xs) c → laps_of (word f c) ≡ lap g f + 1
+    → c < g.channels → first_frame g ≤ f → f < first_free (next_after_stored g xs) c → laps_of (word f c) ≡ lap g f + 1
     → sample_of (word f c) ≡ sample_at g xs f c
 own_sample g word xs f c holds by in_range least stored own =
-    let found = last_of_slot g (next_at g xs) f c in_range least stored in
+    let found = last_of_slot g (next_after_stored g xs) f c in_range least stored in
     let k : ℕ = found.0 in
     let same : k % g.frames ≡ f % g.frames = found.2 in
     let fields = HoldsSample-fields _ _ _ (holds.last k c found.1) in
@@ -169,16 +169,16 @@ HaveLaps-written g next new x before after in_range written holds laps =
     (HoldsSample-fields new _ x holds).0 (λ w f c d l s is. is) laps
 
 -- the next place is after all that was stored
-pub next_at-channel : (g : Geometry) (xs : List ℤ) → (next_at g xs).channel < g.channels
-next_at-channel g xs = mod-lt (length xs) (omega (arith, g.channels_least))
+pub next_after_stored-channel : (g : Geometry) (xs : List ℤ) → (next_after_stored g xs).channel < g.channels
+next_after_stored-channel g xs = mod-lt (length xs) (omega (arith, g.channels_least))
 
-pub stored_place-next : (g : Geometry) (xs : List ℤ) → stored_place g (next_at g xs).frame (next_at g xs).channel ≡ length xs
+pub stored_place-next : (g : Geometry) (xs : List ℤ) → stored_place g (next_after_stored g xs).frame (next_after_stored g xs).channel ≡ length xs
 stored_place-next g xs =
     let n : ℕ = length xs in
     let up : first_frame g + n / g.channels - first_frame g ≡ n / g.channels = omega arith in
     ap (λ q. q * g.channels + n % g.channels) up ∙ div-add-mod' n g.channels
 
-pub stored_place-stored : (g : Geometry) (xs : List ℤ) (f c : ℕ) → c < g.channels → first_frame g ≤ f → f < first_free (next_at g xs) c → stored_place g f c < length xs
+pub stored_place-stored : (g : Geometry) (xs : List ℤ) (f c : ℕ) → c < g.channels → first_frame g ≤ f → f < first_free (next_after_stored g xs) c → stored_place g f c < length xs
 stored_place-stored g xs f c in_range least stored =
     let n : ℕ = length xs in
     let q : ℕ = n / g.channels in
@@ -196,26 +196,26 @@ stored_place-stored g xs f c in_range least stored =
     ]
 
 -- one more sample
-pub next_at-more : (g : Geometry) (xs : List ℤ) (x : ℤ) → next_at g (xs ++ x ∷ []) ≡ cursor_after g (next_at g xs).frame (next_at g xs).channel
-next_at-more g xs x =
+pub next_after_stored-more : (g : Geometry) (xs : List ℤ) (x : ℤ) → next_after_stored g (xs ++ x ∷ []) ≡ cursor_after g (next_after_stored g xs).frame (next_after_stored g xs).channel
+next_after_stored-more g xs x =
     ap (next_word g) (Rattle.std.proofs.lemmas.List.length-append xs (x ∷ [])) ∙ next_word-suc g (length xs)
 
-pub sample_at-more : (g : Geometry) (xs ys : List ℤ) (f c : ℕ) → c < g.channels → first_frame g ≤ f → f < first_free (next_at g xs) c
+pub sample_at-more : (g : Geometry) (xs ys : List ℤ) (f c : ℕ) → c < g.channels → first_frame g ≤ f → f < first_free (next_after_stored g xs) c
     → sample_at g (xs ++ ys) f c ≡ sample_at g xs f c
 sample_at-more g xs ys f c in_range least stored = get_or_append_left xs ys (pos 0) (stored_place g f c) (stored_place-stored g xs f c in_range least stored)
 
-pub sample_at-last : (g : Geometry) (xs : List ℤ) (x : ℤ) → sample_at g (xs ++ x ∷ []) (next_at g xs).frame (next_at g xs).channel ≡ x
-sample_at-last g xs x = get_or_at xs x [] (pos 0) (stored_place g (next_at g xs).frame (next_at g xs).channel) (sym (stored_place-next g xs))
+pub sample_at-last : (g : Geometry) (xs : List ℤ) (x : ℤ) → sample_at g (xs ++ x ∷ []) (next_after_stored g xs).frame (next_after_stored g xs).channel ≡ x
+sample_at-last g xs x = get_or_at xs x [] (pos 0) (stored_place g (next_after_stored g xs).frame (next_after_stored g xs).channel) (sym (stored_place-next g xs))
 
 -- what the words hold goes on
 pub HoldLast-written : (g : Geometry) (new : ℕ) (x : ℤ) (before after : ℕ → ℕ → ℕ) (xs : List ℤ)
-    → IsWritten g (next_at g xs) new before after → HoldsSample new (lap g (next_at g xs).frame + 1) x
+    → IsWritten g (next_after_stored g xs) new before after → HoldsSample new (lap g (next_after_stored g xs).frame + 1) x
     → HoldLast g before xs → HoldLast g after (xs ++ x ∷ [])
 HoldLast-written g new x before after xs written holds old =
-    let next : Cursor = next_at g xs in
+    let next : Cursor = next_after_stored g xs in
     let ys : List ℤ = xs ++ x ∷ [] in
-    let moved : next_at g ys ≡ cursor_after g next.frame next.channel = next_at-more g xs x in
-    let in_range = next_at-channel g xs in
+    let moved : next_after_stored g ys ≡ cursor_after g next.frame next.channel = next_after_stored-more g xs x in
+    let in_range = next_after_stored-channel g xs in
     record {
       last = λ f c is.
           last-written (λ w f c. HoldsSample w (lap g f + 1) (sample_at g xs f c)) (λ w f c. HoldsSample w (lap g f + 1) (sample_at g ys f c))
@@ -229,8 +229,8 @@ HoldLast-written g new x before after xs written holds old =
     }
 
 -- a stored frame stays the stored one
-pub next_at-grows : (g : Geometry) (xs ys : List ℤ) → (next_at g xs).frame ≤ (next_at g (xs ++ ys)).frame
-next_at-grows g xs ys =
+pub next_after_stored-grows : (g : Geometry) (xs ys : List ℤ) → (next_after_stored g xs).frame ≤ (next_after_stored g (xs ++ ys)).frame
+next_after_stored-grows g xs ys =
     let some : 0 < g.channels = omega (arith, g.channels_least) in
     let more : length xs ≤ length (xs ++ ys) = omega (arith, Rattle.std.proofs.lemmas.List.length-append xs ys) in
     let up : length xs / g.channels ≤ length (xs ++ ys) / g.channels =
@@ -256,17 +256,17 @@ first_free-next g n m c up =
           grind (arith, nat_tests, same, part)
     ]
 
-pub first_free-more : (g : Geometry) (xs ys : List ℤ) (c : ℕ) → first_free (next_at g xs) c ≤ first_free (next_at g (xs ++ ys)) c
+pub first_free-more : (g : Geometry) (xs ys : List ℤ) (c : ℕ) → first_free (next_after_stored g xs) c ≤ first_free (next_after_stored g (xs ++ ys)) c
 first_free-more g xs ys c = first_free-next g (length xs) (length (xs ++ ys)) c (omega (arith, Rattle.std.proofs.lemmas.List.length-append xs ys))
 
 -- what the words hold gives their laps
-pub HaveLaps-holding : (g : Geometry) (word : ℕ → ℕ → ℕ) (xs : List ℤ) → HoldLast g word xs → HaveLaps g (next_at g xs) word
+pub HaveLaps-holding : (g : Geometry) (word : ℕ → ℕ → ℕ) (xs : List ℤ) → HoldLast g word xs → HaveLaps g (next_after_stored g xs) word
 HaveLaps-holding g word xs holds f c is = (HoldsSample-fields _ _ _ (holds.last f c is)).0
 
 pub IsCaptured-more : (g : Geometry) (xs ys : List ℤ) (frame : Frame) → IsCaptured g xs frame → IsCaptured g (xs ++ ys) frame
 IsCaptured-more g xs ys frame is = record {
   least = is.least;
-  whole = omega (arith, is.whole, next_at-grows g xs ys);
+  whole = omega (arith, is.whole, next_after_stored-grows g xs ys);
   size = is.size;
   samples = λ c in_range.
       is.samples c in_range ∙ sym (sample_at-more g xs ys frame.number c in_range is.least (grind (arith, nat_tests, is.whole)));

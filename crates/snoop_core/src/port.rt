@@ -6,7 +6,7 @@ ghost use Rattle.mix_core.specs.declared.port.Position.{Position};
 ghost use Rattle.mix_core.specs.Port.{AreRisingFrom, last_frame, load_of};
 ghost use Rattle.snoop_core.specs.declared.port.Frame.{Frame};
 ghost use Rattle.snoop_core.specs.declared.port.Got.{Got};
-ghost use Rattle.snoop_core.specs.Port.{Gets, LoadsPosition, ShowsFrom, SnoopView, frame_of, got_of};
+ghost use Rattle.snoop_core.specs.Port.{Gets, LoadsPosition, ShowsFrom, SnoopView, numbered_frame, got_of};
 
 use mix_core::{Gate, Position};
 use snd_base::{Geometry, PcmError};
@@ -110,7 +110,7 @@ pub trait SnoopPort {
         requires stored { frame < (view self.old).seen }
         requires room { length out.old ≡ (view self.old).geometry.channels }
         ensures step { Gets view shows loaded got finds G.stops G.asked self.old gate.old
-            (frame_of frame out.new) (got_of result) self.new gate.new }
+            (numbered_frame frame out.new) (got_of result) self.new gate.new }
         ensures only_stopped { IfErr result (λ e. e ≡ PcmError.Stopped) };
 
     // The positions that were loaded between two states never fall, and the last of them is the one seen.

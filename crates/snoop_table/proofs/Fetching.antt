@@ -13,7 +13,7 @@ use Rattle.ring_rule.specs.NoteLaws.{NeverFall-same}
 use Rattle.ring_rule.specs.Words.{index_of}
 use Rattle.snoop_core.specs.declared.port.Frame.{Frame}
 use Rattle.snoop_core.specs.declared.port.Got.TheVariants.{Whole, Overtaken, Stopped}
-use Rattle.snoop_core.specs.Port.{Gets, SnoopView, frame_of}
+use Rattle.snoop_core.specs.Port.{Gets, SnoopView, numbered_frame}
 use Rattle.snoop_core.specs.Word.{laps_of, sample_of}
 use Rattle.snoop_table.specs.declared.seats.reader.ReaderSeat.{ReaderSeat}
 use Rattle.snoop_table.specs.declared.view.View.{View}
@@ -28,8 +28,8 @@ pub record IsFetching (s t : ReaderSeat) (f c : ℕ) (out : List ℤ) : Type 0 w
   pub seen_gone : (view_of t).seen_gone ≡ (view_of s).seen_gone
   pub size : length out ≡ s.geometry.channels
   pub got : c < s.geometry.channels → (view_of t).got ≡ (view_of s).got
-  pub whole : c ≡ s.geometry.channels → (view_of t).got ≡ (view_of s).got ++ frame_of f out ∷ []
-  pub loading : 0 < c → (view_of t).loading ≡ frame_of f (take c out)
+  pub whole : c ≡ s.geometry.channels → (view_of t).got ≡ (view_of s).got ++ numbered_frame f out ∷ []
+  pub loading : 0 < c → (view_of t).loading ≡ numbered_frame f (take c out)
   pub in_time : 0 < c → ¬ (f + s.geometry.frames < s.seen)
 
 pub fetching-none : (s t : ReaderSeat) (f : ℕ) (out : List ℤ) → t.seat.table_id ≡ s.seat.table_id → t.geometry ≡ s.geometry → t.seen ≡ s.seen → view_of t ≡ view_of s
@@ -60,7 +60,7 @@ next_look s t f c out l in_range least seen =
     }
 
 -- the samples before a channel are those that were put out
-before-is : (v : View) (f c : ℕ) (out : List ℤ) → (0 < c → v.loading ≡ frame_of f (take c out)) → samples_before v c ≡ take c out
+before-is : (v : View) (f c : ℕ) (out : List ℤ) → (0 < c → v.loading ≡ numbered_frame f (take c out)) → samples_before v c ≡ take c out
 before-is v f zero out loading = refl
 before-is v f (suc c) out loading = ap (λ (x : Frame). x.samples) (loading (omega arith))
 
@@ -83,8 +83,8 @@ fetching-more s t u f c n out x l in_range looked own is =
     let samples : samples_before (with_note v i n) c ++ sample_of n ∷ [] ≡ take (c + 1) outs =
     ap (λ xs. xs ++ sample_of n ∷ []) (before-is (with_note v i n) f c out l.loading) ∙ (ap (λ y. take c out ++ y ∷ []) (sym is) ∙ sym (take-more out c x inside)) in
     let channels : v.geometry.channels ≡ s.geometry.channels = ap (λ (g : Geometry). g.channels) (t.known.same_geometry ∙ l.goes.geometry) in
-    let got : (view_of u).got ≡ cond (c + 1 == v.geometry.channels) (v.got ++ frame_of f (take (c + 1) outs) ∷ []) v.got =
-    ap (λ (y : View). y.got) view ∙ ap (λ xs. cond (c + 1 == v.geometry.channels) (v.got ++ frame_of f xs ∷ []) v.got) samples in
+    let got : (view_of u).got ≡ cond (c + 1 == v.geometry.channels) (v.got ++ numbered_frame f (take (c + 1) outs) ∷ []) v.got =
+    ap (λ (y : View). y.got) view ∙ ap (λ xs. cond (c + 1 == v.geometry.channels) (v.got ++ numbered_frame f xs ∷ []) v.got) samples in
     record {
       goes = IsLaterSeat-joined s t u l.goes looked.goes;
       seen = looked.seen ∙ l.seen;
@@ -93,13 +93,13 @@ fetching-more s t u f c n out x l in_range looked own is =
       size = size;
       got = λ few.
           let test : (c + 1 == v.geometry.channels) ≡ false = grind (arith, nat_tests, few, channels) in
-          got ∙ (ap (λ b. cond b (v.got ++ frame_of f (take (c + 1) outs) ∷ []) v.got) test ∙ l.got in_range);
+          got ∙ (ap (λ b. cond b (v.got ++ numbered_frame f (take (c + 1) outs) ∷ []) v.got) test ∙ l.got in_range);
       whole = λ all.
           let test : (c + 1 == v.geometry.channels) ≡ true = grind (arith, nat_tests, all, channels) in
           let full : take (c + 1) outs ≡ outs = ap (λ k. take k outs) (all ∙ sym size) ∙ take-length outs in
-          got ∙ (ap (λ b. cond b (v.got ++ frame_of f (take (c + 1) outs) ∷ []) v.got) test
-          ∙ (ap (λ xs. v.got ++ frame_of f xs ∷ []) full ∙ ap (λ fs. fs ++ frame_of f outs ∷ []) (l.got in_range)));
-      loading = λ some. ap (λ (y : View). y.loading) view ∙ ap (frame_of f) samples;
+          got ∙ (ap (λ b. cond b (v.got ++ numbered_frame f (take (c + 1) outs) ∷ []) v.got) test
+          ∙ (ap (λ xs. v.got ++ numbered_frame f xs ∷ []) full ∙ ap (λ fs. fs ++ numbered_frame f outs ∷ []) (l.got in_range)));
+      loading = λ some. ap (λ (y : View). y.loading) view ∙ ap (numbered_frame f) samples;
       in_time = λ some far.
           let view_seen : v.seen ≡ s.seen = t.known.same_seen ∙ l.seen in
           let geometry : v.geometry ≡ s.geometry = t.known.same_geometry ∙ l.goes.geometry in
@@ -128,7 +128,7 @@ view-same s t geometry seen =
 pub gets-whole : {T : Type 0} (stops : T → ℕ) (asked : T → T → List StepKind → Pass → Type 0) (s t : ReaderSeat) (g h : T) (f : ℕ) (out : List ℤ)
     → IsFetching s t f s.geometry.channels out
     → asked g h (replicate s.geometry.channels Look) Go → stops h ≡ stops g
-    → Gets seat_view noted_word SeatLoaded SeatGot SeatFinds stops asked s g (frame_of f out) Whole t h
+    → Gets seat_view noted_word SeatLoaded SeatGot SeatFinds stops asked s g (numbered_frame f out) Whole t h
 gets-whole stops asked s t g h f out l asks told = record {
   view_is = view-same s t l.goes.geometry l.seen;
   got_it = record { goes = l.goes; got = l.whole refl };
@@ -150,7 +150,7 @@ at_first c none = omega (arith, none)
 pub gets-overtaken : {T : Type 0} (stops : T → ℕ) (asked : T → T → List StepKind → Pass → Type 0) (s t u : ReaderSeat) (g h : T) (f c n : ℕ) (out : List ℤ)
     → IsFetching s t f c out → c < s.geometry.channels → HasLooked t u f c n → laps_of n ≢ lap s.geometry f + 1
     → asked g h (replicate (c + 1) Look) Go → stops h ≡ stops g
-    → Gets seat_view noted_word SeatLoaded SeatGot SeatFinds stops asked s g (frame_of f out) (Overtaken c n) u h
+    → Gets seat_view noted_word SeatLoaded SeatGot SeatFinds stops asked s g (numbered_frame f out) (Overtaken c n) u h
 gets-overtaken stops asked s t u g h f c n out l in_range looked other asks told =
     let lap_is : lap t.geometry f ≡ lap s.geometry f = ap (λ (k : Geometry). lap k f) l.goes.geometry in
     let view = looked.other (λ e. other (e ∙ ap (λ k. k + 1) lap_is)) in
@@ -181,7 +181,7 @@ gets-overtaken stops asked s t u g h f c n out l in_range looked other asks told
 pub gets-stopped : {T : Type 0} (stops : T → ℕ) (asked : T → T → List StepKind → Pass → Type 0) (s t : ReaderSeat) (g h : T) (f c : ℕ) (out : List ℤ)
     → IsFetching s t f c out → c < s.geometry.channels
     → asked g h (replicate (c + 1) Look) Stop → stops h ≡ stops g + 1
-    → Gets seat_view noted_word SeatLoaded SeatGot SeatFinds stops asked s g (frame_of f out) Stopped t h
+    → Gets seat_view noted_word SeatLoaded SeatGot SeatFinds stops asked s g (numbered_frame f out) Stopped t h
 gets-stopped stops asked s t g h f c out l in_range asks told = record {
   view_is = view-same s t l.goes.geometry l.seen;
   got_it = record { goes = l.goes; got = l.got in_range ∙ sym (append-nil (view_of s).got) };

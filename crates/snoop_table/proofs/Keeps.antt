@@ -14,13 +14,13 @@ use Rattle.ring_rule.specs.Positions.{IsPosition}
 use Rattle.ring_rule.specs.WordLaws.{set_read}
 use Rattle.ring_rule.specs.Words.{NotPast, index_of}
 use Rattle.snoop_core.specs.declared.port.Frame.{Frame}
-use Rattle.snoop_core.specs.Port.{frame_of}
-use Rattle.snoop_core.specs.Stored.{IsCaptured, next_at}
+use Rattle.snoop_core.specs.Port.{numbered_frame}
+use Rattle.snoop_core.specs.Stored.{IsCaptured, next_after_stored}
 use Rattle.snoop_core.specs.StoredLaws.{BySlots, HaveLaps-holding, IsByLaps, IsCaptured-more, by_laps, first_free-more, own_sample, sample_at-more}
 use Rattle.snoop_core.specs.Word.{laps_of, sample_of}
 use Rattle.snoop_table.specs.declared.view.Track.{Track}
 use Rattle.snoop_table.specs.declared.view.View.{View}
-use Rattle.snoop_table.specs.Captured.{AreViews, Holds, IsPart, IsRing, IsSample, IsView, next_to_store, position_of, word_in}
+use Rattle.snoop_table.specs.Captured.{AreViews, Holds, LoadsStored, IsRing, IsSample, IsView, next_to_store, position_of, word_in}
 use Rattle.snoop_table.specs.Steps.{Finds, IsNext, position_load, word_load, samples_before, with_note, with_position, with_sample}
 use Rattle.std.proofs.lemmas.Bool.{cases_eq}
 
@@ -53,7 +53,7 @@ view_later g before after t u v l x = record {
   gone = λ seen. l.gone (x.gone seen);
   noted = λ i n positive there. l.words i n positive (x.noted i n positive there);
   got = λ i f there. subst (λ xs. IsCaptured g xs f) l.stored (IsCaptured-more g t.stored l.more f (x.got i f there));
-  loading = subst (λ xs. IsPart g xs v.loading) l.stored (λ c inside. IsSample-more g t.stored l.more v.loading.number c _ (x.loading c inside));
+  loading = subst (λ xs. LoadsStored g xs v.loading) l.stored (λ c inside. IsSample-more g t.stored l.more v.loading.number c _ (x.loading c inside));
 }
 
 -- one view changes, and its seat is the writer's where the track does
@@ -165,14 +165,14 @@ before-length v zero after = refl
 before-length v (suc c) after = after (omega arith)
 
 before-sample : (g : Geometry) (xs : List ℤ) (v : View) (f c d : ℕ) → (0 < c → v.loading.number ≡ f) → (0 < c → length v.loading.samples ≡ c) → d < c
-    → IsPart g xs v.loading → IsSample g xs f d (get_or (samples_before v c) d (pos 0))
+    → LoadsStored g xs v.loading → IsSample g xs f d (get_or (samples_before v c) d (pos 0))
 before-sample g xs v f zero d of_frame after before part = absurd (omega arith)
 before-sample g xs v f (suc c) d of_frame after before part =
     subst (λ k. IsSample g xs k d (get_or v.loading.samples d (pos 0))) (of_frame (omega arith)) (part d (omega (arith, before, after (omega arith))))
 
 -- one more sample
 part-more : (g : Geometry) (xs : List ℤ) (v : View) (f c : ℕ) (x : ℤ) → (0 < c → v.loading.number ≡ f) → (0 < c → length v.loading.samples ≡ c)
-    → IsPart g xs v.loading → IsSample g xs f c x → IsPart g xs (frame_of f (samples_before v c ++ x ∷ []))
+    → LoadsStored g xs v.loading → IsSample g xs f c x → LoadsStored g xs (numbered_frame f (samples_before v c ++ x ∷ []))
 part-more g xs v f c x of_frame after part one d inside =
     let early : List ℤ = samples_before v c in
     let number : length early ≡ c = before-length v c after in
@@ -188,8 +188,8 @@ part-more g xs v f c x of_frame after part one d inside =
     ]
 
 -- a frame whose channels were all loaded is the stored one
-whole : (g : Geometry) (xs : List ℤ) (f : ℕ) (ys : List ℤ) → first_frame g ≤ f → f < (next_at g xs).frame → length ys ≡ g.channels
-    → IsPart g xs (frame_of f ys) → IsCaptured g xs (frame_of f ys)
+whole : (g : Geometry) (xs : List ℤ) (f : ℕ) (ys : List ℤ) → first_frame g ≤ f → f < (next_after_stored g xs).frame → length ys ≡ g.channels
+    → LoadsStored g xs (numbered_frame f ys) → IsCaptured g xs (numbered_frame f ys)
 whole g xs f ys least stored size part = record {
   least = least;
   whole = stored;
@@ -224,13 +224,13 @@ sampled_view : (g : Geometry) (words : List ℕ) (t : Track) (v : View) (f c : �
     → IsSample g t.stored f c x → IsView g words t (with_sample v f c x)
 sampled_view g words t v f c x of_ring r own next one =
     let ys : List ℤ = samples_before v c ++ x ∷ [] in
-    let part : IsPart g t.stored (frame_of f ys) = part-more g t.stored v f c x next.of_frame next.after own.loading one in
+    let part : LoadsStored g t.stored (numbered_frame f ys) = part-more g t.stored v f c x next.of_frame next.after own.loading one in
     record {
       seen_high = own.seen_high;
       positions = own.positions;
       gone = own.gone;
       noted = own.noted;
-      got = got_by g t.stored v.got (frame_of f ys) (c + 1 == v.geometry.channels) own.got
+      got = got_by g t.stored v.got (numbered_frame f ys) (c + 1 == v.geometry.channels) own.got
           (λ last.
           let all : c + 1 ≡ v.geometry.channels = grind (arith, nat_tests, last) in
           whole g t.stored f ys one.least (omega (arith, next.seen, own.seen_high, r.not_ahead))

@@ -14,12 +14,12 @@ use Rattle.snd_base.specs.declared.places.Cursor.{Cursor}
 use Rattle.snd_base.specs.PlaceLaws.{div-lt_same, suc-le-end_frame}
 use Rattle.snd_base.specs.Places.{cursor_after, end_frame, first_frame, first_free, lap}
 use Rattle.lap_word.specs.Position.{word_of}
-use Rattle.ring_rule.specs.PositionLaws.{IsPosition-last, IsPosition-more, Rising-more, last_of-more}
+use Rattle.ring_rule.specs.PositionLaws.{IsPosition-last, IsPosition-more, Rising-more, last_number-more}
 use Rattle.ring_rule.specs.Positions.{IsPosition}
 use Rattle.ring_rule.specs.WordLaws.{NotPast-position, NotPast-set, index_of-lt, index_of-same}
 use Rattle.ring_rule.specs.Words.{index_of, rank}
 use Rattle.snoop_core.specs.Stored.{HoldLast, IsLast, IsUnused, sample_at}
-use Rattle.snoop_core.specs.StoredLaws.{HoldLast-written, IsWritten, next_at-channel, next_at-grows, next_at-more}
+use Rattle.snoop_core.specs.StoredLaws.{HoldLast-written, IsWritten, next_after_stored-channel, next_after_stored-grows, next_after_stored-more}
 use Rattle.snoop_core.specs.Word.{HoldsSample, HoldsSample-fields, laps_of, sample_of}
 use Rattle.snoop_table.specs.declared.view.Track.{Track}
 use Rattle.snoop_table.specs.declared.view.View.{View}
@@ -55,7 +55,7 @@ old_laps : (g : Geometry) (words : List ℕ) (t : Track) → IsRing g words t
 old_laps g words t r =
     let next : Cursor = next_to_store g t in
     let c : ℕ = next.channel in
-    let in_range : c < g.channels = next_at-channel g t.stored in
+    let in_range : c < g.channels = next_after_stored-channel g t.stored in
     let start : first_free next c ≡ next.frame = grind (arith, nat_tests) in
     let some : 0 < g.frames = omega (arith, g.frames_least) in
     elim (cases_lt next.frame (first_frame g + g.frames)) [
@@ -83,15 +83,15 @@ ring_stored : (g : Geometry) (words : List ℕ) (t : Track) (word : ℕ) (x : �
 ring_stored g words t word x r fits holds =
     let next : Cursor = next_to_store g t in
     let at : ℕ = index_of g next.frame next.channel in
-    let in_range = next_at-channel g t.stored in
+    let in_range = next_after_stored-channel g t.stored in
     let inside : at < length words = omega (arith, index_of-lt g next.frame next.channel in_range, r.room) in
-    let moved : next_to_store g (track_stored t x) ≡ cursor_after g next.frame next.channel = next_at-more g t.stored x in
+    let moved : next_to_store g (track_stored t x) ≡ cursor_after g next.frame next.channel = next_after_stored-more g t.stored x in
     let end : next.frame + 1 ≤ end_frame g = suc-le-end_frame g next.frame fits in
     record {
       room = length-set words at word ∙ r.room;
       position = get_or-set_other words at 0 word 0 (λ same. omega arith) ∙ r.position;
       rising = r.rising;
-      not_ahead = omega (arith, r.not_ahead, next_at-grows g t.stored (x ∷ []));
+      not_ahead = omega (arith, r.not_ahead, next_after_stored-grows g t.stored (x ∷ []));
       within = subst (λ (y : Cursor). y.frame ≤ end_frame g) (sym moved) (grind (arith, nat_tests, r.within, end));
       holds = HoldLast-written g word x (word_in words g) (word_in (set words at word) g) t.stored (written g words next word in_range inside) holds r.holds;
     }
@@ -113,7 +113,7 @@ stores_at s slots id m at t word tracks writer x here fits holds =
     let u : Track = track_stored t y in
     let w : View = with_stored v t y in
     let own : IsView g s.words t v = x.views_ok.each id v here in
-    let in_range = next_at-channel g t.stored in
+    let in_range = next_after_stored-channel g t.stored in
     let inside : i < length s.words = omega (arith, index_of-lt g next.frame next.channel in_range, x.ring.room) in
     let new_laps : laps_of word ≡ lap g next.frame + 1 = (HoldsSample-fields _ _ _ holds).0 in
     let up : rank (get_or s.words i 0) < rank word = rank-up (get_or s.words i 0) word (omega (arith, new_laps, old_laps g s.words t x.ring)) in
@@ -178,7 +178,7 @@ ring_published : (g : Geometry) (words : List ℕ) (t : Track) → IsRing g word
     → IsRing g (set words 0 (word_of (next_to_store g t).frame t.gone)) (track_published t (next_to_store g t).frame)
 ring_published g words t r =
     let p : ℕ = (next_to_store g t).frame in
-    let last : position_of g (track_published t p) ≡ p = last_of-more (first_frame g) t.published p in
+    let last : position_of g (track_published t p) ≡ p = last_number-more (first_frame g) t.published p in
     record {
       room = length-set words 0 (word_of p t.gone) ∙ r.room;
       position = get_or-set_same words 0 (word_of p t.gone) 0 (omega (arith, r.room)) ∙ ap (λ q. word_of q t.gone) (sym last);
@@ -217,7 +217,7 @@ publishes slots id m next gone is next_is gone_is s x homes here small =
     let u : Track = track_published t p in
     let w : View = with_published v t p in
     let own : IsView g s.words t v = x.3.each id v here in
-    let last : position_of g u ≡ p = last_of-more (first_frame g) t.published p in
+    let last : position_of g u ≡ p = last_number-more (first_frame g) t.published p in
     let later : Later g s.words words t u = record {
       position = omega (arith, last, x.2.not_ahead);
       published = λ q was. IsPosition-more g t.published q p was;

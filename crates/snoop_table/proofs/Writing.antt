@@ -11,25 +11,25 @@ use Rattle.snd_base.specs.declared.places.Cursor.{Cursor}
 use Rattle.snd_base.specs.PlaceLaws.{div-suc_high, div-suc_low, mod-suc_high, mod-suc_low, suc-le-end_frame}
 use Rattle.snd_base.specs.Places.{cursor_after, end_frame, first_frame, lap, slot}
 use Rattle.lap_word.specs.Position.{word_of}
-use Rattle.ring_rule.specs.PositionLaws.{has_all-published, last_of-more}
+use Rattle.ring_rule.specs.PositionLaws.{has_all-published, last_number-more}
 use Rattle.ring_rule.specs.Positions.{has_all}
 use Rattle.ring_rule.specs.Words.{index_of}
 use Rattle.snoop_core.specs.Ring.{after_samples}
-use Rattle.snoop_core.specs.StoredLaws.{next_at-more}
+use Rattle.snoop_core.specs.StoredLaws.{next_after_stored-more}
 use Rattle.snoop_core.specs.Word.{HoldsSample, HoldsSample-fields, sample_of}
 use Rattle.snoop_table.specs.declared.seats.desk.Desk.{Desk}
 use Rattle.snoop_table.specs.declared.seats.place.WritePlace.{WritePlace}
 use Rattle.snoop_table.specs.declared.view.Track.{Track}
 use Rattle.snoop_table.specs.declared.view.View.{View}
 use Rattle.snoop_table.specs.Captured.{Holds, next_to_store, position_of, the_track}
-use Rattle.snoop_table.specs.Known.{IsPlace, IsWriter}
+use Rattle.snoop_table.specs.Known.{IsWritePlace, IsWriter}
 use Rattle.snoop_table.specs.Steps.{position_store, sample_store, unplug_store, with_gone, with_published, with_stored}
 use Rattle.snoop_table.specs.Writers.{HasPublished, HasStored, HasStoredPart, HasStoredSample, HasUnplugged, desk_track, desk_view, track_more}
 use Rattle.snoop_table.proofs.Stores.{publishes, stores, unplugs}
 
 -- the place after the last channel of a frame: in the next slot, or in the first one of the next lap
-pub place_in_lap : (g : Geometry) (p : WritePlace) → IsPlace g p → p.next.channel + 1 ≡ g.channels → p.index < g.frames * g.channels
-    → IsPlace g (record { next = record { frame = p.next.frame + 1; channel = 0 }; index = p.index + 1; laps = p.laps })
+pub place_in_lap : (g : Geometry) (p : WritePlace) → IsWritePlace g p → p.next.channel + 1 ≡ g.channels → p.index < g.frames * g.channels
+    → IsWritePlace g (record { next = record { frame = p.next.frame + 1; channel = 0 }; index = p.index + 1; laps = p.laps })
 place_in_lap g p is last inside =
     let f : ℕ = p.next.frame in
     let row : p.index ≡ g.channels * (slot g f + 1) = omega (arith, is.index_is, last) in
@@ -40,8 +40,8 @@ place_in_lap g p is last inside =
       laps_is = is.laps_is ∙ ap (λ l. l + 1) (sym (div-suc_low f g.frames below));
     }
 
-pub place_behind_lap : (g : Geometry) (p : WritePlace) → IsPlace g p → p.next.channel + 1 ≡ g.channels → g.frames * g.channels ≤ p.index
-    → IsPlace g (record { next = record { frame = p.next.frame + 1; channel = 0 }; index = 1; laps = p.laps + 1 })
+pub place_behind_lap : (g : Geometry) (p : WritePlace) → IsWritePlace g p → p.next.channel + 1 ≡ g.channels → g.frames * g.channels ≤ p.index
+    → IsWritePlace g (record { next = record { frame = p.next.frame + 1; channel = 0 }; index = 1; laps = p.laps + 1 })
 place_behind_lap g p is last outside =
     let f : ℕ = p.next.frame in
     let some : 0 < g.frames = omega (arith, g.frames_least) in
@@ -121,7 +121,7 @@ known_stored g next position gone slots i word n m r is fits told =
       next_channel = grind (arith, nat_tests, is.next_channel, g.channels_least);
       next_within = record { least = grind (arith, nat_tests, is.next_within.least); most = grind (arith, nat_tests, is.next_within.most, end) };
       position_within = is.position_within;
-      next_is = ap (λ (y : Cursor). cursor_after g y.frame y.channel) next_t ∙ sym (next_at-more g t.stored x);
+      next_is = ap (λ (y : Cursor). cursor_after g y.frame y.channel) next_t ∙ sym (next_after_stored-more g t.stored x);
       position_is = is.position_is ∙ ap (position_of g) same;
       gone_is = is.gone_is ∙ ap (λ (y : Track). y.gone) same;
       saw_all = ap (λ (y : Track). has_all m.0.positions y.published) (sym same) ∙ is.saw_all;
@@ -148,7 +148,7 @@ known_published g next position gone slots word n m r is told =
       next_within = is.next_within;
       position_within = is.next_within;
       next_is = next_t;
-      position_is = frame ∙ sym (last_of-more (first_frame g) t.published p);
+      position_is = frame ∙ sym (last_number-more (first_frame g) t.published p);
       gone_is = is.gone_is ∙ ap (λ (y : Track). y.gone) same;
       saw_all = has_all-published m.0.positions t.published p (ap (λ (y : Track). has_all m.0.positions y.published) (sym same) ∙ is.saw_all);
     } in

@@ -12,14 +12,14 @@ use Rattle.lap_word.specs.Position.{word_of}
 use Rattle.ring_rule.specs.Positions.{IsPosition, Rising, last_position}
 use Rattle.ring_rule.specs.Words.{NotPast, index_of, words_of}
 use Rattle.snoop_core.specs.declared.port.Frame.{Frame}
-use Rattle.snoop_core.specs.Port.{frame_of}
-use Rattle.snoop_core.specs.Stored.{HoldLast, IsCaptured, next_at, sample_at}
+use Rattle.snoop_core.specs.Port.{numbered_frame}
+use Rattle.snoop_core.specs.Stored.{HoldLast, IsCaptured, next_after_stored, sample_at}
 use Rattle.snoop_table.specs.declared.view.Track.{Track}
 use Rattle.snoop_table.specs.declared.view.View.{View}
 
 -- the frame and channel that the writer stores next
 abbrev pub next_to_store : Geometry → Track → Cursor
-next_to_store g t = next_at g t.stored
+next_to_store g t = next_after_stored g t.stored
 
 -- the position that was published last, or the first frame
 abbrev pub position_of : Geometry → Track → ℕ
@@ -44,12 +44,12 @@ pub record IsRing (g : Geometry) (words : List ℕ) (t : Track) : Type 0 where
 pub record IsSample (g : Geometry) (xs : List ℤ) (f c : ℕ) (x : ℤ) : Type 0 where
   pub channel : c < g.channels
   pub least : first_frame g ≤ f
-  pub stored : f < first_free (next_at g xs) c
+  pub stored : f < first_free (next_after_stored g xs) c
   pub sample : x ≡ sample_at g xs f c
 
 -- each sample of a frame that is being loaded is the stored one
-abbrev pub IsPart : Geometry → List ℤ → Frame → Type 0
-IsPart g xs frame = (c : ℕ) → c < length frame.samples → IsSample g xs frame.number c (slice_index_or frame.samples c (pos 0))
+abbrev pub LoadsStored : Geometry → List ℤ → Frame → Type 0
+LoadsStored g xs frame = (c : ℕ) → c < length frame.samples → IsSample g xs frame.number c (slice_index_or frame.samples c (pos 0))
 
 -- what a seat knows is so: it saw positions that were published, and the card gone only where it is; each word that it noted is
 -- not past the word that is there now; each frame that it got, and each sample of the one that it is loading, is the stored
@@ -60,7 +60,7 @@ pub record IsView (g : Geometry) (words : List ℕ) (t : Track) (v : View) : Typ
   pub gone : v.seen_gone ≡ true → t.gone ≡ true
   pub noted : (i n : ℕ) → 0 < i → slice_index_or v.noted i None ≡ Some n → NotPast n (slice_index words i)
   pub got : (i : ℕ) (f : Frame) → get_elem? v.got i ≡ some f → IsCaptured g t.stored f
-  pub loading : IsPart g t.stored v.loading
+  pub loading : LoadsStored g t.stored v.loading
 
 -- all views are so, and one of them alone is the writer's
 pub record AreViews (g : Geometry) (words : List ℕ) (views : List View) (at : ℕ) (t : Track) : Type 0 where
@@ -87,7 +87,7 @@ the_track (Some t) = t
 
 -- no frame is being loaded
 abbrev pub no_frame : Frame
-no_frame = frame_of 0 []
+no_frame = numbered_frame 0 []
 
 -- the view of the first seat
 abbrev pub first_view : Geometry → View

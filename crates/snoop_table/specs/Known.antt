@@ -38,6 +38,6 @@ pub record IsWriter (v : View) (g : Geometry) (next : Cursor) (position : ℕ) (
   pub saw_all : has_all v.positions (the_track v.track).published ≡ true
 
 -- a place has the index of its word, and the laps that the word is to have
-pub record IsPlace (g : Geometry) (p : WritePlace) : Type 0 where
+pub record IsWritePlace (g : Geometry) (p : WritePlace) : Type 0 where
   pub index_is : p.index ≡ index_of g p.next.frame p.next.channel
   pub laps_is : p.laps ≡ lap g p.next.frame + 1

@@ -9,7 +9,7 @@ use Rattle.lap_word.specs.Position.{word_of}
 use Rattle.ring_rule.specs.Positions.{IsPosition}
 use Rattle.ring_rule.specs.Words.{NotPast, index_of}
 use Rattle.snoop_core.specs.declared.port.Frame.{Frame}
-use Rattle.snoop_core.specs.Port.{frame_of}
+use Rattle.snoop_core.specs.Port.{numbered_frame}
 use Rattle.snoop_core.specs.Stored.{IsCaptured, IsLast, IsUnused}
 use Rattle.snoop_core.specs.Word.{laps_of, sample_of}
 use Rattle.snoop_table.specs.declared.view.Track.{Track}
@@ -28,8 +28,8 @@ samples_before v (suc c) = v.loading.samples
 -- it loaded a frame's sample of a channel, and with the last channel's it got the frame
 abbrev pub with_sample : View → ℕ → ℕ → ℤ → View
 with_sample v f c x = record v {
-  loading = frame_of f (samples_before v c ++ x ∷ []);
-  got = if c + 1 == v.geometry.channels then v.got ++ frame_of f (samples_before v c ++ x ∷ []) ∷ [] else v.got;
+  loading = numbered_frame f (samples_before v c ++ x ∷ []);
+  got = if c + 1 == v.geometry.channels then v.got ++ numbered_frame f (samples_before v c ++ x ∷ []) ∷ [] else v.got;
 }
 
 -- it saw a position

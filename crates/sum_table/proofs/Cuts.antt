@@ -19,7 +19,7 @@ use Rattle.sum_table.specs.declared.view.Track.{Track}
 use Rattle.sum_table.specs.declared.view.View.{View}
 use Rattle.sum_table.specs.Cuts.{start_marks, both_of, either_track, part_of, spent_view, with_places}
 use Rattle.sum_table.specs.Exact.{Exact, IsHistory, IsView}
-use Rattle.sum_table.specs.Laid.{SameSums, all_laid, by_member, count, own_entries, places_of}
+use Rattle.sum_table.specs.Laid.{SameSums, all_laid, by_member, count, own_entries, total_places}
 use Rattle.sum_table.specs.Steps.{Knows, quiet_load, with_history}
 use Rattle.ring_rule.specs.Words.{NotPast, index_of}
 use Rattle.sum_table.proofs.Kept.{kept_join, kept_none, kept_places}
@@ -27,7 +27,7 @@ use Rattle.sum_table.proofs.Keeps.{Holds, idle, loaded, none_made}
 use Rattle.ring_rule.specs.Lists.{at_append, at_more}
 use Rattle.sum_table.proofs.Rings.{IsRing-same}
 use Rattle.sum_table.proofs.Rows.{BeginsWith-same}
-use Rattle.sum_table.proofs.Sums.{SameSums-joined, SameSums-more, SameSums-set, count-append, count_few, count_set, places_of-more, places_set, places_within, total_set}
+use Rattle.sum_table.proofs.Sums.{SameSums-joined, SameSums-more, SameSums-set, count-append, count_few, count_set, total_places-more, places_set, places_within, total_set}
 use Rattle.ring_rule.specs.NoteLaws.{later_notes-one, no_note}
 
 abbrev is_some : Option Track → Bool
@@ -83,7 +83,7 @@ splits k id v left right of_ring all few s x here =
       h,
       IsRing-same g s.words (all_laid s.views) (all_laid views) t sums x.3,
       record {
-        places = omega (arith, places_of-more mid p, places_set s.views id v l here, all, x.4.places);
+        places = omega (arith, total_places-more mid p, places_set s.views id v l here, all, x.4.places);
         each = λ i u there. elim (parts i u there) [
           | inl this ↦ subst (IsView k s.words t h) this.1 left_ok
           | inr rest ↦ elim rest [
@@ -192,7 +192,7 @@ joins k id v other w s x here apart there =
       | inl ended ↦ subst (IsView k s.words t h) ended.1 (spent_ok k s.words t h)
       | inr rest ↦ elim rest [ inl this ↦ subst (IsView k s.words t h) this.1 b_ok | inr else_one ↦ x.4.each i u else_one.2 ]
     ] in
-    let places : places_of views ≡ k.places = omega (arith, places_set s.views id v b here, places_set mid other w spent_view there, x.4.places) in
+    let places : total_places views ≡ k.places = omega (arith, places_set s.views id v b here, places_set mid other w spent_view there, x.4.places) in
     let history : IsHistory g views t h = record {
       legal = λ members up. x.5.legal members (omega (arith, number));
       taken = x.5.taken;
@@ -264,7 +264,7 @@ total_none es f c silent = ap sum_of_samples (empty (at es f c) silent) where
   empty [] is = refl
   empty (x ∷ xs) is = absurd (omega arith)
 
-all_none : (views : List View) (f c : ℕ) → ((i : ℕ) (u : View) → get_elem? views i ≡ some u → count u.laid f c ≤ 3 * u.places) → places_of views ≡ 0
+all_none : (views : List View) (f c : ℕ) → ((i : ℕ) (u : View) → get_elem? views i ≡ some u → count u.laid f c ≤ 3 * u.places) → total_places views ≡ 0
     → (count (all_laid views) f c ≡ 0) × (total (all_laid views) f c ≡ pos 0)
 all_none views f c few no_places =
     let count_is : count (all_laid views) f c ≡ 0 = omega (arith, count_few views f c few) in
@@ -272,7 +272,7 @@ all_none views f c few no_places =
 
 -- a view with all places placed everything
 alone : (views : List View) (id : ℕ) (v : View) (f c : ℕ) → get_elem? views id ≡ some v
-    → ((i : ℕ) (u : View) → get_elem? views i ≡ some u → count u.laid f c ≤ 3 * u.places) → places_of views ≡ v.places
+    → ((i : ℕ) (u : View) → get_elem? views i ≡ some u → count u.laid f c ≤ 3 * u.places) → total_places views ≡ v.places
     → (count (all_laid views) f c ≡ count v.laid f c) × (total (all_laid views) f c ≡ total v.laid f c)
 alone [] id v f c here few all = absurd (some-ne-none v (sym here))
 alone (x ∷ xs) zero v f c here few all =
@@ -282,7 +282,7 @@ alone (x ∷ xs) zero v f c here few all =
       omega (arith, ints, total-append x.laid (all_laid xs) f c, rest.1, ap (λ (y : View). total y.laid f c) same),
     )
 alone (x ∷ xs) (suc id) v f c here few all =
-    let inside : v.places ≤ places_of xs = places_within xs id v here in
+    let inside : v.places ≤ total_places xs = places_within xs id v here in
     let rest = alone xs id v f c here (λ i u there. few (suc i) u there) (omega (arith, all, inside)) in
     let none : count x.laid f c ≡ 0 = omega (arith, few 0 x refl, all, inside) in (
       omega (arith, count-append x.laid (all_laid xs) f c, rest.0, none),
@@ -290,7 +290,7 @@ alone (x ∷ xs) (suc id) v f c here few all =
     )
 
 alone_sums : (views : List View) (id : ℕ) (v : View) → get_elem? views id ≡ some v
-    → ((f c : ℕ) (i : ℕ) (u : View) → get_elem? views i ≡ some u → count u.laid f c ≤ 3 * u.places) → places_of views ≡ v.places
+    → ((f c : ℕ) (i : ℕ) (u : View) → get_elem? views i ≡ some u → count u.laid f c ≤ 3 * u.places) → total_places views ≡ v.places
     → SameSums (all_laid views) v.laid
 alone_sums views id v here few all = record {
   counts = λ f c. (alone views id v f c here (few f c) all).0;

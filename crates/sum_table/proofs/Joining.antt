@@ -22,7 +22,7 @@ use Rattle.sum_table.specs.declared.view.Key.{Key}
 use Rattle.sum_table.specs.declared.view.Track.{Track}
 use Rattle.sum_table.specs.declared.view.View.{View}
 use Rattle.sum_table.specs.Cuts.{joined_marks, both_of, either_track, later_of, part_of, without_places}
-use Rattle.sum_table.specs.Exact.{start_marks, BeginsWith, Exact, IsPublished, is_tracked, next_at, position_at, the_track}
+use Rattle.sum_table.specs.Exact.{start_marks, BeginsWith, Exact, IsPublishedPosition, is_tracked, next_at, position_at, the_track}
 use Rattle.sum_table.specs.Joins.{HasClosed, HasHeard, HasJoined, HasMet, HasPlayerNote, note_view}
 use Rattle.sum_table.specs.Known.{IsKnown, IsNoted, IsPlayer, greater, last_frame}
 use Rattle.ring_rule.specs.Positions.{has_all}
@@ -243,7 +243,7 @@ has_heard p q n slots found x ring key next position gone both told =
           omega (arith, most, at, n.seat.known.same_seen);
       positions = λ i y there.
           let j = at_right v.positions w.positions i y there in
-          subst (λ (k : Key). IsPublished k.geometry track y) own (knows.positions j.0 y j.1);
+          subst (λ (k : Key). IsPublishedPosition k.geometry track y) own (knows.positions j.0 y j.1);
       noted = λ f c y now is.
           let now_view : IsNow v.key.geometry (next_at v.key.geometry track) f c = subst (λ (k : Key). IsNow k.geometry (next_at k.geometry track) f c) (sym own) now in
           let is_view : get_or w.noted (index_of v.key.geometry f c) None ≡ Some y = subst (λ (k : Key). get_or w.noted (index_of k.geometry f c) None ≡ Some y) (sym own) is in

@@ -31,7 +31,7 @@ use Rattle.sum_table.specs.Exact.{AreViews, BeginsWith, Exact, IsHistory, IsKept
 use Rattle.sum_table.specs.Laid.{all_laid, count}
 use Rattle.sum_table.specs.Steps.{Finds, HoldsLast, IsLateAt, IsLateHeld, IsStep, IsSumOf, withdrawable_after, MakesLook, word_exchange, in_row, position_load, word_load, with_entry, with_note, with_position}
 use Rattle.ring_rule.specs.Words.{index_of, rank}
-use Rattle.sum_table.proofs.Lists.{IsPublished-last}
+use Rattle.sum_table.proofs.Lists.{IsPublishedPosition-last}
 use Rattle.ring_rule.specs.NoteLaws.{noted_set}
 use Rattle.ring_rule.specs.WordLaws.{set_read}
 use Rattle.sum_table.proofs.Places.{now_of}
@@ -98,7 +98,7 @@ locates slots id m lasts s e homes here fits =
       seen_high = omega arith;
       positions = λ i q there. elim (at_snoc v.positions p q i there) [
         | inl old ↦ own.positions i q old
-        | inr new ↦ subst (Rattle.sum_table.specs.Exact.IsPublished k.geometry t) new (IsPublished-last k.geometry t)
+        | inr new ↦ subst (Rattle.sum_table.specs.Exact.IsPublishedPosition k.geometry t) new (IsPublishedPosition-last k.geometry t)
       ];
       gone = λ is. is;
       noted = own.noted;

@@ -15,7 +15,7 @@ use Rattle.mix_core.specs.declared.port.Entry.{Entry}
 use Rattle.mix_core.specs.declared.port.Kind.{Kind}
 use Rattle.mix_core.specs.declared.port.Kind.TheVariants.{Added, Withdrawn}
 use Rattle.mix_core.specs.Laid.{EndsIn, is_at, last_entry, marks_after, marks_by, stand_after, standing, without_last}
-use Rattle.mix_core.specs.MarkLaws.{Each, Each-append, Each-of, Each-right, IsBehind, IsHolding, IsHolding-add, IsHolding-last, IsHolding-withdraw, IsMarked, IsMarked-add, IsMarked-withdraw, behind_up, count-append, count-here, count-elsewhere, free_after, later_up_to, place_cases, up_to_later, without_last-more}
+use Rattle.mix_core.specs.MarkLaws.{Each, Each-append, Each-of, Each-right, IsBeforeCursor, IsHolding, IsHolding-add, IsHolding-last, IsHolding-withdraw, IsMarked, IsMarked-add, IsMarked-withdraw, behind_up, count-append, count-here, count-elsewhere, free_after, later_up_to, place_cases, up_to_later, without_last-more}
 use Rattle.mix_core.specs.Marks.{added_at, is_before, later_of, start_marks, withdrawn_at}
 use Rattle.mix_core.specs.OwnLaws.{marks_by-more, standing-more}
 use Rattle.sum_table.specs.declared.view.View.{View}
@@ -133,7 +133,7 @@ pub held_facts : (g : Geometry) (places : ℕ) (es mine free : List Entry) (mark
     → IsKept g places es mine free marks seen ended → IsHeldAt g es marks f c s → HeldFacts g marks seen f c
 held_facts g places es mine free marks seen ended f c s x y =
     let l : IsLaid g seen y.last = held_laid g es marks seen f c s x.laid y in
-    let b : Each (IsBehind g marks.cursor) (y.last ∷ []) = Each-right (IsBehind g marks.cursor) y.early (y.last ∷ []) (subst (Each (IsBehind g marks.cursor)) y.ends x.holding.before) in
+    let b : Each (IsBeforeCursor g marks.cursor) (y.last ∷ []) = Each-right (IsBeforeCursor g marks.cursor) y.early (y.last ∷ []) (subst (Each (IsBeforeCursor g marks.cursor)) y.ends x.holding.before) in
     record {
       channel = subst (λ d. d < g.channels) y.channel l.channel;
       low = subst (λ k. first_frame g ≤ k) y.frame l.low;
@@ -229,7 +229,7 @@ count_more_most es e f c = elim (place_cases e.frame e.channel f c) [
 ]
 
 -- what is before a cursor is not at a place from it on
-count_before : (g : Geometry) (at : Cursor) (es : List Entry) (f c : ℕ) → Each (IsBehind g at) es → IsFrom at f c → count es f c ≡ 0
+count_before : (g : Geometry) (at : Cursor) (es : List Entry) (f c : ℕ) → Each (IsBeforeCursor g at) es → IsFrom at f c → count es f c ≡ 0
 count_before g at [] f c all from = refl
 count_before g at (x ∷ xs) f c all from =
     let apart : ¬ ((x.frame ≡ f) × (x.channel ≡ c)) = λ same. omega (arith, subst (λ d. x.frame < first_free at d) same.1 all.0.1, same.0, from) in
@@ -359,10 +359,10 @@ kept_join g p (suc q) xs ys mine yours free freed_too a b seen saw ended gone x 
     let left : (c : ℕ) → first_free a.high c ≤ first_free top c = λ c. up_to_later a.high b.high c in
     let right : (c : ℕ) → first_free b.high c ≤ first_free top c = λ c. later_up_to a.high b.high c in
     let held : standing (xs ++ ys) ≡ standing xs ++ standing ys = standing-joined xs ys y.backed in
-    let all : Each (IsBehind g top) (standing xs ++ standing ys) =
-    Each-append (IsBehind g top) (standing xs) (standing ys)
-    (Each-of (IsBehind g a.cursor) (IsBehind g top) (standing xs) (behind_up g a.cursor top (λ d d_in. omega (arith, x.marked.cursor_high d, left d))) x.holding.before)
-    (Each-of (IsBehind g b.cursor) (IsBehind g top) (standing ys) (behind_up g b.cursor top (λ d d_in. omega (arith, y.marked.cursor_high d, right d))) y.holding.before) in
+    let all : Each (IsBeforeCursor g top) (standing xs ++ standing ys) =
+    Each-append (IsBeforeCursor g top) (standing xs) (standing ys)
+    (Each-of (IsBeforeCursor g a.cursor) (IsBeforeCursor g top) (standing xs) (behind_up g a.cursor top (λ d d_in. omega (arith, x.marked.cursor_high d, left d))) x.holding.before)
+    (Each-of (IsBeforeCursor g b.cursor) (IsBeforeCursor g top) (standing ys) (behind_up g b.cursor top (λ d d_in. omega (arith, y.marked.cursor_high d, right d))) y.holding.before) in
     record {
       laid = λ i e there. elim (at_append xs ys e i there) [
         | inl first ↦ IsLaid-later g seen (max seen saw) (omega arith) e (x.laid i e first)

@@ -13,7 +13,7 @@ use Rattle.mix_core.specs.declared.event.Taken.{Taken}
 use Rattle.mix_core.specs.Laid.{at, is_at, total, value_of}
 use Rattle.mix_core.specs.History.{is_taken}
 use Rattle.sum_table.specs.declared.view.Track.{Track}
-use Rattle.sum_table.specs.Exact.{IsPublished, position_at}
+use Rattle.sum_table.specs.Exact.{IsPublishedPosition, position_at}
 use Rattle.ring_rule.specs.PositionLaws.{IsPosition-last}
 
 -- one more entry at its own frame and channel, and at another one
@@ -38,8 +38,8 @@ pub is_taken-more : (ts : List Taken) (t : Taken) (f c : ℕ) → is_taken (ts +
 is_taken-more ts t f c = rw (list_any-append (λ (x : Taken). (x.frame == f) && (x.channel == c)) ts (t ∷ [])) (grind arith)
 
 -- a number of a list, or of a longer one
-pub IsPublished-last : (g : Geometry) (t : Track) → IsPublished g t (position_at g t)
-IsPublished-last g t = IsPosition-last g t.published
+pub IsPublishedPosition-last : (g : Geometry) (t : Track) → IsPublishedPosition g t (position_at g t)
+IsPublishedPosition-last g t = IsPosition-last g t.published
 
 -- two places are one, or not
 pub place_cases : (f c k d : ℕ) → ((f ≡ k) × (c ≡ d)) ⊎ (¬ ((f ≡ k) × (c ≡ d)))

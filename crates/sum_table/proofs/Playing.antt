@@ -26,7 +26,7 @@ use Rattle.ring_rule.specs.Positions.{has_all}
 use Rattle.sum_table.specs.Players.{HasTaken, IsTurnedPlayer, player_view, track_of}
 use Rattle.sum_table.specs.Steps.{Makes, position_store, word_take, next_taken, track_taken, unplug_store, with_gone, with_published, with_taken}
 use Rattle.ring_rule.specs.Words.{index_of}
-use Rattle.ring_rule.specs.PositionLaws.{has_all-published, last_of-more}
+use Rattle.ring_rule.specs.PositionLaws.{has_all-published, last_number-more}
 use Rattle.ring_rule.specs.WordLaws.{lap-le}
 use Rattle.sum_table.proofs.Rings.{next_at-taken}
 use Rattle.sum_table.proofs.Seated.{step_begins}
@@ -135,7 +135,7 @@ known_published k next position gone slots word n m r is told =
       next_within = is.next_within;
       position_within = is.next_within;
       next_is = next_t;
-      position_is = frame ∙ sym (last_of-more (first_frame k.geometry) t.published p);
+      position_is = frame ∙ sym (last_number-more (first_frame k.geometry) t.published p);
       gone_is = is.gone_is ∙ ap (λ (y : Track). y.gone) same;
       saw_all = has_all-published m.0.positions t.published p (ap (λ (y : Track). has_all m.0.positions y.published) (sym same) ∙ is.saw_all);
     } in

@@ -26,7 +26,7 @@ use Rattle.sum_table.specs.Laid.{SameSums, count}
 use Rattle.sum_table.specs.Steps.{next_taken, track_gone, track_published, track_taken}
 use Rattle.ring_rule.specs.Words.{index_of}
 use Rattle.sum_table.proofs.Lists.{at-more_elsewhere, at-more_here, at_place, is_taken-more, place_cases, total-more_elsewhere, total-more_here}
-use Rattle.ring_rule.specs.PositionLaws.{Rising-more, last_of-more}
+use Rattle.ring_rule.specs.PositionLaws.{Rising-more, last_number-more}
 use Rattle.sum_table.proofs.Places.{next_word-channel, words-taken, words-written}
 use Rattle.std.proofs.lemmas.Bool.{cases_eq}
 
@@ -167,7 +167,7 @@ pub IsRing-publish : (g : Geometry) (words : List ℕ) (es : List Entry) (t : Tr
     → IsRing g (set words 0 (word_of (next_at g t).frame t.gone)) es (track_published t (next_at g t).frame)
 IsRing-publish g words es t r =
     let p : ℕ = (next_at g t).frame in
-    let last : position_at g (track_published t p) ≡ p = last_of-more (first_frame g) t.published p in
+    let last : position_at g (track_published t p) ≡ p = last_number-more (first_frame g) t.published p in
     let some : 0 < length words = omega (arith, r.room) in
     record {
       room = length-set words 0 _ ∙ r.room;

@@ -28,7 +28,7 @@ use Rattle.sum_table.specs.Exact.{BeginsWith, IsHistory, IsKept, IsOwn, next_at,
 use Rattle.sum_table.specs.Laid.{SameSums, all_laid, by_member, own_entries}
 use Rattle.sum_table.specs.Steps.{IsStep, in_row, next_taken, track_gone, track_published, track_taken}
 use Rattle.sum_table.proofs.Kept.{HeldFacts, IsHeldAt, held_facts, marks_by-member, standing-member}
-use Rattle.ring_rule.specs.PositionLaws.{last_of-more}
+use Rattle.ring_rule.specs.PositionLaws.{last_number-more}
 use Rattle.sum_table.proofs.Sums.{SameSums-append, SameSums-append_right, SameSums-by_member, SameSums-joined, SameSums-put, SameSums-set}
 
 pub within : {A : Type 0} (l : List A) (i : ℕ) (a : A) → get_elem? l i ≡ some a → i < length l
@@ -121,7 +121,7 @@ history_publish g views t h y =
     record {
       legal = λ members up. IsLegal-more g members h r (y.legal members up) (ap (λ (x : Cursor). x.frame) (sym next_is));
       taken = taken_words-append_published h f ∙ y.taken;
-      position = fold_push position_after (first_frame g) h r ∙ sym (last_of-more (first_frame g) t.published f);
+      position = fold_push position_after (first_frame g) h r ∙ sym (last_number-more (first_frame g) t.published f);
       sums = subst (λ es. SameSums es (all_laid views)) (sym laid) y.sums;
       owns = λ i u there lasts. ap (own_entries i) laid ∙ y.owns i u there lasts;
       no_more = λ i up. ap (own_entries i) laid ∙ y.no_more i up;

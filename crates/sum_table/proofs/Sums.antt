@@ -9,7 +9,7 @@ use Rattle.mix_core.specs.HistoryLaws.{total-append}
 pub use Rattle.mix_core.specs.MarkLaws.{count-append}
 use Rattle.mix_core.specs.Laid.{is_at, total}
 use Rattle.sum_table.specs.declared.view.View.{View}
-use Rattle.sum_table.specs.Laid.{SameSums, all_laid, by_member, count, places_of}
+use Rattle.sum_table.specs.Laid.{SameSums, all_laid, by_member, count, total_places}
 
 -- one view changes
 pub count_set : (views : List View) (id : ℕ) (v w : View) (f c : ℕ) → get_elem? views id ≡ some v
@@ -30,7 +30,7 @@ total_set (x ∷ xs) zero v w f c here =
 total_set (x ∷ xs) (suc id) v w f c here =
     omega (arith, ints, total_set xs id v w f c here, total-append x.laid (all_laid (set xs id w)) f c, total-append x.laid (all_laid xs) f c)
 
-pub places_set : (views : List View) (id : ℕ) (v w : View) → get_elem? views id ≡ some v → places_of (set views id w) + v.places ≡ places_of views + w.places
+pub places_set : (views : List View) (id : ℕ) (v w : View) → get_elem? views id ≡ some v → total_places (set views id w) + v.places ≡ total_places views + w.places
 places_set [] id v w here = absurd (some-ne-none v (sym here))
 places_set (x ∷ xs) zero v w here =
     let same : x.places ≡ v.places = ap (λ (y : View). y.places) (some-injective x v here) in
@@ -42,9 +42,9 @@ pub all_laid-more : (views : List View) (w : View) → all_laid (views ++ w ∷ 
 all_laid-more [] w = append-nil w.laid
 all_laid-more (x ∷ xs) w = ap (λ es. x.laid ++ es) (all_laid-more xs w) ∙ sym (append_assoc x.laid (all_laid xs) w.laid)
 
-pub places_of-more : (views : List View) (w : View) → places_of (views ++ w ∷ []) ≡ places_of views + w.places
-places_of-more [] w = omega arith
-places_of-more (x ∷ xs) w = omega (arith, places_of-more xs w)
+pub total_places-more : (views : List View) (w : View) → total_places (views ++ w ∷ []) ≡ total_places views + w.places
+total_places-more [] w = omega arith
+total_places-more (x ∷ xs) w = omega (arith, total_places-more xs w)
 
 -- the parts of a view are among the whole
 pub count_within : (views : List View) (id : ℕ) (v : View) (f c : ℕ) → get_elem? views id ≡ some v → count v.laid f c ≤ count (all_laid views) f c
@@ -54,20 +54,20 @@ count_within (x ∷ xs) zero v f c here =
     omega (arith, same, count-append x.laid (all_laid xs) f c)
 count_within (x ∷ xs) (suc id) v f c here = omega (arith, count_within xs id v f c here, count-append x.laid (all_laid xs) f c)
 
-pub places_within : (views : List View) (id : ℕ) (v : View) → get_elem? views id ≡ some v → v.places ≤ places_of views
+pub places_within : (views : List View) (id : ℕ) (v : View) → get_elem? views id ≡ some v → v.places ≤ total_places views
 places_within [] id v here = absurd (some-ne-none v (sym here))
 places_within (x ∷ xs) zero v here = let same : x.places ≡ v.places = ap (λ (y : View). y.places) (some-injective x v here) in omega (arith, same)
 places_within (x ∷ xs) (suc id) v here = omega (arith, places_within xs id v here)
 
 -- where no view has more than three entries at a frame and channel for each place, all together have no more
-pub count_few : (views : List View) (f c : ℕ) → ((i : ℕ) (u : View) → get_elem? views i ≡ some u → count u.laid f c ≤ 3 * u.places) → count (all_laid views) f c ≤ 3 * places_of views
+pub count_few : (views : List View) (f c : ℕ) → ((i : ℕ) (u : View) → get_elem? views i ≡ some u → count u.laid f c ≤ 3 * u.places) → count (all_laid views) f c ≤ 3 * total_places views
 count_few [] f c few = omega arith
 count_few (x ∷ xs) f c few = omega (arith, few 0 x refl, count_few xs f c (λ i u there. few (suc i) u there), count-append x.laid (all_laid xs) f c)
 
 -- and where one view has fewer there, the others leave room for its places
 pub count_room : (views : List View) (id : ℕ) (v : View) (f c : ℕ) → get_elem? views id ≡ some v
     → ((i : ℕ) (u : View) → get_elem? views i ≡ some u → count u.laid f c ≤ 3 * u.places)
-    → count (all_laid views) f c + 3 * v.places ≤ 3 * places_of views + count v.laid f c
+    → count (all_laid views) f c + 3 * v.places ≤ 3 * total_places views + count v.laid f c
 count_room [] id v f c here few = absurd (some-ne-none v (sym here))
 count_room (x ∷ xs) zero v f c here few =
     let same : count x.laid f c ≡ count v.laid f c = ap (λ (y : View). count y.laid f c) (some-injective x v here) in

@@ -21,14 +21,14 @@ use Rattle.mix_core.specs.Sound.{IsNow}
 use Rattle.sum_table.specs.declared.view.Key.{Key}
 use Rattle.sum_table.specs.declared.view.Track.{Track}
 use Rattle.sum_table.specs.declared.view.View.{View}
-use Rattle.sum_table.specs.Exact.{Exact, is_tracked, IsHistory, IsPublished, IsView, next_at, position_at}
+use Rattle.sum_table.specs.Exact.{Exact, is_tracked, IsHistory, IsPublishedPosition, IsView, next_at, position_at}
 use Rattle.sum_table.specs.Laid.{all_laid, count}
 use Rattle.sum_table.specs.Steps.{position_store, word_take, next_taken, track_gone, track_published, track_taken, unplug_store, with_gone, with_published, with_taken}
 use Rattle.ring_rule.specs.Words.{NotPast, index_of, rank}
 use Rattle.sum_table.proofs.Kept.{kept_later}
 use Rattle.sum_table.proofs.Keeps.{Holds, none_made}
-use Rattle.sum_table.proofs.Lists.{IsPublished-last}
-use Rattle.ring_rule.specs.PositionLaws.{last_of-more}
+use Rattle.sum_table.proofs.Lists.{IsPublishedPosition-last}
+use Rattle.ring_rule.specs.PositionLaws.{last_number-more}
 use Rattle.sum_table.proofs.Places.{IsNow-next, next_word-channel}
 use Rattle.ring_rule.specs.WordLaws.{index_of-lt}
 use Rattle.sum_table.proofs.Rings.{IsRing-gone, IsRing-publish, IsRing-same, IsRing-take, next_at-taken}
@@ -46,8 +46,8 @@ grows : (g : Geometry) (next : Cursor) (c : ℕ) → first_free next c ≤ first
 grows g next c = grind (arith, nat_tests)
 
 -- a position that was published stays one
-IsPublished-more : (g : Geometry) (t : Track) (p q : ℕ) → IsPublished g t p → IsPublished g (track_published t q) p
-IsPublished-more g t p q is = elim is [
+IsPublishedPosition-more : (g : Geometry) (t : Track) (p q : ℕ) → IsPublishedPosition g t p → IsPublishedPosition g (track_published t q) p
+IsPublishedPosition-more g t p q is = elim is [
   | inl first ↦ inl first
   | inr one ↦ inr (one.0, at_longer t.published (q ∷ []) one.0 p one.1)
 ]
@@ -164,11 +164,11 @@ publishes slots id m next gone lasts is next_is gone_is s x homes here small =
     let u : Track = track_published t p in
     let w : View = with_published v late t p in
     let own : IsView k s.words t h v = x.4.each id v here in
-    let last : position_at g u ≡ p = last_of-more (first_frame g) t.published p in
+    let last : position_at g u ≡ p = last_number-more (first_frame g) t.published p in
     let later : Later g s.words words t u h late = record {
       next = λ c. omega arith;
       position = omega (arith, last, x.3.not_ahead);
-      published = λ q was. IsPublished-more g t q p was;
+      published = λ q was. IsPublishedPosition-more g t q p was;
       gone = λ q. q;
       words = λ j o positive past. position_words s.words (word_of p t.gone) j o positive past;
       history = λ early b. BeginsWith-more h early rows b;
@@ -179,7 +179,7 @@ publishes slots id m next gone lasts is next_is gone_is s x homes here small =
       seen_high = omega (arith, last);
       positions = λ i q there. elim (at_snoc v.positions p q i there) [
         | inl old ↦ moved.positions i q old
-        | inr new_one ↦ subst (IsPublished g u) (last ∙ new_one) (IsPublished-last g u)
+        | inr new_one ↦ subst (IsPublishedPosition g u) (last ∙ new_one) (IsPublishedPosition-last g u)
       ];
       gone = moved.gone;
       noted = moved.noted;

@@ -18,8 +18,8 @@ use Rattle.mix_core.specs.Sound.{IsNow}
 use Rattle.sum_table.specs.declared.view.Key.{Key}
 use Rattle.sum_table.specs.declared.view.Track.{Track}
 use Rattle.sum_table.specs.declared.view.View.{View}
-use Rattle.sum_table.specs.Exact.{AreViews, BeginsWith, IsPublished, IsRing, IsView, next_at, position_at}
-use Rattle.sum_table.specs.Laid.{all_laid, count, places_of}
+use Rattle.sum_table.specs.Exact.{AreViews, BeginsWith, IsPublishedPosition, IsRing, IsView, next_at, position_at}
+use Rattle.sum_table.specs.Laid.{all_laid, count, total_places}
 use Rattle.sum_table.specs.Steps.{Finds, IsWord, Tells}
 use Rattle.ring_rule.specs.Words.{NotPast, index_of, rank}
 use Rattle.sum_table.proofs.Kept.{held_of, held_once, held_place}
@@ -30,7 +30,7 @@ use Rattle.sum_table.proofs.Sums.{count-append, count_few, count_room, places_se
 pub record Later (g : Geometry) (before after : List ℕ) (t u : Track) (early late : List Row) : Type 0 where
   pub next : (c : ℕ) → first_free (next_at g t) c ≤ first_free (next_at g u) c
   pub position : position_at g t ≤ position_at g u
-  pub published : (p : ℕ) → IsPublished g t p → IsPublished g u p
+  pub published : (p : ℕ) → IsPublishedPosition g t p → IsPublishedPosition g u p
   pub gone : t.gone ≡ true → u.gone ≡ true
   pub words : (i n : ℕ) → 0 < i → NotPast n (get_or before i 0) → NotPast n (get_or after i 0)
   pub history : (h : List Row) → BeginsWith early h → BeginsWith late h
@@ -159,7 +159,7 @@ word_ok k words views at t h f c r a in_range fits =
     let stands : StandsFor word (lap g j) (count (all_laid views) j c) (total (all_laid views) j c) =
     subst (λ i. StandsFor (get_or words i 0) (lap g j) (count (all_laid views) j c) (total (all_laid views) j c)) found.3 (r.sums j c found.1) in
     let fields : (lap_of word ≡ lap g j) × (count_of word ≡ count (all_laid views) j c) × (sum_of word ≡ total (all_laid views) j c) = StandsFor-fields _ _ _ _ stands in
-    let few : count (all_laid views) j c ≤ 3 * places_of views = count_few views j c (λ i u there. (a.each i u there).kept.few j c) in
+    let few : count (all_laid views) j c ≤ 3 * total_places views = count_few views j c (λ i u there. (a.each i u there).kept.few j c) in
     record {
       fits = fits;
       few = omega (arith, fields.1, few, a.places);
@@ -190,7 +190,7 @@ finds words views at t h id v f c r a here in_range fits =
             room = λ is may.
                 let now : IsNow g (next_at g t) e d = laps.now is in
                 let counted : count_of (get_or words (index_of g e d) 0) ≡ count (all_laid views) e d = (StandsFor-fields _ _ _ _ (r.sums e d now)).1 in
-                let some : count (all_laid views) e d + 3 * v.places ≤ 3 * places_of views + count v.laid e d =
+                let some : count (all_laid views) e d + 3 * v.places ≤ 3 * total_places views + count v.laid e d =
                 count_room views id v e d here (λ i u there. (a.each i u there).kept.few e d) in
                 elim may [
                   | inl from ↦ omega (arith, counted, some, x.kept.marked.past_cursor e d d_in from.1, from.0, a.places)

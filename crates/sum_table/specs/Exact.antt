@@ -21,7 +21,7 @@ use Rattle.mix_core.specs.Sound.{IsNow}
 use Rattle.sum_table.specs.declared.view.Key.{Key}
 use Rattle.sum_table.specs.declared.view.Track.{Track}
 use Rattle.sum_table.specs.declared.view.View.{View}
-use Rattle.sum_table.specs.Laid.{SameSums, all_laid, by_member, count, own_entries, places_of}
+use Rattle.sum_table.specs.Laid.{SameSums, all_laid, by_member, count, own_entries, total_places}
 use Rattle.ring_rule.specs.Words.{NotPast, index_of, words_of}
 use Rattle.ring_rule.specs.Positions.{IsPosition, Rising, last_position}
 
@@ -34,8 +34,8 @@ abbrev pub position_at : Geometry → Track → ℕ
 position_at g t = last_position g t.published
 
 -- a position is the first frame or one that was published
-abbrev pub IsPublished : Geometry → Track → ℕ → Type 0
-IsPublished g t p = IsPosition g t.published p
+abbrev pub IsPublishedPosition : Geometry → Track → ℕ → Type 0
+IsPublishedPosition g t p = IsPosition g t.published p
 
 -- a history begins with another
 abbrev pub BeginsWith : List Row → List Row → Type 0
@@ -106,7 +106,7 @@ pub record IsKept (g : Geometry) (places : ℕ) (es mine free : List Entry) (mar
 pub record IsView (k : Key) (words : List ℕ) (t : Track) (h : List Row) (v : View) : Type 0 where
   pub kept : IsKept k.geometry v.places v.laid v.mine v.free v.marks v.seen v.ended
   pub seen_high : v.seen ≤ position_at k.geometry t
-  pub positions : (i p : ℕ) → get_elem? v.positions i ≡ some p → IsPublished k.geometry t p
+  pub positions : (i p : ℕ) → get_elem? v.positions i ≡ some p → IsPublishedPosition k.geometry t p
   pub gone : v.seen_gone ≡ true → t.gone ≡ true
   pub noted : (i n : ℕ) → 0 < i → slice_index_or v.noted i None ≡ Some n → NotPast n (slice_index words i)
   pub begins : BeginsWith h v.history
@@ -114,7 +114,7 @@ pub record IsView (k : Key) (words : List ℕ) (t : Track) (h : List Row) (v : V
 
 -- all views are so, their places are the ring's, and one of them alone is the player's
 pub record AreViews (k : Key) (words : List ℕ) (views : List View) (at : ℕ) (t : Track) (h : List Row) : Type 0 where
-  pub places : places_of views ≡ k.places
+  pub places : total_places views ≡ k.places
   pub each : (i : ℕ) (v : View) → get_elem? views i ≡ some v → IsView k words t h v
   pub player : (i : ℕ) (v : View) (u : Track) → get_elem? views i ≡ some v → v.track ≡ Some u → (i ≡ at) × (u ≡ t)
 

@@ -15,7 +15,7 @@ use Rattle.sum_table.specs.declared.seats.player.PlayerSeat.{PlayerSeat}
 use Rattle.sum_table.specs.declared.view.Key.{Key}
 use Rattle.sum_table.specs.declared.view.View.{View}
 use Rattle.sum_table.specs.Cuts.{both_of, joined_marks, part_of, without_places}
-use Rattle.sum_table.specs.Exact.{BeginsWith, IsPublished, next_at, position_at, start_marks}
+use Rattle.sum_table.specs.Exact.{BeginsWith, IsPublishedPosition, next_at, position_at, start_marks}
 use Rattle.sum_table.specs.Known.{greater}
 use Rattle.sum_table.specs.Laid.{SameSums}
 use Rattle.sum_table.specs.Players.{PlayerGoes, player_key, player_ring, player_view, track_of}
@@ -133,7 +133,7 @@ pub record HasHeard (p q : PlayerSeat) (n : SeatNote) : Type 0 where
   pub position : q.position ≡ p.position
   pub same_gone : q.gone ≡ p.gone
   pub seen : note_seen n ≤ p.position
-  pub positions : (i x : ℕ) → get_elem? (note_view n).positions i ≡ some x → IsPublished (player_key p).geometry (track_of p) x
+  pub positions : (i x : ℕ) → get_elem? (note_view n).positions i ≡ some x → IsPublishedPosition (player_key p).geometry (track_of p) x
   pub noted : (f c x : ℕ) → IsNow (player_key p).geometry (next_at (player_key p).geometry (track_of p)) f c
       → slice_index_or (note_view n).noted (index_of (player_key p).geometry f c) None ≡ Some x → lap_of x ≤ lap (player_key p).geometry f
   pub gone : (note_view n).seen_gone ≡ true → (track_of p).gone ≡ true

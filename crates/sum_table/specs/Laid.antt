@@ -15,9 +15,9 @@ all_laid [] = []
 all_laid (v ∷ vs) = v.laid ++ all_laid vs
 
 -- the places of all views together
-abbrev pub places_of : List View → ℕ
-places_of [] = 0
-places_of (v ∷ vs) = v.places + places_of vs
+abbrev pub total_places : List View → ℕ
+total_places [] = 0
+total_places (v ∷ vs) = v.places + total_places vs
 
 -- the entry as that of a member
 abbrev pub by_member : ℕ → Entry → Entry

@@ -24,7 +24,7 @@ use Rattle.mix_core.specs.Sound.{IsNow}
 use Rattle.sum_table.specs.declared.view.Sighting.{Sighting}
 use Rattle.sum_table.specs.declared.view.Track.{Track}
 use Rattle.sum_table.specs.declared.view.View.{View}
-use Rattle.sum_table.specs.Exact.{BeginsWith, IsPublished, next_at, position_at}
+use Rattle.sum_table.specs.Exact.{BeginsWith, IsPublishedPosition, next_at, position_at}
 use Rattle.sum_table.specs.Laid.{SameSums, by_member, count, own_entries}
 use Rattle.ring_rule.specs.Words.{NotPast, index_of}
 
@@ -227,7 +227,7 @@ unplug_store s m n r =
 -- history placed these
 pub record Knows (v : View) (t : Track) : Type 0 where
   pub seen : v.seen ≤ position_at v.key.geometry t
-  pub positions : (i p : ℕ) → get_elem? v.positions i ≡ some p → IsPublished v.key.geometry t p
+  pub positions : (i p : ℕ) → get_elem? v.positions i ≡ some p → IsPublishedPosition v.key.geometry t p
   pub gone : v.seen_gone ≡ true → t.gone ≡ true
   pub noted : (n f c : ℕ) → IsNow v.key.geometry (next_at v.key.geometry t) f c → slice_index_or v.noted (index_of v.key.geometry f c) None ≡ Some n
       → lap_of n ≤ lap v.key.geometry f

@@ -16,9 +16,9 @@ pub record IsValid (p : SwParams) (boundary : ℕ) : Type 0 where
   pub stop : IsInRange p.stop_threshold boundary
 
 -- what an answer says of the parameters: `Ok` that they are valid, and an error that its defect is the first of three
-abbrev pub Tells : Result (Unit {0}) Why → SwParams → ℕ → Type 0
-Tells (Ok done) p b = IsValid p b
-Tells (Err AvailMinZero) p b = p.avail_min ≡ 0
-Tells (Err StartRange) p b = (0 < p.avail_min) × ¬ IsInRange p.start_threshold b
-Tells (Err StopRange) p b = (0 < p.avail_min) × IsInRange p.start_threshold b × ¬ IsInRange p.stop_threshold b
-Tells (Err other) p b = ⊥
+abbrev pub IsVerdict : Result (Unit {0}) Why → SwParams → ℕ → Type 0
+IsVerdict (Ok done) p b = IsValid p b
+IsVerdict (Err AvailMinZero) p b = p.avail_min ≡ 0
+IsVerdict (Err StartRange) p b = (0 < p.avail_min) × ¬ IsInRange p.start_threshold b
+IsVerdict (Err StopRange) p b = (0 < p.avail_min) × IsInRange p.start_threshold b × ¬ IsInRange p.stop_threshold b
+IsVerdict (Err other) p b = ⊥

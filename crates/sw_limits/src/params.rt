@@ -20,7 +20,7 @@ pub struct SwParams {
 }
 
 impl SwParams {
-    ghost use Rattle.sw_limits.specs.Params.{Tells, IsValid};
+    ghost use Rattle.sw_limits.specs.Params.{IsVerdict, IsValid};
 
     /// The parameters that a stream has until others are set: it starts at 1 frame, stops at the buffer
     /// size and wakes at the period size, as alsa-lib's `snd_pcm_hw_params` leaves them.
@@ -51,7 +51,7 @@ impl SwParams {
     /// The two ranges are this library's own.
     pub fn check(&self, config: &Config) -> Result<(), Why>
         requires { 1 ≤ config.now.buffer_size }
-        ensures { (b : ℕ) × IsBoundary config.now.buffer_size b × Tells result self.now b }
+        ensures { (b : ℕ) × IsBoundary config.now.buffer_size b × IsVerdict result self.now b }
     {
         let boundary = boundary(config.buffer_size);
         if self.avail_min == 0 {

@@ -15,7 +15,7 @@ use Rattle.wav_io.specs.declared.format.Format.{Format}
 use Rattle.wav_io.specs.Sound.{IsWholeSound}
 use Rattle.wav_io.specs.Canonical.{sample_bytes}
 use Rattle.wav_io.specs.Formats.{IsFormat}
-use Rattle.wav_io.specs.Fields.{samples_of, whole_frames}
+use Rattle.wav_io.specs.Fields.{samples_of_bytes, whole_frames}
 
 abbrev pub IsBytes : List ℕ → Type 0
 IsBytes bytes = (i : ℕ) → get_or bytes i 0 < 256
@@ -30,22 +30,22 @@ drop-two bytes i inside =
     let after : (2 * i + 1) + 1 ≡ 2 * (i + 1) = omega arith in
     drop_more bytes (2 * i) 0 here ∙ ap (λ (rest : List ℕ). get_or bytes (2 * i) 0 ∷ rest) (drop_more bytes (2 * i + 1) 0 inside ∙ ap (λ (n : ℕ). get_or bytes (2 * i + 1) 0 ∷ drop n bytes) after)
 
-samples_of-short : (bytes : List ℕ) → length bytes < 2 → samples_of bytes ≡ []
-samples_of-short [] short = refl
-samples_of-short (low ∷ []) short = refl
-samples_of-short (low ∷ high ∷ rest) short = absurd (omega arith)
+samples_of_bytes-short : (bytes : List ℕ) → length bytes < 2 → samples_of_bytes bytes ≡ []
+samples_of_bytes-short [] short = refl
+samples_of_bytes-short (low ∷ []) short = refl
+samples_of_bytes-short (low ∷ high ∷ rest) short = absurd (omega arith)
 
 -- one more sample is read
-pub goes_on : (front : List ℤ) (bytes : List ℕ) (i : ℕ) (whole : List ℤ) → 2 * i + 1 < length bytes → front ++ samples_of (drop (2 * i) bytes) ≡ whole
-    → (front ++ pair (get_or bytes (2 * i) 0) (get_or bytes (2 * i + 1) 0) ∷ []) ++ samples_of (drop (2 * (i + 1)) bytes) ≡ whole
+pub goes_on : (front : List ℤ) (bytes : List ℕ) (i : ℕ) (whole : List ℤ) → 2 * i + 1 < length bytes → front ++ samples_of_bytes (drop (2 * i) bytes) ≡ whole
+    → (front ++ pair (get_or bytes (2 * i) 0) (get_or bytes (2 * i + 1) 0) ∷ []) ++ samples_of_bytes (drop (2 * (i + 1)) bytes) ≡ whole
 goes_on front bytes i whole inside so_far =
-    append_assoc front (pair (get_or bytes (2 * i) 0) (get_or bytes (2 * i + 1) 0) ∷ []) (samples_of (drop (2 * (i + 1)) bytes))
-    ∙ ap (λ (rest : List ℕ). front ++ samples_of rest) (sym (drop-two bytes i inside)) ∙ so_far
+    append_assoc front (pair (get_or bytes (2 * i) 0) (get_or bytes (2 * i + 1) 0) ∷ []) (samples_of_bytes (drop (2 * (i + 1)) bytes))
+    ∙ ap (λ (rest : List ℕ). front ++ samples_of_bytes rest) (sym (drop-two bytes i inside)) ∙ so_far
 
 -- all samples are read
-pub ends : (front : List ℤ) (bytes : List ℕ) (i : ℕ) (whole : List ℤ) → length bytes < 2 * i + 2 → front ++ samples_of (drop (2 * i) bytes) ≡ whole → front ≡ whole
+pub ends : (front : List ℤ) (bytes : List ℕ) (i : ℕ) (whole : List ℤ) → length bytes < 2 * i + 2 → front ++ samples_of_bytes (drop (2 * i) bytes) ≡ whole → front ≡ whole
 ends front bytes i whole past so_far =
-    sym (append-nil front) ∙ ap (λ (rest : List ℤ). front ++ rest) (sym (samples_of-short (drop (2 * i) bytes) (omega (arith, length-drop (2 * i) bytes)))) ∙ so_far
+    sym (append-nil front) ∙ ap (λ (rest : List ℤ). front ++ rest) (sym (samples_of_bytes-short (drop (2 * i) bytes) (omega (arith, length-drop (2 * i) bytes)))) ∙ so_far
 
 IsBytes-rest : (b : ℕ) (bytes : List ℕ) → IsBytes (b ∷ bytes) → IsBytes bytes
 IsBytes-rest b bytes h i = h (suc i)
@@ -59,34 +59,34 @@ two low high (suc zero) l h = h
 two low high (suc (suc i)) l h = omega arith
 
 -- the bytes of the samples that bytes hold are these bytes
-pub sample_bytes-samples_of : (n : ℕ) (bytes : List ℕ) → IsBytes bytes → length bytes ≡ 2 * n → flat_map sample_bytes (samples_of bytes) ≡ bytes
-sample_bytes-samples_of n [] fits even = refl
-sample_bytes-samples_of n (low ∷ []) fits even = absurd (omega arith)
-sample_bytes-samples_of zero (low ∷ high ∷ rest) fits even = absurd (omega arith)
-sample_bytes-samples_of (suc n) (low ∷ high ∷ rest) fits even =
+pub sample_bytes-samples_of_bytes : (n : ℕ) (bytes : List ℕ) → IsBytes bytes → length bytes ≡ 2 * n → flat_map sample_bytes (samples_of_bytes bytes) ≡ bytes
+sample_bytes-samples_of_bytes n [] fits even = refl
+sample_bytes-samples_of_bytes n (low ∷ []) fits even = absurd (omega arith)
+sample_bytes-samples_of_bytes zero (low ∷ high ∷ rest) fits even = absurd (omega arith)
+sample_bytes-samples_of_bytes (suc n) (low ∷ high ∷ rest) fits even =
     let number : cast_unsigned w16 (pair low high) ≡ from_le_bytes w16 (low ∷ high ∷ []) = of_z-to_z w16 _ (pair_fits low high (fits 0) (fits 1)) in
     let here : to_le_bytes w16 (cast_unsigned w16 (pair low high)) ≡ low ∷ high ∷ [] = le_bytes_2 (low ∷ high ∷ []) _ refl (λ i. two low high i (fits 0) (fits 1)) number in
-    let behind : flat_map sample_bytes (samples_of rest) ≡ rest = sample_bytes-samples_of n rest (λ i. fits (suc (suc i))) (omega arith) in
-    ap (λ (front : List ℕ). front ++ flat_map sample_bytes (samples_of rest)) here ∙ ap (λ (back : List ℕ). low ∷ high ∷ back) behind
+    let behind : flat_map sample_bytes (samples_of_bytes rest) ≡ rest = sample_bytes-samples_of_bytes n rest (λ i. fits (suc (suc i))) (omega arith) in
+    ap (λ (front : List ℕ). front ++ flat_map sample_bytes (samples_of_bytes rest)) here ∙ ap (λ (back : List ℕ). low ∷ high ∷ back) behind
 
-pub length-samples_of : (n : ℕ) (bytes : List ℕ) → length bytes ≡ 2 * n → length (samples_of bytes) ≡ n
-length-samples_of n [] even = omega arith
-length-samples_of n (low ∷ []) even = absurd (omega arith)
-length-samples_of zero (low ∷ high ∷ rest) even = absurd (omega arith)
-length-samples_of (suc n) (low ∷ high ∷ rest) even = ap suc (length-samples_of n rest (omega arith))
+pub length-samples_of_bytes : (n : ℕ) (bytes : List ℕ) → length bytes ≡ 2 * n → length (samples_of_bytes bytes) ≡ n
+length-samples_of_bytes n [] even = omega arith
+length-samples_of_bytes n (low ∷ []) even = absurd (omega arith)
+length-samples_of_bytes zero (low ∷ high ∷ rest) even = absurd (omega arith)
+length-samples_of_bytes (suc n) (low ∷ high ∷ rest) even = ap suc (length-samples_of_bytes n rest (omega arith))
 
 -- the samples that the bytes of samples hold are these samples
-pub samples_of-sample_bytes : (zs : List ℤ) → AllByRecursion (FitsSigned w16) zs → samples_of (flat_map sample_bytes zs) ≡ zs
-samples_of-sample_bytes [] fit = refl
-samples_of-sample_bytes (z ∷ zs) fit =
+pub samples_of_bytes-sample_bytes : (zs : List ℤ) → AllByRecursion (FitsSigned w16) zs → samples_of_bytes (flat_map sample_bytes zs) ≡ zs
+samples_of_bytes-sample_bytes [] fit = refl
+samples_of_bytes-sample_bytes (z ∷ zs) fit =
     let number : from_le_bytes w16 (to_le_bytes w16 (cast_unsigned w16 z)) ≡ cast_unsigned w16 z = from_le_bytes-to_le_bytes_2 (cast_unsigned w16 z) (omega (arith, Fits-of_z fit.0)) in
     let here : cast_signed w16 (from_le_bytes w16 (to_le_bytes w16 (cast_unsigned w16 z))) ≡ z = ap (cast_signed w16) number ∙ to_z-of_z w16 z fit.0 in
-    ap (λ (first : ℤ). first ∷ samples_of (flat_map sample_bytes zs)) here ∙ ap (λ (others : List ℤ). z ∷ others) (samples_of-sample_bytes zs fit.1)
+    ap (λ (first : ℤ). first ∷ samples_of_bytes (flat_map sample_bytes zs)) here ∙ ap (λ (others : List ℤ). z ∷ others) (samples_of_bytes-sample_bytes zs fit.1)
 
-pub samples_of-fit : (bytes : List ℕ) → IsBytes bytes → AllByRecursion (FitsSigned w16) (samples_of bytes)
-samples_of-fit [] fits = tt
-samples_of-fit (low ∷ []) fits = tt
-samples_of-fit (low ∷ high ∷ rest) fits = (sfits_to_z (Fits-of_lt (pair_fits low high (fits 0) (fits 1))), samples_of-fit rest (λ i. fits (suc (suc i))))
+pub samples_of_bytes-fit : (bytes : List ℕ) → IsBytes bytes → AllByRecursion (FitsSigned w16) (samples_of_bytes bytes)
+samples_of_bytes-fit [] fits = tt
+samples_of_bytes-fit (low ∷ []) fits = tt
+samples_of_bytes-fit (low ∷ high ∷ rest) fits = (sfits_to_z (Fits-of_lt (pair_fits low high (fits 0) (fits 1))), samples_of_bytes-fit rest (λ i. fits (suc (suc i))))
 
 pub length-sample_bytes : (zs : List ℤ) → length (flat_map sample_bytes zs) ≡ 2 * length zs
 length-sample_bytes [] = refl
@@ -94,14 +94,14 @@ length-sample_bytes (z ∷ zs) = ap (λ (n : ℕ). suc (suc n)) (length-sample_b
 
 -- ---- whole frames
 
-pub whole_frames-whole : (channels : ℕ) (body : List ℕ) → length (samples_of (whole_frames channels body)) % channels ≡ 0
+pub whole_frames-whole : (channels : ℕ) (body : List ℕ) → length (samples_of_bytes (whole_frames channels body)) % channels ≡ 0
 whole_frames-whole channels body =
     let frames = length body / (2 * channels) in
     let inside : frames * (2 * channels) ≤ length body = div-mul-le_self (length body) (2 * channels) in
     let even : length (whole_frames channels body) ≡ 2 * (frames * channels) = omega (arith, length-take-le (frames * (2 * channels)) body inside) in
-    ap (λ (n : ℕ). n % channels) (length-samples_of (frames * channels) (whole_frames channels body) even) ∙ mul-mod_left frames channels
+    ap (λ (n : ℕ). n % channels) (length-samples_of_bytes (frames * channels) (whole_frames channels body) even) ∙ mul-mod_left frames channels
 
-pub is_sound : (f : Format) (body : List ℕ) (zs : List ℤ) → IsFormat f → zs ≡ samples_of (whole_frames f.channels body) → IsWholeSound (record { channels = f.channels; rate = f.rate; samples = zs })
+pub is_sound : (f : Format) (body : List ℕ) (zs : List ℤ) → IsFormat f → zs ≡ samples_of_bytes (whole_frames f.channels body) → IsWholeSound (record { channels = f.channels; rate = f.rate; samples = zs })
 is_sound f body zs in_order e = record {
   some_channel = in_order.some_channel;
   few_channels = in_order.few_channels;

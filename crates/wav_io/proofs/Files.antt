@@ -15,11 +15,11 @@ use Rattle.wav_io.specs.declared.format.Depths.TheVariants.{Sixteen}
 use Rattle.wav_io.specs.declared.format.Format.{Format}
 use Rattle.wav_io.specs.Sound.{Sound, IsWholeSound}
 use Rattle.wav_io.specs.Canonical.{sample_bytes, canonical, open_head, HasFile}
-use Rattle.wav_io.specs.Fields.{number_at, samples_of, whole_frames}
+use Rattle.wav_io.specs.Fields.{number_at, samples_of_bytes, whole_frames}
 use Rattle.wav_io.specs.Chunks.{Chunk, chunks}
 use Rattle.wav_io.specs.Formats.{terms_of, format_of}
 use Rattle.wav_io.specs.Reading.{most_bytes, body_found, decides, goes_on, verdict_of_format, verdict_of, scan_of, sound_of, sounds, at_end, found_in, wav_file}
-use Rattle.wav_io.proofs.Bodies.{samples_of-sample_bytes, length-sample_bytes}
+use Rattle.wav_io.proofs.Bodies.{samples_of_bytes-sample_bytes, length-sample_bytes}
 use Rattle.wav_io.proofs.Cutting.{scan_of-decides, scan_of-goes_on}
 use Rattle.wav_io.proofs.Limits.{limited-short}
 
@@ -32,7 +32,7 @@ same_sound a b c s p q r = ap (λ (n : ℕ). sound n b c) p ∙ ap (λ (n : ℕ)
 -- ---- two sounds with one canonical file are one
 
 shown : List ℕ → Sound
-shown bytes = sound (number_at w16 22 bytes) (number_at w32 24 bytes) (samples_of (drop 44 bytes))
+shown bytes = sound (number_at w16 22 bytes) (number_at w32 24 bytes) (samples_of_bytes (drop 44 bytes))
 
 read_two : (channels : ℕ) → channels < 2 ^ 16 → from_le_bytes w16 (to_le_bytes w16 channels) ≡ channels
 read_two channels fits = from_le_bytes-to_le_bytes_2 channels fits
@@ -46,7 +46,7 @@ shown-canonical s file =
     same_sound _ _ _ s
     (read_two s.channels (omega (arith, file.sound.few_channels)))
     (read_four s.rate (omega (arith, file.low_rate)))
-    (samples_of-sample_bytes s.samples (recursion_from_All (FitsSigned w16) s.samples file.fits))
+    (samples_of_bytes-sample_bytes s.samples (recursion_from_All (FitsSigned w16) s.samples file.fits))
 
 pub canonical_one : (s t : Sound) → HasFile s → HasFile t → canonical s ≡ canonical t → s ≡ t
 canonical_one s t p q e = sym (shown-canonical s p) ∙ ap shown e ∙ shown-canonical t q
@@ -142,7 +142,7 @@ found_in-open s file fits =
 
 sound_of-body : (s : Sound) → HasFile s → sound_of (format s.channels s.rate) (flat_map sample_bytes s.samples) ≡ s
 sound_of-body s file =
-    same_sound s.channels s.rate _ s refl refl (ap samples_of (whole_frames-body s file) ∙ samples_of-sample_bytes s.samples (recursion_from_All (FitsSigned w16) s.samples file.fits))
+    same_sound s.channels s.rate _ s refl refl (ap samples_of_bytes (whole_frames-body s file) ∙ samples_of_bytes-sample_bytes s.samples (recursion_from_All (FitsSigned w16) s.samples file.fits))
 
 -- a canonical file that isn't too long is read as what it was written from
 pub wav_file-canonical : (s : Sound) → HasFile s → length (canonical s) ≤ most_bytes → wav_file (canonical s) ≡ Ok s

@@ -14,7 +14,7 @@ use Rattle.wav_io.specs.declared.format.Format.{Format}
 use Rattle.wav_io.specs.declared.place.Place.{Place}
 use Rattle.wav_io.specs.declared.place.Place.TheVariants.{Opening, Head, FormatBody, DataBody, Refused}
 use Rattle.wav_io.specs.declared.scan.Scan.{Scan}
-use Rattle.wav_io.specs.Fields.{whole, samples_of}
+use Rattle.wav_io.specs.Fields.{whole, samples_of_bytes}
 use Rattle.wav_io.specs.Frames.{IsCut}
 use Rattle.wav_io.specs.Pieces.{with_front, found_from}
 use Rattle.wav_io.specs.Reading.{Contents, contents, within_limit, most_bytes, sound_of, sounds, wav_file, IsRefusal}
@@ -82,15 +82,15 @@ whole-append n size a b some count =
     let bytes : length (a ++ b) / size * size ≡ length a + length b / size * size = omega (arith, ap (λ (k : ℕ). k * size) frames, count) in
     ap (λ (k : ℕ). take k (a ++ b)) bytes ∙ take-append-add a b (length b / size * size)
 
-pub samples_of-append : (n : ℕ) (a b : List ℕ) → length a ≡ 2 * n → samples_of (a ++ b) ≡ samples_of a ++ samples_of b
-samples_of-append n [] b even = refl
-samples_of-append n (low ∷ []) b even = absurd (omega arith)
-samples_of-append zero (low ∷ high ∷ rest) b even = absurd (omega arith)
-samples_of-append (suc n) (low ∷ high ∷ rest) b even =
-    ap (λ (zs : List ℤ). cast_signed w16 (from_le_bytes w16 (low ∷ high ∷ [])) ∷ zs) (samples_of-append n rest b (omega arith))
+pub samples_of_bytes-append : (n : ℕ) (a b : List ℕ) → length a ≡ 2 * n → samples_of_bytes (a ++ b) ≡ samples_of_bytes a ++ samples_of_bytes b
+samples_of_bytes-append n [] b even = refl
+samples_of_bytes-append n (low ∷ []) b even = absurd (omega arith)
+samples_of_bytes-append zero (low ∷ high ∷ rest) b even = absurd (omega arith)
+samples_of_bytes-append (suc n) (low ∷ high ∷ rest) b even =
+    ap (λ (zs : List ℤ). cast_signed w16 (from_le_bytes w16 (low ∷ high ∷ [])) ∷ zs) (samples_of_bytes-append n rest b (omega arith))
 
-pub samples_of-frames : (n channels : ℕ) (a b : List ℕ) → length a ≡ n * (2 * channels) → samples_of (a ++ b) ≡ samples_of a ++ samples_of b
-samples_of-frames n channels a b count = samples_of-append (n * channels) a b (omega arith)
+pub samples_of_bytes-frames : (n channels : ℕ) (a b : List ℕ) → length a ≡ n * (2 * channels) → samples_of_bytes (a ++ b) ≡ samples_of_bytes a ++ samples_of_bytes b
+samples_of_bytes-frames n channels a b count = samples_of_bytes-append (n * channels) a b (omega arith)
 
 -- the frames of a part and more of the data
 pub cut-whole : (size : ℕ) (part body bytes rest more : List ℕ) → IsCut size part body bytes rest → 0 < size → whole size (part ++ (body ++ more)) ≡ bytes ++ whole size (rest ++ more)
@@ -98,16 +98,16 @@ cut-whole size part body bytes rest more cut some =
     ap (whole size) (regroup part body bytes rest more (sym cut.all)) ∙ whole-append cut.frames size bytes (rest ++ more) some cut.whole_frames
 
 pub sounds-cut : (f : Format) (part body bytes rest : List ℕ) (items : List ℤ) (r : Result Contents WavError) → IsCut (wav_frame f) part body bytes rest → 0 < wav_frame f → ((c : Contents) → r ≡ Ok c → c.format ≡ f)
-    → with_samples items (sounds (with_front part (with_front body r))) ≡ with_samples (items ++ samples_of bytes) (sounds (with_front rest r))
+    → with_samples items (sounds (with_front part (with_front body r))) ≡ with_samples (items ++ samples_of_bytes bytes) (sounds (with_front rest r))
 sounds-cut f part body bytes rest items (Err e) cut some same = refl
 sounds-cut f part body bytes rest items (Ok c) cut some same =
     let is : c.format ≡ f = same c refl in
     let frames : whole (wav_frame c.format) (part ++ (body ++ c.body)) ≡ bytes ++ whole (wav_frame c.format) (rest ++ c.body) =
     subst (λ (g : Format). whole (wav_frame g) (part ++ (body ++ c.body)) ≡ bytes ++ whole (wav_frame g) (rest ++ c.body)) (sym is) (cut-whole (wav_frame f) part body bytes rest c.body cut some) in
-    let samples : items ++ samples_of (whole (wav_frame c.format) (part ++ (body ++ c.body))) ≡ (items ++ samples_of bytes) ++ samples_of (whole (wav_frame c.format) (rest ++ c.body)) =
-    ap (λ (b : List ℕ). items ++ samples_of b) frames
-    ∙ ap (λ (zs : List ℤ). items ++ zs) (samples_of-frames cut.frames f.channels bytes (whole (wav_frame c.format) (rest ++ c.body)) cut.whole_frames)
-    ∙ sym (append_assoc items (samples_of bytes) (samples_of (whole (wav_frame c.format) (rest ++ c.body)))) in
+    let samples : items ++ samples_of_bytes (whole (wav_frame c.format) (part ++ (body ++ c.body))) ≡ (items ++ samples_of_bytes bytes) ++ samples_of_bytes (whole (wav_frame c.format) (rest ++ c.body)) =
+    ap (λ (b : List ℕ). items ++ samples_of_bytes b) frames
+    ∙ ap (λ (zs : List ℤ). items ++ zs) (samples_of_bytes-frames cut.frames f.channels bytes (whole (wav_frame c.format) (rest ++ c.body)) cut.whole_frames)
+    ∙ sym (append_assoc items (samples_of_bytes bytes) (samples_of_bytes (whole (wav_frame c.format) (rest ++ c.body)))) in
     ap (λ (zs : List ℤ). Ok (record { channels = c.format.channels; rate = c.format.rate; samples = zs })) samples
 
 -- the format of the data that is to come
@@ -124,13 +124,13 @@ format_comes depths s f n is more c come =
     ]
 
 pub some_data : (old new : Reader) (f : Format) (n : ℕ) (piece body bytes : List ℕ) (items after : List ℤ) → old.starved ≡ false → new.starved ≡ false → new.scan.place ≡ DataBody f n → 0 < wav_frame f
-    → IsCut (wav_frame f) old.part body bytes new.part → after ≡ items ++ samples_of bytes
+    → IsCut (wav_frame f) old.part body bytes new.part → after ≡ items ++ samples_of_bytes bytes
     → (more : List ℕ) → to_come Sixteen old.scan (piece ++ more) ≡ with_front body (to_come Sixteen new.scan more)
     → with_samples items (sounds (rest_of Sixteen old (piece ++ more))) ≡ with_samples after (sounds (rest_of Sixteen new more))
 some_data old new f n piece body bytes items after fed still is some cut appended more come =
     ap (λ (r : Result Contents WavError). with_samples items (sounds r)) (fed_comes Sixteen old (piece ++ more) fed ∙ ap (with_front old.part) come)
     ∙ sounds-cut f old.part body bytes new.part items (to_come Sixteen new.scan more) cut some (format_comes Sixteen new.scan f n is more)
-    ∙ ap (λ (r : Result Contents WavError). with_samples (items ++ samples_of bytes) (sounds r)) (sym (fed_comes Sixteen new more still))
+    ∙ ap (λ (r : Result Contents WavError). with_samples (items ++ samples_of_bytes bytes) (sounds r)) (sym (fed_comes Sixteen new more still))
     ∙ ap (λ (zs : List ℤ). with_samples zs (sounds (rest_of Sixteen new more))) (sym appended)
 
 -- where memory was wanted the file isn't refused so far
@@ -203,7 +203,7 @@ pub ends_fed : (r : Reader) (f : Format) (n : ℕ) → r.starved ≡ false → r
 ends_fed r f n fed is part come =
     let less : length (r.part ++ []) < wav_frame f = omega (arith, subst (λ (q : Place). IsPart wav_frame q r.part) is part, ap length (append-nil r.part)) in
     ap sounds (fed_comes Sixteen r [] fed ∙ ap (with_front r.part) come)
-    ∙ ap (λ (b : List ℕ). Ok (record { channels = f.channels; rate = f.rate; samples = samples_of b })) (whole-less (wav_frame f) (r.part ++ []) less)
+    ∙ ap (λ (b : List ℕ). Ok (record { channels = f.channels; rate = f.rate; samples = samples_of_bytes b })) (whole-less (wav_frame f) (r.part ++ []) less)
 
 again_at : (depths : Depths) (r : Reader) (e : WavError) (o : Option WavError) → error_of r ≡ o → rest_of depths r [] ≡ Err e → IfSome o (λ d. e ≡ d)
 again_at depths r e None is come = tt

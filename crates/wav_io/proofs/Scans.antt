@@ -14,9 +14,9 @@ use Rattle.wav_io.specs.declared.place.Place.TheVariants.{Opening, Head, FormatB
 use Rattle.wav_io.specs.declared.scan.Scan.{Scan}
 use Rattle.wav_io.specs.declared.scan.Part.{Part}
 use Rattle.wav_io.specs.Chunks.{chunks}
-use Rattle.wav_io.specs.Pieces.{found_from, IsPlace, HasSeen, GoesOn, IsWalked, with_front}
+use Rattle.wav_io.specs.Pieces.{found_from, IsSoundPlace, HasSeen, GoesOn, IsWalked, with_front}
 use Rattle.wav_io.specs.Reading.{Finding, refused, body_found, format_cut, ended, scan_of, found_in, at_end, before_end, within_limit, most_bytes}
-use Rattle.wav_io.specs.Scans.{IsScan, to_come, part_of, with_body, IsBehind, Continues, GoesThrough, Follows}
+use Rattle.wav_io.specs.Scans.{IsScan, to_come, part_bytes, with_body, IsAfterData, ContinuesData, GoesThrough, FollowsData}
 use Rattle.wav_io.proofs.Bodies.{no_room}
 use Rattle.wav_io.proofs.Cutting.{scan_of-ended}
 use Rattle.wav_io.proofs.Limits.{limited-short, limited-long, limited-append, before_end-with_body}
@@ -40,21 +40,21 @@ data-same : (depths : Depths) (f : Format) (missing : ℕ) (kept after bytes mor
 unfolding found_from
 data-same depths f missing kept after bytes more = ap (body_found f) (take-append missing bytes more)
 
-pub through_data : (depths : Depths) (f : Format) (missing : ℕ) (old : Scan) (bytes : List ℕ) (p : Part) (new : Scan) → old.place ≡ DataBody f missing → IsPlace old.place old.kept
+pub through_data : (depths : Depths) (f : Format) (missing : ℕ) (old : Scan) (bytes : List ℕ) (p : Part) (new : Scan) → old.place ≡ DataBody f missing → IsSoundPlace old.place old.kept
     → new ≡ record old { place = DataBody f (missing - length bytes) } → p.format ≡ f → p.body.now ≡ take missing bytes → GoesThrough depths old bytes (Some p) new
 through_data depths f missing old bytes p new is place moved same body =
     subst (λ (s : Scan). GoesThrough depths old bytes (Some p) s) (sym moved) (record {
       same = λ more. ap (λ (q : Place). found_from depths q old.kept (bytes ++ more)) is ∙ data-same depths f missing old.kept old.kept bytes more ∙ ap (λ (front : List ℕ). with_body front (found_from depths (DataBody f (missing - length bytes)) old.kept more)) (sym body);
-      place = subst (λ (q : Place). IsPlace q old.kept) is place;
+      place = subst (λ (q : Place). IsSoundPlace q old.kept) is place;
       seen = λ n was. tt;
       behind = (missing - length bytes, ap (λ (g : Format). DataBody g (missing - length bytes)) (sym same));
-      continues = subst (λ (q : Place). Continues q (Some p)) (sym is) same;
+      continues = subst (λ (q : Place). ContinuesData q (Some p)) (sym is) same;
       counted = refl;
     })
 
 -- ---- up to the data, and through it
 
-not_data : (place : Place) (part : Option Part) → ((f : Format) (n : ℕ) → place ≡ DataBody f n → ⊥) → Continues place part
+not_data : (place : Place) (part : Option Part) → ((f : Format) (n : ℕ) → place ≡ DataBody f n → ⊥) → ContinuesData place part
 not_data Opening part other = tt
 not_data (Head format skip) part other = tt
 not_data (FormatBody missing pad) part other = tt
@@ -94,14 +94,14 @@ none-seen (FormatBody missing pad) kept rest n walked was = tt
 none-seen (DataBody f m) kept rest n walked was = tt
 none-seen (Refused e) kept rest n walked was = tt
 
-none-behind : (place : Place) → ((f : Format) (n : ℕ) → place ≡ DataBody f n → ⊥) → IsBehind None place
+none-behind : (place : Place) → ((f : Format) (n : ℕ) → place ≡ DataBody f n → ⊥) → IsAfterData None place
 none-behind Opening other = tt
 none-behind (Head format skip) other = tt
 none-behind (FormatBody missing pad) other = tt
 none-behind (DataBody f n) other = other f n refl
 none-behind (Refused e) other = tt
 
-pub through_none : (depths : Depths) (walked : Scan) (rest : List ℕ) → IsPlace walked.place walked.kept → IsWalked walked.place rest → ((f : Format) (n : ℕ) → walked.place ≡ DataBody f n → ⊥) → GoesThrough depths walked rest None walked
+pub through_none : (depths : Depths) (walked : Scan) (rest : List ℕ) → IsSoundPlace walked.place walked.kept → IsWalked walked.place rest → ((f : Format) (n : ℕ) → walked.place ≡ DataBody f n → ⊥) → GoesThrough depths walked rest None walked
 through_none depths walked rest place is other = record {
   same = none-same depths walked.place walked.kept rest is other;
   place = place;
@@ -132,10 +132,10 @@ still_scan depths old mid near part scan through short = record {
 
 -- what is to come after a piece
 pub piece_through : (depths : Depths) (old mid : Scan) (near : List ℕ) (part : Option Part) → GoesThrough depths old near part mid → old.seen + length near ≤ most_bytes
-    → (more : List ℕ) → to_come depths old (near ++ more) ≡ with_front (part_of part) (to_come depths (counted_on mid near) more)
+    → (more : List ℕ) → to_come depths old (near ++ more) ≡ with_front (part_bytes part) (to_come depths (counted_on mid near) more)
 piece_through depths old mid near part through short more =
-    limited-append old.seen (found_from depths old.place old.kept) (found_from depths mid.place mid.kept) (part_of part) near short through.same more
-    ∙ ap (λ (n : ℕ). with_front (part_of part) (within_limit (n + length near) (found_from depths mid.place mid.kept) more)) (sym through.counted)
+    limited-append old.seen (found_from depths old.place old.kept) (found_from depths mid.place mid.kept) (part_bytes part) near short through.same more
+    ∙ ap (λ (n : ℕ). with_front (part_bytes part) (within_limit (n + length near) (found_from depths mid.place mid.kept) more)) (sym through.counted)
 
 -- ---- refusals
 
@@ -154,20 +154,20 @@ refused_comes depths s e is more = ap (λ (q : Place). within_limit s.seen (foun
 pub refused_through : (depths : Depths) (old mid : Scan) (near : List ℕ) (part : Option Part) (e : WavError) → GoesThrough depths old near part mid → old.seen + length near ≤ most_bytes → mid.place ≡ Refused e
     → (more : List ℕ) → to_come depths old (near ++ more) ≡ Err e
 refused_through depths old mid near part e through short is more =
-    piece_through depths old mid near part through short more ∙ ap (with_front (part_of part)) (refused_comes depths (counted_on mid near) e is more)
+    piece_through depths old mid near part through short more ∙ ap (with_front (part_bytes part)) (refused_comes depths (counted_on mid near) e is more)
 
 -- a piece that passes the limit
 pub past_limit : (depths : Depths) (old mid : Scan) (piece : List ℕ) (part : Option Part) → GoesThrough depths old (take (most_bytes - old.seen) piece) part mid → IsScan old → most_bytes < old.seen + length piece
-    → (more : List ℕ) → to_come depths old (piece ++ more) ≡ with_front (part_of part) (before_end (found_from depths mid.place mid.kept []))
+    → (more : List ℕ) → to_come depths old (piece ++ more) ≡ with_front (part_bytes part) (before_end (found_from depths mid.place mid.kept []))
 past_limit depths old mid piece part through scan long more =
     let room = most_bytes - old.seen in
     let within : room ≤ length piece = omega (arith, scan.limit) in
     limited-long old.seen (found_from depths old.place old.kept) (piece ++ more) (omega (arith, length-append piece more))
     ∙ ap (λ (b : List ℕ). before_end (found_from depths old.place old.kept b)) (take-append-le room piece more within ∙ sym (append-nil (take room piece)))
     ∙ ap before_end (through.same [])
-    ∙ before_end-with_body (part_of part) (found_from depths mid.place mid.kept [])
+    ∙ before_end-with_body (part_bytes part) (found_from depths mid.place mid.kept [])
 
-cut_short : (depths : Depths) (place : Place) (kept : List ℕ) → IsPlace place kept → HasSeen place kept most_bytes → ((e : WavError) → place ≡ Refused e → ⊥) → before_end (found_from depths place kept []) ≡ Err TooLong
+cut_short : (depths : Depths) (place : Place) (kept : List ℕ) → IsSoundPlace place kept → HasSeen place kept most_bytes → ((e : WavError) → place ≡ Refused e → ⊥) → before_end (found_from depths place kept []) ≡ Err TooLong
 unfolding found_from
 cut_short depths Opening kept few seen unrefused = absurd (omega (arith, seen, few))
 cut_short depths (Head format skip) kept few seen unrefused =
@@ -182,16 +182,16 @@ too_long depths old mid piece part through scan long unrefused more =
     let near = take (most_bytes - old.seen) piece in
     let all : old.seen + length near ≡ most_bytes = omega (arith, scan.limit, length-take (most_bytes - old.seen) piece) in
     let seen : HasSeen mid.place mid.kept most_bytes = through.seen most_bytes (subst (λ (n : ℕ). HasSeen old.place (old.kept ++ near) n) all (seen-more old.place old.kept near old.seen scan.seen)) in
-    past_limit depths old mid piece part through scan long more ∙ ap (with_front (part_of part)) (cut_short depths mid.place mid.kept through.place seen unrefused)
+    past_limit depths old mid piece part through scan long more ∙ ap (with_front (part_bytes part)) (cut_short depths mid.place mid.kept through.place seen unrefused)
 
 pub refused_past : (depths : Depths) (old mid : Scan) (piece : List ℕ) (part : Option Part) (e : WavError) → GoesThrough depths old (take (most_bytes - old.seen) piece) part mid → IsScan old → most_bytes < old.seen + length piece
     → mid.place ≡ Refused e → (more : List ℕ) → to_come depths old (piece ++ more) ≡ Err e
 unfolding found_from
 refused_past depths old mid piece part e through scan long is more =
     past_limit depths old mid piece part through scan long more
-    ∙ ap (λ (q : Place). with_front (part_of part) (before_end (found_from depths q mid.kept []))) is
+    ∙ ap (λ (q : Place). with_front (part_bytes part) (before_end (found_from depths q mid.kept []))) is
 
-pub follows_from : (place : Place) (part : Option Part) → Continues place part → ((e : WavError) → place ≡ Refused e → ⊥) → Follows place (Ok part)
+pub follows_from : (place : Place) (part : Option Part) → ContinuesData place part → ((e : WavError) → place ≡ Refused e → ⊥) → FollowsData place (Ok part)
 follows_from Opening part is unrefused = tt
 follows_from (Head format skip) part is unrefused = tt
 follows_from (FormatBody missing pad) part is unrefused = tt
@@ -199,7 +199,7 @@ follows_from (DataBody f n) None is unrefused = is
 follows_from (DataBody f n) (Some p) is unrefused = is
 follows_from (Refused e) part is unrefused = unrefused e refl
 
-pub follows_err : (place : Place) (e : WavError) → ((d : WavError) → place ≡ Refused d → ⊥) → Follows place (Err e)
+pub follows_err : (place : Place) (e : WavError) → ((d : WavError) → place ≡ Refused d → ⊥) → FollowsData place (Err e)
 follows_err Opening e unrefused = tt
 follows_err (Head format skip) e unrefused = tt
 follows_err (FormatBody missing pad) e unrefused = tt

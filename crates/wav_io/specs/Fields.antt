@@ -7,10 +7,10 @@ abbrev pub number_at : Width → ℕ → List ℕ → ℕ
 number_at w place bytes = from_le_bytes w (drop place bytes)
 
 -- signed samples of two bytes each, the low byte first; a last single byte is none
-abbrev pub samples_of : List ℕ → List ℤ
-samples_of (low ∷ high ∷ rest) = cast_signed w16 (from_le_bytes w16 (low ∷ high ∷ [])) ∷ samples_of rest
-samples_of (low ∷ []) = []
-samples_of [] = []
+abbrev pub samples_of_bytes : List ℕ → List ℤ
+samples_of_bytes (low ∷ high ∷ rest) = cast_signed w16 (from_le_bytes w16 (low ∷ high ∷ [])) ∷ samples_of_bytes rest
+samples_of_bytes (low ∷ []) = []
+samples_of_bytes [] = []
 
 -- as many whole frames of this size in bytes as there are
 abbrev pub whole : ℕ → List ℕ → List ℕ

@@ -27,12 +27,12 @@ abbrev pub bytes_after : ℕ → List ℕ → List ℕ
 bytes_after size bytes = drop (size + size % 2) bytes
 
 -- the kept bytes are fewer than wanted, and what is known of the format is in order
-abbrev pub IsPlace : Place → List ℕ → Type 0
-IsPlace Opening kept = length kept < 12
-IsPlace (Head format skip) kept = (length kept < 8) × IfSome format IsFormat
-IsPlace (FormatBody missing pad) kept = (0 < missing) × (length kept ≤ 40) × (16 ≤ length kept + missing)
-IsPlace (DataBody format missing) kept = IsFormat format
-IsPlace (Refused e) kept = e ≢ Memory
+abbrev pub IsSoundPlace : Place → List ℕ → Type 0
+IsSoundPlace Opening kept = length kept < 12
+IsSoundPlace (Head format skip) kept = (length kept < 8) × IfSome format IsFormat
+IsSoundPlace (FormatBody missing pad) kept = (0 < missing) × (length kept ≤ 40) × (16 ≤ length kept + missing)
+IsSoundPlace (DataBody format missing) kept = IsFormat format
+IsSoundPlace (Refused e) kept = e ≢ Memory
 
 -- in the first bytes of a file all bytes are kept
 abbrev pub HasSeen : Place → List ℕ → ℕ → Type 0
@@ -45,14 +45,14 @@ HasSeen (Refused e) kept seen = Unit {0}
 -- a new place where the next bytes are at hand, with no byte kept: the result of scanning the file is what they are found to be
 pub record LeadsTo (depths : Depths) (new : Place) (find : List ℕ → Finding) : Type 0 where
   pub same : (more : List ℕ) → found_from depths new [] more ≡ find more
-  pub place : IsPlace new []
+  pub place : IsSoundPlace new []
   pub opened : (kept : List ℕ) (n : ℕ) → HasSeen new kept n
 
 -- from one place to a later one, with bytes before and the rest of them after: whatever comes after them, the file gives
 -- the same
 pub record GoesOn (depths : Depths) (old : Place) (before bytes : List ℕ) (new : Place) (after rest : List ℕ) : Type 0 where
   pub same : (more : List ℕ) → found_from depths new after (rest ++ more) ≡ found_from depths old before (bytes ++ more)
-  pub place : IsPlace new after
+  pub place : IsSoundPlace new after
   pub seen : (n : ℕ) → HasSeen old (before ++ bytes) n → HasSeen new (after ++ rest) n
 
 -- more of the data in front

@@ -35,7 +35,7 @@ IsPart size (FormatBody missing pad) part = part ≡ []
 IsPart size (DataBody format missing) part = length part < size format
 IsPart size (Refused e) part = Unit {0}
 
-pub record IsReader (size : Format → ℕ) (r : Reader) : Type 0 where
+pub record IsFileReader (size : Format → ℕ) (r : Reader) : Type 0 where
   pub scan : IsScan r.scan
   pub part : IsPart size r.scan.place r.part
 

@@ -7,7 +7,7 @@ use Rattle.wav_io.specs.declared.format.Depths.{Depths}
 use Rattle.wav_io.specs.declared.format.Depths.TheVariants.{Sixteen}
 use Rattle.wav_io.specs.declared.format.Format.{Format}
 use Rattle.wav_io.specs.Sound.{Sound}
-use Rattle.wav_io.specs.Fields.{samples_of, whole_frames}
+use Rattle.wav_io.specs.Fields.{samples_of_bytes, whole_frames}
 use Rattle.wav_io.specs.Chunks.{Chunk, chunks}
 use Rattle.wav_io.specs.Formats.{format_of}
 
@@ -112,7 +112,7 @@ contents depths bytes = within_limit 0 (found_in depths) bytes
 
 -- the sound of a body: whole frames, without a rest
 abbrev pub sound_of : Format → List ℕ → Sound
-sound_of f body = record { channels = f.channels; rate = f.rate; samples = samples_of (whole_frames f.channels body) }
+sound_of f body = record { channels = f.channels; rate = f.rate; samples = samples_of_bytes (whole_frames f.channels body) }
 
 -- the sound of a file's format and data
 abbrev pub sounds : Result Contents WavError → Result Sound WavError

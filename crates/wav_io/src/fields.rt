@@ -2,7 +2,7 @@
 
 ghost use Rattle.std.specs.Prelude.{◌≡◌, ◌+◌, ◌/◌, ◌≤◌, length};
 ghost use Rattle.std.specs.Int.{cast_signed, w16, w32};
-ghost use Rattle.wav_io.specs.Fields.{number_at, samples_of};
+ghost use Rattle.wav_io.specs.Fields.{number_at, samples_of_bytes};
 
 /// The 16-bit number at a place.
 pub fn u16_at(bytes: &[u8], place: usize) -> u16
@@ -39,7 +39,7 @@ fn sample_at(bytes: &[u8], place: usize) -> i16
 /// several at a time.
 pub fn decode(samples: &mut [i16], bytes: &[u8])
     requires { length samples.old ≡ length bytes.now / 2 }
-    ensures { samples.new ≡ samples_of bytes.now }
+    ensures { samples.new ≡ samples_of_bytes bytes.now }
 {
     for i in 0..samples.len() {
         samples[i] = sample_at(bytes, 2 * i);

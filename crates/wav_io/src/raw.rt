@@ -45,13 +45,13 @@ pub struct RawReader {
 }
 
 impl Model for RawReader {
-    ghost use Rattle.wav_io.specs.Readers.{Reader, IsReader, raw_frame};
+    ghost use Rattle.wav_io.specs.Readers.{Reader, IsFileReader, raw_frame};
 
     ghost Value = { Reader };
 
     ghost view = { λ r. record { scan = r.scan; part = r.part; starved = r.is_starved } };
 
-    ghost invariant = { λ r. IsReader raw_frame (record {
+    ghost invariant = { λ r. IsFileReader raw_frame (record {
       scan = r.scan;
       part = r.part;
       starved = r.is_starved;

@@ -2,7 +2,7 @@
 
 ghost use Rattle.std.specs.Prelude.{◌≡◌, ◌≢◌, ◌<◌, ◌≤◌, ◌%◌, ◌++◌, ℕ, ℤ, List, [], length, None, Some, Ok, Err, IsOk, IfOk, IfErr, IfSome, OnOk, OnErr};
 ghost use Rattle.wav_io.specs.declared.error.WavError.TheVariants.{Memory};
-ghost use Rattle.wav_io.specs.Fields.{samples_of};
+ghost use Rattle.wav_io.specs.Fields.{samples_of_bytes};
 ghost use Rattle.wav_io.specs.Reading.{wav_file};
 ghost use Rattle.wav_io.specs.Formats.{IsFormat};
 ghost use Rattle.wav_io.specs.Frames.{IsCut};
@@ -43,13 +43,13 @@ pub struct WavReader {
 }
 
 impl Model for WavReader {
-    ghost use Rattle.wav_io.specs.Readers.{Reader, IsReader, wav_frame};
+    ghost use Rattle.wav_io.specs.Readers.{Reader, IsFileReader, wav_frame};
 
     ghost Value = { Reader };
 
     ghost view = { λ r. record { scan = r.scan; part = r.part; starved = r.is_starved } };
 
-    ghost invariant = { λ r. IsReader wav_frame (record {
+    ghost invariant = { λ r. IsFileReader wav_frame (record {
       scan = r.scan;
       part = r.part;
       starved = r.is_starved;
@@ -58,7 +58,7 @@ impl Model for WavReader {
 
 /// Appends the samples of the bytes, two bytes each.
 fn push_samples(samples: &mut Vec<i16>, bytes: &[u8]) -> Result<(), AllocError>
-    ensures ok { OnOk result (samples.new.items ≡ samples.old.items ++ samples_of bytes.now) }
+    ensures ok { OnOk result (samples.new.items ≡ samples.old.items ++ samples_of_bytes bytes.now) }
     ensures err { OnErr result (samples.new.items ≡ samples.old.items) }
 {
     let before = samples.len();
@@ -71,7 +71,7 @@ fn push_samples(samples: &mut Vec<i16>, bytes: &[u8]) -> Result<(), AllocError>
 /// Appends the samples of whole frames, two bytes each; none of them where memory is short.
 fn push_whole(samples: &mut Vec<i16>, whole: &Whole<'_>) -> Result<(), AllocError>
     ensures ok { OnOk result (samples.new.items ≡ samples.old.items
-        ++ (samples_of whole.now.first ++ samples_of whole.now.others.now)) }
+        ++ (samples_of_bytes whole.now.first ++ samples_of_bytes whole.now.others.now)) }
     ensures err { OnErr result (samples.new.items ≡ samples.old.items) }
 {
     let before = samples.len();
@@ -93,7 +93,7 @@ fn push_part(
     requires in_order { IsFormat format }
     requires part { length part.old < wav_frame format }
     ensures ok { OnOk result ((whole : List ℕ)
-        × (samples.new.items ≡ samples.old.items ++ samples_of whole)
+        × (samples.new.items ≡ samples.old.items ++ samples_of_bytes whole)
         × IsCut (wav_frame format) part.old body.now whole part.new) }
     ensures less { length part.new < wav_frame format }
     ensures err { OnErr result (samples.new.items ≡ samples.old.items) }

@@ -3,10 +3,10 @@
 ghost use Rattle.std.specs.Prelude.{◌≡◌, ◌≢◌, ◌+◌, ◌-◌, ◌<◌, ◌≤◌, ◌++◌, [], ℕ, List, length, take, None, Ok, Err, OnOk, IfOk, IfErr, IfSome, IfNone};
 ghost use Rattle.wav_io.specs.declared.error.WavError.TheVariants.{Memory};
 ghost use Rattle.wav_io.specs.declared.place.Place.TheVariants.{Opening, DataBody, Refused};
-ghost use Rattle.wav_io.specs.Pieces.{GoesOn, IsPlace, IsWalked, with_front};
+ghost use Rattle.wav_io.specs.Pieces.{GoesOn, IsSoundPlace, IsWalked, with_front};
 ghost use Rattle.wav_io.specs.Formats.{IsFormat};
 ghost use Rattle.wav_io.specs.Reading.{at_end, ended};
-ghost use Rattle.wav_io.specs.Scans.{IsScan, to_come, part_of, GoesThrough, IsBehind, Follows, refusal_of};
+ghost use Rattle.wav_io.specs.Scans.{IsScan, to_come, part_bytes, GoesThrough, IsAfterData, FollowsData, refusal_of};
 
 use crate::error::WavError;
 use crate::format::{Depths, Format};
@@ -60,7 +60,7 @@ impl Scan {
 
     /// Goes on by a step, and gives the bytes that follow; `None` in the data and after a refusal.
     fn step<'a>(&mut self, depths: Depths, bytes: &'a [u8]) -> Option<&'a [u8]>
-        requires place { IsPlace self.old.place self.old.kept }
+        requires place { IsSoundPlace self.old.place self.old.kept }
         requires some { 0 < length bytes.now }
         ensures goes_on { IfSome result (λ behind. GoesOn depths self.old.place self.old.kept
             bytes.now self.new.place self.new.kept behind.now) }
@@ -82,7 +82,7 @@ impl Scan {
 
     /// Goes on up to the data, to a refusal or to the end of the bytes, and gives the bytes that follow.
     fn walk<'a>(&mut self, depths: Depths, bytes: &'a [u8]) -> &'a [u8]
-        requires place { IsPlace self.old.place self.old.kept }
+        requires place { IsSoundPlace self.old.place self.old.kept }
         ensures goes_on { GoesOn depths self.old.place self.old.kept bytes.now self.new.place
             self.new.kept result.now }
         ensures walked { IsWalked self.new.place result.now }
@@ -115,7 +115,7 @@ impl Scan {
 
     /// Goes on to the end of the bytes, and gives the part of them that is in the data.
     fn go<'a>(&mut self, depths: Depths, bytes: &'a [u8]) -> Option<Part<'a>>
-        requires place { IsPlace self.old.place self.old.kept }
+        requires place { IsSoundPlace self.old.place self.old.kept }
         ensures { GoesThrough depths self.old bytes.now result self.new }
     {
         if let Place::DataBody { format, missing } = self.place {
@@ -139,13 +139,13 @@ impl Scan {
         ensures scan { IsScan self.new }
         ensures ok { IfOk result (λ part. (more : List ℕ)
             → to_come depths self.old (piece.now ++ more)
-            ≡ with_front (part_of part) (to_come depths self.new more)) }
+            ≡ with_front (part_bytes part) (to_come depths self.new more)) }
         ensures err { IfErr result (λ e. (more : List ℕ)
             → to_come depths self.old (piece.now ++ more) ≡ Err e) }
         ensures refused { IfErr result (λ e. (self.new.place ≡ Refused e) × (e ≢ Memory)) }
-        ensures behind { IfOk result (λ part. IsBehind part self.new.place) }
+        ensures behind { IfOk result (λ part. IsAfterData part self.new.place) }
         ensures no_refusal { OnOk result (refusal_of self.new.place ≡ None) }
-        ensures follows { Follows self.old.place result }
+        ensures follows { FollowsData self.old.place result }
     {
         if let Place::Refused(error) = self.place {
             return Err(error);

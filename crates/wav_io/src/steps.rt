@@ -3,7 +3,7 @@
 ghost use Rattle.std.specs.Prelude.{◌<◌, ℕ, List, length};
 ghost use Rattle.wav_io.specs.declared.format.Depths.{Depths};
 ghost use Rattle.wav_io.specs.declared.place.Place.TheVariants.{Opening, Head, FormatBody};
-ghost use Rattle.wav_io.specs.Pieces.{GoesOn, IsPlace};
+ghost use Rattle.wav_io.specs.Pieces.{GoesOn, IsSoundPlace};
 
 use crate::format::{Depths, Format};
 use crate::judging::{after_format, after_head, after_opening};
@@ -12,7 +12,7 @@ use crate::place::Place;
 
 /// Goes on in the 12 bytes before the first chunk, and gives the bytes that follow.
 pub fn opening<'a>(kept: &mut Kept, bytes: &'a [u8]) -> (Place, &'a [u8])
-    requires place { IsPlace Opening kept.old }
+    requires place { IsSoundPlace Opening kept.old }
     requires some { 0 < length bytes.now }
     ensures goes_on { (depths : Depths)
         → GoesOn depths Opening kept.old bytes.now result.0 kept.new result.1.now }
@@ -31,7 +31,7 @@ pub fn opening<'a>(kept: &mut Kept, bytes: &'a [u8]) -> (Place, &'a [u8])
 fn gap(format: Option<Format>, skip: usize, bytes: &[u8]) -> (Place, &[u8])
     requires skip { 0 < skip }
     requires some { 0 < length bytes.now }
-    ensures goes_on { (depths : Depths) (kept : List ℕ) → IsPlace (Head format skip) kept
+    ensures goes_on { (depths : Depths) (kept : List ℕ) → IsSoundPlace (Head format skip) kept
         → GoesOn depths (Head format skip) kept bytes.now result.0 kept result.1.now }
     ensures shorter { length result.1.now < length bytes.now }
 {
@@ -51,7 +51,7 @@ pub fn head<'a>(
     skip: usize,
     bytes: &'a [u8],
 ) -> (Place, &'a [u8])
-    requires place { IsPlace (Head format skip) kept.old }
+    requires place { IsSoundPlace (Head format skip) kept.old }
     requires some { 0 < length bytes.now }
     ensures goes_on { (depths : Depths)
         → GoesOn depths (Head format skip) kept.old bytes.now result.0 kept.new result.1.now }
@@ -77,7 +77,7 @@ pub fn format_body<'a>(
     pad: usize,
     bytes: &'a [u8],
 ) -> (Place, &'a [u8])
-    requires place { IsPlace (FormatBody missing pad) kept.old }
+    requires place { IsSoundPlace (FormatBody missing pad) kept.old }
     requires some { 0 < length bytes.now }
     ensures goes_on { GoesOn depths (FormatBody missing pad) kept.old bytes.now result.0 kept.new
         result.1.now }

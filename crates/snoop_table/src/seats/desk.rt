@@ -1,7 +1,7 @@
 //! Where the writer stores sample by sample.
 ghost use Rattle.std.specs.Prelude.{◌≡◌, ◌<◌, length};
 ghost use Rattle.snd_base.specs.Places.{lap};
-ghost use Rattle.snoop_table.specs.Known.{IsPlace, IsWriter, SitsAt};
+ghost use Rattle.snoop_table.specs.Known.{IsWritePlace, IsWriter, SitsAt};
 
 use super::place::WritePlace;
 use super::plays::{Keep, Publish, Unplug};
@@ -20,7 +20,7 @@ pub struct Desk<'a> {
     pub(super) gone: bool,
     ghost same_ring: { SitsAt seat.table_id ring.now.table_id geometry ring.now.key seat.me.1 },
     ghost known: { IsWriter seat.me.0 geometry place.next position gone },
-    ghost at_next: { IsPlace geometry place },
+    ghost at_next: { IsWritePlace geometry place },
 }
 
 impl Desk<'_> {

@@ -1,7 +1,7 @@
 //! Where the writer stores next.
 ghost use Rattle.std.specs.Prelude.{◌≡◌, ◌+◌, ◌<◌, ◌^◌};
 ghost use Rattle.snd_base.specs.Places.{cursor_after};
-ghost use Rattle.snoop_table.specs.Known.{IsPlace};
+ghost use Rattle.snoop_table.specs.Known.{IsWritePlace};
 
 use snd_base::{Cursor, Geometry};
 
@@ -17,7 +17,7 @@ pub struct WritePlace {
 impl WritePlace {
     /// The ring's first frame, and its channel 0.
     pub(super) fn first(geometry: &Geometry) -> WritePlace
-        ensures place { IsPlace geometry.now result }
+        ensures place { IsWritePlace geometry.now result }
         ensures frame { result.next.frame ≡ Rattle.snd_base.specs.Places.first_frame geometry.now }
         ensures channel { result.next.channel ≡ 0 }
     {
@@ -32,10 +32,10 @@ impl WritePlace {
     /// The place right after this one.
     #[inline(always)]
     pub(super) fn behind(&self, geometry: &Geometry) -> WritePlace
-        requires place { IsPlace geometry.now self.now }
+        requires place { IsWritePlace geometry.now self.now }
         requires channel { self.now.next.channel < geometry.now.channels }
         requires frame { self.now.next.frame + 1 < 2 ^ 63 }
-        ensures place { IsPlace geometry.now result }
+        ensures place { IsWritePlace geometry.now result }
         ensures next { result.next ≡ cursor_after geometry.now self.now.next.frame
             self.now.next.channel }
     {

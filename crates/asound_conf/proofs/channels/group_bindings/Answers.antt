@@ -1,13 +1,13 @@
 use Rattle.std.proofs.Common.{◌≡◌, ℕ, List, Some, ap, sym, ◌∙◌, take}
 use Rattle.std.specs.Prelude.{option_map}
 use Rattle.asound_conf.specs.Node.{entries_in}
-use Rattle.asound_conf.specs.Device.{values_of, count_of}
+use Rattle.asound_conf.specs.Device.{numbered_values, count_of_names}
 use Rattle.asound_conf.proofs.NumberedValues.{bindings_in-take}
 use Rattle.asound_conf.proofs.channels.group_bindings.Goals as goal
 
 pub returns : goal.returns
 returns c =
-    let values = values_of (entries_in c.args.group) (count_of (entries_in c.args.group)) in
+    let values = numbered_values (entries_in c.args.group) (count_of_names (entries_in c.args.group)) in
     let kept = take c.in_ok-list.count c.in_ok-list.list in
     let same : Some kept ≡ option_map (λ list. take 9 list) values = sym (ap (option_map (λ (v : List ℕ × ℕ). take v.1 v.0)) c.in_ok-list.ensures.ok_part) ∙ c.values_of.ensures.values in
     c.bind.ensures ∙ bindings_in-take values kept c.args.channels same

@@ -1,8 +1,8 @@
 use Rattle.std.proofs.Common.{◌≡◌, ◌<◌, ℕ, List, None, refl, sym, ◌∙◌, ap, ap₂, subst, set}
-use Rattle.asound_conf.specs.Rows.{Alters, Contents, IsAbsent, IsNode, Row, group_of, row_at}
+use Rattle.asound_conf.specs.Rows.{Alters, Contents, IsAbsent, IsNode, ConfRow, group_of, row_at}
 use Rattle.asound_conf.specs.Table.{name_in}
 use Rattle.asound_conf.specs.Tree.{without_name}
-use Rattle.asound_conf.proofs.Groups.{Alters-both, Alters-same, group-removed, has-IsAbsent, members, members-removed}
+use Rattle.asound_conf.proofs.Groups.{Alters-both, Alters-same, group-removed, has_node-IsAbsent, members, members-removed}
 use Rattle.asound_conf.proofs.Places.{without-none}
 use Rattle.asound_conf.proofs.Rows.{Alters-set, is_in-Some, only-None}
 use Rattle.asound_conf.proofs.group.remove_all.Goals as goal
@@ -17,13 +17,13 @@ loop-number-preserved c =
     let n = c.in-Some.number in
     let name = name_in c.loop-number.table.text c.args.name in
     let is : IsNode rows q name n = subst (λ (b : List ℕ). IsNode rows q b n) c.key.ensures c.in-Some.ensures.some in
-    let s : Row = record { parent = None; name = (row_at rows n).name; value = None } in
+    let s : ConfRow = record { parent = None; name = (row_at rows n).name; value = None } in
     let new : c.remove.new.self.rows ≡ set rows n s = ap (λ (x : Contents). x.rows) c.remove.ensures in
     let same : c.remove.new.self.text ≡ c.loop-number.table.text = ap (λ (x : Contents). x.text) c.remove.ensures in
     record {
-      left = ap₂ (λ (t : List ℕ) (rs : List Row). without_name (name_in t c.args.name) (group_of q rs)) same new ∙ group-removed rows q name n s is refl ∙ c.loop-number.invariant.left;
+      left = ap₂ (λ (t : List ℕ) (rs : List ConfRow). without_name (name_in t c.args.name) (group_of q rs)) same new ∙ group-removed rows q name n s is refl ∙ c.loop-number.invariant.left;
       text = same ∙ c.loop-number.invariant.text;
-      alters = Alters-both q c.args.table.now.rows rows c.remove.new.self.rows c.loop-number.invariant.alters (subst (λ (rs : List Row). Alters q rows rs) (sym new) (Alters-set q n s rows is.parent (only-None q s refl)));
+      alters = Alters-both q c.args.table.now.rows rows c.remove.new.self.rows c.loop-number.invariant.alters (subst (λ (rs : List ConfRow). Alters q rows rs) (sym new) (Alters-set q n s rows is.parent (only-None q s refl)));
     }
 
 pub loop-number-smaller : goal.loop-number-smaller
@@ -32,9 +32,9 @@ loop-number-smaller c =
     let rows = c.loop-number.table.rows in
     let n = c.in-Some.number in
     let is = c.in-Some.ensures.some in
-    let s : Row = record { parent = None; name = (row_at rows n).name; value = None } in
+    let s : ConfRow = record { parent = None; name = (row_at rows n).name; value = None } in
     let new : c.remove.new.self.rows ≡ set rows n s = ap (λ (x : Contents). x.rows) c.remove.ensures in
-    subst (λ (rs : List Row). members q rs < members q rows) (sym new) (members-removed q n s rows is.inside (is_in-Some q (row_at rows n).parent is.parent) refl)
+    subst (λ (rs : List ConfRow). members q rs < members q rows) (sym new) (members-removed q n s rows is.inside (is_in-Some q (row_at rows n).parent is.parent) refl)
 
 pub returns-clause-value : goal.returns-clause-value
 returns-clause-value c =
@@ -42,4 +42,4 @@ returns-clause-value c =
     let rows = c.loop-number.table.rows in
     let name = name_in c.loop-number.table.text c.args.name in
     let none : IsAbsent rows q name = subst (λ (b : List ℕ). IsAbsent rows q b) c.key.ensures c.in_default.ensures.none in
-    sym (without-none name (group_of q rows) (has-IsAbsent rows q name none)) ∙ c.loop-number.invariant.left
+    sym (without-none name (group_of q rows) (has_node-IsAbsent rows q name none)) ∙ c.loop-number.invariant.left

@@ -1,7 +1,7 @@
 use Rattle.std.proofs.Common.{List, ℕ, length, ◌<◌, ◌^◌, ap, sym, subst, ◌∙◌, arith}
 use Rattle.asound_conf.specs.Grammar.{end_of_text, last_line, meaning, start}
 use Rattle.asound_conf.specs.Reading.{state_of}
-use Rattle.asound_conf.specs.Start.{IsAt}
+use Rattle.asound_conf.specs.Start.{IsTokenAt}
 use Rattle.asound_conf.specs.Token.{LineToken, token_of, tokens}
 use Rattle.asound_conf.proofs.Readings.{meaning-next, meaning-nil, meaning-refused, Reads-along}
 use Rattle.asound_conf.proofs.Starts.{IsBefore-suffix, IsSuffix-both, IsSuffix-self}
@@ -27,7 +27,7 @@ start_of-start-requires c = record {
 pub take-requires : goal.take-requires
 take-requires c = record {
   valid = c.loop-lexeme.invariant.valid;
-  given = subst (λ (t : List ℕ). IsAt t c.start_of-start.result c.in-Some.lexeme.token) (sym c.loop-lexeme.invariant.text) c.start_of-start.ensures;
+  given = subst (λ (t : List ℕ). IsTokenAt t c.start_of-start.result c.in-Some.lexeme.token) (sym c.loop-lexeme.invariant.text) c.start_of-start.ensures;
 }
 
 pub returns-in-Err-take : goal.returns-in-Err-take

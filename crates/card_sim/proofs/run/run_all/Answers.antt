@@ -3,13 +3,13 @@ use Rattle.snd_base.specs.declared.places.Cursor.{Cursor}
 use Rattle.sum_table.specs.declared.view.Key.{Key}
 use Rattle.card_player.specs.declared.player.CardPlayer.{CardPlayer}
 use Rattle.card_player.specs.FillLaws.{HasFilled, HasFilled-more}
-use Rattle.card_player.specs.Plays.{IsDue, ends_period, frame_of, geometry_of, is_multiple, periods_to, samples_of, seat_of}
+use Rattle.card_player.specs.Plays.{IsDue, ends_period, frame_of, geometry_of, is_multiple, periods_to, first_samples, seat_of}
 use Rattle.card_sim.specs.RunLaws.{HasCaptured-more, RunsFrames-ended, RunsFrames-published}
 use Rattle.card_sim.specs.Runs.{HasCaptured}
 use Rattle.snoop_table.specs.declared.seats.writer.WriterSeat.{WriterSeat}
 use Rattle.card_sim.specs.Moments.{moments_to, position_of_writer}
 use Rattle.card_sim.proofs.Watching.{position_of_writer-captured, saw-ended, saw-more, saw-published}
-use Rattle.ring_rule.specs.Positions.{last_of}
+use Rattle.ring_rule.specs.Positions.{last_number}
 use Rattle.card_sim.proofs.run.run_all.Goals as goal
 
 pub publish_period-due-requires-clause-due : goal.publish_period-due-requires-clause-due
@@ -48,7 +48,7 @@ loop-frame-preserved g c =
       watched = saw-more g.W.Watch.saw g.met.W.Watch.saw_composes _ _ _ _ c.args.period (frame_of p) (position_of_writer w) c.loop-frame.frame _ _ _ _ _
           c.loop-frame.invariant.watched
           c.run_frame.ensures.watched frame_is
-          (filled.played.position ∙ ap (λ (n : ℕ). last_of n (periods_to c.args.period (frame_of p) c.loop-frame.frame)) c.requires.can_run.published)
+          (filled.played.position ∙ ap (λ (n : ℕ). last_number n (periods_to c.args.period (frame_of p) c.loop-frame.frame)) c.requires.can_run.published)
           (position_of_writer-captured w v _ _ c.loop-frame.invariant.captured)
           c.publish_period-due.ensures.watched last_is
           (position_of_writer-captured v u _ [] ran.stored);
@@ -69,7 +69,7 @@ returns-then-not-has_ended_period g c =
     let q : CardPlayer = c.loop-frame.player in
     let all : c.loop-frame.frame ≡ c.args.frames = all_run c.loop-frame.frame c.args.frames c.loop-frame-test.false c.loop-frame.auto.frame-end in
     let filled = subst (λ (n : ℕ). HasFilled (seat_of p) (seat_of q) c.args.period n c.args.out.now c.loop-frame.out) all c.loop-frame.invariant.filled in
-    let caught = subst (λ (n : ℕ). HasCaptured c.args.writer.now c.loop-frame.writer (samples_of p n c.args.captured.now) (periods_to c.args.period (frame_of p) n)) all c.loop-frame.invariant.captured in
+    let caught = subst (λ (n : ℕ). HasCaptured c.args.writer.now c.loop-frame.writer (first_samples p n c.args.captured.now) (periods_to c.args.period (frame_of p) n)) all c.loop-frame.invariant.captured in
     let watched = subst (λ (n : ℕ). g.W.Watch.saw c.args.watch.now c.loop-frame.watch (moments_to c.args.period (frame_of p) (position_of_writer c.args.writer.now) n)) all c.loop-frame.invariant.watched in
     let not_ended = sym (ended_is p q c.args.period c.args.frames c.args.out.now c.loop-frame.out filled) ∙ (sym c.has_ended_period.ensures ∙ c.if-not-has_ended_period.true) in
     record {
@@ -87,7 +87,7 @@ returns-else-not-has_ended_period g c =
     let q : CardPlayer = c.loop-frame.player in
     let all : c.loop-frame.frame ≡ c.args.frames = all_run c.loop-frame.frame c.args.frames c.loop-frame-test.false c.loop-frame.auto.frame-end in
     let filled = subst (λ (n : ℕ). HasFilled (seat_of p) (seat_of q) c.args.period n c.args.out.now c.loop-frame.out) all c.loop-frame.invariant.filled in
-    let caught = subst (λ (n : ℕ). HasCaptured c.args.writer.now c.loop-frame.writer (samples_of p n c.args.captured.now) (periods_to c.args.period (frame_of p) n)) all c.loop-frame.invariant.captured in
+    let caught = subst (λ (n : ℕ). HasCaptured c.args.writer.now c.loop-frame.writer (first_samples p n c.args.captured.now) (periods_to c.args.period (frame_of p) n)) all c.loop-frame.invariant.captured in
     let watched = subst (λ (n : ℕ). g.W.Watch.saw c.args.watch.now c.loop-frame.watch (moments_to c.args.period (frame_of p) (position_of_writer c.args.writer.now) n)) all c.loop-frame.invariant.watched in
     let ended = sym (ended_is p q c.args.period c.args.frames c.args.out.now c.loop-frame.out filled) ∙ (sym c.has_ended_period.ensures ∙ c.if-not-has_ended_period.false) in
     record {

@@ -1,7 +1,7 @@
 use Rattle.std.proofs.Common.{refl, ◌+◌, ◌-◌, ◌*◌, ◌≤◌, ◌∙◌, length, arith}
 use Rattle.std.proofs.Math.Nat.{mul-le-mul_right}
 use Rattle.snoop_core.specs.declared.port.Got.TheVariants.{Whole}
-use Rattle.snoop_core.specs.Port.{Gets, frame_of}
+use Rattle.snoop_core.specs.Port.{Gets, numbered_frame}
 use Rattle.dsnoop_client.proofs.Filling.{Fills-ended, Fills-next}
 use Rattle.dsnoop_client.proofs.Getting.{Rest-all, Rest-ended, Rest-next}
 use Rattle.dsnoop_client.proofs.frames.load_frames.Goals as goal
@@ -10,7 +10,7 @@ pub loop-index-preserved : goal.loop-index-preserved
 loop-index-preserved g c =
     let port = g.P.SnoopPort in
     let before = c.loop-index.invariant in
-    let step : Gets port.view port.shows port.loaded port.got port.finds g.G.Gate.stops g.G.Gate.asked c.loop-index.port c.loop-index.gate (frame_of (c.args.first + c.loop-index.index) c.load_through.new.frame) Whole c.load_through.new.port c.load_through.new.gate =
+    let step : Gets port.view port.shows port.loaded port.got port.finds g.G.Gate.stops g.G.Gate.asked c.loop-index.port c.loop-index.gate (numbered_frame (c.args.first + c.loop-index.index) c.load_through.new.frame) Whole c.load_through.new.port c.load_through.new.gate =
     c.in-Whole.ensures.step in
     let room : (c.loop-index.index + 1) * length c.args.bindings.now ≤ c.args.count * length c.args.bindings.now = mul-le-mul_right (length c.args.bindings.now) (omega arith) in
     record {
@@ -19,21 +19,21 @@ loop-index-preserved g c =
           c.loop-index.index c.loop-index-test.true before.takes (c.load_through.new.frame, step);
       fills = Fills-next port g.met.P.SnoopPort.got_composes c.args.port.now c.loop-index.port c.load_through.new.port c.args.bindings.now c.args.first c.loop-index.index c.len-channels.result
           (c.loop-index.index * c.len-channels.result + c.len-channels.result - c.loop-index.index * c.len-channels.result) c.args.out.now c.loop-index.out c.load_through.new.part
-          (frame_of (c.args.first + c.loop-index.index) c.load_through.new.frame) before.view_is c.len-channels.ensures.value (omega arith) refl step.size c.in-Whole.ensures.part (omega (arith, room, c.requires.fits)) before.fills step.got_it;
+          (numbered_frame (c.args.first + c.loop-index.index) c.load_through.new.frame) before.view_is c.len-channels.ensures.value (omega arith) refl step.size c.in-Whole.ensures.part (omega (arith, room, c.requires.fits)) before.fills step.got_it;
     }
 
 pub returns-in_default : goal.returns-in_default
 returns-in_default g c =
     let port = g.P.SnoopPort in
     let before = c.loop-index.invariant in
-    let step : Gets port.view port.shows port.loaded port.got port.finds g.G.Gate.stops g.G.Gate.asked c.loop-index.port c.loop-index.gate (frame_of (c.args.first + c.loop-index.index) c.load_through.new.frame) c.load_through.result c.load_through.new.port c.load_through.new.gate =
+    let step : Gets port.view port.shows port.loaded port.got port.finds g.G.Gate.stops g.G.Gate.asked c.loop-index.port c.loop-index.gate (numbered_frame (c.args.first + c.loop-index.index) c.load_through.new.frame) c.load_through.result c.load_through.new.port c.load_through.new.gate =
     c.load_through.ensures.step in
     record {
       takes = Rest-ended port g.G.Gate c.args.count c.args.first (c.args.port.now, c.args.gate.now) (c.loop-index.port, c.loop-index.gate) (c.load_through.new.port, c.load_through.new.gate)
           c.loop-index.index c.load_through.result c.loop-index-test.true c.in_default.not-Whole before.takes (c.load_through.new.frame, step);
       most = omega arith;
       fills = Fills-ended port g.met.P.SnoopPort.got_composes c.args.port.now c.loop-index.port c.load_through.new.port c.args.bindings.now c.args.first c.loop-index.index c.load_through.result
-          c.args.out.now c.loop-index.out _ (frame_of (c.args.first + c.loop-index.index) c.load_through.new.frame) c.in_default.not-Whole before.fills step.got_it;
+          c.args.out.now c.loop-index.out _ (numbered_frame (c.args.first + c.loop-index.index) c.load_through.new.frame) c.in_default.not-Whole before.fills step.got_it;
     }
 
 pub returns-clause-takes : goal.returns-clause-takes

@@ -2,7 +2,7 @@ use Rattle.std.proofs.Common.{◌∙◌, arith, sym, subst, [], ◌++◌}
 use Rattle.mix_core.specs.Turn.{core_of}
 use Rattle.mix_core.specs.View.{View}
 use Rattle.dmix_client.specs.Calls.{segment_of}
-use Rattle.examples.specs.Mixing.{HasMixed, entries_of}
+use Rattle.examples.specs.Mixing.{HasMixed, member_entries}
 use Rattle.examples.proofs.Mixing.{Grows-fresh, HasMixed-written}
 use Rattle.examples.proofs.two_clients.write.Goals as goal
 
@@ -18,5 +18,5 @@ returns-clause-mixed c = λ placed mixed.
     let grows = Grows-fresh turn port g m client.stream after.stream client.ring samples _ c.requires.fresh c.writei.ensures.keeps.grows in
     let same_core = sym (grows.laid_them.same_core ∙ c.turn-turn.ensures.same_core) in
     let at : HasMixed (core_of turn) placed [] = subst (λ (v : View). HasMixed v placed []) (sym c.turn-turn.ensures.value) mixed in
-    subst (λ (v : View). HasMixed v (placed ++ entries_of g m (segment_of after.stream) samples) []) (grind (arith, same_core))
+    subst (λ (v : View). HasMixed v (placed ++ member_entries g m (segment_of after.stream) samples) []) (grind (arith, same_core))
     (HasMixed-written turn port g m client.stream after.stream samples placed [] c.requires.fresh grows at)

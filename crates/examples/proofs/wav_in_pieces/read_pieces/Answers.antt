@@ -2,7 +2,7 @@ use Rattle.std.proofs.Common.{◌≡◌, ◌%◌, arith, sym, subst, drop, lengt
 use Rattle.std.proofs.lemmas.List.{drop_all, drop_more}
 use Rattle.std.specs.Prelude.{ℤ, List}
 use Rattle.wav_io.specs.Reading.{wav_file}
-use Rattle.examples.specs.Pieces.{bytes_of}
+use Rattle.examples.specs.Pieces.{bytes_of_pieces}
 use Rattle.examples.proofs.Reading.{Reads-refused, ends_whole, refused_next}
 use Rattle.examples.proofs.wav_in_pieces.read_pieces.Goals as goal
 
@@ -20,12 +20,12 @@ pub invariant_of-result : goal.invariant_of-result
 invariant_of-result c =
     let l = c.loop-piece in
     let head = c.in_ok-head.head in
-    let file : wav_file (bytes_of c.args.pieces.now) ≡ Ok (record { channels = head.channels; rate = head.rate; samples = l.samples.items }) =
+    let file : wav_file (bytes_of_pieces c.args.pieces.now) ≡ Ok (record { channels = head.channels; rate = head.rate; samples = l.samples.items }) =
     ends_whole l.reader l.samples.items (drop l.piece-index c.args.pieces.now) head.channels head.rate _
     (drop_all l.piece-index c.args.pieces.now (omega (arith, c.loop-piece-test.false))) l.invariant.same c.in_ok-head.ensures.ok in
     record {
       some_channel = head.some_channel;
       few_channels = head.few_channels;
       some_rate = head.some_rate;
-      whole = subst (λ (zs : List ℤ). length zs % head.channels ≡ 0) (sym c.from_vec.ensures) (c.in_ok-head.ensures.frames (bytes_of c.args.pieces.now) _ file);
+      whole = subst (λ (zs : List ℤ). length zs % head.channels ≡ 0) (sym c.from_vec.ensures) (c.in_ok-head.ensures.frames (bytes_of_pieces c.args.pieces.now) _ file);
     }

@@ -5,7 +5,7 @@ use Rattle.std.proofs.lemmas.List.FromFn.{get_or-map-range_with_len, length-map-
 use Rattle.wav_io.specs.Sound.{Sound}
 use Rattle.rand_pcg.specs.Pcg.{multiplier_64}
 use Rattle.rand_pcg.proofs.LcgLemmas.{advance_zero}
-use Rattle.lab_make.specs.Files.{IsMadeSound, after_words, generator_of, made_sound, made_sounds, sample_at}
+use Rattle.lab_make.specs.Files.{IsMadeSound, after_words, generator_of, made_sound, made_sounds, next_sample}
 use Rattle.lab_make.proofs.Generator.{after_words-file, files-push}
 use Rattle.lab_make.proofs.files.made_files.Goals as goal
 
@@ -27,7 +27,7 @@ made_sound-is : (seed client : ℕ) → IsMadeSound (made_sound seed client)
 made_sound-is seed client = record {
   stereo = refl;
   rate_is = refl;
-  size = length-map-range_with_len (λ index. sample_at (after_words index (after_words (8192 * client) (generator_of seed)))) 0 8192;
+  size = length-map-range_with_len (λ index. next_sample (after_words index (after_words (8192 * client) (generator_of seed)))) 0 8192;
 }
 
 made_sounds-each : (seed clients : ℕ) → All IsMadeSound (made_sounds seed clients)

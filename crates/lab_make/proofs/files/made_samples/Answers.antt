@@ -5,7 +5,7 @@ use Rattle.std.proofs.lemmas.Int.{to_z-of_z}
 use Rattle.std.specs.List.{range_with_len}
 use Rattle.rand_pcg.specs.Pcg.{multiplier_64}
 use Rattle.rand_pcg.proofs.LcgLemmas.{advance_zero}
-use Rattle.lab_make.specs.Files.{after_words, sample_at}
+use Rattle.lab_make.specs.Files.{after_words, next_sample}
 use Rattle.lab_make.proofs.Generator.{after_words-next, samples-push}
 use Rattle.lab_make.proofs.files.made_samples.Goals as goal
 
@@ -25,4 +25,4 @@ loop-index-preserved c =
 pub returns-clause-samples : goal.returns-clause-samples
 returns-clause-samples c =
     let last : c.loop-index.index ≡ 8192 = omega (arith, c.loop-index-test.false, c.loop-index.auto.index-end) in
-    c.loop-index.invariant.samples ∙ ap (λ n. map (λ index. sample_at (after_words index c.args.generator.now)) (range_with_len 0 n)) last
+    c.loop-index.invariant.samples ∙ ap (λ n. map (λ index. next_sample (after_words index c.args.generator.now)) (range_with_len 0 n)) last

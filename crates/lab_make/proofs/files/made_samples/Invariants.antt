@@ -1,11 +1,11 @@
 -- A sample is drawn from each word so far.
 use Rattle.std.proofs.Common.{◌≡◌, map}
 use Rattle.std.specs.List.{range_with_len}
-use Rattle.lab_make.specs.Files.{after_words, sample_at}
+use Rattle.lab_make.specs.Files.{after_words, next_sample}
 use Rattle.lab_make.proofs.files.made_samples.Given as goal
 
 abbrev pub invariant-loop-index : goal.invariant-loop-index
 invariant-loop-index l = record {
-  samples : l.samples.items ≡ map (λ index. sample_at (after_words index l.fn.generator)) (range_with_len 0 l.index);
+  samples : l.samples.items ≡ map (λ index. next_sample (after_words index l.fn.generator)) (range_with_len 0 l.index);
   next : l.generator ≡ after_words l.index l.fn.generator;
 }

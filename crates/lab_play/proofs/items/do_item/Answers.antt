@@ -1,6 +1,6 @@
 use Rattle.lab_phase.specs.BorderLaws.{OnOk-more}
 use Rattle.lab_phase.specs.PhaseRuns.{Stops, stops_by}
-use Rattle.lab_play.specs.Playing.{GoesOn, Scene, StaysWritten, StopsWith, scene}
+use Rattle.lab_play.specs.Playing.{SceneGoesOn, Scene, StaysWritten, StopsWith, scene}
 use Rattle.lab_play.proofs.ItemsResults.{OnErr-all}
 use Rattle.lab_play.proofs.ItemsStopped.{HasStopped-playing}
 use Rattle.lab_play.proofs.items.do_item.Goals as goal
@@ -16,7 +16,7 @@ returns-in-Closes-clause-done g c =
     let stops : Stops = stops_by g.G.Gate.stops c.args.gates.now in
     let before : Scene = scene c.args.lab.now c.args.outputs.now (g.S.Shelf.files c.args.shelf.now) (g.K.Sink.taken c.args.out.now) in
     OnOk-more (StaysWritten c.args.lab.now c.do_border-in-Closes.new.lab)
-    (GoesOn stops before stops (scene c.do_border-in-Closes.new.lab before.outputs before.files before.taken)) c.do_border-in-Closes.result
+    (SceneGoesOn stops before stops (scene c.do_border-in-Closes.new.lab before.outputs before.files before.taken)) c.do_border-in-Closes.result
     (λ stays. stays stops before.outputs before.files before.taken) c.do_border-in-Closes.ensures.written
 
 pub returns-in-Closes-clause-part : goal.returns-in-Closes-clause-part

@@ -2,7 +2,7 @@ use Rattle.std.specs.Prelude.{ℕ, ◌+◌, List, length, slice_get}
 use Rattle.std.proofs.Common.{refl, sym, ap, ◌∙◌}
 use Rattle.std.proofs.lemmas.Option.{slice_get_read}
 use Rattle.lab_script.specs.declared.line.Item.{Item}
-use Rattle.lab_phase.specs.AtStage.{IsNext-at}
+use Rattle.lab_phase.specs.AtStage.{IsNextItem-at}
 use Rattle.lab_phase.specs.PhaseRuns.{stops_by}
 use Rattle.lab_play.specs.Playing.{Scene, StopsWith, scene}
 use Rattle.lab_play.proofs.ItemsResults.{OnErr-all, stopped-with}
@@ -17,7 +17,7 @@ pub do_item-requires-clause-next : goal.do_item-requires-clause-next
 do_item-requires-clause-next g c κs within =
     let playing = c.requires.playing in
     let now = c.loop-index.invariant.goes_on playing.start playing.is in
-    IsNext-at c.loop-index.lab c.args.script.now c.loop-index.index c.index-items-index.result (now.lab_is.script_is.script_is ∙ playing.script_is)
+    IsNextItem-at c.loop-index.lab c.args.script.now c.loop-index.index c.index-items-index.result (now.lab_is.script_is.script_is ∙ playing.script_is)
     c.loop-index.invariant.done
     (ap (λ (items : List Item). slice_get items c.loop-index.index) (sym c.as_slice-items.ensures)
     ∙ slice_get_read c.as_slice-items.result.now (length c.as_slice-items.result.now) c.loop-index.index c.index-items-index.result refl c.loop-index-test.true

@@ -1,6 +1,6 @@
 use Rattle.std.proofs.Common.{◌≡◌, ◌+◌, ℕ, List, [], ◌∷◌, length, sym, ap, subst, arith, length-append}
 use Rattle.lab_reader.specs.declared.reader.LabReader.{LabReader}
-use Rattle.lab_reader.specs.Runs.{IsNew}
+use Rattle.lab_reader.specs.Runs.{IsNeverOpen}
 use Rattle.lab_readers.specs.Opening.{AreNew, AreNew-append}
 use Rattle.lab_readers.proofs.opening.new_readers.Goals as goal
 
@@ -12,6 +12,6 @@ loop-number-preserved c =
     let items = c.in_ok-push.ensures.items in
     record {
       new = subst (λ (rs : List LabReader). AreNew 0 rs) (sym items)
-          (AreNew-append 0 readers reader c.loop-number.invariant.new (subst (λ (n : ℕ). IsNew n reader) at c.new.ensures));
+          (AreNew-append 0 readers reader c.loop-number.invariant.new (subst (λ (n : ℕ). IsNeverOpen n reader) at c.new.ensures));
       count = omega (arith, ap length items, length-append readers (reader ∷ []), count);
     }

@@ -4,7 +4,7 @@ use Rattle.std.specs.Prelude.{◌∷◌}
 use Rattle.hw_space.specs.declared.param.Param.TheVariants.{BufferSize, PeriodSize, Rate}
 use Rattle.lab_run.specs.Openings.{value_if, values_of}
 use Rattle.lab_setup.proofs.Narrowings.{IsChosen-narrowed, IsChosen-nothing}
-use Rattle.lab_setup.proofs.Within.{IsInRange-choice}
+use Rattle.lab_setup.proofs.Within.{IsConfigInRange-choice}
 use Rattle.lab_setup.proofs.configuration.configuration.Goals as goal
 
 pub returns-in_err-narrow-clause-chosen : goal.returns-in_err-narrow-clause-chosen
@@ -24,6 +24,6 @@ pub returns-clause-range : goal.returns-clause-range
 returns-clause-range c =
     let card = c.args.card.now in
     let wanted = c.args.wanted.now in
-    IsInRange-choice card.channels card.rate card.ring wanted.channels card.period
+    IsConfigInRange-choice card.channels card.rate card.ring wanted.channels card.period
     ((Rate, wanted.rate) ∷ (value_if PeriodSize wanted.period ++ value_if BufferSize wanted.buffer)) c.widest-space.result c.narrow.new.space c.choose.result
     c.widest-space.ensures.widest c.in_ok-narrow.ensures c.choose.ensures

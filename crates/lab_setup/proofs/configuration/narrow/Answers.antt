@@ -2,7 +2,7 @@ use Rattle.std.proofs.Common.{◌++◌}
 use Rattle.std.proofs.lemmas.Result.{err_from_is_err_and}
 use Rattle.std.specs.Prelude.{◌∷◌, None}
 use Rattle.hw_space.specs.declared.param.Param.TheVariants.{BufferSize, Channels, PeriodSize, Rate}
-use Rattle.hw_space.specs.Settled.{left_of}
+use Rattle.hw_space.specs.Settled.{space_left}
 use Rattle.lab_run.specs.Openings.{value_if, values_of}
 use Rattle.lab_setup.proofs.Narrowings.{IsNarrowed-append, IsNarrowed-fails, IsNarrowed-goes, IsNarrowed-none, IsNarrowed-refused}
 use Rattle.lab_setup.proofs.configuration.narrow.Goals as goal
@@ -30,7 +30,7 @@ pub returns : goal.returns
 returns c =
     let wanted = c.args.wanted.now in
     let keys = value_if PeriodSize wanted.period ++ value_if BufferSize wanted.buffer in
-    let left = left_of c.set_if-2.result c.set_if-2.new.space in
+    let left = space_left c.set_if-2.result c.set_if-2.new.space in
     IsNarrowed-goes c.args.space.now c.set.new.self Channels wanted.channels ((Rate, wanted.rate) ∷ keys) left c.in_ok-set.ensures.left
     (IsNarrowed-goes c.set.new.self c.set-2.new.self Rate wanted.rate keys left c.in_ok-set-2.ensures.left
     (IsNarrowed-append (value_if PeriodSize wanted.period) (value_if BufferSize wanted.buffer) c.set-2.new.self c.set_if.new.space left

@@ -2,7 +2,7 @@ use Rattle.std.proofs.Common.{◌≡◌, ℕ, List, ◌*◌, ◌+◌, ◌<◌, [
 use Rattle.std.specs.Int.{w16, cast_signed, from_le_bytes}
 use Rattle.std.proofs.lemmas.Int.{to_z-of_z}
 use Rattle.std.proofs.lemmas.List.{take_more_set, take_all}
-use Rattle.wav_io.specs.Fields.{samples_of}
+use Rattle.wav_io.specs.Fields.{samples_of_bytes}
 use Rattle.wav_io.proofs.Bodies.{drop-two, goes_on, ends}
 use Rattle.wav_io.proofs.fields.decode.Goals as goal
 
@@ -16,7 +16,7 @@ loop-i-preserved c =
     = to_z-of_z w16 _ fits ∙ c.sample_at.ensures ∙ ap (λ (rest : List ℕ). cast_signed w16 (from_le_bytes w16 rest)) here in
     let inside : i < length c.loop-i.samples = omega arith in
     record {
-      so_far = ap (λ zs. zs ++ samples_of (drop (2 * (i + 1)) bytes)) (take_more_set c.loop-i.samples i _ inside ∙ ap (λ z. take i c.loop-i.samples ++ z ∷ []) sample) ∙ goes_on (take i c.loop-i.samples) bytes i _ (omega arith) c.loop-i.invariant.so_far;
+      so_far = ap (λ zs. zs ++ samples_of_bytes (drop (2 * (i + 1)) bytes)) (take_more_set c.loop-i.samples i _ inside ∙ ap (λ z. take i c.loop-i.samples ++ z ∷ []) sample) ∙ goes_on (take i c.loop-i.samples) bytes i _ (omega arith) c.loop-i.invariant.so_far;
       len = length-set c.loop-i.samples i _ ∙ c.loop-i.invariant.len;
     }
 

@@ -1,9 +1,9 @@
 use Rattle.std.proofs.Common.{◌≡◌, ◌*◌, ◌++◌, drop, take, length}
-use Rattle.wav_io.specs.Fields.{samples_of}
+use Rattle.wav_io.specs.Fields.{samples_of_bytes}
 use Rattle.wav_io.proofs.fields.decode.Given as goal
 
 abbrev pub invariant-loop-i : goal.invariant-loop-i
 invariant-loop-i l = record {
-  so_far : take l.i l.samples ++ samples_of (drop (2 * l.i) l.bytes) ≡ samples_of l.bytes;
+  so_far : take l.i l.samples ++ samples_of_bytes (drop (2 * l.i) l.bytes) ≡ samples_of_bytes l.bytes;
   len : length l.samples ≡ length l.fn.samples;
 }

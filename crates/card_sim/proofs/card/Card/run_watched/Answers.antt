@@ -2,7 +2,7 @@ use Rattle.std.proofs.Common.{Bool, ◌∙◌, sym, ap, subst}
 use Rattle.snd_base.specs.declared.places.Cursor.{Cursor}
 use Rattle.sum_table.specs.Players.{position_of_player}
 use Rattle.card_player.specs.declared.player.CardPlayer.{CardPlayer}
-use Rattle.card_player.specs.PlayLaws.{last_of-positions_of}
+use Rattle.card_player.specs.PlayLaws.{last_number-positions_of}
 use Rattle.card_player.specs.Plays.{frame_of, frames_left, seat_of}
 use Rattle.card_sim.specs.RunLaws.{RunsFrames-alone}
 use Rattle.card_sim.specs.Steps.{AreSeatsOfCard}
@@ -18,7 +18,7 @@ invariant_of-self g c =
       period_least = c.args.self.now.period_least;
       in_step = subst (λ (b : Bool). AreSeatsOfCard b c.play_by.new.self c.args.self.now.writer) (sym c.if-not-self.true) runs.in_step;
       published = plays.played.position
-          ∙ (last_of-positions_of (position_of_player (seat_of p)) c.args.self.now.period (frame_of p) (frames_left p c.args.out.now)
+          ∙ (last_number-positions_of (position_of_player (seat_of p)) c.args.self.now.period (frame_of p) (frames_left p c.args.out.now)
           ∙ sym (ap (λ (x : Cursor). x.frame) plays.next));
     }
 
@@ -29,6 +29,6 @@ invariant_of-self-2 g c =
       period_least = c.args.self.now.period_least;
       in_step = subst (λ (b : Bool). AreSeatsOfCard b c.run_frames.new.player c.run_frames.new.writer) (sym c.if-not-self.false) runs.in_step;
       published = runs.played.position
-          ∙ (last_of-positions_of (position_of_player (seat_of c.args.self.now.player)) c.args.self.now.period (frame_of c.args.self.now.player) c.min-left.result
+          ∙ (last_number-positions_of (position_of_player (seat_of c.args.self.now.player)) c.args.self.now.period (frame_of c.args.self.now.player) c.min-left.result
           ∙ sym (ap (λ (x : Cursor). x.frame) runs.next));
     }

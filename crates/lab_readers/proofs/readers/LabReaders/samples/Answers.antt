@@ -1,7 +1,7 @@
 use Rattle.std.proofs.Common.{◌∙◌, ap}
-use Rattle.lab_readers.specs.End.{recorded_by-at, samples_of}
+use Rattle.lab_readers.specs.End.{recorded_by-at, read_samples}
 use Rattle.lab_readers.proofs.readers.LabReaders.samples.Goals as goal
 
 pub returns : goal.returns
 returns c session capture xs e are =
-    c.samples.ensures ∙ (ap samples_of c.index.ensures ∙ recorded_by-at session capture xs c.args.self.now c.args.number c.index.result.now e are c.requires)
+    c.samples.ensures ∙ (ap read_samples c.index.ensures ∙ recorded_by-at session capture xs c.args.self.now c.args.number c.index.result.now e are c.requires)

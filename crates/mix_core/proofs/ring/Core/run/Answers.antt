@@ -4,22 +4,22 @@ use Rattle.std.proofs.lemmas.List.{length-set, take_more, take_more_set}
 use Rattle.mix_core.specs.declared.event.Event.{Event}
 use Rattle.mix_core.specs.declared.event.Reply.{Reply}
 use Rattle.mix_core.specs.declared.port.Entry.{Entry}
-use Rattle.mix_core.specs.Run.{IsAnswered, IsRun, Keeps}
+use Rattle.mix_core.specs.Run.{IsAnswered, IsRun, KeepsAdds}
 use Rattle.mix_core.specs.View.{View}
 use Rattle.mix_core.proofs.Replies.{IsRun-more, zip-more}
 use Rattle.mix_core.proofs.ring.Core.run.Goals as goal
 
 -- one more event of a list got its reply
 next_event : (u v w : View) (st su : List Entry) (es : List Event) (rs : List Reply) (i : ℕ) (d : Event) (r : Reply) → i < length es → i < length rs
-    → Keeps st (zip (take i es) (take i rs)) → IsRun u v (take i es) (take i rs) → IsAnswered v w st su (get_or es i d) r → IsRun u w (take (i + 1) es) (take (i + 1) (set rs i r))
+    → KeepsAdds st (zip (take i es) (take i rs)) → IsRun u v (take i es) (take i rs) → IsAnswered v w st su (get_or es i d) r → IsRun u w (take (i + 1) es) (take (i + 1) (set rs i r))
 next_event u v w st su es rs i d r within room keeps run one =
     rw (take_more es i d within, take_more_set rs i r room) (IsRun-more u v w st su (take i es) (take i rs) (get_or es i d) r keeps run one)
 
 next_keeps : (u v w : View) (st su : List Entry) (es : List Event) (rs : List Reply) (i : ℕ) (d : Event) (r : Reply) → i < length es → i < length rs
-    → Keeps st (zip (take i es) (take i rs)) → IsRun u v (take i es) (take i rs) → IsAnswered v w st su (get_or es i d) r → Keeps su (zip (take (i + 1) es) (take (i + 1) (set rs i r)))
+    → KeepsAdds st (zip (take i es) (take i rs)) → IsRun u v (take i es) (take i rs) → IsAnswered v w st su (get_or es i d) r → KeepsAdds su (zip (take (i + 1) es) (take (i + 1) (set rs i r)))
 next_keeps u v w st su es rs i d r within room keeps run one =
     rw (take_more es i d within, take_more_set rs i r room)
-    (subst (Keeps su) (sym (zip-more (take i es) (take i rs) (get_or es i d) r run.one_each)) (one.keeps (zip (take i es) (take i rs)) keeps))
+    (subst (KeepsAdds su) (sym (zip-more (take i es) (take i rs) (get_or es i d) r run.one_each)) (one.keeps (zip (take i es) (take i rs)) keeps))
 
 pub loop-i-preserved : goal.loop-i-preserved
 loop-i-preserved c =

@@ -1,7 +1,7 @@
 use Rattle.std.proofs.Common.{◌≡◌, ◌≤◌, length, take}
 use Rattle.std.specs.Prelude.{vec_capacity, vec_len}
 use Rattle.std.specs.List.{zip}
-use Rattle.mix_core.specs.Run.{IsRun, Keeps}
+use Rattle.mix_core.specs.Run.{IsRun, KeepsAdds}
 use Rattle.mix_core.proofs.ring.Core.run.Given as goal
 
 abbrev pub invariant-loop-i : goal.invariant-loop-i
@@ -10,5 +10,5 @@ invariant-loop-i l = record {
   stood : vec_len l.standing ≤ l.i;
   space : length l.events ≤ vec_capacity l.standing;
   so_far : IsRun l.fn.self l.self (take l.i l.events) (take l.i l.replies.items);
-  keeps : Keeps l.standing.items (zip (take l.i l.events) (take l.i l.replies.items));
+  keeps : KeepsAdds l.standing.items (zip (take l.i l.events) (take l.i l.replies.items));
 }

@@ -1,8 +1,8 @@
 use Rattle.std.proofs.Common.{ap, subst, arith, length, []}
 use Rattle.plug_chain.specs.Held.{samples_of}
-use Rattle.plug_chain.specs.Rates.{IsAt, IsCourse}
+use Rattle.plug_chain.specs.Rates.{IsRateAt, IsCourse}
 use Rattle.plug_chain.specs.Views.{conversion_of}
-use Rattle.plug_chain.proofs.Stages.{HasTaken-none, frame_bytes-some}
+use Rattle.plug_chain.proofs.Stages.{HasTakenBytes-none, frame_bytes-some}
 use Rattle.plug_chain.proofs.converter.Converter.start.Goals as goal
 
 pub returns-clause-stage : goal.returns-clause-stage
@@ -15,5 +15,5 @@ returns-clause-stage c = record {
 
 pub returns-clause-nothing : goal.returns-clause-nothing
 returns-clause-nothing c =
-    HasTaken-none c.args.self.now (record { part = c.empty.result; course = c.start.result }) c.outputs.ensures.bound c.empty.ensures
-    (subst (λ channels. IsAt c.args.self.now.rates channels [] (samples_of c.start.result.last) c.start.result.place) c.outputs.ensures.value c.start.ensures.empty)
+    HasTakenBytes-none c.args.self.now (record { part = c.empty.result; course = c.start.result }) c.outputs.ensures.bound c.empty.ensures
+    (subst (λ channels. IsRateAt c.args.self.now.rates channels [] (samples_of c.start.result.last) c.start.result.place) c.outputs.ensures.value c.start.ensures.empty)

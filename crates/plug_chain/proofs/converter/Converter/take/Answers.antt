@@ -2,8 +2,8 @@ use Rattle.std.proofs.Common.{◌≡◌, ◌<◌, refl, ap, sym, subst, ◌∙�
 use Rattle.std.proofs.lemmas.Bool.Decides.{nat_tests}
 use Rattle.std.proofs.lemmas.List.{append-nil, nil_from_length}
 use Rattle.plug_chain.specs.Courses.{Advances}
-use Rattle.plug_chain.specs.Frames.{frame_bytes, frame_of}
-use Rattle.plug_chain.specs.Held.{part_of}
+use Rattle.plug_chain.specs.Frames.{frame_bytes, frame_from_bytes}
+use Rattle.plug_chain.specs.Held.{part_bytes}
 use Rattle.plug_chain.specs.Views.{conversion_of}
 use Rattle.plug_chain.proofs.Stages.{Continues-full, Continues-short, Continues-whole, on_ok_both}
 use Rattle.plug_chain.proofs.converter.Converter.take.Goals as goal
@@ -17,20 +17,20 @@ returns-then-is_empty-clause-ok c =
 
 pub returns-then-as_slice-frame_bytes-clause-ok : goal.returns-then-as_slice-frame_bytes-clause-ok
 returns-then-as_slice-frame_bytes-clause-ok c =
-    let short : length (part_of c.fill-rest.new.part) < frame_bytes (conversion_of c.args.self.now) = omega (arith, ap length c.as_slice-2.ensures, c.frame_bytes.ensures.value) in
-    let all : part_of c.fill-rest.new.part ≡ part_of c.args.progress.now.part ++ c.args.bytes.now =
-    sym (append-nil (part_of c.fill-rest.new.part)) ∙ (ap (λ (xs : List ℕ). part_of c.fill-rest.new.part ++ xs) (sym (c.fill-rest.ensures.short short)) ∙ c.fill-rest.ensures.same)
+    let short : length (part_bytes c.fill-rest.new.part) < frame_bytes (conversion_of c.args.self.now) = omega (arith, ap length c.as_slice-2.ensures, c.frame_bytes.ensures.value) in
+    let all : part_bytes c.fill-rest.new.part ≡ part_bytes c.args.progress.now.part ++ c.args.bytes.now =
+    sym (append-nil (part_bytes c.fill-rest.new.part)) ∙ (ap (λ (xs : List ℕ). part_bytes c.fill-rest.new.part ++ xs) (sym (c.fill-rest.ensures.short short)) ∙ c.fill-rest.ensures.same)
     in
     Continues-short c.args.self.now c.args.progress.now (record { part = c.fill-rest.new.part; course = c.args.progress.now.course }) c.args.bytes.now c.args.out.now.items c.requires.table all short refl
 
 pub returns-clause-ok : goal.returns-clause-ok
 returns-clause-ok c =
-    let whole : length (part_of c.fill-rest.new.part) ≡ frame_bytes (conversion_of c.args.self.now) = omega (arith, ap length c.as_slice-2.ensures, c.frame_bytes.ensures.value, c.fill-rest.ensures.most) in
+    let whole : length (part_bytes c.fill-rest.new.part) ≡ frame_bytes (conversion_of c.args.self.now) = omega (arith, ap length c.as_slice-2.ensures, c.frame_bytes.ensures.value, c.fill-rest.ensures.most) in
     let first =
-    subst (λ (xs : List ℕ). Advances c.args.self.now.rates c.args.self.now.table.outputs (frame_of (conversion_of c.args.self.now) xs ∷ []) c.args.progress.now.course c.take_frame.new.course c.args.out.now.items c.take_frame.new.out.items)
+    subst (λ (xs : List ℕ). Advances c.args.self.now.rates c.args.self.now.table.outputs (frame_from_bytes (conversion_of c.args.self.now) xs ∷ []) c.args.progress.now.course c.take_frame.new.course c.args.out.now.items c.take_frame.new.out.items)
     c.as_slice-3.ensures c.in_ok-take_frame.ensures.ok
     in
     on_ok_both c.take_whole-2.result
-    (λ advances part. Continues-full c.args.self.now c.args.progress.now c.take_whole-2.new.progress (part_of c.fill-rest.new.part) c.fill-rest.result.now c.args.bytes.now c.take_frame.new.course
+    (λ advances part. Continues-full c.args.self.now c.args.progress.now c.take_whole-2.new.progress (part_bytes c.fill-rest.new.part) c.fill-rest.result.now c.args.bytes.now c.take_frame.new.course
     c.args.out.now.items c.take_frame.new.out.items c.take_whole-2.new.out.items c.requires.table c.fill-rest.ensures.same whole first advances part)
     c.take_whole-2.ensures.ok c.take_whole-2.ensures.part

@@ -1,7 +1,7 @@
 use Rattle.std.proofs.Common.{◌≡◌, ap, sym, subst, ◌∙◌, length, [], ◌∷◌, List, ℤ, ℕ}
 use Rattle.std.specs.Prelude.{OnOk}
 use Rattle.plug_chain.specs.Courses.{Advances}
-use Rattle.plug_chain.specs.Frames.{frame_of}
+use Rattle.plug_chain.specs.Frames.{frame_from_bytes}
 use Rattle.plug_chain.specs.Held.{samples_of}
 use Rattle.plug_chain.specs.Rates.{IsCourse}
 use Rattle.plug_chain.specs.Tables.{output_samples}
@@ -24,7 +24,7 @@ returns-clause-course c =
 
 pub returns-clause-ok : goal.returns-clause-ok
 returns-clause-ok c =
-    let frame : samples_of c.mix.new.frame ≡ frame_of (conversion_of c.args.self.now) c.args.bytes.now = c.mix.ensures ∙ ap (output_samples c.args.self.now.table) (c.as_slice.ensures ∙ c.read.ensures) in
+    let frame : samples_of c.mix.new.frame ≡ frame_from_bytes (conversion_of c.args.self.now) c.args.bytes.now = c.mix.ensures ∙ ap (output_samples c.args.self.now.table) (c.as_slice.ensures ∙ c.read.ensures) in
     subst (λ (xs : List ℤ). OnOk c.advance.result (Advances c.args.self.now.rates c.args.self.now.table.outputs (xs ∷ []) c.args.course.now c.advance.new.course c.args.out.now.items c.advance.new.out.items)) frame
     (subst (λ (n : ℕ). OnOk c.advance.result (Advances c.args.self.now.rates n (samples_of c.mix.new.frame ∷ []) c.args.course.now c.advance.new.course c.args.out.now.items c.advance.new.out.items))
     (ap length c.mix.ensures ∙ length-output_samples c.args.self.now.table c.as_slice.result.now) c.advance.ensures.ok)

@@ -1,6 +1,6 @@
 use Rattle.std.proofs.Common.{◌≡◌, ◌≤◌, ◌<◌, ap, sym, subst, ◌∙◌, arith, length, take, drop, [], ◌∷◌, List, ℕ}
 use Rattle.plug_chain.specs.Courses.{Advances}
-use Rattle.plug_chain.specs.Frames.{frame_bytes, frame_of, rest_of}
+use Rattle.plug_chain.specs.Frames.{frame_bytes, frame_from_bytes, rest_of}
 use Rattle.plug_chain.specs.Views.{conversion_of}
 use Rattle.plug_chain.proofs.Courses.{Extends-trans}
 use Rattle.plug_chain.proofs.Cuts.{rest_of-more, rest_of-short}
@@ -14,7 +14,7 @@ loop-rest-preserved c =
     let enough : frame_bytes (conversion_of c.args.self.now) ≤ length c.loop-rest.rest.now = omega arith in
     let front : c.split_at.result.0.now ≡ take (frame_bytes (conversion_of c.args.self.now)) c.loop-rest.rest.now = c.split_at.ensures.front ∙ ap (λ (n : ℕ). take n c.loop-rest.rest.now) width in
     let back : c.split_at.result.1.now ≡ drop (frame_bytes (conversion_of c.args.self.now)) c.loop-rest.rest.now = c.split_at.ensures.back ∙ ap (λ (n : ℕ). drop n c.loop-rest.rest.now) width in
-    let advances = subst (λ (xs : List ℕ). Advances c.args.self.now.rates c.args.self.now.table.outputs (frame_of (conversion_of c.args.self.now) xs ∷ []) c.loop-rest.course c.take_frame.new.course c.loop-rest.out.items c.take_frame.new.out.items)
+    let advances = subst (λ (xs : List ℕ). Advances c.args.self.now.rates c.args.self.now.table.outputs (frame_from_bytes (conversion_of c.args.self.now) xs ∷ []) c.loop-rest.course c.take_frame.new.course c.loop-rest.out.items c.take_frame.new.out.items)
     front c.in_ok-take_frame.ensures.ok
     in
     record {

@@ -2,7 +2,7 @@ use Rattle.std.proofs.Common.{◌≡◌, List, length, ℤ}
 use Rattle.plug_chain.specs.Frames.{rest_of}
 use Rattle.plug_chain.specs.Growth.{Extends}
 use Rattle.plug_chain.specs.Held.{samples_of}
-use Rattle.plug_chain.specs.Rates.{IsAt, IsCourse}
+use Rattle.plug_chain.specs.Rates.{IsRateAt, IsCourse}
 use Rattle.plug_chain.specs.Views.{conversion_of}
 use Rattle.plug_chain.proofs.Reached.{HasReached}
 use Rattle.plug_chain.proofs.converter.Converter.take_frames.Given as goal
@@ -11,7 +11,7 @@ abbrev pub invariant-loop-rest : goal.invariant-loop-rest
 invariant-loop-rest l = record {
   course : IsCourse l.self.rates l.self.table.outputs (samples_of l.course.last) l.course.place;
   rest : rest_of (conversion_of l.self) l.rest ≡ rest_of (conversion_of l.self) l.bytes;
-  reached : (frames : List (List ℤ)) → IsAt l.self.rates l.self.table.outputs frames (samples_of l.fn.course.last) l.fn.course.place
+  reached : (frames : List (List ℤ)) → IsRateAt l.self.rates l.self.table.outputs frames (samples_of l.fn.course.last) l.fn.course.place
       → HasReached (conversion_of l.self) frames l.bytes l.rest l.course l.fn.out.items l.out.items;
   grows : Extends l.fn.out.items l.out.items;
 }

@@ -1,6 +1,6 @@
 use Rattle.std.proofs.Common.{◌≡◌, ap, ◌∙◌, arith, length, ◌++◌, ℕ, List}
 use Rattle.plug_chain.specs.Frames.{rest_of}
-use Rattle.plug_chain.specs.Held.{part_of}
+use Rattle.plug_chain.specs.Held.{part_bytes}
 use Rattle.plug_chain.specs.Views.{conversion_of}
 use Rattle.plug_chain.proofs.Cuts.{length-rest_of}
 use Rattle.plug_chain.proofs.Stages.{frame_bytes-few, frame_bytes-some}
@@ -18,7 +18,7 @@ extend-requires c =
 
 pub returns-clause-stage : goal.returns-clause-stage
 returns-clause-stage c =
-    let part : part_of c.extend.new.self ≡ rest_of (conversion_of c.args.self.now) c.args.bytes.now =
+    let part : part_bytes c.extend.new.self ≡ rest_of (conversion_of c.args.self.now) c.args.bytes.now =
     c.extend.ensures ∙ (ap (λ (xs : List ℕ). xs ++ c.in_ok-rest.rest.now) c.requires.whole ∙ c.in_ok-rest.ensures.rest)
     in
     record {

@@ -1,7 +1,7 @@
 use Rattle.std.proofs.Common.{◌≡◌, ◌≤◌, ◌+◌, ◌-◌, List, [], ◌∷◌, ◌++◌, length, ℤ}
 use Rattle.plug_chain.specs.Growth.{Extends}
 use Rattle.plug_chain.specs.Held.{samples_of}
-use Rattle.plug_chain.specs.Rates.{IsAt, IsUnderway}
+use Rattle.plug_chain.specs.Rates.{IsRateAt, IsUnderway}
 use Rattle.plug_chain.proofs.rates.Rates.advance.Given as goal
 
 abbrev pub invariant-loop-course : goal.invariant-loop-course
@@ -9,7 +9,7 @@ invariant-loop-course l = record {
   same : l.course.last ≡ l.fn.course.last;
   begun : 1 ≤ l.course.place;
   near : l.course.place ≤ l.self.input + l.self.output;
-  underway : (frames : List (List ℤ)) → IsAt l.self (length (samples_of l.next)) frames (samples_of l.fn.course.last) l.fn.course.place
+  underway : (frames : List (List ℤ)) → IsRateAt l.self (length (samples_of l.next)) frames (samples_of l.fn.course.last) l.fn.course.place
       → IsUnderway l.self (frames ++ samples_of l.next ∷ []) (length frames) l.course.place l.fn.out.items l.out.items;
   grows : Extends l.fn.out.items l.out.items;
 }

@@ -1,13 +1,13 @@
 use Rattle.std.proofs.Common.{◌<◌, ◌+◌, ◌-◌, List, length, ℤ}
 use Rattle.plug_chain.specs.Growth.{Extends}
 use Rattle.plug_chain.specs.Held.{samples_of}
-use Rattle.plug_chain.specs.Rates.{IsAt, IsUnderway}
+use Rattle.plug_chain.specs.Rates.{IsRateAt, IsUnderway}
 use Rattle.plug_chain.proofs.rates.Rates.end.Given as goal
 
 abbrev pub invariant-loop-place : goal.invariant-loop-place
 invariant-loop-place l = record {
   near : l.place < l.self.input + l.self.output;
-  underway : (frames : List (List ℤ)) → IsAt l.self (length (samples_of l.course.last)) frames (samples_of l.course.last) l.course.place
+  underway : (frames : List (List ℤ)) → IsRateAt l.self (length (samples_of l.course.last)) frames (samples_of l.course.last) l.course.place
       → IsUnderway l.self frames (length frames) l.place l.fn.out.items l.out.items;
   grows : Extends l.fn.out.items l.out.items;
 }

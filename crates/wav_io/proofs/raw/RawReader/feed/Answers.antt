@@ -5,9 +5,9 @@ use Rattle.wav_io.specs.declared.format.Depths.TheVariants.{UpTo32}
 use Rattle.wav_io.specs.declared.place.Place.{Place}
 use Rattle.wav_io.specs.declared.scan.Part.{Part}
 use Rattle.wav_io.specs.Formats.{IsFormat}
-use Rattle.wav_io.specs.Pieces.{IsPlace, with_front}
+use Rattle.wav_io.specs.Pieces.{IsSoundPlace, with_front}
 use Rattle.wav_io.specs.Readers.{Reader, raws, raw_to_come, raw_frame, with_bytes}
-use Rattle.wav_io.specs.Scans.{to_come, part_of, IsBehind}
+use Rattle.wav_io.specs.Scans.{to_come, part_bytes, IsAfterData}
 use Rattle.wav_io.proofs.Raws.{some_raw, raw_frame-some}
 use Rattle.wav_io.proofs.Readers.{starved_comes, refused_rest, no_data, not_refused}
 use Rattle.wav_io.proofs.Scans.{refused_comes}
@@ -38,7 +38,7 @@ returns-in-None-clause-same c ne more =
     let old : Reader = record { scan = c.self.inside.scan; part = c.self.inside.part; starved = c.self.inside.is_starved } in
     let new : Reader = record { scan = c.advance.new.self; part = c.self.inside.part; starved = c.self.inside.is_starved } in
     let come : to_come UpTo32 old.scan (c.args.piece.now ++ more) ≡ with_front [] (to_come UpTo32 new.scan more) =
-    subst (λ (d : Option Part). to_come UpTo32 old.scan (c.args.piece.now ++ more) ≡ with_front (part_of d) (to_come UpTo32 new.scan more)) c.in-None.is (c.in-Ok.ensures.ok more) in
+    subst (λ (d : Option Part). to_come UpTo32 old.scan (c.args.piece.now ++ more) ≡ with_front (part_bytes d) (to_come UpTo32 new.scan more)) c.in-None.is (c.in-Ok.ensures.ok more) in
     subst (λ (r : Reader). with_bytes items (raw_to_come r (c.args.piece.now ++ more)) ≡ with_bytes items (raw_to_come new more)) c.self.view_is
     (ap (λ r. with_bytes items (raws r)) (no_data UpTo32 old new c.args.piece.now more c.if-self.false c.if-self.false refl come))
 
@@ -48,9 +48,9 @@ returns-in-Ok-push_part-clause-same c ne more =
     let got = c.in-Some.data in
     let old : Reader = record { scan = c.self.inside.scan; part = c.self.inside.part; starved = c.self.inside.is_starved } in
     let new : Reader = record { scan = c.advance.new.self; part = c.push_part.new.part; starved = c.self.inside.is_starved } in
-    let come = subst (λ (d : Option Part). (more : List ℕ) → to_come UpTo32 old.scan (c.args.piece.now ++ more) ≡ with_front (part_of d) (to_come UpTo32 new.scan more)) c.in-Some.is c.in-Ok.ensures.ok in
-    let behind = subst (λ (d : Option Part). IsBehind d c.advance.new.self.place) c.in-Some.is c.in-Ok.ensures.behind in
-    let in_order : IsFormat got.format = subst (λ (q : Place). IsPlace q c.advance.new.self.kept) behind.1 c.in-Ok.ensures.scan.place in
+    let come = subst (λ (d : Option Part). (more : List ℕ) → to_come UpTo32 old.scan (c.args.piece.now ++ more) ≡ with_front (part_bytes d) (to_come UpTo32 new.scan more)) c.in-Some.is c.in-Ok.ensures.ok in
+    let behind = subst (λ (d : Option Part). IsAfterData d c.advance.new.self.place) c.in-Some.is c.in-Ok.ensures.behind in
+    let in_order : IsFormat got.format = subst (λ (q : Place). IsSoundPlace q c.advance.new.self.kept) behind.1 c.in-Ok.ensures.scan.place in
     let some : 0 < raw_frame got.format = raw_frame-some got.format in_order in
     let cut = c.in-Ok-push_part.ensures.ok in
     subst (λ (r : Reader). with_bytes items (raw_to_come r (c.args.piece.now ++ more)) ≡ with_bytes c.push_part.new.body.items (raw_to_come new more)) c.self.view_is
@@ -60,8 +60,8 @@ pub returns-in-Err-push_part-clause-memory : goal.returns-in-Err-push_part-claus
 returns-in-Err-push_part-clause-memory c _ _ =
     let got = c.in-Some.data in
     let old : Reader = record { scan = c.self.inside.scan; part = c.self.inside.part; starved = c.self.inside.is_starved } in
-    let come = subst (λ (d : Option Part). (more : List ℕ) → to_come UpTo32 old.scan (c.args.piece.now ++ more) ≡ with_front (part_of d) (to_come UpTo32 c.advance.new.self more)) c.in-Some.is c.in-Ok.ensures.ok in
-    let behind = subst (λ (d : Option Part). IsBehind d c.advance.new.self.place) c.in-Some.is c.in-Ok.ensures.behind in
+    let come = subst (λ (d : Option Part). (more : List ℕ) → to_come UpTo32 old.scan (c.args.piece.now ++ more) ≡ with_front (part_bytes d) (to_come UpTo32 c.advance.new.self more)) c.in-Some.is c.in-Ok.ensures.ok in
+    let behind = subst (λ (d : Option Part). IsAfterData d c.advance.new.self.place) c.in-Some.is c.in-Ok.ensures.behind in
     let rest = not_refused UpTo32 old c.advance.new.self got.format behind.0 c.args.piece.now got.body.now c.if-self.false c.in-Ok.ensures.scan behind.1 (come []) in
     subst (λ (r : Reader). IsOk (raw_to_come r c.args.piece.now)) c.self.view_is (subst (λ r. IsOk (raws r)) (sym rest.1) refl)
 

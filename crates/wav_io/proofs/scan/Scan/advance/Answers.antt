@@ -1,7 +1,7 @@
 use Rattle.std.proofs.Common.{◌++◌, sym, ap, subst, ◌∙◌, refl, take, List, ℕ}
 use Rattle.wav_io.specs.declared.error.WavError.TheVariants.{TooLong}
 use Rattle.wav_io.specs.declared.place.Place.{Place}
-use Rattle.wav_io.specs.Pieces.{IsPlace}
+use Rattle.wav_io.specs.Pieces.{IsSoundPlace}
 use Rattle.wav_io.specs.Scans.{to_come}
 use Rattle.wav_io.proofs.Readers.{refused_place}
 use Rattle.wav_io.proofs.Scans.{refused_comes, piece_refused, piece_too_long, piece_whole, piece_fits, piece_through, still_scan, follows_from, follows_err}
@@ -20,7 +20,7 @@ returns-in-Refused-place c =
       scan = still_scan c.args.depths old c.go-part.new.self near c.go-part.result c.requires through (piece_fits old c.args.piece.now near is c.requires);
       ok = tt;
       err = piece_refused c.args.depths old c.go-part.new.self c.args.piece.now near c.go-part.result c.in-Refused-place.error is through c.requires c.in-Refused-place.is;
-      refused = (c.in-Refused-place.is, subst (λ (q : Place). IsPlace q c.go-part.new.self.kept) c.in-Refused-place.is through.place);
+      refused = (c.in-Refused-place.is, subst (λ (q : Place). IsSoundPlace q c.go-part.new.self.kept) c.in-Refused-place.is through.place);
       behind = tt;
       no_refusal = tt;
       follows = follows_err old.place c.in-Refused-place.error c.in_default.not-Refused;

@@ -2,14 +2,14 @@ use Rattle.std.proofs.Common.{◌≡◌, sym, subst, ◌∙◌, ap, false, true,
 use Rattle.std.specs.Prelude.{codes}
 use Rattle.std.specs.Str.{bytes_eq}
 use Rattle.wav_io.specs.declared.place.Place.{Place}
-use Rattle.wav_io.specs.Pieces.{IsPlace}
+use Rattle.wav_io.specs.Pieces.{IsSoundPlace}
 use Rattle.wav_io.proofs.Scans.{ends_at, ends_not_riff, ends_not_wave, ends_head, ends_cut, ends_data, ends_refused}
 use Rattle.wav_io.proofs.scan.Scan.finish.Goals as goal
 
 pub returns-in-Opening-clause-err : goal.returns-in-Opening-clause-err
 returns-in-Opening-clause-err c =
     let kept = c.args.self.now.kept in
-    let few = subst (λ (q : Place). IsPlace q kept) c.in-Opening.is c.requires.place in
+    let few = subst (λ (q : Place). IsSoundPlace q kept) c.in-Opening.is c.requires.place in
     let is : bytes_eq (take 4 kept) (codes "RIFF") ≡ true = sym (c.is_at.ensures ∙ ap (λ (b : List ℕ). bytes_eq (take 4 b) (codes "RIFF")) c.as_slice.ensures) ∙ c.if-is_at.true in
     ends_at c.args.depths c.args.self.now _ _ c.requires c.in-Opening.is (ends_not_wave c.args.depths kept few is)
 
@@ -21,12 +21,12 @@ returns-in-Opening-2-clause-err c =
 
 pub returns-in-Head-clause-err : goal.returns-in-Head-clause-err
 returns-in-Head-clause-err c =
-    let place = subst (λ (q : Place). IsPlace q c.args.self.now.kept) c.in-Head.is c.requires.place in
+    let place = subst (λ (q : Place). IsSoundPlace q c.args.self.now.kept) c.in-Head.is c.requires.place in
     ends_at c.args.depths c.args.self.now _ _ c.requires c.in-Head.is (ends_head c.args.depths c.in-Head.format c.in-Head.skip c.args.self.now.kept place.0) ∙ c.without_data.ensures.value
 
 pub returns-in-FormatBody-clause-err : goal.returns-in-FormatBody-clause-err
 returns-in-FormatBody-clause-err c =
-    let place = subst (λ (q : Place). IsPlace q c.args.self.now.kept) c.in-FormatBody.is c.requires.place in
+    let place = subst (λ (q : Place). IsSoundPlace q c.args.self.now.kept) c.in-FormatBody.is c.requires.place in
     ends_at c.args.depths c.args.self.now _ _ c.requires c.in-FormatBody.is (ends_cut c.args.depths c.in-FormatBody.missing c.in-FormatBody.pad c.args.self.now.kept place.0)
 
 pub returns-in-DataBody-clause-ok : goal.returns-in-DataBody-clause-ok
