@@ -60,7 +60,7 @@ AreAt-before text rest after bytes start small at before = record {
   small = omega (arith, small, at, before.room);
 }
 
--- what is_word says of a byte
+-- what is_word_byte says of a byte
 is_word_byte-35 : (b : ℕ) → is_word_byte b ≡ true → (b == 35) ≡ false
 is_word_byte-35 b is = by (b == 35) refl
   where

@@ -53,7 +53,8 @@ fn bind(list: &[u32], channels: u8) -> Result<Option<Bindings>, ConfWhy>
 /// The bindings of a group of channels.
 fn group_bindings(group: Group<'_>, channels: u8) -> Result<Option<Bindings>, ConfWhy>
     ensures { result ≡ bindings_in
-        (numbered_values (entries_in group.entry) (count_of_names (entries_in group.entry))) channels }
+        (numbered_values (entries_in group.entry) (count_of_names (entries_in group.entry)))
+        channels }
 {
     let (list, count) = values_of(group).ok_or(ConfWhy::BindingKey)?;
     bind(&list[..count], channels)

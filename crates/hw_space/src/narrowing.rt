@@ -15,7 +15,8 @@ use pcm_interval::{Empty, Interval, Mask};
 /// Refines the interval of one quantity, and then the box. After `Empty` the box may be narrowed in part.
 pub fn narrow(ranges: &mut ParamBox, quantity: Quantity, other: &Interval) -> Result<(), Empty>
     requires { IsProper ranges.old }
-    ensures left { Leaves (with_refined ranges.old quantity other.now) (space_left result ranges.new) }
+    ensures left { Leaves (with_refined ranges.old quantity other.now)
+        (space_left result ranges.new) }
     ensures proper { OnOk result (IsProper ranges.new) }
 {
     narrow_part(ranges, quantity, other)?;

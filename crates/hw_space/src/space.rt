@@ -202,7 +202,8 @@ impl Space {
 
     /// Narrows one quantity to what it has in common with an interval, and refines.
     fn narrow(&mut self, quantity: Quantity, other: &Interval) -> Result<(), Empty>
-        ensures left { Leaves (with_refined self.old quantity other.now) (space_left result self.new) }
+        ensures left { Leaves (with_refined self.old quantity other.now)
+            (space_left result self.new) }
         ensures err { OnErr result (self.new ≡ self.old) }
     {
         let mut ranges = self.ranges;

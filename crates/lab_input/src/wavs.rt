@@ -86,7 +86,8 @@ pub(crate) fn read_wavs<S: Shelf>(
     requires few { before ≤ most_of_run }
     requires card { IsCardLine card.now }
     ensures sounds { ForSome (S.files shelf.old)
-        (λ files. AnswersOrStops (λ v. v.items) result (sounds_in files before card.now clients.now)) }
+        (λ files. AnswersOrStops (λ v. v.items) result
+        (sounds_in files before card.now clients.now)) }
     ensures number { IfOk result (λ wavs. length wavs.items ≡ length clients.now) }
     ensures files { S.files shelf.new ≡ S.files shelf.old }
     ensures faults { FetchFaults result (S.fetch_faults shelf.old) (S.fetch_faults shelf.new) }

@@ -1,6 +1,6 @@
 -- What an item of a script's body makes of a run that goes on.
 --     StaysWritten-border      an opening or a closing: all that the lab holds is written still
---     IsPartlyWritten-phase      a phase: what it played, recorded and answered isn't written yet
+--     HasUnwrittenPhase-phase      a phase: what it played, recorded and answered isn't written yet
 use Rattle.std.specs.Prelude.{◌≡◌, ℕ, ◌+◌, ℤ, List, [], ◌∷◌, ◌++◌, length, take, slice_get, Option, Some}
 use Rattle.std.specs.Option.{option_map}
 use Rattle.std.proofs.Common.{sym, ap, subst, ◌∙◌, arith}
@@ -31,7 +31,7 @@ use Rattle.lab_output.specs.Text.{text_so_far}
 use Rattle.lab_shelf.specs.Changes.{TookPart-all}
 use Rattle.lab_shelf.specs.Files.{Files}
 use Rattle.lab_play.specs.Order.{StopsInFrames}
-use Rattle.lab_play.specs.Playing.{AreWritten, IsPartlyWritten, IsPlaying, Start, StaysWritten, scene, sounds_at}
+use Rattle.lab_play.specs.Playing.{AreWritten, HasUnwrittenPhase, IsPlaying, Start, StaysWritten, scene, sounds_at}
 use Rattle.lab_play.proofs.ItemsStopped.{TookPart-rows}
 
 -- ---- the lab
@@ -168,10 +168,10 @@ order-phase stops stops_after lab after lines does outputs files taken start is 
           (TookPart-all start.taken taken (text_so_far start.input.script (take outputs.rows is.stage.rows)) is.written.text);
     }
 
-pub IsPartlyWritten-phase : StagesGrow → (stops stops_after : Stops) (lab after : Lab) (lines : List Line) → DoesPhase stops stops_after lab lines after → IsNextItem lab (item.Phase lines)
+pub HasUnwrittenPhase-phase : StagesGrow → (stops stops_after : Stops) (lab after : Lab) (lines : List Line) → DoesPhase stops stops_after lab lines after → IsNextItem lab (item.Phase lines)
     → (outputs : Outputs) (files : Option Files) (taken : Option (List ℕ)) (start : Start) → IsPlaying start stops (scene lab outputs files taken)
-    → IsPartlyWritten start stops_after (scene after outputs files taken)
-IsPartlyWritten-phase grow stops stops_after lab after lines does first outputs files taken start is =
+    → HasUnwrittenPhase start stops_after (scene after outputs files taken)
+HasUnwrittenPhase-phase grow stops stops_after lab after lines does first outputs files taken start is =
     let own = is.lab_is in
     let done = does.does is.stage start.stops own.stage_is own.counted in
     let grown = grow (session_of lab) is.stage done.next (item.Phase lines) done.may in

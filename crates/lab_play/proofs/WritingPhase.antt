@@ -22,7 +22,7 @@ use Rattle.lab_output.specs.Text.{rows_text, text_so_far}
 use Rattle.lab_shelf.specs.Changes.{Changes, TookPart-all}
 use Rattle.lab_shelf.specs.Files.{Files, TookPart}
 use Rattle.lab_play.specs.Appending.{CanAppend}
-use Rattle.lab_play.specs.Playing.{IsPartlyWritten, IsPlaying, IsStopped, Start, scene, sounds_at}
+use Rattle.lab_play.specs.Playing.{HasUnwrittenPhase, IsPlaying, IsStopped, Start, scene, sounds_at}
 use Rattle.lab_play.proofs.ItemsStopped.{HasStopped-at, TookPart-rows, frames-card, stops-in_rows}
 use Rattle.lab_play.proofs.Writing.{count-at, longer-length, member}
 
@@ -63,7 +63,7 @@ module _ (lab : Lab) (stage : Stage) (at : IsAtStage lab stage) (sizes_are : Sta
 
 -- a run that is behind can append
 pub can-append : (start : Start) (stops : Stops) (lab : Lab) (outputs : Outputs) (files : Option Files) (taken : Option (List ℕ)) → StagesHaveSizes
-    → IsPartlyWritten start stops (scene lab outputs files taken) → CanAppend lab outputs files
+    → HasUnwrittenPhase start stops (scene lab outputs files taken) → CanAppend lab outputs files
 can-append start stops lab outputs files taken sizes_are is = record {
   stage = is.stage;
   at = is.lab_is.stage_is;
@@ -79,7 +79,7 @@ can-append start stops lab outputs files taken sizes_are is = record {
 
 -- its lab's rows have a text
 pub can-put : (start : Start) (stops : Stops) (script : Script) (lab : Lab) (outputs : Outputs) (files : Option Files) (taken : Option (List ℕ)) (rows : List Row)
-    → StagesAreReported → start.input.script ≡ script → rows ≡ rows_of lab → IsPartlyWritten start stops (scene lab outputs files taken) → All (IsRowOf script) rows
+    → StagesAreReported → start.input.script ≡ script → rows ≡ rows_of lab → HasUnwrittenPhase start stops (scene lab outputs files taken) → All (IsRowOf script) rows
 can-put start stops script lab outputs files taken rows reported same rows_are is =
     let at = is.lab_is.stage_is in
     let has = at.has_done in
@@ -116,7 +116,7 @@ AppendsGoOn lab outputs after files files_after =
     → IsGoingOn outputs.files.items outputs.samples.items sounds before files → IsGoingOn after.files.items after.samples.items (sounds_at lab stage) before files_after
 
 module _ (start : Start) (stops : Stops) (lab : Lab) (outputs : Outputs) (files files_after : Option Files) (taken : Option (List ℕ))
-    (changes : AppendsChange lab outputs files files_after) (is : IsPartlyWritten start stops (scene lab outputs files taken)) where
+    (changes : AppendsChange lab outputs files files_after) (is : HasUnwrittenPhase start stops (scene lab outputs files taken)) where
   -- what its files may hold
   own-changes : Changes (MayHold (output_files start.input.script start.out) (sounds_at lab is.stage)) start.files files_after
   own-changes = subst (λ (own : List OutputFile). Changes (MayHold own (sounds_at lab is.stage)) start.files files_after) is.written.files_are
@@ -168,7 +168,7 @@ pub record IsCaughtUp (lab : Lab) (outputs after last : Outputs) (shelf shelf_af
 pub catches-up : (start : Start) (stops : Stops) (script : Script) (lab : Lab) (outputs after last : Outputs) (files files_after : Option Files) (taken taken_after : Option (List ℕ)) (rows : List Row)
     → lab.script.now ≡ script → rows ≡ rows_of lab → IsCaughtUp lab outputs after last files files_after
     → last.rows ≡ length rows → taken_after ≡ option_map (λ t. t ++ rows_text script after.rows rows) taken
-    → IsPartlyWritten start stops (scene lab outputs files taken) → IsPlaying start stops (scene lab last files_after taken_after)
+    → HasUnwrittenPhase start stops (scene lab outputs files taken) → IsPlaying start stops (scene lab last files_after taken_after)
 catches-up start stops script lab outputs after last files files_after taken taken_after rows same rows_are caught count text is =
     let own_script : script ≡ start.input.script = sym same ∙ is.lab_is.script_is.script_is in
     let own_rows : rows ≡ is.stage.rows = rows_are ∙ is.lab_is.stage_is.rows in

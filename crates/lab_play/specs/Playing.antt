@@ -2,7 +2,7 @@
 --     Start      what a run began with
 --     Scene      what it holds and has written at some moment
 --     IsPlaying      all that the lab played and its readers recorded is written, at a moment between two items
---     IsBehind      a phase is done of which nothing is written yet
+--     HasUnwrittenPhase      a phase is done of which nothing is written yet
 --     HasStopped      what is left of a run that stopped
 use Rattle.std.specs.Prelude.{◌≡◌, ℕ, ◌-◌, ◌*◌, ◌≤◌, ℤ, List, [], ◌∷◌, ◌++◌, length, take, Option, Some}
 use Rattle.std.specs.Option.{option_map}
@@ -70,7 +70,7 @@ pub record IsPlaying (start : Start) (stops : Stops) (at : Scene) : Type 0 where
   pub written : AreWritten start (sounds_at at.lab stage) stage.rows at.outputs at.files at.taken
 
 -- less of it is written: the frames of its last phase are still to be appended, and no row of it was put
-pub record IsPartlyWritten (start : Start) (stops : Stops) (at : Scene) : Type 0 where
+pub record HasUnwrittenPhase (start : Start) (stops : Stops) (at : Scene) : Type 0 where
   pub stage : Stage
   pub lab_is : IsLabOf start stops at.lab stage
   pub sounds : List (List ℤ)
@@ -119,10 +119,10 @@ StaysWritten lab after =
 
 -- what was played and recorded is written
 abbrev pub CatchesUp : Scene → Scene → Type 0
-CatchesUp before after = (start : Start) (stops : Stops) → IsPartlyWritten start stops before → IsPlaying start stops after
+CatchesUp before after = (start : Start) (stops : Stops) → HasUnwrittenPhase start stops before → IsPlaying start stops after
 
 abbrev pub StopsBehind : Scene → Option Files → Option (List ℕ) → Type 0
-StopsBehind before files taken = (start : Start) (stops : Stops) → IsPartlyWritten start stops before → IsStopped start files taken
+StopsBehind before files taken = (start : Start) (stops : Stops) → HasUnwrittenPhase start stops before → IsStopped start files taken
 
 -- there is a run of a script that is at this moment
 pub record CanPlay (script : Script) (stops : Stops) (at : Scene) : Type 0 where
@@ -134,7 +134,7 @@ pub record CanCatchUp (script : Script) (at : Scene) : Type 0 where
   pub start : Start
   pub stops : Stops
   pub script_is : start.input.script ≡ script
-  pub is : IsPartlyWritten start stops at
+  pub is : HasUnwrittenPhase start stops at
 
 -- the files were known when a run at this moment began
 pub record IsKnownRun (stops : Stops) (at : Scene) : Type 0 where
@@ -146,5 +146,5 @@ pub record IsKnownRun (stops : Stops) (at : Scene) : Type 0 where
 pub record IsKnownBehind (at : Scene) : Type 0 where
   pub start : Start
   pub stops : Stops
-  pub is : IsPartlyWritten start stops at
+  pub is : HasUnwrittenPhase start stops at
   pub known : Rattle.std.specs.Prelude.IsSome start.files

@@ -1,7 +1,7 @@
 -- Why a command stops, beside the causes that the files give and the faults that are counted.
 --     IsScriptStop, IsConfStop, IsWavStop, NamesWav      the stop at a script, a configuration or a WAV file that is refused
 --     status_of end      the exit status
---     Follows view result given      a call answers what the files give, seen by a view, or stops at the cause that they give
+--     AnswersOrStops view result given      a call answers what the files give, seen by a view, or stops at the cause that they give
 --     IsCauseOf stop given      a stop is at the cause that the files give, but for a fetch that failed and for memory
 --     FetchFaults, Misses      when a call that only reads stops at a fetch: by the count of faults, and over a reliable shelf
 --     IsWriteStop, WriteFaults      when a call that only writes stops at a write

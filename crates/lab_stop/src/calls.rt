@@ -26,7 +26,8 @@ pub fn fetch_piece<S: Shelf>(
     from: u64,
 ) -> Result<Vec<u8>, Stop>
     ensures bytes { ForSome (S.files shelf.old)
-        (λ files. AnswersOrStops (λ v. v.items) result (fetched_from files name.now from piece_bytes)) }
+        (λ files. AnswersOrStops (λ v. v.items) result
+        (fetched_from files name.now from piece_bytes)) }
     ensures most { IfOk result (λ v. vec_len v ≤ piece_bytes) }
     ensures files { S.files shelf.new ≡ S.files shelf.old }
     ensures faults { FetchFaults result (S.fetch_faults shelf.old) (S.fetch_faults shelf.new) }

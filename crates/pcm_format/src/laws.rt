@@ -13,8 +13,10 @@ pub fn printed_samples_are_read_back()
         ≡ high_part z *ℤ pos 256 }
     ensures u8 { (z : ℤ) → FitsSigned w16 z → sample_of_bytes U8 (bytes_of_sample U8 z)
         ≡ high_part z *ℤ pos 256 }
-    ensures s16_le { (z : ℤ) → FitsSigned w16 z → sample_of_bytes S16Le (bytes_of_sample S16Le z) ≡ z }
-    ensures s16_be { (z : ℤ) → FitsSigned w16 z → sample_of_bytes S16Be (bytes_of_sample S16Be z) ≡ z }
+    ensures s16_le { (z : ℤ) → FitsSigned w16 z → sample_of_bytes S16Le (bytes_of_sample S16Le z)
+        ≡ z }
+    ensures s16_be { (z : ℤ) → FitsSigned w16 z → sample_of_bytes S16Be (bytes_of_sample S16Be z)
+        ≡ z }
 {}
 
 /// The high part of a sample is the sample divided by 256, rounded down.

@@ -124,8 +124,8 @@ impl Converter {
         requires whole { part_bytes progress.old.part ≡ [] }
         ensures stage { OnOk result (IsStage (stage_of self.now progress.new)) }
         ensures ok { OnOk result (Advances self.now.rates self.now.table.outputs
-            (frames_of_bytes (conversion_of self.now) bytes.now) progress.old.course progress.new.course
-            out.old.items out.new.items) }
+            (frames_of_bytes (conversion_of self.now) bytes.now)
+            progress.old.course progress.new.course out.old.items out.new.items) }
         ensures part { OnOk result (part_bytes progress.new.part
             ≡ rest_of (conversion_of self.now) bytes.now) }
         ensures grows { Extends out.old.items out.new.items }

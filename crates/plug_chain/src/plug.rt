@@ -17,7 +17,7 @@ use std::marker::Model;
 /// straight line between the two frames around it, rounded down. A rest that is no whole frame is dropped.
 ///
 /// Contracts see a stage: the conversion, the bytes of the begun frame, the last whole frame, and where the next output
-/// frame lies. It keeps no more than that of the bytes; that they led to the stage is a relation, `HasTaken`.
+/// frame lies. It keeps no more than that of the bytes; that they led to the stage is a relation, `HasTakenBytes`.
 #[derive(Debug, Drop)]
 pub struct Plug {
     converter: Converter,

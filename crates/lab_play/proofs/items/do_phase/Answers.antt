@@ -3,7 +3,7 @@ use Rattle.lab_shelf.specs.Files.{Files}
 use Rattle.lab_phase.specs.BorderLaws.{OnOk-more}
 use Rattle.lab_phase.specs.PhaseRuns.{Stops, stops_by}
 use Rattle.lab_play.specs.Playing.{CatchesUp, SceneGoesOn, Scene, StopsBehind, StopsWith, scene}
-use Rattle.lab_play.proofs.ItemsDone.{IsPartlyWritten-phase}
+use Rattle.lab_play.proofs.ItemsDone.{HasUnwrittenPhase-phase}
 use Rattle.lab_play.proofs.ItemsResults.{OnErr-more}
 use Rattle.lab_play.proofs.ItemsStopped.{HasStopped-playing}
 use Rattle.lab_play.proofs.items.do_phase.Goals as goal
@@ -15,7 +15,7 @@ write_phase-requires g c =
       start = playing.start;
       stops = stops_by g.G.Gate.stops c.run_phase.new.gates;
       script_is = playing.script_is;
-      is = IsPartlyWritten-phase c.stages_grow.ensures.grow (stops_by g.G.Gate.stops c.args.gates.now) (stops_by g.G.Gate.stops c.run_phase.new.gates) c.args.lab.now
+      is = HasUnwrittenPhase-phase c.stages_grow.ensures.grow (stops_by g.G.Gate.stops c.args.gates.now) (stops_by g.G.Gate.stops c.run_phase.new.gates) c.args.lab.now
           c.run_phase.new.self c.args.lines.now c.in-Ok.ensures.does c.requires.next c.args.outputs.now (g.S.Shelf.files c.args.shelf.now) (g.K.Sink.taken c.args.out.now) playing.start
           playing.is;
     }
@@ -32,7 +32,7 @@ returns-in-Ok-clause-done g c =
     scene c.run_phase.new.self c.write_phase.new.outputs (g.S.Shelf.files c.write_phase.new.shelf) (g.K.Sink.taken c.write_phase.new.out) in
     OnOk-more (CatchesUp behind after) (SceneGoesOn stops before stops_after after) c.write_phase.result
     (λ catches start is. catches start stops_after
-    (IsPartlyWritten-phase c.stages_grow.ensures.grow stops stops_after c.args.lab.now c.run_phase.new.self c.args.lines.now c.in-Ok.ensures.does c.requires.next c.args.outputs.now files taken start is))
+    (HasUnwrittenPhase-phase c.stages_grow.ensures.grow stops stops_after c.args.lab.now c.run_phase.new.self c.args.lines.now c.in-Ok.ensures.does c.requires.next c.args.outputs.now files taken start is))
     c.write_phase.ensures.done
 
 pub returns-in-Ok-clause-part : goal.returns-in-Ok-clause-part
@@ -47,7 +47,7 @@ returns-in-Ok-clause-part g c =
     let taken_now : Option (List ℕ) = g.K.Sink.taken c.write_phase.new.out in
     OnErr-more (StopsBehind behind files_now taken_now) (StopsWith stops before files_now taken_now) c.write_phase.result
     (λ stopped start is. stopped start stops_after
-    (IsPartlyWritten-phase c.stages_grow.ensures.grow stops stops_after c.args.lab.now c.run_phase.new.self c.args.lines.now c.in-Ok.ensures.does c.requires.next c.args.outputs.now files taken start is))
+    (HasUnwrittenPhase-phase c.stages_grow.ensures.grow stops stops_after c.args.lab.now c.run_phase.new.self c.args.lines.now c.in-Ok.ensures.does c.requires.next c.args.outputs.now files taken start is))
     c.write_phase.ensures.part
 
 pub returns-in-Ok-clause-never : goal.returns-in-Ok-clause-never
@@ -58,7 +58,7 @@ returns-in-Ok-clause-never g c shelf_reliable out_reliable known =
     (record {
       start = known.start;
       stops = stops_after;
-      is = IsPartlyWritten-phase c.stages_grow.ensures.grow stops stops_after c.args.lab.now c.run_phase.new.self c.args.lines.now c.in-Ok.ensures.does c.requires.next c.args.outputs.now
+      is = HasUnwrittenPhase-phase c.stages_grow.ensures.grow stops stops_after c.args.lab.now c.run_phase.new.self c.args.lines.now c.in-Ok.ensures.does c.requires.next c.args.outputs.now
           (g.S.Shelf.files c.args.shelf.now) (g.K.Sink.taken c.args.out.now) known.start known.is;
       known = known.known;
     })
