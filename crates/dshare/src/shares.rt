@@ -22,9 +22,9 @@ pub struct Shares {
 }
 
 impl Model for Shares {
-    ghost use Rattle.dshare.specs.Shared.{Held, IsHeldShare};
+    ghost use Rattle.dshare.specs.Shared.{Ownership, IsHeldShare};
 
-    ghost Value = { Held };
+    ghost Value = { Ownership };
 
     ghost view = { λ s. record { channels = s.channels; owned = s.owned; last = s.last } };
 

@@ -11,7 +11,7 @@ use Rattle.mix_core.specs.declared.turn.Turn.{Turn}
 use Rattle.mix_core.specs.Calls.{IsNew, IsPublished, IsTaken}
 use Rattle.mix_core.specs.History.{AreExact, AreInOrder, Row, entry_row, taken_words}
 use Rattle.mix_core.specs.HistoryLaws.{laid_of-append_published, laid_of-append_rows, laid_of-append_took, taken_words-append_published, taken_words-append_rows, taken_words-append_took}
-use Rattle.mix_core.specs.Stands.{Stands}
+use Rattle.mix_core.specs.Stands.{RepresentsHistory}
 use Rattle.mix_core.specs.Turn.{TurnLaid, core_of}
 use Rattle.mix_core.specs.View.{View}
 use Rattle.dmix_client.specs.declared.stream.PlaybackStream.{PlaybackStream}
@@ -28,7 +28,7 @@ pub HasMixed-new : (v : View) (g : Geometry) (members : ℕ) → IsNew v g membe
 HasMixed-new v g members new = record { history = []; represented = new.stands; placed_is = refl; taken_is = refl }
 
 -- entries were placed
-HasMixed-placed : (v w : View) (placed es : List Entry) (taken : List Taken) → ((h : List Row) → Stands v h → Stands w (h ++ map entry_row es))
+HasMixed-placed : (v w : View) (placed es : List Entry) (taken : List Taken) → ((h : List Row) → RepresentsHistory v h → RepresentsHistory w (h ++ map entry_row es))
     → HasMixed v placed taken → HasMixed w (placed ++ es) taken
 HasMixed-placed v w placed es taken goes mixed = record {
   history = mixed.history ++ map entry_row es;

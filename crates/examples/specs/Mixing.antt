@@ -6,7 +6,7 @@ use Rattle.snd_base.specs.declared.places.Segment.{Segment}
 use Rattle.mix_core.specs.declared.event.Taken.{Taken}
 use Rattle.mix_core.specs.declared.port.Entry.{Entry}
 use Rattle.mix_core.specs.History.{AreExact, AreInOrder, Row, laid_of, taken_words}
-use Rattle.mix_core.specs.Stands.{Stands}
+use Rattle.mix_core.specs.Stands.{RepresentsHistory}
 use Rattle.mix_core.specs.View.{View}
 use Rattle.pcm_states.specs.declared.states.State.TheVariants.{Prepared}
 use Rattle.dmix_client.specs.declared.stream.PlaybackStream.{PlaybackStream}
@@ -20,7 +20,7 @@ member_entries g member segment samples = expand member segment samples (identit
 -- a core represents a history in which these entries were placed, and these words taken
 pub record HasMixed (core : View) (placed : List Entry) (taken : List Taken) : Type 0 where
   pub history : List Row
-  pub represented : Stands core history
+  pub represented : RepresentsHistory core history
   pub placed_is : laid_of history ≡ placed
   pub taken_is : taken_words history ≡ taken
 

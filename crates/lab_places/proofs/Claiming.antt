@@ -2,7 +2,7 @@
 use Rattle.std.proofs.Common.{◌≡◌, ℕ, List, ◌∷◌, Option, None, Some, Result, Ok, Err, IfErr, OnErr, OnOk, refl, sym, ap, ◌∙◌}
 use Rattle.snd_base.specs.declared.errors.PcmError.{PcmError}
 use Rattle.dshare.specs.Owners.{AreFree, ClaimRow, busy, claimed}
-use Rattle.dshare.specs.Shared.{Held, StandsFor}
+use Rattle.dshare.specs.Shared.{Ownership, StandsFor}
 use Rattle.lab_script.specs.declared.script.Share.TheVariants.{Dshare}
 use Rattle.lab_run.specs.Claims.{ClaimIsOwners, claim_refusal}
 use Rattle.lab_places.specs.Held.{IsClaimed}
@@ -16,7 +16,7 @@ claim_refusal-busy claims channels position e is not_free busy_is = by_refusal (
     by_refusal None none = absurd (not_free (is.granted none))
     by_refusal (Some other) some_is = some_is ∙ ap (λ x. Some x) (is.refused other some_is ∙ sym busy_is)
 
-pub claim-is : (claims : List ClaimRow) (channels : List ℕ) (position : ℕ) (v w : Held) (r : Result (Unit {0}) PcmError) → ClaimIsOwners claims channels position → StandsFor v claims
+pub claim-is : (claims : List ClaimRow) (channels : List ℕ) (position : ℕ) (v w : Ownership) (r : Result (Unit {0}) PcmError) → ClaimIsOwners claims channels position → StandsFor v claims
     → OnOk r ((h : List ClaimRow) → StandsFor v h → AreFree h position channels)
     → OnOk r ((h : List ClaimRow) → StandsFor v h → StandsFor w (claimed channels ∷ h))
     → IfErr r (λ e. (h : List ClaimRow) → StandsFor v h → e ≡ busy h channels position)

@@ -40,7 +40,7 @@ back-at number (suc place) before own (seat ∷ more) (first ∷ places) s at ho
 )
 
 -- a client is closed: its seat is back, and its channels are released with its own last frame
-pub closed-is : (sharing : Share) (l k m : Free) (v : shared.Held) (number : ℕ) (channels : List ℕ) (position : ℕ) (s : MixSeat) (held : Held) (before own : Option ℕ)
+pub closed-is : (sharing : Share) (l k m : Free) (v : shared.Ownership) (number : ℕ) (channels : List ℕ) (position : ℕ) (s : MixSeat) (held : Held) (before own : Option ℕ)
     → AreAtPlaces (free_seats l) held.lobby.places → held.lobby.seen ≡ seen_of_lobby l → k ≡ l → TakesBack k m s
     → shared.StandsFor v (with_release sharing channels (last_from position (seats.last_of s)) held.claims)
     → HoldsPlace number (member_of s) before held.lobby.places → IsOwnLast position before own (seats.last_of s)

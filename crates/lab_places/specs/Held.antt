@@ -89,7 +89,7 @@ abbrev pub share_of : Places → Share
 share_of p = p.share
 
 -- which channels of the card are owned
-abbrev pub shares_of : Places → shared.Held
+abbrev pub shares_of : Places → shared.Ownership
 shares_of p = p.shares
 
 abbrev pub ring_of_places : Places → TableId
@@ -139,7 +139,7 @@ HoldsGiven number places r after =
 
 -- the claim of a client, at the claims before it
 abbrev pub IsClaimed : Share → List ClaimRow → List ℕ → ℕ → Result (Unit {0}) PcmError
-    → shared.Held → Type 0
+    → shared.Ownership → Type 0
 IsClaimed sharing claims channels position r after =
     MatchResult r
     (λ done. (claim_refusal sharing claims channels position ≡ None)
@@ -180,7 +180,7 @@ pub record IsOwnLast (position : ℕ) (before own last : Option ℕ) : Type 0 wh
   pub own_is : own ≡ last_from position last
 
 -- the channels of the card are owned, where clients share it by channels
-abbrev pub AreReleasable : Share → shared.Held → List ℕ → Type 0
+abbrev pub AreReleasable : Share → shared.Ownership → List ℕ → Type 0
 AreReleasable Dmix v channels = ⊤
 AreReleasable Dshare v channels = shared.AreOfCard v channels × shared.AreOwned v channels
 

@@ -170,12 +170,12 @@ OwnsChannels-closed_held sharing client others last held channels apart owns = O
 
 -- ---- at the shares
 
-AreOwned-by_recursion : (v : shared.Held) (claims : List ClaimRow) (channels : List ℕ) → shared.StandsFor v claims → AllByRecursion (λ c. c < v.channels) channels
+AreOwned-by_recursion : (v : shared.Ownership) (claims : List ClaimRow) (channels : List ℕ) → shared.StandsFor v claims → AllByRecursion (λ c. c < v.channels) channels
     → AllByRecursion (λ c. is_some (owner_of claims c) ≡ true) channels → AllByRecursion (λ c. shared.is_owned v c ≡ true) channels
 AreOwned-by_recursion v claims [] stands card owns = tt
 AreOwned-by_recursion v claims (c ∷ channels) stands card owns = (stands.owned c card.0 ∙ owns.0, AreOwned-by_recursion v claims channels stands card.1 owns.1)
 
-releasable : (sharing : Share) (v : shared.Held) (claims : List ClaimRow) (channels : List ℕ) → shared.StandsFor v claims → shared.AreOfCard v channels
+releasable : (sharing : Share) (v : shared.Ownership) (claims : List ClaimRow) (channels : List ℕ) → shared.StandsFor v claims → shared.AreOfCard v channels
     → OwnsChannels sharing claims channels → AreReleasable sharing v channels
 releasable Dmix v claims channels stands card owns = tt
 releasable Dshare v claims channels stands card owns = (

@@ -18,11 +18,11 @@ IsFaultCount (Err Failed) before now = (before ≤ now) × Rose before now
 IsFaultCount (Err Memory) before now = before ≤ now
 
 -- a call answers as was known beforehand, but for memory
-abbrev pub Foreseen : {T : Type 0} → Result T ShelfFault → Option Bool → Type 0
-Foreseen result None = ⊤
-Foreseen (Ok x) (Some works) = works ≡ true
-Foreseen (Err Failed) (Some works) = works ≡ false
-Foreseen (Err Memory) (Some works) = ⊤
+abbrev pub IsAsForeseen : {T : Type 0} → Result T ShelfFault → Option Bool → Type 0
+IsAsForeseen result None = ⊤
+IsAsForeseen (Ok x) (Some works) = works ≡ true
+IsAsForeseen (Err Failed) (Some works) = works ≡ false
+IsAsForeseen (Err Memory) (Some works) = ⊤
 
 -- a count of faults after a call: one more where the call failed
 abbrev pub count_after : {T : Type 0} → Result T ShelfFault → ℕ → ℕ

@@ -2,7 +2,7 @@
 ghost use Rattle.std.specs.Prelude.{◌≡◌, ◌≢◌, ◌≤◌, ◌↔◌, ◌++◌, [], None, Some, Err, IsErrOf, IsTrue, IfOk, OnOk, OnErr, vec_len};
 ghost use Rattle.std.specs.Option.{option_copied};
 ghost use Rattle.lab_shelf.specs.Files.{bytes_under, with_file, with_change, with_first_bytes, piece, IsPartWritten, IsPartAppended, IsPartFinished, HasFileNamed, HasRoom, TookPart};
-ghost use Rattle.lab_shelf.specs.Counts.{IsFaultCount, Foreseen};
+ghost use Rattle.lab_shelf.specs.Counts.{IsFaultCount, IsAsForeseen};
 ghost use Rattle.lab_shelf.specs.States.{files_of, fetch_answers, write_answers, after_fetch, after_store, after_change, after_put};
 
 use crate::entries::{append_to, content_of, cut, overwrite, put_file};
@@ -103,7 +103,7 @@ impl Shelf for MemoryShelf {
         ensures most { IfOk result (λ bytes. vec_len bytes ≤ most) }
         ensures piece { IfOk result (λ bytes.
             piece self.old.files name.now from most ≡ Some bytes.items) }
-        ensures foreseen { Foreseen result (Some (fetch_answers self.old name.now)) }
+        ensures foreseen { IsAsForeseen result (Some (fetch_answers self.old name.now)) }
         ensures after { self.new ≡ after_fetch result self.old }
         ensures files { Some self.new.files ≡ Some self.old.files }
         ensures faults { IsFaultCount result self.old.fetch_faults self.new.fetch_faults }
@@ -124,8 +124,7 @@ impl Shelf for MemoryShelf {
     }
 
     fn store(&mut self, name: &[u8], bytes: &[u8]) -> Result<(), ShelfFault>
-        ensures foreseen { IsAsForeseen result
-            (Some (write_answers self.old.failing self.old.calls)) }
+        ensures foreseen { IsAsForeseen result (Some (write_answers self.old.failing self.old.calls)) }
         ensures after { self.new ≡ after_store result self.old name.now bytes.now }
         ensures ok { OnOk result
             (Some self.new.files ≡ Some (with_file self.old.files name.now bytes.now)) }
@@ -146,8 +145,7 @@ impl Shelf for MemoryShelf {
     }
 
     fn begin(&mut self, name: &[u8], head: &[u8]) -> Result<(), ShelfFault>
-        ensures foreseen { IsAsForeseen result
-            (Some (write_answers self.old.failing self.old.calls)) }
+        ensures foreseen { IsAsForeseen result (Some (write_answers self.old.failing self.old.calls)) }
         ensures after { self.new ≡ after_store result self.old name.now head.now }
         ensures ok { OnOk result
             (Some self.new.files ≡ Some (with_file self.old.files name.now head.now)) }
@@ -163,7 +161,7 @@ impl Shelf for MemoryShelf {
 
     fn append(&mut self, name: &[u8], bytes: &[u8]) -> Result<(), ShelfFault>
         ensures held { OnOk result (HasFileNamed (Some self.old.files) name.now) }
-        ensures foreseen { Foreseen result (Some (fetch_answers self.old name.now)) }
+        ensures foreseen { IsAsForeseen result (Some (fetch_answers self.old name.now)) }
         ensures after { self.new ≡ after_change result self.old
             (λ content. content ++ bytes.now) name.now }
         ensures ok { OnOk result (Some self.new.files
@@ -191,7 +189,7 @@ impl Shelf for MemoryShelf {
     fn finish(&mut self, name: &[u8], head: &[u8]) -> Result<(), ShelfFault>
         requires room { HasRoom (Some self.old.files) name.now head.now }
         ensures held { OnOk result (HasFileNamed (Some self.old.files) name.now) }
-        ensures foreseen { Foreseen result (Some (fetch_answers self.old name.now)) }
+        ensures foreseen { IsAsForeseen result (Some (fetch_answers self.old name.now)) }
         ensures after { self.new ≡ after_change result self.old
             (with_first_bytes head.now) name.now }
         ensures ok { OnOk result
@@ -275,8 +273,7 @@ impl Sink for MemorySink {
     ghost is_reliable = { λ s. s.failing ≡ [] };
 
     fn put(&mut self, bytes: &[u8]) -> Result<(), ShelfFault>
-        ensures foreseen { IsAsForeseen result
-            (Some (write_answers self.old.failing self.old.calls)) }
+        ensures foreseen { IsAsForeseen result (Some (write_answers self.old.failing self.old.calls)) }
         ensures after { self.new ≡ after_put result self.old bytes.now }
         ensures ok { OnOk result (Some self.new.taken ≡ Some (self.old.taken ++ bytes.now)) }
         ensures err { OnErr result (TookPart (Some self.old.taken)

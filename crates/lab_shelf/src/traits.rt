@@ -2,7 +2,7 @@
 ghost use Rattle.std.specs.Prelude.{◌≡◌, ◌≢◌, ◌≤◌, ◌++◌, ℕ, List, Bool, Option, None, Some, Err, IsErrOf, IfOk, IfSome, OnOk, OnErr, vec_len};
 ghost use Rattle.std.specs.Option.{option_map};
 ghost use Rattle.lab_shelf.specs.Files.{Files, bytes_under, with_file, with_change, with_first_bytes, piece, IsPartWritten, IsPartAppended, IsPartFinished, HasFileNamed, HasRoom, TookPart};
-ghost use Rattle.lab_shelf.specs.Counts.{IsFaultCount, Foreseen};
+ghost use Rattle.lab_shelf.specs.Counts.{IsFaultCount, IsAsForeseen};
 
 use crate::fault::ShelfFault;
 use std::alloc::Global;
@@ -51,7 +51,7 @@ pub trait Shelf {
         ensures files { files self.new ≡ files self.old }
         ensures faults { IsFaultCount result (fetch_faults self.old) (fetch_faults self.new) }
         ensures write_faults { write_faults self.new ≡ write_faults self.old }
-        ensures foreseen { Foreseen result (fetch_works self.old name.now) }
+        ensures foreseen { IsAsForeseen result (fetch_works self.old name.now) }
         ensures reliable { is_reliable self.old → is_reliable self.new }
         ensures missing { is_reliable self.old → IsErrOf result ShelfFault.Failed
             → IfSome (files self.old) (λ held_files. bytes_under held_files name.now ≡ None) };
@@ -67,7 +67,7 @@ pub trait Shelf {
             (IsPartWritten (files self.old) (files self.new) name.now bytes.now) }
         ensures faults { IsFaultCount result (write_faults self.old) (write_faults self.new) }
         ensures fetch_faults { fetch_faults self.new ≡ fetch_faults self.old }
-        ensures foreseen { Foreseen result (store_works self.old) }
+        ensures foreseen { IsAsForeseen result (store_works self.old) }
         ensures reliable { is_reliable self.old → is_reliable self.new }
         ensures stores { is_reliable self.old → result ≢ Err ShelfFault.Failed };
 
@@ -80,7 +80,7 @@ pub trait Shelf {
             (IsPartWritten (files self.old) (files self.new) name.now head.now) }
         ensures faults { IsFaultCount result (write_faults self.old) (write_faults self.new) }
         ensures fetch_faults { fetch_faults self.new ≡ fetch_faults self.old }
-        ensures foreseen { Foreseen result (store_works self.old) }
+        ensures foreseen { IsAsForeseen result (store_works self.old) }
         ensures reliable { is_reliable self.old → is_reliable self.new }
         ensures begins { is_reliable self.old → result ≢ Err ShelfFault.Failed };
 
@@ -98,7 +98,7 @@ pub trait Shelf {
             (IsPartAppended (files self.old) (files self.new) name.now bytes.now) }
         ensures faults { IsFaultCount result (write_faults self.old) (write_faults self.new) }
         ensures fetch_faults { fetch_faults self.new ≡ fetch_faults self.old }
-        ensures foreseen { Foreseen result (change_works self.old name.now) }
+        ensures foreseen { IsAsForeseen result (change_works self.old name.now) }
         ensures reliable { is_reliable self.old → is_reliable self.new }
         ensures missing { is_reliable self.old → IsErrOf result ShelfFault.Failed
             → IfSome (files self.old) (λ held_files. bytes_under held_files name.now ≡ None) };
@@ -118,7 +118,7 @@ pub trait Shelf {
             (IsPartFinished (files self.old) (files self.new) name.now head.now) }
         ensures faults { IsFaultCount result (write_faults self.old) (write_faults self.new) }
         ensures fetch_faults { fetch_faults self.new ≡ fetch_faults self.old }
-        ensures foreseen { Foreseen result (change_works self.old name.now) }
+        ensures foreseen { IsAsForeseen result (change_works self.old name.now) }
         ensures reliable { is_reliable self.old → is_reliable self.new }
         ensures missing { is_reliable self.old → IsErrOf result ShelfFault.Failed
             → IfSome (files self.old) (λ held_files. bytes_under held_files name.now ≡ None) };
@@ -148,7 +148,7 @@ pub trait Sink {
             (taken self.new ≡ option_map (λ before. before ++ bytes.now) (taken self.old)) }
         ensures err { OnErr result (TookPart (taken self.old) (taken self.new) bytes.now) }
         ensures faults { IsFaultCount result (faults self.old) (faults self.new) }
-        ensures foreseen { Foreseen result (put_works self.old) }
+        ensures foreseen { IsAsForeseen result (put_works self.old) }
         ensures reliable { is_reliable self.old → is_reliable self.new }
         ensures puts { is_reliable self.old → result ≢ Err ShelfFault.Failed };
 }

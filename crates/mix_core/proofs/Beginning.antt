@@ -14,7 +14,7 @@ use Rattle.mix_core.specs.LegalLaws.{first_frame-le}
 use Rattle.mix_core.specs.Sound.{AreWithin, IsNow, IsSound}
 use Rattle.mix_core.specs.declared.marks.Marks.{Marks}
 use Rattle.mix_core.specs.Marks.{start_marks}
-use Rattle.mix_core.specs.Stands.{Stands}
+use Rattle.mix_core.specs.Stands.{RepresentsHistory}
 use Rattle.mix_core.specs.View.{View, word_at}
 use Rattle.mix_core.proofs.Soundness.{HoldsAtMost-empty}
 use Rattle.snd_base.specs.PlaceLaws.{word_index-lt}
@@ -66,8 +66,8 @@ IsSound-new g members word few stands = record {
   words_now = λ f c now. rw (word_at-new g members word f c now.channel, lap-first g f c now) (HoldsAtMost-empty word g.first_lap _ stands);
 }
 
-pub Stands-new : (g : Geometry) (members word : ℕ) → StandsFor word g.first_lap 0 (pos 0) → Stands (new_view g members word) []
-Stands-new g members word stands = record {
+pub RepresentsHistory-new : (g : Geometry) (members word : ℕ) → StandsFor word g.first_lap 0 (pos 0) → RepresentsHistory (new_view g members word) []
+RepresentsHistory-new g members word stands = record {
   legal = tt;
   position = refl;
   agrees = record {
@@ -89,5 +89,5 @@ IsNew-of g members word stands = record {
   next = refl;
   position = refl;
   gone = refl;
-  stands = Stands-new g members word stands;
+  stands = RepresentsHistory-new g members word stands;
 }

@@ -17,16 +17,16 @@ use Rattle.mix_core.specs.HistoryLaws.{entry_of-row, position_after-row, taking_
 use Rattle.mix_core.specs.declared.marks.Marks.{Marks}
 use Rattle.mix_core.specs.declared.port.Kind.TheVariants.{Added}
 use Rattle.mix_core.specs.Sound.{IsNow, IsSound}
-use Rattle.mix_core.specs.Stands.{Agrees, Stands}
+use Rattle.mix_core.specs.Stands.{Agrees, RepresentsHistory}
 use Rattle.mix_core.specs.View.{View, cursor_at, word_at}
 use Rattle.mix_core.proofs.Agreement.{Agrees-laid, Agrees-published, Agrees-taken, Agrees-unplugged, laid_view, taken_view}
 use Rattle.mix_core.specs.LegalLaws.{IsLegal-more}
 use Rattle.mix_core.proofs.Lists.{filter_map-none, filter_map-some}
 
 -- a publication
-pub Stands-published : (v : View) (h : List Row) → v.position ≤ v.next.frame → Stands v h
-    → Stands (record v { position = v.next.frame }) (h ++ (Publish, Published v.next.frame) ∷ [])
-Stands-published v h up s =
+pub RepresentsHistory-published : (v : View) (h : List Row) → v.position ≤ v.next.frame → RepresentsHistory v h
+    → RepresentsHistory (record v { position = v.next.frame }) (h ++ (Publish, Published v.next.frame) ∷ [])
+RepresentsHistory-published v h up s =
     let r : Row = (Publish, Published v.next.frame) in
     let laid : laid_of (h ++ r ∷ []) ≡ laid_of h = filter_map-none entry_of h r refl in
     let taken : taken_words (h ++ r ∷ []) ≡ taken_words h = filter_map-none taking_of h r refl in
@@ -39,16 +39,16 @@ Stands-published v h up s =
     }
 
 -- the card is gone
-pub Stands-unplugged : (v : View) (h : List Row) (gone : Bool) → Stands v h → Stands (record v { gone = gone }) h
-Stands-unplugged v h gone s = record {
+pub RepresentsHistory-unplugged : (v : View) (h : List Row) (gone : Bool) → RepresentsHistory v h → RepresentsHistory (record v { gone = gone }) h
+RepresentsHistory-unplugged v h gone s = record {
   legal = s.legal;
   position = s.position;
   agrees = Agrees-unplugged v (laid_of h) (taken_words h) gone s.agrees;
 }
 
 -- a take that was refused
-pub Stands-refused : (v : View) (h : List Row) → lap v.geometry v.next.frame ≡ 4294967295 → Stands v h → Stands v (h ++ (Take, LapEnd) ∷ [])
-Stands-refused v h last s =
+pub RepresentsHistory-refused : (v : View) (h : List Row) → lap v.geometry v.next.frame ≡ 4294967295 → RepresentsHistory v h → RepresentsHistory v (h ++ (Take, LapEnd) ∷ [])
+RepresentsHistory-refused v h last s =
     let r : Row = (Take, LapEnd) in
     let laid : laid_of (h ++ r ∷ []) ≡ laid_of h = filter_map-none entry_of h r refl in
     let taken : taken_words (h ++ r ∷ []) ≡ taken_words h = filter_map-none taking_of h r refl in
@@ -59,11 +59,11 @@ Stands-refused v h last s =
     }
 
 -- a take, of the value that the samples placed there have in total
-pub Stands-taken : (v : View) (h : List Row) (word : ℕ) (value : ℤ) → IsSound v → lap v.geometry v.next.frame ≢ 4294967295
+pub RepresentsHistory-taken : (v : View) (h : List Row) (word : ℕ) (value : ℤ) → IsSound v → lap v.geometry v.next.frame ≢ 4294967295
     → StandsFor word (lap_of (word_at v v.next.frame v.next.channel) + 1) 0 (pos 0)
     → value ≡ clamp_of (total (laid_of h) v.next.frame v.next.channel)
-    → Stands v h → Stands (taken_view v word) (h ++ (Take, Took v.next.frame v.next.channel value) ∷ [])
-Stands-taken v h word value sound more stands value_is s =
+    → RepresentsHistory v h → RepresentsHistory (taken_view v word) (h ++ (Take, Took v.next.frame v.next.channel value) ∷ [])
+RepresentsHistory-taken v h word value sound more stands value_is s =
     let r : Row = (Take, Took v.next.frame v.next.channel value) in
     let t : Taken = record { frame = v.next.frame; channel = v.next.channel; value = value } in
     let laid : laid_of (h ++ r ∷ []) ≡ laid_of h = filter_map-none entry_of h r refl in
@@ -80,11 +80,11 @@ Stands-taken v h word value sound more stands value_is s =
     }
 
 -- an add or a withdrawal that was in time
-pub Stands-laid : (v : View) (h : List Row) (e : Entry) (word : ℕ) → IsSound v
+pub RepresentsHistory-laid : (v : View) (h : List Row) (e : Entry) (word : ℕ) → IsSound v
     → e.member < length v.marks → IsNow v.geometry v.next e.frame e.channel → e.frame < v.position + v.geometry.frames
     → StandsFor word (lap_of (word_at v e.frame e.channel)) (count_of (word_at v e.frame e.channel) + 1) (sum_of (word_at v e.frame e.channel) +ℤ value_of e)
-    → Stands v h → IsReply v.geometry (length v.marks) h (entry_row e) → Stands (laid_view v e word) (h ++ entry_row e ∷ [])
-Stands-laid v h e word sound member now ahead stands s reply =
+    → RepresentsHistory v h → IsReply v.geometry (length v.marks) h (entry_row e) → RepresentsHistory (laid_view v e word) (h ++ entry_row e ∷ [])
+RepresentsHistory-laid v h e word sound member now ahead stands s reply =
     let r : Row = entry_row e in
     let laid : laid_of (h ++ r ∷ []) ≡ laid_of h ++ e ∷ [] = filter_map-some entry_of h r e (entry_of-row e) in
     let taken : taken_words (h ++ r ∷ []) ≡ taken_words h = filter_map-none taking_of h r (taking_of-row e In) in
@@ -98,7 +98,7 @@ Stands-laid v h e word sound member now ahead stands s reply =
     }
 
 -- nothing was taken at a frame and channel that the ring has now
-pub untaken-now : (v : View) (h : List Row) (f c : ℕ) → IsSound v → IsNow v.geometry v.next f c → Stands v h → is_taken (taken_words h) f c ≡ false
+pub untaken-now : (v : View) (h : List Row) (f c : ℕ) → IsSound v → IsNow v.geometry v.next f c → RepresentsHistory v h → is_taken (taken_words h) f c ≡ false
 untaken-now v h f c sound now s =
     let least : first_frame v.geometry ≤ f = grind (arith, nat_tests, now.low, sound.next_least) in
     let untaken : nat_lt f (first_free v.next c) ≡ false = grind (arith, nat_tests, now.low) in
@@ -108,7 +108,7 @@ untaken-now v h f c sound now s =
 pub reply-added : (v : View) (h : List Row) (e : Entry) → IsSound v → e.kind ≡ Added
     → e.member < length v.marks → IsFrom (cursor_at v e.member) e.frame e.channel → IsNow v.geometry v.next e.frame e.channel
     → e.frame < v.position + v.geometry.frames → lap v.geometry e.frame < 4294967295
-    → Stands v h → IsReply v.geometry (length v.marks) h (entry_row e)
+    → RepresentsHistory v h → IsReply v.geometry (length v.marks) h (entry_row e)
 reply-added v h e sound kind member from now ahead fits s =
     let inside : IsInside v.geometry (length v.marks) h e.member e.frame e.channel = record {
       member_in_range = member;

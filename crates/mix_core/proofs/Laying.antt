@@ -17,7 +17,7 @@ use Rattle.mix_core.specs.PortLaws.{IsNotBefore-refl}
 use Rattle.mix_core.specs.Sound.{AreWithin, IsNow, IsSound}
 use Rattle.mix_core.specs.View.{View, cursor_at, marks_at, word_at}
 use Rattle.mix_core.proofs.Agreement.{laid_view}
-use Rattle.mix_core.proofs.History.{Stands-laid, untaken-now}
+use Rattle.mix_core.proofs.History.{RepresentsHistory-laid, untaken-now}
 use Rattle.mix_core.proofs.Soundness.{AreWithin-added, AreWithin-withdrawn, HoldsMoreAt, holds-added, holds-withdrawn}
 use Rattle.mix_core.proofs.Words.{IsNow-of}
 use mir.Syntax.{w16}
@@ -117,7 +117,7 @@ laid v e word s can stands = record {
   position = refl;
   gone = refl;
   untaken = λ h st. untaken-now v h e.frame e.channel s can.now st;
-  stands = λ h st reply. Stands-laid v h e word s can.member can.now can.ahead stands st reply;
+  stands = λ h st reply. RepresentsHistory-laid v h e word s can.member can.now can.ahead stands st reply;
 }
 
 -- what was read is the word there, and the member's marks

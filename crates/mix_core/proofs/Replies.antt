@@ -18,13 +18,13 @@ use Rattle.mix_core.specs.KeptLaws.{kept_rows-kept}
 use Rattle.mix_core.specs.LegalLaws.{AreReplies-last}
 use Rattle.snd_base.specs.declared.geometry.Geometry.{Geometry}
 use Rattle.mix_core.specs.Run.{AreRepliesSince, IsAnswered, IsReplied, IsReplySince, IsRun, KeepsAdds, is_kept, kept_rows}
-use Rattle.mix_core.specs.Stands.{Stands}
-use Rattle.mix_core.specs.TurnLaws.{CanMiss, Stands-missed}
+use Rattle.mix_core.specs.Stands.{RepresentsHistory}
+use Rattle.mix_core.specs.TurnLaws.{CanMiss, RepresentsHistory-missed}
 use Rattle.mix_core.specs.View.{MayAdd, View}
 
 -- a row that is at the end of a core's history is a reply after what is before it
 pub IsReply-last : (v w : View) (h : List Row) (r : Row) → w.geometry ≡ v.geometry → length w.marks ≡ length v.marks
-    → Stands w (h ++ r ∷ []) → IsReply v.geometry (length v.marks) h r
+    → RepresentsHistory w (h ++ r ∷ []) → IsReply v.geometry (length v.marks) h r
 IsReply-last v w h r geometry members s =
     subst (λ n. IsReply v.geometry n h r) members
     (subst (λ g. IsReply g (length w.marks) h r) geometry (AreReplies-last w.geometry (length w.marks) [] h r s.legal))
@@ -32,13 +32,13 @@ IsReply-last v w h r geometry members s =
 -- an event whose row is kept is answered where each history goes on with this row
 pub IsReplied-kept : (v w : View) (e : Event) (r : Reply) → is_kept (e, r) ≡ true
     → w.geometry ≡ v.geometry → length w.marks ≡ length v.marks → w.gone ≡ v.gone
-    → ((h : List Row) → Stands v h → Stands w (h ++ (e, r) ∷ [])) → IsReplied v w e r
+    → ((h : List Row) → RepresentsHistory v h → RepresentsHistory w (h ++ (e, r) ∷ [])) → IsReplied v w e r
 IsReplied-kept v w e r kept geometry members gone stands = record {
   geometry = geometry;
   members = members;
   gone = gone;
   reply = λ h s. IsReply-last v w h (e, r) geometry members (stands h s);
-  stands = λ h s. subst (λ rs. Stands w (h ++ rs)) (kept_rows-kept (e, r) [] kept) (stands h s);
+  stands = λ h s. subst (λ rs. RepresentsHistory w (h ++ rs)) (kept_rows-kept (e, r) [] kept) (stands h s);
 }
 
 -- an add whose frame and channel were taken
@@ -53,7 +53,7 @@ IsReplied-late v e kind may taken =
       ahead = may.ahead;
       taken = taken;
     } in
-    IsReplied-kept v v _ Late refl refl refl refl (λ h s. subst (λ k. Stands v (h ++ (event_by k e.member e.frame e.channel e.sample, Late) ∷ [])) kind (Stands-missed v h e can s))
+    IsReplied-kept v v _ Late refl refl refl refl (λ h s. subst (λ k. RepresentsHistory v (h ++ (event_by k e.member e.frame e.channel e.sample, Late) ∷ [])) kind (RepresentsHistory-missed v h e can s))
 
 -- an add that its member may not make
 pub IsReplied-outside : (v : View) (e : Entry) → ¬ (MayAdd v e) → IsReplied v v (Add e.member e.frame e.channel e.sample) Outside
@@ -68,7 +68,7 @@ IsReplied-outside v e not_may = record {
     lap_fits = inside.lap_fits;
     ahead = subst (λ p. e.frame < p + v.geometry.frames) (sym s.position) inside.ahead;
   });
-  stands = λ h s. subst (Stands v) (sym (append-nil h)) s;
+  stands = λ h s. subst (RepresentsHistory v) (sym (append-nil h)) s;
 }
 
 -- an add that was made
@@ -84,7 +84,7 @@ IsReplied-added v w e kind may laid =
       lap_fits = may.lap_fits;
       ahead = subst (λ p. e.frame < p + v.geometry.frames) s.position may.ahead;
     } in
-    subst (λ r. Stands w (h ++ r ∷ [])) row (laid.stands h s (subst (IsReply v.geometry (length v.marks) h) (sym row) (inside, laid.untaken h s))))
+    subst (λ r. RepresentsHistory w (h ++ r ∷ [])) row (laid.stands h s (subst (IsReply v.geometry (length v.marks) h) (sym row) (inside, laid.untaken h s))))
 
 -- a take
 pub IsReplied-took : (v w : View) (t : Taken) → IsTaken v w t → IsReplied v w Take (Took t.frame t.channel t.value)
@@ -94,7 +94,7 @@ IsReplied-took v w t taken = IsReplied-kept v w Take _ refl taken.geometry (ap l
 pub IsReplied-published : (v w : View) (frame : ℕ) → IsPublished v w → frame ≡ w.position → IsReplied v w Publish (Published frame)
 IsReplied-published v w frame published is =
     IsReplied-kept v w Publish (Published frame) refl (ap (λ (x : View). x.geometry) published.changed) (ap (λ (x : View). length x.marks) published.changed) (ap (λ (x : View). x.gone) published.changed)
-    (λ h s. subst (λ n. Stands w (h ++ (Publish, Published n) ∷ [])) (sym (is ∙ ap (λ (x : View). x.position) published.changed)) (published.stands h s))
+    (λ h s. subst (λ n. RepresentsHistory w (h ++ (Publish, Published n) ∷ [])) (sym (is ∙ ap (λ (x : View). x.position) published.changed)) (published.stands h s))
 
 -- rows with one more event and its reply
 pub zip-more : {A B : Type 0} (xs : List A) (ys : List B) (x : A) (y : B) → length ys ≡ length xs → zip (xs ++ x ∷ []) (ys ++ y ∷ []) ≡ zip xs ys ++ (x, y) ∷ []
@@ -118,7 +118,7 @@ IsRun-none v = record {
   gone = refl;
   one_each = refl;
   replies = λ h s. tt;
-  stands = λ h s. subst (Stands v) (sym (append-nil h)) s;
+  stands = λ h s. subst (RepresentsHistory v) (sym (append-nil h)) s;
 }
 
 -- one more event
@@ -127,7 +127,7 @@ pub IsRun-more : (u v w : View) (st su : List Entry) (es : List Event) (rs : Lis
 IsRun-more u v w st su es rs e r keeps run one =
     let rows : List Row = zip es rs in
     let more : zip (es ++ e ∷ []) (rs ++ r ∷ []) ≡ rows ++ (e, r) ∷ [] = zip-more es rs e r run.one_each in
-    let reply : (h : List Row) → Stands u h → IsReplySince u.geometry (length u.marks) h rows (e, r) = λ h s.
+    let reply : (h : List Row) → RepresentsHistory u h → IsReplySince u.geometry (length u.marks) h rows (e, r) = λ h s.
     subst (λ n. IsReplySince u.geometry n h rows (e, r)) run.members
     (subst (λ g. IsReplySince g (length v.marks) h rows (e, r)) run.geometry (one.reply h rows keeps (run.stands h s))) in
     let kept : kept_rows (rows ++ (e, r) ∷ []) ≡ kept_rows rows ++ kept_rows ((e, r) ∷ []) = filter-append is_kept rows ((e, r) ∷ []) in
@@ -138,7 +138,7 @@ IsRun-more u v w st su es rs e r keeps run one =
       one_each = length-append rs (r ∷ []) ∙ (ap (λ n. n + 1) run.one_each ∙ sym (length-append es (e ∷ [])));
       replies = λ h s. subst (AreRepliesSince u.geometry (length u.marks) h []) (sym more)
           (AreRepliesSince-more u.geometry (length u.marks) h [] rows (e, r) (run.replies h s) (reply h s));
-      stands = λ h s. subst (λ x. Stands w (h ++ kept_rows x)) (sym more)
-          (subst (λ x. Stands w (h ++ x)) (sym kept)
-          (subst (Stands w) (append_assoc h (kept_rows rows) (kept_rows ((e, r) ∷ []))) (one.stands h rows keeps (run.stands h s))));
+      stands = λ h s. subst (λ x. RepresentsHistory w (h ++ kept_rows x)) (sym more)
+          (subst (λ x. RepresentsHistory w (h ++ x)) (sym kept)
+          (subst (RepresentsHistory w) (append_assoc h (kept_rows rows) (kept_rows ((e, r) ∷ []))) (one.stands h rows keeps (run.stands h s))));
     }

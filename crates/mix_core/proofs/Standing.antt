@@ -24,7 +24,7 @@ use Rattle.mix_core.specs.LegalLaws.{AreLeast, marks_of-least}
 use Rattle.mix_core.specs.MarkLaws.{without_last-more}
 use Rattle.mix_core.specs.OwnLaws.{last_entry-more, own-more, own-more_other, standing_of-other, standing_of-own}
 use Rattle.mix_core.specs.Run.{IsAnswered, IsHeldSince, IsLastOf, IsReplied, IsReplySince, KeepsAdds, MayWithdraw, kept_rows}
-use Rattle.mix_core.specs.Stands.{Stands}
+use Rattle.mix_core.specs.Stands.{RepresentsHistory}
 use Rattle.mix_core.specs.View.{View}
 
 -- a row that places nothing
@@ -172,7 +172,7 @@ held-since g members h rows st m f c s k held = record {
 }
 
 -- an entry that its member may withdraw, by the standing adds of the run
-pub since-may : (v : View) (h rows : List Row) (st : List Entry) (e x : Entry) (i : ℕ) → KeepsAdds st rows → AtLast st e.member i x → Stands v (h ++ kept_rows rows) → MayWithdraw v e x
+pub since-may : (v : View) (h rows : List Row) (st : List Entry) (e x : Entry) (i : ℕ) → KeepsAdds st rows → AtLast st e.member i x → RepresentsHistory v (h ++ kept_rows rows) → MayWithdraw v e x
     → IsHeldSince v.geometry (length v.marks) h rows e.member e.frame e.channel e.sample
 since-may v h rows st e x i k last s may = record {
   member_in_range = may.member_in_range;
@@ -183,7 +183,7 @@ since-may v h rows st e x i k last s may = record {
 }
 
 -- and what the run may withdraw, the core sees that it may
-pub may-since : (v : View) (h rows : List Row) (st : List Entry) (e x : Entry) (i : ℕ) → KeepsAdds st rows → AtLast st e.member i x → Stands v (h ++ kept_rows rows)
+pub may-since : (v : View) (h rows : List Row) (st : List Entry) (e x : Entry) (i : ℕ) → KeepsAdds st rows → AtLast st e.member i x → RepresentsHistory v (h ++ kept_rows rows)
     → IsHeldSince v.geometry (length v.marks) h rows e.member e.frame e.channel e.sample → MayWithdraw v e x
 may-since v h rows st e x i k last s held =
     let one : IsSample (Some x) e.frame e.channel e.sample = subst (λ o. IsSample o e.frame e.channel e.sample) (ap last_entry (sym (k.holds e.member) ∙ last.own_is) ∙ last_entry-more last.early x) held.last in
@@ -207,7 +207,7 @@ answered-none v st m f c s none = record {
   members = refl;
   gone = refl;
   reply = λ h rows k stands held. subst (λ o. IsSample o f c s) (ap last_entry (sym (k.holds m) ∙ none)) held.last;
-  stands = λ h rows k stands. subst (Stands v) (sym (append-nil (h ++ kept_rows rows))) stands;
+  stands = λ h rows k stands. subst (RepresentsHistory v) (sym (append-nil (h ++ kept_rows rows))) stands;
   keeps = λ rows k. keeps-nothing st rows (Withdraw m f c s, Outside) refl k;
 }
 
@@ -219,7 +219,7 @@ answered-outside v st e x i last not_may = record {
   members = refl;
   gone = refl;
   reply = λ h rows k stands held. not_may (may-since v h rows st e x i k last stands held);
-  stands = λ h rows k stands. subst (Stands v) (sym (append-nil (h ++ kept_rows rows))) stands;
+  stands = λ h rows k stands. subst (RepresentsHistory v) (sym (append-nil (h ++ kept_rows rows))) stands;
   keeps = λ rows k. keeps-nothing st rows (Withdraw e.member e.frame e.channel e.sample, Outside) refl k;
 }
 
@@ -227,7 +227,7 @@ answered-outside v st e x i last not_may = record {
 pub answered-late : (v : View) (st : List Entry) (m f c : ℕ) (s : ℤ) (x : Entry) (i : ℕ) → AtLast st m i x → MayWithdraw v (a_withdrawal m f c s) x → f < first_free v.next c
     → IsAnswered v v st st (Withdraw m f c s) Late
 answered-late v st m f c s x i last may taken =
-    let held : (h rows : List Row) → KeepsAdds st rows → Stands v (h ++ kept_rows rows) → IsHeldSince v.geometry (length v.marks) h rows m f c s = λ h rows k stands.
+    let held : (h rows : List Row) → KeepsAdds st rows → RepresentsHistory v (h ++ kept_rows rows) → IsHeldSince v.geometry (length v.marks) h rows m f c s = λ h rows k stands.
     since-may v h rows st (a_withdrawal m f c s) x i k last stands may in
     record {
       geometry = refl;
@@ -247,7 +247,7 @@ answered-late v st m f c s x i last may taken =
 pub answered-in : (v w : View) (st : List Entry) (m f c : ℕ) (s : ℤ) (x : Entry) (i : ℕ) → AtLast st m i x → MayWithdraw v (a_withdrawal m f c s) x → IsLaidBy v w (a_withdrawal m f c s)
     → IsAnswered v w st (take i st ++ drop (i + 1) st) (Withdraw m f c s) In
 answered-in v w st m f c s x i last may laid =
-    let held : (h rows : List Row) → KeepsAdds st rows → Stands v (h ++ kept_rows rows) → IsHeldSince v.geometry (length v.marks) h rows m f c s = λ h rows k stands.
+    let held : (h rows : List Row) → KeepsAdds st rows → RepresentsHistory v (h ++ kept_rows rows) → IsHeldSince v.geometry (length v.marks) h rows m f c s = λ h rows k stands.
     since-may v h rows st (a_withdrawal m f c s) x i k last stands may in
     record {
       geometry = laid.geometry;

@@ -30,7 +30,7 @@ laid_nothing t u same = record {
   marks = rw (same.core, same.member) refl;
   words = rw same.core (λ i. omega arith);
   others = rw same.core (λ m d other. refl);
-  stands = λ h st all. rw same.core (subst (λ x. Rattle.mix_core.specs.Stands.Stands (core_of t) x) (sym (Rattle.std.proofs.lemmas.List.append-nil h)) st);
+  stands = λ h st all. rw same.core (subst (λ x. Rattle.mix_core.specs.Stands.RepresentsHistory (core_of t) x) (sym (Rattle.std.proofs.lemmas.List.append-nil h)) st);
 }
 
 pub loaded_nothing : (t u : Turn) → IsSame t u → TurnLoaded t u []

@@ -12,7 +12,7 @@ use Rattle.mix_core.specs.Laid.{marks_after, total}
 use Rattle.mix_core.specs.Marks.{start_marks}
 use Rattle.mix_core.specs.Port.{IsNotBefore}
 use Rattle.mix_core.specs.declared.marks.Marks.{Marks}
-use Rattle.mix_core.specs.Stands.{Stands}
+use Rattle.mix_core.specs.Stands.{RepresentsHistory}
 use Rattle.mix_core.specs.View.{View, marks_at}
 
 -- a core of a geometry and a number of members, to which nothing has happened
@@ -23,7 +23,7 @@ pub record IsNew (v : View) (g : Geometry) (members : ℕ) : Type 0 where
   pub next : v.next ≡ record { frame = first_frame g; channel = 0 }
   pub position : v.position ≡ first_frame g
   pub gone : v.gone ≡ false
-  pub stands : Stands v []
+  pub stands : RepresentsHistory v []
 
 -- an entry was placed, an add or a withdrawal: its member's marks move, and each history that it legally continues has it at its
 -- end
@@ -37,8 +37,8 @@ pub record IsLaidBy (v w : View) (e : Entry) : Type 0 where
   pub next : w.next ≡ v.next
   pub position : w.position ≡ v.position
   pub gone : w.gone ≡ v.gone
-  pub untaken : (h : List Row) → Stands v h → is_taken (taken_words h) e.frame e.channel ≡ false
-  pub stands : (h : List Row) → Stands v h → IsReply v.geometry (length v.marks) h (entry_row e) → Stands w (h ++ entry_row e ∷ [])
+  pub untaken : (h : List Row) → RepresentsHistory v h → is_taken (taken_words h) e.frame e.channel ≡ false
+  pub stands : (h : List Row) → RepresentsHistory v h → IsReply v.geometry (length v.marks) h (entry_row e) → RepresentsHistory w (h ++ entry_row e ∷ [])
 
 -- the next word was taken: its value is the total there, saturated to a sample, and each history has the take at its end
 pub record IsTaken (v w : View) (t : Taken) : Type 0 where
@@ -49,20 +49,20 @@ pub record IsTaken (v w : View) (t : Taken) : Type 0 where
   pub frame : t.frame ≡ v.next.frame
   pub channel : t.channel ≡ v.next.channel
   pub next : w.next ≡ cursor_after v.geometry v.next.frame v.next.channel
-  pub value : (h : List Row) → Stands v h → t.value ≡ clamp_of (total (laid_of h) t.frame t.channel)
-  pub stands : (h : List Row) → Stands v h → Stands w (h ++ (Take, Took t.frame t.channel t.value) ∷ [])
+  pub value : (h : List Row) → RepresentsHistory v h → t.value ≡ clamp_of (total (laid_of h) t.frame t.channel)
+  pub stands : (h : List Row) → RepresentsHistory v h → RepresentsHistory w (h ++ (Take, Took t.frame t.channel t.value) ∷ [])
 
 -- the take was refused: nothing changed, and each history has the refusal at its end
 pub record IsRefused (v w : View) : Type 0 where
   pub same : w ≡ v
-  pub stands : (h : List Row) → Stands v h → Stands w (h ++ (Take, LapEnd) ∷ [])
+  pub stands : (h : List Row) → RepresentsHistory v h → RepresentsHistory w (h ++ (Take, LapEnd) ∷ [])
 
 -- the position became the frame of the next word, and each history has this publication at its end
 pub record IsPublished (v w : View) : Type 0 where
   pub changed : w ≡ record v { position = v.next.frame }
-  pub stands : (h : List Row) → Stands v h → Stands w (h ++ (Publish, Published v.next.frame) ∷ [])
+  pub stands : (h : List Row) → RepresentsHistory v h → RepresentsHistory w (h ++ (Publish, Published v.next.frame) ∷ [])
 
 -- the card is gone, which is no event of a history
 pub record IsUnplugged (v w : View) : Type 0 where
   pub changed : w ≡ record v { gone = true }
-  pub stands : (h : List Row) → Stands v h → Stands w h
+  pub stands : (h : List Row) → RepresentsHistory v h → RepresentsHistory w h

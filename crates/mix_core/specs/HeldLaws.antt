@@ -21,9 +21,9 @@ use Rattle.mix_core.specs.LegalLaws.{AreLeast, AreReplies-keep, entry_of-cases, 
 use Rattle.mix_core.specs.MarkLaws.{Each, Each-right, IsBeforeCursor, IsHolding, IsHolding-add, IsHolding-withdraw, each_counted, each_filter, last_cases, later_up_to, place_up_to, standing-each, without_last-more}
 use Rattle.mix_core.specs.Marks.{withdrawn_at}
 use Rattle.mix_core.specs.OwnLaws.{last_entry-more, marks_of-other, marks_of-own, standing_of-other, standing_of-own}
-use Rattle.mix_core.specs.Stands.{Stands}
+use Rattle.mix_core.specs.Stands.{RepresentsHistory}
 use Rattle.mix_core.specs.Turn.{ContinuesRows, TurnEndsIn, TurnLaid, core_of}
-use Rattle.mix_core.specs.TurnLaws.{Stands-late}
+use Rattle.mix_core.specs.TurnLaws.{RepresentsHistory-late}
 use Rattle.mix_core.specs.View.{View, cursor_at, marks_at}
 
 -- the last of some entries, as they are written
@@ -103,7 +103,7 @@ pub record HeldPlace (v : View) (m f c : ℕ) : Type 0 where
   pub before : f < first_free (cursor_at v m) c
   pub ahead : f < v.position + v.geometry.frames
 
-pub held-entry : (v : View) (h : List Row) (m : ℕ) (early : List Entry) (x : Entry) → Stands v h → m < length v.marks → standing_of m (laid_of h) ≡ early ++ x ∷ [] → HeldPlace v m x.frame x.channel
+pub held-entry : (v : View) (h : List Row) (m : ℕ) (early : List Entry) (x : Entry) → RepresentsHistory v h → m < length v.marks → standing_of m (laid_of h) ≡ early ++ x ∷ [] → HeldPlace v m x.frame x.channel
 held-entry v h m early x st inside is =
     let g : Geometry = v.geometry in
     let marks_is : marks_at v m ≡ marks_of g m (laid_of h) = st.agrees.marks m _ inside in
@@ -122,17 +122,17 @@ held-entry v h m early x st inside is =
       ];
     }
 
-pub held-at : (v : View) (h : List Row) (m f c : ℕ) (s : ℤ) → Stands v h → m < length v.marks → IsSample (last_entry (standing_of m (laid_of h))) f c s → HeldPlace v m f c
+pub held-at : (v : View) (h : List Row) (m f c : ℕ) (s : ℤ) → RepresentsHistory v h → m < length v.marks → IsSample (last_entry (standing_of m (laid_of h))) f c s → HeldPlace v m f c
 held-at v h m f c s st inside is =
     let last = last_is (standing_of m (laid_of h)) f c s is in
     let place : HeldPlace v m last.1.frame last.1.channel = held-entry v h m last.0 last.1 st inside last.2 in
     subst (λ d. HeldPlace v m f d) last.4 (subst (λ k. HeldPlace v m k last.1.channel) last.3 place)
 
-pub held-place : (v : View) (h : List Row) (m f c : ℕ) (s : ℤ) → Stands v h → m < length v.marks → EndsIn (standing_of m (laid_of h)) (an_add m f c s ∷ []) → HeldPlace v m f c
+pub held-place : (v : View) (h : List Row) (m f c : ℕ) (s : ℤ) → RepresentsHistory v h → m < length v.marks → EndsIn (standing_of m (laid_of h)) (an_add m f c s ∷ []) → HeldPlace v m f c
 held-place v h m f c s st inside ends = held-entry v h m ends.0 (an_add m f c s) st inside ends.1
 
 -- it may be withdrawn, from the floor on
-pub held-in : (v : View) (h : List Row) (m f c : ℕ) (s : ℤ) → Stands v h → m < length v.marks → IsFrom (marks_at v m).floor f c
+pub held-in : (v : View) (h : List Row) (m f c : ℕ) (s : ℤ) → RepresentsHistory v h → m < length v.marks → IsFrom (marks_at v m).floor f c
     → EndsIn (standing_of m (laid_of h)) (an_add m f c s ∷ []) → IsHeld v.geometry (length v.marks) h m f c s
 held-in v h m f c s st inside from ends = record {
   member_in_range = inside;
@@ -142,16 +142,16 @@ held-in v h m f c s st inside from ends = record {
 }
 
 -- a withdrawal that is late goes on each history that it legally continues
-pub missed-back : (v : View) (h : List Row) (m f c : ℕ) (s : ℤ) → IsHeld v.geometry (length v.marks) h m f c s → f < first_free v.next c → Stands v h
-    → Stands v (h ++ Rattle.mix_core.specs.History.late_row (a_withdrawal m f c s) ∷ [])
+pub missed-back : (v : View) (h : List Row) (m f c : ℕ) (s : ℤ) → IsHeld v.geometry (length v.marks) h m f c s → f < first_free v.next c → RepresentsHistory v h
+    → RepresentsHistory v (h ++ Rattle.mix_core.specs.History.late_row (a_withdrawal m f c s) ∷ [])
 missed-back v h m f c s held taken st =
     let least : AreLeast v.geometry (marks_of v.geometry m (laid_of h)) = marks_of-least v.geometry (length v.marks) h m st.legal in
-    Stands-late v h (a_withdrawal m f c s) held held.channel_in_range (grind (arith, nat_tests, least.floor, held.from_floor)) taken st
+    RepresentsHistory-late v h (a_withdrawal m f c s) held held.channel_in_range (grind (arith, nat_tests, least.floor, held.from_floor)) taken st
 
 -- an entry that goes on a history legally, at a frame and channel that weren't taken, has the reply In
 abbrev pub MayIn : View → Entry → Type 0
 MayIn v e =
-    (h : List Row) → Stands v h → ContinuesRows v.geometry (length v.marks) h e → is_taken (taken_words h) e.frame e.channel ≡ false
+    (h : List Row) → RepresentsHistory v h → ContinuesRows v.geometry (length v.marks) h e → is_taken (taken_words h) e.frame e.channel ≡ false
     → IsReply v.geometry (length v.marks) h (entry_row e)
 
 pub may_in-add : (v : View) (m f c : ℕ) (s : ℤ) → m < length v.marks → c < v.geometry.channels → IsFrom (cursor_at v m) f c
@@ -196,7 +196,7 @@ pub TurnEndsIn-back : (t u : Turn) (xs : List Entry) (f c : ℕ) (s : ℤ) → I
 TurnEndsIn-back t u xs f c s from laid ends =
     let h : List Row = ends.0 in
     let m : ℕ = t.member in
-    let st : Stands (core_of t) h = ends.1.0 in
+    let st : RepresentsHistory (core_of t) h = ends.1.0 in
     let early : List Entry = ends.1.1.0 in
     let is : standing_of m (laid_of h) ≡ (early ++ xs) ++ an_add m f c s ∷ [] = ends.1.1.1 ∙ sym (append_assoc early xs (an_add m f c s ∷ [])) in
     let held : IsHeld (core_of t).geometry (length (core_of t).marks) h m f c s = held-in (core_of t) h m f c s st t.in_range from (early ++ xs, is) in

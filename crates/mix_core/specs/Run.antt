@@ -11,7 +11,7 @@ use Rattle.mix_core.specs.declared.event.Reply.TheVariants.{In, Late, Outside}
 use Rattle.mix_core.specs.declared.port.Entry.{Entry}
 use Rattle.mix_core.specs.History.{IsReply, IsSample, Row, is_taken, laid_of, taken_words}
 use Rattle.mix_core.specs.Laid.{last_entry, marks_of, own_entries, stand_after, standing_of}
-use Rattle.mix_core.specs.Stands.{Stands}
+use Rattle.mix_core.specs.Stands.{RepresentsHistory}
 use Rattle.mix_core.specs.View.{View, cursor_at, marks_at}
 
 -- whether a row stays in a core's history: an event with the reply `Outside` is left out
@@ -48,8 +48,8 @@ pub record IsRun (v w : View) (es : List Event) (rs : List Reply) : Type 0 where
   pub members : length w.marks ≡ length v.marks
   pub gone : w.gone ≡ v.gone
   pub one_each : length rs ≡ length es
-  pub replies : (h : List Row) → Stands v h → AreRepliesSince v.geometry (length v.marks) h [] (zip es rs)
-  pub stands : (h : List Row) → Stands v h → Stands w (h ++ kept_rows (zip es rs))
+  pub replies : (h : List Row) → RepresentsHistory v h → AreRepliesSince v.geometry (length v.marks) h [] (zip es rs)
+  pub stands : (h : List Row) → RepresentsHistory v h → RepresentsHistory w (h ++ kept_rows (zip es rs))
 
 -- a list holds the standing adds of all members after some rows, and these follow whatever was before the rows
 pub record KeepsAdds (st : List Entry) (rows : List Row) : Type 0 where
@@ -61,16 +61,16 @@ pub record IsReplied (v w : View) (e : Event) (r : Reply) : Type 0 where
   pub geometry : w.geometry ≡ v.geometry
   pub members : length w.marks ≡ length v.marks
   pub gone : w.gone ≡ v.gone
-  pub reply : (h : List Row) → Stands v h → IsReply v.geometry (length v.marks) h (e, r)
-  pub stands : (h : List Row) → Stands v h → Stands w (h ++ kept_rows ((e, r) ∷ []))
+  pub reply : (h : List Row) → RepresentsHistory v h → IsReply v.geometry (length v.marks) h (e, r)
+  pub stands : (h : List Row) → RepresentsHistory v h → RepresentsHistory w (h ++ kept_rows ((e, r) ∷ []))
 
 -- the same of an event of a run, with the list of standing adds before and after it
 pub record IsAnswered (v w : View) (st su : List Entry) (e : Event) (r : Reply) : Type 0 where
   pub geometry : w.geometry ≡ v.geometry
   pub members : length w.marks ≡ length v.marks
   pub gone : w.gone ≡ v.gone
-  pub reply : (h rows : List Row) → KeepsAdds st rows → Stands v (h ++ kept_rows rows) → IsReplySince v.geometry (length v.marks) h rows (e, r)
-  pub stands : (h rows : List Row) → KeepsAdds st rows → Stands v (h ++ kept_rows rows) → Stands w ((h ++ kept_rows rows) ++ kept_rows ((e, r) ∷ []))
+  pub reply : (h rows : List Row) → KeepsAdds st rows → RepresentsHistory v (h ++ kept_rows rows) → IsReplySince v.geometry (length v.marks) h rows (e, r)
+  pub stands : (h rows : List Row) → KeepsAdds st rows → RepresentsHistory v (h ++ kept_rows rows) → RepresentsHistory w ((h ++ kept_rows rows) ++ kept_rows ((e, r) ∷ []))
   pub keeps : (rows : List Row) → KeepsAdds st rows → KeepsAdds su (rows ++ (e, r) ∷ [])
 
 -- the last standing add of a member is at a place of the list

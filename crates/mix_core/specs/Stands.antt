@@ -25,7 +25,7 @@ pub record Agrees (v : View) (es : List Entry) (ts : List Taken) : Type 0 where
   pub exact : AreExact es ts
 
 -- the core represents the history: it is legal, and the core's parts are what it says
-pub record Stands (v : View) (h : List Row) : Type 0 where
+pub record RepresentsHistory (v : View) (h : List Row) : Type 0 where
   pub legal : IsLegal v.geometry (length v.marks) h
   pub position : v.position ≡ position_of v.geometry h
   pub agrees : Agrees v (laid_of h) (taken_words h)

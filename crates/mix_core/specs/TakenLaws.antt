@@ -15,7 +15,7 @@ use Rattle.mix_core.specs.History.{IsLegal, IsReply, Row, next_to_take, position
 use Rattle.mix_core.specs.LegalLaws.{AreReplies-keep, next_to_take-kept, next_to_take-took, taking_of-cases}
 use Rattle.mix_core.specs.Port.{IsPast}
 use Rattle.mix_core.specs.Sound.{IsNow}
-use Rattle.mix_core.specs.Stands.{Stands}
+use Rattle.mix_core.specs.Stands.{RepresentsHistory}
 use Rattle.mix_core.specs.Turn.{core_of, word_of_turn, view_of_turn}
 use Rattle.mix_core.specs.View.{View, word_at}
 
@@ -61,14 +61,14 @@ position_of-most g members h legal =
     ) [] h (omega (arith, start)) legal
 
 -- where a core represents some history, each frame before its position is taken
-pub taken-published : (v : View) (h : List Row) (f c : ℕ) → Stands v h → f < v.position → f < first_free v.next c
+pub taken-published : (v : View) (h : List Row) (f c : ℕ) → RepresentsHistory v h → f < v.position → f < first_free v.next c
 taken-published v h f c s before =
     let most : v.position ≤ v.next.frame = subst (λ (x : Cursor). v.position ≤ x.frame) (sym s.agrees.next)
     (subst (λ p. p ≤ (next_to_take v.geometry h).frame) (sym s.position) (position_of-most v.geometry (length v.marks) h s.legal)) in
     grind (arith, nat_tests)
 
 -- and so is a frame and channel where it shows a word of a later lap
-pub taken-shown : (v : View) (h : List Row) (f c word : ℕ) → Stands v h → c < v.geometry.channels → f < v.position + v.geometry.frames
+pub taken-shown : (v : View) (h : List Row) (f c word : ℕ) → RepresentsHistory v h → c < v.geometry.channels → f < v.position + v.geometry.frames
     → word_at v f c ≡ word → lap v.geometry f < lap_of word → f < first_free v.next c
 taken-shown v h f c word s in_range ahead shown later =
     elim (cases_lt f (first_free v.next c)) [
@@ -82,7 +82,7 @@ taken-shown v h f c word s in_range ahead shown later =
     ]
 
 -- so the word that a turn shows for an add that was late says that its frame and channel were taken
-pub taken-late : (t : Turn) (h : List Row) (f c word : ℕ) → Stands (core_of t) h → c < (core_of t).geometry.channels
+pub taken-late : (t : Turn) (h : List Row) (f c word : ℕ) → RepresentsHistory (core_of t) h → c < (core_of t).geometry.channels
     → f < (core_of t).position + (core_of t).geometry.frames
     → IsPast view_of_turn word_of_turn t f c word
     → f < first_free (core_of t).next c

@@ -15,7 +15,7 @@ use Rattle.mix_core.specs.declared.port.Kind.TheVariants.{Added, Withdrawn}
 use Rattle.mix_core.specs.Laid.{EndsIn, marks_from, standing_of}
 use Rattle.mix_core.specs.Port.{IsNotBefore, OnLate, OnWhole, PortView}
 use Rattle.snd_base.specs.declared.geometry.Geometry.{Geometry}
-use Rattle.mix_core.specs.Stands.{Stands}
+use Rattle.mix_core.specs.Stands.{RepresentsHistory}
 use Rattle.mix_core.specs.View.{View, cursor_at, marks_at, word_at}
 
 -- the core of a turn, as it is now
@@ -43,7 +43,7 @@ word_of_turn t f c = Some (word_at t.core.now f c)
 
 -- the member's standing adds end in a list, in a history that the core represents
 abbrev pub TurnEndsIn : Turn → List Entry → Type 0
-TurnEndsIn t es = (h : List Row) × (Stands t.core.now h × EndsIn (standing_of t.member (laid_of h)) es)
+TurnEndsIn t es = (h : List Row) × (RepresentsHistory t.core.now h × EndsIn (standing_of t.member (laid_of h)) es)
 
 -- an entry legally continues a history: an add does that where the core's member may make it, and a withdrawal where the
 -- history holds its sample last
@@ -83,12 +83,12 @@ pub record TurnLaid (t u : Turn) (es : List Entry) : Type 0 where
   -- no word falls, by its lap and then its count
   pub words : (i : ℕ) → IsNotBefore (slice_index (core_of t).words i) (slice_index (core_of u).words i)
   pub others : (m : ℕ) (d : Marks) → m ≢ t.member → slice_index_or (core_of u).marks m d ≡ slice_index_or (core_of t).marks m d
-  pub stands : (h : List Row) → Stands (core_of t) h → AllContinue (core_of t).geometry (length (core_of t).marks) h es → Stands (core_of u) (h ++ map entry_row es)
+  pub stands : (h : List Row) → RepresentsHistory (core_of t) h → AllContinue (core_of t).geometry (length (core_of t).marks) h es → RepresentsHistory (core_of u) (h ++ map entry_row es)
 
 -- a turn's add of an entry was late: each history that the core represented has this add at its end
 abbrev pub TurnMissed : Turn → Turn → Entry → Type 0
 TurnMissed t u e =
-    (h : List Row) → Stands (core_of t) h → ContinuesRows (core_of t).geometry (length (core_of t).marks) h e → Stands (core_of u) (h ++ late_row e ∷ [])
+    (h : List Row) → RepresentsHistory (core_of t) h → ContinuesRows (core_of t).geometry (length (core_of t).marks) h e → RepresentsHistory (core_of u) (h ++ late_row e ∷ [])
 
 -- the words that a turn finds at a frame and channel are at most one, which the core has there
 abbrev pub AreFound : List ℕ → ℕ → Type 0

@@ -22,7 +22,7 @@ use Rattle.mix_core.specs.Laid.{AreAdds, cursor_of, marks_after, marks_from, own
 use Rattle.mix_core.specs.Port.{AreRisingFrom, ShowsFrom, last_frame}
 use Rattle.mix_core.specs.PortLaws.{IsNotBefore-refl, IsNotBefore-trans, standing-append_adds}
 use Rattle.mix_core.specs.LegalLaws.{IsLegal-more, MayLay, cursor_of-least, lap-taken, may_lay}
-use Rattle.mix_core.specs.Stands.{Agrees, Stands}
+use Rattle.mix_core.specs.Stands.{Agrees, RepresentsHistory}
 use Rattle.mix_core.specs.Turn.{AllContinue, KeepsRest, TurnEndsIn, TurnLaid, TurnLoaded, TurnMissed, continues, core_of, cursor_of_turn, marks_of_turn, word_of_turn}
 use Rattle.mix_core.specs.View.{View, cursor_at, word_at}
 
@@ -66,7 +66,7 @@ TurnLaid-joined p q r xs ys first then = record {
       let right : AllContinue (core_of q).geometry (length (core_of q).marks) (h ++ map entry_row xs) ys =
       subst (λ n. AllContinue (core_of q).geometry n (h ++ map entry_row xs) ys) (sym first.rest.members)
       (subst (λ g. AllContinue g (length (core_of p).marks) (h ++ map entry_row xs) ys) (sym first.rest.geometry) (AllContinue-right (core_of p).geometry (length (core_of p).marks) h xs ys all)) in
-      subst (Stands (core_of r)) (rows-joined h xs ys)
+      subst (RepresentsHistory (core_of r)) (rows-joined h xs ys)
       (then.stands (h ++ map entry_row xs) (first.stands h s (AllContinue-left (core_of p).geometry (length (core_of p).marks) h xs ys all)) right);
 }
 
@@ -81,7 +81,7 @@ TurnLaid-composes = record {
     marks = refl;
     words = λ i. IsNotBefore-refl (slice_index (core_of p).words i);
     others = λ m d other. refl;
-    stands = λ h s all. subst (Stands (core_of p)) (sym (append-nil h)) s;
+    stands = λ h s all. subst (RepresentsHistory (core_of p)) (sym (append-nil h)) s;
   };
   joined = TurnLaid-joined;
 }
@@ -101,9 +101,9 @@ TurnLoaded-composes = record {
 }
 
 -- an entry whose frame and channel were taken goes on each history that it legally continues, and changes nothing
-pub Stands-late : (v : View) (h : List Row) (e : Entry) → MayLay v.geometry (length v.marks) h e → e.channel < v.geometry.channels → first_frame v.geometry ≤ e.frame
-    → e.frame < first_free v.next e.channel → Stands v h → Stands v (h ++ late_row e ∷ [])
-Stands-late v h e may channel least taken_before s =
+pub RepresentsHistory-late : (v : View) (h : List Row) (e : Entry) → MayLay v.geometry (length v.marks) h e → e.channel < v.geometry.channels → first_frame v.geometry ≤ e.frame
+    → e.frame < first_free v.next e.channel → RepresentsHistory v h → RepresentsHistory v (h ++ late_row e ∷ [])
+RepresentsHistory-late v h e may channel least taken_before s =
     let r : Row = late_row e in
     let g = v.geometry in
     let laid : laid_of (h ++ r ∷ []) ≡ laid_of h = filter_map-append entry_of h (r ∷ []) ∙ rw (entry_of-late e) (append-nil (laid_of h)) in
@@ -132,14 +132,14 @@ pub record CanMiss (v : View) (e : Entry) : Type 0 where
   pub taken : e.frame < first_free v.next e.channel
 
 -- the frame of such an add is not before the first, and the history says that the member may make it
-pub least-missed : (v : View) (h : List Row) (e : Entry) → CanMiss v e → Stands v h → first_frame v.geometry ≤ e.frame
+pub least-missed : (v : View) (h : List Row) (e : Entry) → CanMiss v e → RepresentsHistory v h → first_frame v.geometry ≤ e.frame
 least-missed v h e can s =
     let g = v.geometry in
     let from : IsFrom (cursor_of g e.member (laid_of h)) e.frame e.channel = subst (λ (m : Marks). IsFrom m.cursor e.frame e.channel) (s.agrees.marks e.member _ can.member) can.from_cursor in
     let first : first_frame g ≤ (cursor_of g e.member (laid_of h)).frame = cursor_of-least g (length v.marks) h e.member s.legal in
     grind (arith, nat_tests)
 
-pub inside-missed : (v : View) (h : List Row) (e : Entry) → CanMiss v e → Stands v h → IsInside v.geometry (length v.marks) h e.member e.frame e.channel
+pub inside-missed : (v : View) (h : List Row) (e : Entry) → CanMiss v e → RepresentsHistory v h → IsInside v.geometry (length v.marks) h e.member e.frame e.channel
 inside-missed v h e can s = record {
   member_in_range = can.member;
   channel_in_range = can.channel;
@@ -149,10 +149,10 @@ inside-missed v h e can s = record {
 }
 
 -- an add that is late goes on each history that the core represents
-pub Stands-missed : (v : View) (h : List Row) (e : Entry) → CanMiss v e → Stands v h → Stands v (h ++ late_row e ∷ [])
-Stands-missed v h e can s =
+pub RepresentsHistory-missed : (v : View) (h : List Row) (e : Entry) → CanMiss v e → RepresentsHistory v h → RepresentsHistory v (h ++ late_row e ∷ [])
+RepresentsHistory-missed v h e can s =
     let may : MayLay v.geometry (length v.marks) h e = subst (λ k. may_lay k v.geometry (length v.marks) h e.member e.frame e.channel e.sample) (sym can.kind) (inside-missed v h e can s) in
-    Stands-late v h e may can.channel (least-missed v h e can s) can.taken s
+    RepresentsHistory-late v h e may can.channel (least-missed v h e can s) can.taken s
 
 -- from a turn whose member may add at a frame and channel that were taken, a turn that placed nothing missed this add
 pub TurnLaid-late : (t u : Turn) (e : Entry) → e.kind ≡ Added → e.member ≡ t.member
@@ -168,7 +168,7 @@ TurnLaid-late t u e kind own channel from ahead taken laid h s all =
       ahead = ahead;
       taken = taken;
     } in
-    subst (Stands (core_of u)) (append-nil (h ++ late_row e ∷ [])) (laid.stands (h ++ late_row e ∷ []) (Stands-missed (core_of t) h e can s) tt)
+    subst (RepresentsHistory (core_of u)) (append-nil (h ++ late_row e ∷ [])) (laid.stands (h ++ late_row e ∷ []) (RepresentsHistory-missed (core_of t) h e can s) tt)
 
 -- a turn's standing adds end in each part at the end of a list in which they end
 pub TurnEndsIn-part : (t : Turn) (xs ys : List Entry) → TurnEndsIn t (xs ++ ys) → TurnEndsIn t ys
@@ -223,7 +223,7 @@ pub TurnEndsIn-laid : (t u : Turn) (xs es : List Entry) → AreAdds es → TurnL
 TurnEndsIn-laid t u xs es adds laid ends =
     let h : List Row = ends.0 in
     let early : List Entry = ends.1.1.0 in
-    let st : Stands (core_of u) (h ++ map entry_row es) = laid.stands h ends.1.0 (all_continue (core_of t).geometry (length (core_of t).marks) h es adds) in
+    let st : RepresentsHistory (core_of u) (h ++ map entry_row es) = laid.stands h ends.1.0 (all_continue (core_of t).geometry (length (core_of t).marks) h es adds) in
     let is : standing_of t.member (laid_of (h ++ map entry_row es)) ≡ early ++ (xs ++ es) =
     ap (standing_of t.member) (laid_of-append_rows h es)
     ∙ (standing_of-append_adds t.member (laid_of h) es adds laid.own

@@ -2,14 +2,14 @@
 use Rattle.std.specs.Prelude.{◌≡◌, ℕ, ◌+◌, ◌-◌, ◌%◌, ◌^◌, ◌<◌, ◌≤◌}
 
 -- the pointers as a caller sees them, all in frames
-pub record Wrapped : Type 0 where
+pub record WrappedPointers : Type 0 where
   pub size : ℕ
   pub boundary : ℕ
   pub hw : ℕ
   pub appl : ℕ
 
 -- the size and the boundary go together, and both pointers are below the boundary
-pub record IsWrapped (p : Wrapped) : Type 0 where
+pub record IsWrapped (p : WrappedPointers) : Type 0 where
   pub size_least : 1 ≤ p.size
   pub size_most : p.size ≤ 65536
   pub boundary_least : 2 ^ 61 ≤ p.boundary
@@ -19,7 +19,7 @@ pub record IsWrapped (p : Wrapped) : Type 0 where
   pub appl_below : p.appl < p.boundary
 
 -- the pointers are two counts of frames that never wrap, each less whole multiples of the boundary
-pub record StandFor (p : Wrapped) (hw appl : ℕ) : Type 0 where
+pub record StandFor (p : WrappedPointers) (hw appl : ℕ) : Type 0 where
   pub hw_wraps : p.hw ≡ hw % p.boundary
   pub appl_wraps : p.appl ≡ appl % p.boundary
 

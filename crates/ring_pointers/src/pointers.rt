@@ -1,6 +1,6 @@
 //! The two pointers of a ring buffer.
 ghost use Rattle.std.specs.Prelude.{◌≡◌, ℕ, ◌+◌, ◌-◌, ◌%◌, ◌^◌, ◌<◌, ◌≤◌};
-ghost use Rattle.ring_pointers.specs.Wrapped.{Wrapped, IsWrapped, StandFor, AreNear, distance};
+ghost use Rattle.ring_pointers.specs.Wrapped.{WrappedPointers, IsWrapped, StandFor, AreNear, distance};
 
 use std::marker::Model;
 
@@ -20,7 +20,7 @@ pub struct Pointers {
 }
 
 impl Model for Pointers {
-    ghost Value = { Wrapped };
+    ghost Value = { WrappedPointers };
 
     ghost view = { λ p. record { size = p.size; boundary = p.boundary; hw = p.hw; appl = p.appl } };
 

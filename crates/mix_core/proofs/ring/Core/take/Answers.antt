@@ -10,10 +10,10 @@ use Rattle.mix_core.specs.Calls.{IsRefused, IsTaken}
 use Rattle.mix_core.specs.History.{Row, laid_of}
 use Rattle.mix_core.specs.Laid.{total}
 use Rattle.mix_core.specs.Sound.{IsSound}
-use Rattle.mix_core.specs.Stands.{Stands}
+use Rattle.mix_core.specs.Stands.{RepresentsHistory}
 use Rattle.mix_core.specs.View.{View, word_at}
 use Rattle.mix_core.proofs.Agreement.{IsNow-next, taken_view}
-use Rattle.mix_core.proofs.History.{Stands-refused, Stands-taken}
+use Rattle.mix_core.proofs.History.{RepresentsHistory-refused, RepresentsHistory-taken}
 use Rattle.mix_core.proofs.Soundness.{IsSound-taken}
 use Rattle.mix_core.specs.contracts.ring.Core.{the_view}
 use mir.Syntax.{w16, w32}
@@ -29,14 +29,14 @@ lap-le g f within =
     omega arith
 
 refused : (v : View) → lap v.geometry v.next.frame ≡ 4294967295 → IsRefused v v
-refused v last = record { same = refl; stands = λ h. Stands-refused v h last }
+refused v last = record { same = refl; stands = λ h. RepresentsHistory-refused v h last }
 
 taken : (v : View) (word : ℕ) (value : ℤ) → IsSound v → lap v.geometry v.next.frame ≢ 4294967295
     → StandsFor word (lap_of (word_at v v.next.frame v.next.channel) + 1) 0 (pos 0)
     → value ≡ clamp_of (sum_of (word_at v v.next.frame v.next.channel))
     → IsTaken v (taken_view v word) (record { frame = v.next.frame; channel = v.next.channel; value = value })
 taken v word value s more stands value_is =
-    let value_of : (h : List Row) → Stands v h → value ≡ clamp_of (total (laid_of h) v.next.frame v.next.channel) =
+    let value_of : (h : List Row) → RepresentsHistory v h → value ≡ clamp_of (total (laid_of h) v.next.frame v.next.channel) =
     λ h st. value_is ∙ ap clamp_of (StandsFor-fields _ _ _ _ (st.agrees.words v.next.frame v.next.channel (IsNow-next v s))).2 in
     record {
       geometry = refl;
@@ -47,7 +47,7 @@ taken v word value s more stands value_is =
       channel = refl;
       next = refl;
       value = value_of;
-      stands = λ h st. Stands-taken v h word value s more stands (value_of h st) st;
+      stands = λ h st. RepresentsHistory-taken v h word value s more stands (value_of h st) st;
     }
 
 -- what was read is the word there
