@@ -76,7 +76,7 @@ fn as_group(node: Option<Node<'_>>) -> Result<Group<'_>, ConfWhy>
 }
 
 /// The group `kind.name`.
-#[tactic(auto, unfolding(crate::specs::Device::defined))]
+#[tactic(auto, unfolding(crate::specs::Device::definition_of))]
 fn defined<'a>(kind: &[u8], name: &[u8], root: Group<'a>) -> Result<Group<'a>, ConfWhy>
     ensures { answer_view entries_in result
         ≡ definition_of kind.now name.now (entries_in root.entry) }

@@ -144,7 +144,7 @@ module _ {S T : Type 0} (P : snoopport.Ghosts S) (G : gates.Ghosts T) where
   }
 
   -- the gate stopped the load
-  pub told-none : {X : Type 0} (s t : S × T) (c : CaptureStream) → IsSoundReader c → CanUse c (P.view s.0) → LoadsAtSnoop P G s None t
+  pub explained-none : {X : Type 0} (s t : S × T) (c : CaptureStream) → IsSoundReader c → CanUse c (P.view s.0) → LoadsAtSnoop P G s None t
       → IsExplained {X = X} P G s t c (record c { status = record c.status { stopped = true } }) (Err Stopped)
   explained-none s t c sound can step = record {
     keeps = record {
@@ -168,7 +168,7 @@ module _ {S T : Type 0} (P : snoopport.Ghosts S) (G : gates.Ghosts T) where
   }
 
   -- the card was gone at the position
-  pub told-gone : {X : Type 0} (s t : S × T) (c : CaptureStream) (position : Position) → IsSoundReader c → c.status.stopped ≡ false → CanUse c (P.view s.0) → LoadsAtSnoop P G s (Some position) t
+  pub explained-gone : {X : Type 0} (s t : S × T) (c : CaptureStream) (position : Position) → IsSoundReader c → c.status.stopped ≡ false → CanUse c (P.view s.0) → LoadsAtSnoop P G s (Some position) t
       → position.gone ≡ true → IsExplained {X = X} P G s t c (in_state (seen_at c position) state.Disconnected) (Err NoDevice)
   explained-gone s t c position sound unstopped can step gone =
       explained-some s t c (in_state (seen_at c position) state.Disconnected) position (Err NoDevice) can step.view_is step.loaded_it step.stopped refl refl refl
@@ -177,7 +177,7 @@ module _ {S T : Type 0} (P : snoopport.Ghosts S) (G : gates.Ghosts T) where
       (λ avail frame. (λ h. cc, λ h. let here = h.0 in cc)) (λ frame channel word h. cc)
 
   -- the stop threshold was reached at the position
-  pub told-over : {X : Type 0} (s t : S × T) (c : CaptureStream) (position : Position) → IsSoundReader c → c.status.stopped ≡ false → c.status.state ≡ state.Running → CanUse c (P.view s.0)
+  pub explained-over : {X : Type 0} (s t : S × T) (c : CaptureStream) (position : Position) → IsSoundReader c → c.status.stopped ≡ false → c.status.state ≡ state.Running → CanUse c (P.view s.0)
       → LoadsAtSnoop P G s (Some position) t → position.gone ≡ false → c.setup.params.stop_threshold ≤ position.frame - c.next
       → IsExplained {X = X} P G s t c (in_state (seen_at c position) state.Xrun) (Err (Xrun (Avail (position.frame - c.next) position.frame)))
   explained-over s t c position sound unstopped running can step here over =

@@ -205,6 +205,6 @@ module _ {S T : Type 0} (P : snoopport.Ghosts S) (G : gates.Ghosts T) (composes 
         subst (λ (k : ℕ). came.looks ≤ n * k) same-channels (omega (arith, came.looks_number, fewer))) refl came.asked_them;
   }
 
-  pub read-told : (n count done : ℕ) (ended : Got) → count ≡ taken_of u n → CameTo P G m t count u.next done ended
+  pub read-explained : (n count done : ℕ) (ended : Got) → count ≡ taken_of u n → CameTo P G m t count u.next done ended
       → IsReadExplained P G s t c (read_after u n done ended).0 n (read_after u n done ended).1
   read-explained n count done ended is_count came = read-explained-if (nat_lt 0 n && nat_eq (avail_of u) 0) n count done ended refl is_count came

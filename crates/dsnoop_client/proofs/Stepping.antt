@@ -85,14 +85,14 @@ module _ {S T : Type 0} (P : snoopport.Ghosts S) (G : gates.Ghosts T) where
         asks = record { looks = 0; looks_number = no-looks e u.next u.geometry.channels n after.ended.2; asked_them = after.asked };
       }))
 
-  pub reads_on-told : Composes P.loaded → AsksCompose G.asked → (s t : S × T) (c : CaptureStream) (n : ℕ) (d : Answered ℕ) → IsSoundReader c → c.status.state ≡ state.Running → c.status.stopped ≡ false
+  pub reads_on-explained : Composes P.loaded → AsksCompose G.asked → (s t : S × T) (c : CaptureStream) (n : ℕ) (d : Answered ℕ) → IsSoundReader c → c.status.state ≡ state.Running → c.status.stopped ≡ false
       → CanUse c (P.view s.0) → TakesAtSnoop P G s (reads_on c n) t d → IsReadExplained P G s t c d.0 n d.1
   unfolding reads_on
   reads_on-explained composes asks s t c n d sound runs unstopped can takes =
       let parts = Takes-parts (LoadsAtSnoop P G) NoLay (GetsAtSnoop P G) s t (syncs c call.Transfer) (transfer_on n) d takes in
       transfer_on-explained composes asks s parts.0 t c parts.1 n d (syncs-after s parts.0 c call.Transfer parts.1 sound runs unstopped tt can parts.2) parts.3
 
-  pub reads_first-told : Composes P.loaded → AsksCompose G.asked → (s t : S × T) (c : CaptureStream) (n : ℕ) (d : Answered ℕ) → IsSoundReader c → c.status.state ≡ state.Prepared → c.status.stopped ≡ false
+  pub reads_first-explained : Composes P.loaded → AsksCompose G.asked → (s t : S × T) (c : CaptureStream) (n : ℕ) (d : Answered ℕ) → IsSoundReader c → c.status.state ≡ state.Prepared → c.status.stopped ≡ false
       → CanUse c (P.view s.0) → TakesAtSnoop P G s (reads_first c n) t d → IsReadExplained P G s t c d.0 n d.1
   unfolding reads_first
   reads_first-explained composes asks s t c n d sound waits unstopped can takes =

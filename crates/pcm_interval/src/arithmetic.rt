@@ -132,7 +132,7 @@ fn product(a: u32, b: u32) -> u64
 }
 
 /// The interval between two fractions, their ends rounded outward.
-#[tactic(auto, unfolding(crate::specs::Arithmetic::between))]
+#[tactic(auto, unfolding(crate::specs::Arithmetic::interval_between))]
 fn between(low: Fraction, high: Fraction, integer: bool) -> Interval
     requires low { 1 ≤ low.denominator }
     requires high { 1 ≤ high.denominator }

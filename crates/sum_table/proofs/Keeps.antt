@@ -6,7 +6,7 @@ use prog.Atomic.{either}
 use Rattle.std.proofs.lemmas.Bool.Decides.{nat_tests}
 use Rattle.std.proofs.lemmas.List.{append-nil}
 use Rattle.atomic_table.specs.Table.{Act, Allows, Me, State, keeps, step}
-use Rattle.atomic_table.proofs.Lists.{at_snoc, word_exchange as by_exchange}
+use Rattle.atomic_table.proofs.Lists.{at_snoc, exchanged as by_exchange}
 use Rattle.snd_base.specs.declared.geometry.Geometry.{Geometry}
 use Rattle.snd_base.specs.declared.places.Cursor.{Cursor}
 use Rattle.std.proofs.lemmas.Bool.{cases_lt}
