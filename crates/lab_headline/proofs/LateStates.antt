@@ -241,7 +241,7 @@ drain_on-ends (c, Err e) late = late
 
 drain-ends : (c : PlaybackStream) (cursor : Cursor) → All EndsLate (drain_course c [] cursor)
 unfolding drains
-drain-ends c cursor = All-if EndsLate (is_moving c.status.state) (syncs (calls.draining c) call.Drain []) _ (syncs-ends (calls.draining c) call.Drain [])
+drain-ends c cursor = All-if EndsLate (is_moving c.status.state) (syncs (calls.in_draining c) call.Drain []) _ (syncs-ends (calls.in_draining c) call.Drain [])
     (All-if EndsLate (calls.has_frames c) (drains c [] cursor) (ends (after_drop c, Ok tt))
     (All-then EndsLate EndsLate (starts c Draining cursor c.stretch.written []) (drain_on []) (starts-ends c Draining cursor c.stretch.written []) drain_on-ends) tt)
 

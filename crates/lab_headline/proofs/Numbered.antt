@@ -75,7 +75,7 @@ numbered-parts {X = X} {Y = Y} {A = A} has of number (x ∷ xs) =
 
 -- what is numbered for a member is what that one has
 pub numbered-at : {X Y : Type 0} (of : X → List Y) (none : X) (n number i : ℕ) (xs : List X) → number + i ≡ n → of none ≡ []
-    → members_of n (numbered of number xs) ≡ of (slice_index_or xs i none)
+    → members_of n (with_numbers of number xs) ≡ of (slice_index_or xs i none)
 numbered-at of none n number i [] at is = sym is
 numbered-at {Y = Y} of none n number zero (x ∷ xs) at is =
     let here : number ≡ n = omega (arith, at) in subst (λ m. members_of m (own ++ others) ≡ of x) here first

@@ -111,7 +111,7 @@ printout_if ring sounds capture (Err error) = Err error
 -- the printout of a text, with the clients' files and the captured one, or why the text is refused
 unfoldable pub printout_of : Geometry → List Sound → Option Sound → List ℕ
     → Result Printout ScriptError
-unfolding course_text digits ◌>>=◌ Bound.rising client_calls.lay_each client_calls.lay_frames client_calls.looks client_calls.syncs client_calls.starts client_calls.drains client_calls.course_with_number client_calls.takes_more client_calls.writes_on client_calls.starts_taking client_calls.resumes reader_calls.gets_frames reader_calls.starts reader_calls.syncs reader_calls.transfers reader_calls.reads_on reader_calls.reads_first reader_calls.counts rewinding.take_each rewinding.take_frames rewinding.checks rewinding.takes_back rewinding.rewinds draft.card_of draft.client_of draft.reader_of draft.with_client draft.with_reader draft.border_of draft.with_open draft.with_close draft.with_phase draft.with_end draft.with_line keys.key_of ops.op_of
+unfolding course_text digits ◌>>=◌ Bound.rising client_calls.lay_each client_calls.lay_frames client_calls.looks client_calls.syncs client_calls.starts client_calls.drains client_calls.course_with_number client_calls.takes_more client_calls.writes_on client_calls.starts_taking client_calls.resumes reader_calls.gets_frames reader_calls.starts reader_calls.syncs reader_calls.transfers reader_calls.reads_on reader_calls.reads_first reader_calls.counts rewinding.take_each rewinding.take_frames rewinding.checks rewinding.takes_back rewinding.rewinds draft.card_of draft.client_of draft.reader_of draft.with_client draft.with_reader draft.border_of draft.with_open draft.with_close draft.with_phase draft.with_end draft.with_line keys.key_value ops.op_of
 printout_of ring sounds capture text = printout_if ring sounds capture (script_of text)
 
 abbrev pub report_if : Geometry → List Sound → Result Script ScriptError
