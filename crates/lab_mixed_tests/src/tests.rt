@@ -1,5 +1,7 @@
 //! Runs of mixed phases, and a checker of their reports.
+mod actors;
 mod changed;
 mod checker;
 mod mixed;
-mod stretches;
+mod playback;
+mod recording;

@@ -1,26 +1,45 @@
 //! The checker of mixed phases accepts a right report, and refuses it after each of these changes.
 use super::checker::{Plan, Sounds, check, check_report};
-use super::mixed::{captured, left_of, opened, push_phase, sounds_of};
-use lab_calls::{Left, STEREO, text_in};
+use super::mixed::{SMALL, captured, left_of, opened, push_phase, sounds_of};
+use lab_calls::{Left, STEREO, text_in, wav_of};
 use lab_shelf::MemoryShelf;
 use std::alloc::{AllocError, Global};
 use std::process::Abort;
 use std::test::Fail;
 
-// The phases of the plan: how many frames the card plays, if any, and the lines of the clients and of the reader. The clients are late
-// once, and are then prepared and started anew. The card plays in phases of its own, so that there is one report.
+// The phases of the plan: how many frames the card plays, if any, and the lines of the clients and of the reader. The clients take back
+// frames, are late once, have an xrun once, start anew after each, and are stopped at last; so is the reader after an xrun. The card
+// plays in phases of its own, so that there is one report.
 const PHASES: &[(u64, (&[&str], &[&str]))] = &[
     (0, (&["write 300"], &["start"])),
     (100, (&[], &[])),
-    (0, (&[], &["read 64"])),
+    (0, (&["rewindable", "rewind 10"], &["read 64", "avail"])),
     (200, (&[], &[])),
-    (0, (&["write 10", "prepare", "write 9"], &[])),
+    (
+        0,
+        (
+            &["write 10", "sync", "prepare", "write 9", "avail", "delay"],
+            &["read 500"],
+        ),
+    ),
     (128, (&[], &[])),
+    (0, (&["avail"], &["avail"])),
+    (300, (&[], &[])),
+    (
+        0,
+        (
+            &["prepare", "write 100", "rewind 30", "rewindable"],
+            &["avail", "prepare", "start"],
+        ),
+    ),
+    (64, (&[], &[])),
+    (0, (&["die 22", "write 40", "delay"], &["die 6", "read 3"])),
+    (0, (&["avail"], &["avail"])),
 ];
 
 // Two clients and a reader.
 fn plan_of(alloc: Global) -> Result<Plan, AllocError> {
-    let mut plan = opened(alloc, 2, 1)?;
+    let mut plan = opened(alloc, SMALL, 2, 1)?;
     for (frames, lines) in PHASES {
         let plays = [*frames];
         let count = if *frames > 0 { 1 } else { 0 };
@@ -29,7 +48,7 @@ fn plan_of(alloc: Global) -> Result<Plan, AllocError> {
     Ok(plan)
 }
 
-// A line with its word of a number changed: a number is one more, and a client or reader is another one.
+// A line with its word of a number changed: a number is one more, a client is the other one, and each other word is longer.
 fn with_word(alloc: Global, line: &str, place: usize) -> Result<String, AllocError> {
     let mut text = String::new(alloc);
     for (number, word) in line.split(' ').enumerate() {
@@ -40,6 +59,7 @@ fn with_word(alloc: Global, line: &str, place: usize) -> Result<String, AllocErr
             Some(value) if number == place => write!(text, "{}", value.wrapping_add(1))?,
             _ if number == place && word == "c0" => text.push_str("c1")?,
             _ if number == place && word == "c1" => text.push_str("c0")?,
+            _ if number == place => write!(text, "{word}x")?,
             _ => text.push_str(word)?,
         }
     }
@@ -59,7 +79,7 @@ fn with_line(alloc: Global, report: &str, place: usize, text: &str) -> Result<St
     Ok(changed)
 }
 
-// Each line is dropped, each is there twice, and each word that is a number or a client's name is another one.
+// Each line is dropped, each is there twice, and each word is another one.
 fn refuses_each_line<A: Abort>(
     rt: &A,
     alloc: Global,
@@ -77,9 +97,6 @@ fn refuses_each_line<A: Abort>(
         }
         for word in 0..line.split(' ').count() {
             let text = with_word(alloc, line, word)?;
-            if text.as_str() == line {
-                continue;
-            }
             let changed = with_line(alloc, report, place, text.as_str())?;
             let refused = check_report(alloc, plan, sounds, changed.as_str(), &left.shelf);
             assert!(rt; refused.is_err(), "{changed}");
@@ -88,12 +105,36 @@ fn refuses_each_line<A: Abort>(
     Ok(())
 }
 
-// Lines of the report, and others that can't be in their place: a late write that was done, and a position before one that was
-// published.
+// Reports in which one line is another one.
+fn refuses_changes<A: Abort>(
+    rt: &A,
+    alloc: Global,
+    plan: &Plan,
+    sounds: &Sounds<'_>,
+    given: (&str, &MemoryShelf),
+    changes: &[(&str, &str)],
+) -> Result<(), Fail> {
+    let (report, files) = given;
+    for (line, other) in changes {
+        let place = report.lines().position(|l| l == *line);
+        assert!(rt; place.is_some(), "{report}");
+        let changed = with_line(alloc, report, place.unwrap_or(0), other)?;
+        let refused = check_report(alloc, plan, sounds, changed.as_str(), files);
+        assert!(rt; refused.is_err(), "{changed}");
+    }
+    Ok(())
+}
+
+// Lines of the report, and others that can't be in their place: a late write that was done, one that was late elsewhere, and a
+// position before one that was published.
 const CHANGES: &[(&str, &str)] = &[
     (
         "5 c0 write 10 = EPIPE late 256 0 XRUN 300",
         "5 c0 write 10 = 10 RUNNING 300",
+    ),
+    (
+        "5 c0 write 10 = EPIPE late 256 0 XRUN 300",
+        "5 c0 write 10 = EPIPE late 299 1 XRUN 300",
     ),
     (
         "5 c1 write 10 = EPIPE late 256 0 XRUN 300",
@@ -103,25 +144,11 @@ const CHANGES: &[(&str, &str)] = &[
         "3 r0 read 64 = 64 RUNNING 100",
         "3 r0 read 64 = 64 RUNNING 0",
     ),
+    (
+        "11 c0 write 40 = stopped RUNNING 792",
+        "11 c0 write 40 = 40 RUNNING 792",
+    ),
 ];
-
-fn refuses_changes<A: Abort>(
-    rt: &A,
-    alloc: Global,
-    plan: &Plan,
-    sounds: &Sounds<'_>,
-    left: &Left,
-) -> Result<(), Fail> {
-    let report = text_in(left.out.bytes());
-    for (line, other) in CHANGES {
-        let place = report.lines().position(|l| l == *line);
-        assert!(rt; place.is_some(), "{report}");
-        let changed = with_line(alloc, report, place.unwrap_or(0), other)?;
-        let refused = check_report(alloc, plan, sounds, changed.as_str(), &left.shelf);
-        assert!(rt; refused.is_err(), "{changed}");
-    }
-    Ok(())
-}
 
 // A byte of a file is another one.
 fn refuses_other_samples<A: Abort>(
@@ -153,10 +180,9 @@ fn refuses_other_samples<A: Abort>(
 fn a_changed_report_is_refused(rt: HostRuntime) -> Result<(), Fail> {
     let alloc = rt.alloc();
     let plan = plan_of(alloc)?;
-    let clients = sounds_of(alloc, 2)?;
+    let clients = sounds_of(alloc, 2, 1024)?;
     let captured = captured(alloc)?;
     let sounds = Sounds {
-        channels: 2,
         head: STEREO,
         clients: &clients,
         readers: 1,
@@ -165,6 +191,77 @@ fn a_changed_report_is_refused(rt: HostRuntime) -> Result<(), Fail> {
     let left = left_of(&rt, alloc, &plan, &sounds)?;
     check(alloc, &plan, &sounds, &left)?;
     refuses_each_line(&rt, alloc, &plan, &sounds, &left)?;
-    refuses_changes(&rt, alloc, &plan, &sounds, &left)?;
+    let given = (text_in(left.out.bytes()), &left.shelf);
+    refuses_changes(&rt, alloc, &plan, &sounds, given, CHANGES)?;
     refuses_other_samples(&rt, alloc, &plan, &sounds, &left)
+}
+
+// A report of a mixed phase in which the card plays 320 frames: the client starts at frame 128 and is late there, and the reader is
+// overtaken in the eleventh of 100 frames.
+const LATE: &str = "2 c0 write 64 = EPIPE late 128 0 XRUN 64";
+
+const OVERTAKEN: &str = "2 r0 read 100 = EPIPE overtaken 10 1 XRUN 128";
+
+// Rows that no order of the threads gives.
+const IMPOSSIBLE: &[(&str, &str)] = &[
+    // A position that wasn't published, one that is out of the phase, and none.
+    (LATE, "2 c0 write 64 = EPIPE late 128 0 XRUN 60"),
+    (LATE, "2 c0 write 64 = EPIPE late 448 0 XRUN 384"),
+    (LATE, "2 c0 write 64 = EPIPE late 128 0 XRUN -"),
+    // A sample that isn't of the call, and one that the card hasn't passed by the phase's end.
+    (LATE, "2 c0 write 64 = EPIPE late 127 1 XRUN 64"),
+    (LATE, "2 c0 write 64 = EPIPE late 192 0 XRUN 64"),
+    (LATE, "2 c0 write 64 = EPIPE late 128 2 XRUN 64"),
+    (LATE, "2 c0 write 64 = EPIPE late 320 0 XRUN 256"),
+    // A stop without a `die`, and frames that are in no segment.
+    (LATE, "2 c0 write 64 = stopped RUNNING 64"),
+    (LATE, "2 c0 write 64 = 64 RUNNING 64"),
+    // A frame that isn't of the call, one that wasn't stored over by the phase's end, and one that nobody asked for.
+    (OVERTAKEN, "2 r0 read 100 = EPIPE overtaken 100 0 XRUN 128"),
+    (OVERTAKEN, "2 r0 read 100 = EPIPE overtaken 64 0 XRUN 128"),
+    (OVERTAKEN, "2 r0 read 100 = EPIPE overtaken 10 2 XRUN 128"),
+    (OVERTAKEN, "2 r0 read 100 = EPIPE overtaken 10 1 XRUN 0"),
+    // An xrun where less than a ring waits, a read where a ring waits, and frames that are in no run.
+    (OVERTAKEN, "2 r0 read 100 = EPIPE avail 192 XRUN 192"),
+    (OVERTAKEN, "2 r0 read 100 = 100 RUNNING 256"),
+    (OVERTAKEN, "2 r0 read 100 = 100 RUNNING 128"),
+];
+
+// The files of a run in which nothing was placed and nothing was read.
+fn silent_files(alloc: Global) -> Result<MemoryShelf, AllocError> {
+    let mut files = Vec::new(alloc);
+    let played = wav_of(alloc, STEREO, &[(640, 0)])?;
+    files.push((Vec::from_slice(alloc, b"o.wav")?, played))?;
+    let read = wav_of(alloc, STEREO, &[])?;
+    files.push((Vec::from_slice(alloc, b"o.r0.wav")?, read))?;
+    Ok(MemoryShelf::new(files, Vec::new(alloc)))
+}
+
+#[test]
+fn a_row_that_no_order_of_the_threads_gives_is_refused(rt: HostRuntime) -> Result<(), Fail> {
+    let alloc = rt.alloc();
+    let mut plan = opened(alloc, SMALL, 1, 1)?;
+    push_phase(alloc, &mut plan, (1, 1), &[], (&[], &["start"]))?;
+    push_phase(
+        alloc,
+        &mut plan,
+        (1, 1),
+        &[320],
+        (&["write 64"], &["read 100"]),
+    )?;
+    let clients = sounds_of(alloc, 1, 1024)?;
+    let captured = captured(alloc)?;
+    let sounds = Sounds {
+        head: STEREO,
+        clients: &clients,
+        readers: 1,
+        captured: &captured,
+    };
+    let report = format!(in alloc;
+        "dmixlab 1\n0 c0 open = ok PREPARED -\n0 r0 open = ok PREPARED -\n1 r0 start = ok RUNNING 0\n2 card play 320 = 320 RUNNING 320\n{LATE}\n{OVERTAKEN}\nplayed 0 320\nend\n"
+    )?;
+    let files = silent_files(alloc)?;
+    check_report(alloc, &plan, &sounds, report.as_str(), &files)?;
+    let given = (report.as_str(), &files);
+    refuses_changes(&rt, alloc, &plan, &sounds, given, IMPOSSIBLE)
 }

@@ -1,6 +1,9 @@
 //! What must hold of a run whose threads may go in any order: a plan, which is a script and how the rows of its report begin, and a
-//! check of the report and the files against it.
-use super::stretches::{Placed, Stretches};
+//! check of the report and the files against it. A row leaves open which position was seen, whether it was stopped, and which sample
+//! the card had passed. What follows for the rest of the report and for the files is worked out here and compared.
+use super::actors::{Answer, Asked, CHANNELS, End, Geometry, Shown};
+use super::playback::{Playback, Segment};
+use super::recording::{Recording, Run};
 use lab_calls::{Left, text_in, wav_around};
 use lab_shelf::MemoryShelf;
 use std::alloc::{AllocError, AllocFailed, Global};
@@ -28,31 +31,39 @@ impl<T: Drop> From<AllocFailed<T>> for Refusal {
     }
 }
 
-// A row that is planned: how it begins, whose it is (a row of the card is planned whole), and between which positions what was seen is.
+// A row that is planned: how it begins, whose it is (a row of the card is planned whole), its phase, and the positions before and
+// after that phase.
 #[derive(Drop)]
 struct Planned {
     begins: String,
     actor: Option<usize>,
-    least: u64,
-    most: u64,
+    phase: usize,
+    before: u64,
+    after: u64,
 }
 
 // A script as it is written, with the rows that it has.
 #[derive(Drop)]
 pub(super) struct Plan {
     pub(super) text: String,
+    pub(super) geometry: Geometry,
     rows: Vec<Planned>,
-    phase: u32,
+    phase: usize,
     position: u64,
 }
 
 impl Plan {
     // A script of these lines of the card, clients and readers.
-    pub(super) fn new(alloc: Global, declared: &str) -> Result<Plan, AllocError> {
+    pub(super) fn new(
+        alloc: Global,
+        geometry: Geometry,
+        declared: &str,
+    ) -> Result<Plan, AllocError> {
         let mut text = String::new(alloc);
         text.push_str(declared)?;
         Ok(Plan {
             text,
+            geometry,
             rows: Vec::new(alloc),
             phase: 0,
             position: 0,
@@ -70,13 +81,15 @@ impl Plan {
         self.rows.push(Planned {
             begins: format!(in alloc; "{} {name} open = ", self.phase)?,
             actor: Some(actor),
-            least: self.position,
-            most: self.position,
+            phase: self.phase,
+            before: self.position,
+            after: self.position,
         })?;
         Ok(())
     }
 
-    // Begins a phase in which the card plays these numbers of frames, and gives the position before it.
+    // Begins a phase in which the card plays these numbers of frames, of which all but the last one are whole periods, and gives the
+    // position before it.
     pub(super) fn begin(&mut self, alloc: Global, plays: &[u64]) -> Result<u64, AllocError> {
         let before = self.position;
         self.phase = self.phase.wrapping_add(1);
@@ -90,8 +103,9 @@ impl Plan {
                     "{phase} card play {frames} = {frames} RUNNING {position}"
                 )?,
                 actor: None,
-                least: position,
-                most: position,
+                phase,
+                before,
+                after: position,
             })?;
         }
         Ok(before)
@@ -111,8 +125,9 @@ impl Plan {
             self.rows.push(Planned {
                 begins: format!(in alloc; "{} {name} {line} = ", self.phase)?,
                 actor: Some(actor),
-                least: before,
-                most: self.position,
+                phase: self.phase,
+                before,
+                after: self.position,
             })?;
         }
         Ok(())
@@ -124,36 +139,22 @@ impl Plan {
     }
 }
 
-// A frame and channel that a client's row names as late.
-#[derive(Drop)]
-struct Late {
-    client: usize,
-    frame: usize,
-    channel: usize,
-}
-
-// What was found in a report so far: the position that each actor saw last, the frames that each actor read, the sums of what was
-// placed, the recorded frames of each reader, and what the clients' rows say of their segments.
-#[derive(Drop)]
-struct Found {
-    seen: Vec<u64>,
-    read: Vec<usize>,
-    totals: Vec<i32>,
-    recorded: Vec<Vec<i16>>,
-    placed: Vec<Placed>,
-    late: Vec<Late>,
-    stretches: Stretches,
-}
-
-// What a run is checked with: the card's channels and its head in a WAV file, the samples of each client's file, and those of the
-// captured file, which has one channel.
+// What a run is checked with: the head of the card's WAV files, the samples of each client's file, the number of readers, and the
+// samples of the captured file, which has one channel.
 #[derive(Clone, Copy)]
 pub(super) struct Sounds<'a> {
-    pub(super) channels: usize,
     pub(super) head: &'a [u8],
     pub(super) clients: &'a [Vec<i16>],
     pub(super) readers: usize,
     pub(super) captured: &'a [i16],
+}
+
+// The clients and readers, and how many rows show a position that the card passed in the midst of a phase.
+#[derive(Drop)]
+struct Actors {
+    clients: Vec<Playback>,
+    readers: Vec<Recording>,
+    between: usize,
 }
 
 // The words of a line.
@@ -165,286 +166,305 @@ fn words_of(alloc: Global, line: &str) -> Result<Vec<&str>, AllocError> {
     Ok(words)
 }
 
-// The number that a word of a line is.
-pub(super) fn number_at(words: &[&str], place: usize) -> Result<usize, Refusal> {
-    let word = words.get(place).ok_or("a word is missing")?;
-    Ok(word.parse::<usize>().ok().ok_or("a word isn't a number")?)
+// The number that a word of a line is, if it is one.
+fn number_at(words: &[&str], place: usize) -> Option<usize> {
+    words.get(place)?.parse::<usize>().ok()
 }
 
-// The number of the actor that a word of a line names: a letter and the number.
-fn actor_at(words: &[&str], letter: &str) -> Result<usize, Refusal> {
-    let name = words.get(1).ok_or("a name is missing")?;
-    let digits = name.strip_prefix(letter).ok_or("a name is another one")?;
-    Ok(digits.parse::<usize>().ok().ok_or("a name has no number")?)
+// What the words of a row after its '=' show.
+fn shown_by(words: &[&str]) -> Shown {
+    let passed = match (words.get(1), number_at(words, 2), number_at(words, 3)) {
+        (Some(&"late" | &"overtaken"), Some(frame), Some(channel)) => Some((frame, channel)),
+        _ => None,
+    };
+    let end = match (words.first(), passed) {
+        (Some(&"EPIPE"), Some((frame, channel))) => End::Passed(frame, channel),
+        (Some(&"stopped"), _) => End::Stopped,
+        _ => End::Whole,
+    };
+    let seen = number_at(words, words.len().wrapping_sub(1));
+    Shown { end, seen }
 }
 
-// Checks what an actor saw: a position of its phase that the card published, and none below the last one. A row that loaded no
-// position has the last one.
-fn check_seen(
-    planned: &Planned,
-    word: &str,
-    has_loaded: bool,
-    seen: &mut u64,
-) -> Result<(), Refusal> {
-    if word == "-" {
-        return Ok(());
+// The text of an answer.
+fn text_of(alloc: Global, answer: Answer) -> Result<String, AllocError> {
+    match answer {
+        Answer::Word(word) => format!(in alloc; "{word}"),
+        Answer::Count(count) => format!(in alloc; "{count}"),
+        Answer::Avail(avail) => format!(in alloc; "EPIPE avail {avail}"),
+        Answer::Late(frame, channel) => format!(in alloc; "EPIPE late {frame} {channel}"),
+        Answer::Overtaken(frame, channel) => {
+            format!(in alloc; "EPIPE overtaken {frame} {channel}")
+        }
     }
-    let position = word
-        .parse::<u64>()
-        .ok()
-        .ok_or("what was seen isn't a number")?;
-    let is_published = position % 64 == 0 || position == planned.most || position == *seen;
-    let is_of_before = position == *seen && !has_loaded;
-    let is_in_phase = position <= planned.most && (position >= planned.least || is_of_before);
-    if !is_published || !is_in_phase || position < *seen {
-        return Err("a position that can't have been seen".into());
-    }
-    *seen = position;
-    Ok(())
 }
 
-// Whether a call loads a position, by its answer: where the actor runs and wasn't stopped, each but one that begins or ends something,
-// and each that finds an xrun.
-fn loads(call: &str, answer: &[&str]) -> bool {
-    let first = *answer.first().unwrap_or(&"");
-    if first == "EPIPE" {
-        return matches!(answer.get(1), Some(&"late" | &"avail" | &"overtaken"));
-    }
-    let is_running = answer.get(answer.len().wrapping_sub(2)) == Some(&"RUNNING");
-    is_running && first != "stopped" && !matches!(call, "open" | "prepare" | "start" | "die")
-}
-
-impl Found {
-    // Nothing yet, for so many actors and so many played samples.
-    fn new(alloc: Global, actors: usize, samples: usize) -> Result<Found, AllocError> {
-        let mut found = Found {
-            seen: Vec::new(alloc),
-            read: Vec::new(alloc),
-            totals: Vec::new(alloc),
-            recorded: Vec::new(alloc),
-            placed: Vec::new(alloc),
-            late: Vec::new(alloc),
-            stretches: Stretches::new(alloc),
+impl Actors {
+    // None of them is open.
+    fn new(alloc: Global, geometry: Geometry, sounds: &Sounds<'_>) -> Result<Actors, AllocError> {
+        let mut actors = Actors {
+            clients: Vec::new(alloc),
+            readers: Vec::new(alloc),
+            between: 0,
         };
-        for _ in 0..actors {
-            found.seen.push(0)?;
-            found.read.push(0)?;
-            found.recorded.push(Vec::new(alloc))?;
+        for sound in sounds.clients {
+            let frames = sound.len() / CHANNELS;
+            actors.clients.push(Playback::new(alloc, geometry, frames))?;
         }
-        for _ in 0..samples {
-            found.totals.push(0)?;
+        for _ in 0..sounds.readers {
+            actors.readers.push(Recording::new(alloc, geometry))?;
         }
-        Ok(found)
+        Ok(actors)
     }
 
     // Checks a row.
     fn row(&mut self, alloc: Global, planned: &Planned, line: &str) -> Result<(), Refusal> {
-        let Some(actor) = planned.actor else {
-            return if line == planned.begins.as_str() {
-                Ok(())
-            } else {
-                Err("a row of the card is another one".into())
-            };
+        let begins = planned.begins.as_str();
+        let rest = line.strip_prefix(begins).ok_or("a row begins otherwise")?;
+        let wanted = match planned.actor {
+            Some(actor) => self.rest_of(alloc, planned, actor, rest)?,
+            None => String::new(alloc),
         };
-        let rest = line
-            .strip_prefix(planned.begins.as_str())
-            .ok_or("a row begins otherwise")?;
-        let words = words_of(alloc, rest)?;
-        let asked = words_of(alloc, planned.begins.as_str())?;
-        let call = *asked.get(2).ok_or("a line has no call")?;
-        let answer = words.first().ok_or("a row has no answer")?;
-        let last = words.last().ok_or("a row has no position")?;
-        let seen = self.seen.get_mut(actor).ok_or("an actor has no number")?;
-        check_seen(planned, last, loads(call, &words), seen)?;
-        if call == "read" {
-            self.count_read(actor, answer)?;
+        if rest == wanted.as_str() {
+            Ok(())
+        } else {
+            Err("a row is another one".into())
         }
-        if *answer == "EPIPE" && words.get(1) == Some(&"late") && call != "rewind" {
-            self.late.push(Late {
-                client: actor,
-                frame: number_at(&words, 2)?,
-                channel: number_at(&words, 3)?,
-            })?;
-        }
-        let offered = asked.get(3).and_then(|word| word.parse::<usize>().ok());
-        self.stretches
-            .row(actor, call, offered.unwrap_or(0), &words)
     }
 
-    // Counts the frames that a reader read, where the answer is a number.
-    fn count_read(&mut self, actor: usize, answer: &str) -> Result<(), Refusal> {
-        let read = self.read.get_mut(actor).ok_or("a reader has no number")?;
-        *read = read.wrapping_add(answer.parse::<usize>().unwrap_or(0));
-        Ok(())
-    }
-
-    // Adds what a segment placed to the sums. A client places nothing twice at one frame and channel.
-    fn segment(&mut self, sounds: &Sounds<'_>, words: &[&str]) -> Result<(), Refusal> {
-        let client = actor_at(words, "c")?;
-        let (source, card) = (number_at(words, 2)?, number_at(words, 3)?);
-        let (whole, part) = (number_at(words, 4)?, number_at(words, 5)?);
-        let sound = sounds.clients.get(client).ok_or("no such client")?;
-        let count = whole.wrapping_mul(sounds.channels).wrapping_add(part);
-        let first = source.wrapping_mul(sounds.channels);
-        let at = card.wrapping_mul(sounds.channels);
-        for placed in self.placed.iter() {
-            if placed.client == client && placed.end() > card {
-                return Err("a client placed twice at one frame".into());
-            }
+    // What follows for the rest of an actor's row.
+    fn rest_of(
+        &mut self,
+        alloc: Global,
+        planned: &Planned,
+        actor: usize,
+        rest: &str,
+    ) -> Result<String, Refusal> {
+        let line = words_of(alloc, planned.begins.as_str())?;
+        let asked = Asked {
+            phase: planned.phase,
+            before: planned.before as usize,
+            after: planned.after as usize,
+            call: *line.get(2).ok_or("a line has no call")?,
+            frames: number_at(&line, 3).unwrap_or(0),
+        };
+        let shown = shown_by(&words_of(alloc, rest)?);
+        let count = self.clients.len();
+        let (answer, after) = if actor < count {
+            let client = self.clients.get_mut(actor).ok_or("no such client")?;
+            (client.answer(&asked, &shown)?, client.actor)
+        } else {
+            let reader = self.readers.get_mut(actor.wrapping_sub(count));
+            let reader = reader.ok_or("no such reader")?;
+            (reader.answer(&asked, &shown)?, reader.actor)
+        };
+        let text = text_of(alloc, answer)?;
+        let state = after.state.word();
+        let Some(seen) = after.seen else {
+            return Ok(format!(in alloc; "{text} {state} -")?);
+        };
+        if asked.before < seen && seen < asked.after {
+            self.between = self.between.wrapping_add(1);
         }
-        for number in 0..count {
-            let sample = sound
-                .get(first.wrapping_add(number))
-                .ok_or("no such sample")?;
-            if let Some(total) = self.totals.get_mut(at.wrapping_add(number)) {
-                *total = total.wrapping_add(i32::from(*sample));
-            }
-        }
-        self.placed.push(Placed {
-            client,
-            source,
-            card,
-            whole,
-            part,
-        })?;
-        Ok(())
-    }
-
-    // Appends the captured frames of a run. A frame that the captured file doesn't have is silent, and so is each channel but the
-    // first.
-    fn run(&mut self, sounds: &Sounds<'_>, words: &[&str]) -> Result<(), Refusal> {
-        let reader = actor_at(words, "r")?;
-        let (first, count) = (number_at(words, 2)?, number_at(words, 3)?);
-        let recorded = self.recorded.get_mut(reader).ok_or("no such reader")?;
-        for number in 0..count {
-            let frame = first.wrapping_add(number);
-            recorded.push(sounds.captured.get(frame).copied().unwrap_or(0))?;
-            for _ in 1..sounds.channels {
-                recorded.push(0)?;
-            }
-        }
-        Ok(())
-    }
-
-    // Checks that what a row names as late is in no segment of its client.
-    fn check_late(&self) -> Result<(), Refusal> {
-        for late in self.late.iter() {
-            for placed in self.placed.iter() {
-                let is_whole = placed.card <= late.frame && late.frame < placed.end();
-                let is_part = late.frame == placed.end() && late.channel < placed.part;
-                if placed.client == late.client && (is_whole || is_part) {
-                    return Err("what was late was placed".into());
-                }
-            }
-        }
-        Ok(())
-    }
-
-    // The sums, saturated.
-    fn played(&self, alloc: Global) -> Result<Vec<i16>, AllocError> {
-        let mut played = Vec::new(alloc);
-        for total in self.totals.iter() {
-            let sample = (*total).clamp(-32768, 32767);
-            played.push(i16::try_from(sample).unwrap_or(0))?;
-        }
-        Ok(played)
+        Ok(format!(in alloc; "{text} {state} {seen}")?)
     }
 }
 
-// Checks the lines after the rows, and the files.
-fn check_tail(
-    alloc: Global,
-    lines: Lines<'_>,
-    found: &mut Found,
-    sounds: &Sounds<'_>,
-    frames: u64,
-) -> Result<(), Refusal> {
-    let mut is_ended = false;
-    let mut has_played = false;
-    let played = format!(in alloc; "played 0 {frames}")?;
-    for line in lines {
-        if is_ended {
-            return Err("a line behind the end".into());
-        }
-        let words = words_of(alloc, line)?;
-        match *words.first().ok_or("an empty line")? {
-            "segment" => found.segment(sounds, &words)?,
-            "run" => found.run(sounds, &words)?,
-            "end" if has_played => is_ended = true,
-            "played" if line == played.as_str() && !has_played => has_played = true,
-            _ => return Err("a line that can't be here".into()),
-        }
-    }
-    if is_ended {
+// Checks that the next line is this one.
+fn check_line(lines: &mut Lines<'_>, wanted: &str) -> Result<(), Refusal> {
+    if lines.next() == Some(wanted) {
         Ok(())
     } else {
-        Err("no end".into())
+        Err("a line is another one".into())
     }
 }
 
-// Checks what a run left of a plan.
+// Checks the lines of a client's segments.
+fn check_segments(
+    alloc: Global,
+    lines: &mut Lines<'_>,
+    number: usize,
+    segments: &[Segment],
+) -> Result<(), Refusal> {
+    for segment in segments {
+        let (source, card) = (segment.source, segment.card);
+        let (whole, part) = (segment.samples / CHANNELS, segment.samples % CHANNELS);
+        let line = format!(in alloc; "segment c{number} {source} {card} {whole} {part}")?;
+        check_line(lines, line.as_str())?;
+    }
+    Ok(())
+}
+
+// Checks the lines of a reader's runs.
+fn check_runs(
+    alloc: Global,
+    lines: &mut Lines<'_>,
+    number: usize,
+    runs: &[Run],
+) -> Result<(), Refusal> {
+    for run in runs {
+        let line = format!(in alloc; "run r{number} {} {}", run.first, run.count)?;
+        check_line(lines, line.as_str())?;
+    }
+    Ok(())
+}
+
+impl Actors {
+    // Lists the last segments, and checks the lines of all.
+    fn check_clients(&mut self, alloc: Global, lines: &mut Lines<'_>) -> Result<(), Refusal> {
+        for (number, client) in self.clients.iter_mut().enumerate() {
+            client.list_segment()?;
+            check_segments(alloc, lines, number, &client.segments)?;
+        }
+        Ok(())
+    }
+
+    // Checks the lines of all runs.
+    fn check_readers(&self, alloc: Global, lines: &mut Lines<'_>) -> Result<(), Refusal> {
+        for (number, reader) in self.readers.iter().enumerate() {
+            check_runs(alloc, lines, number, &reader.runs)?;
+        }
+        Ok(())
+    }
+
+    // The sums of the clients' segments, of so many samples in all.
+    fn sums(
+        &self,
+        alloc: Global,
+        sounds: &Sounds<'_>,
+        samples: usize,
+    ) -> Result<Vec<i32>, Refusal> {
+        let mut sums = Vec::new(alloc);
+        sums.resize(samples, 0)?;
+        for (client, sound) in self.clients.iter().zip(sounds.clients) {
+            add_segments(&mut sums, sound, &client.segments)?;
+        }
+        Ok(sums)
+    }
+}
+
+// Adds the samples of a client's segments to the sums.
+fn add_segments(sums: &mut [i32], sound: &[i16], segments: &[Segment]) -> Result<(), Refusal> {
+    for segment in segments {
+        add_segment(sums, sound, segment)?;
+    }
+    Ok(())
+}
+
+// Adds the samples of a segment to the sums.
+fn add_segment(sums: &mut [i32], sound: &[i16], segment: &Segment) -> Result<(), Refusal> {
+    let source = segment.source.wrapping_mul(CHANNELS);
+    let card = segment.card.wrapping_mul(CHANNELS);
+    for number in 0..segment.samples {
+        let sample = sound.get(source.wrapping_add(number));
+        let sample = sample.ok_or("a client has no such sample")?;
+        if let Some(sum) = sums.get_mut(card.wrapping_add(number)) {
+            *sum = sum.wrapping_add(i32::from(*sample));
+        }
+    }
+    Ok(())
+}
+
+// The sums, saturated.
+fn saturated(alloc: Global, sums: &[i32]) -> Result<Vec<i16>, AllocError> {
+    let mut samples = Vec::new(alloc);
+    for sum in sums {
+        let sample = (*sum).clamp(-32768, 32767);
+        samples.push(i16::try_from(sample).unwrap_or(0))?;
+    }
+    Ok(samples)
+}
+
+// The samples of the captured frames of a run. A frame that the captured file doesn't have is silent, and so is the second channel.
+fn push_run(samples: &mut Vec<i16>, captured: &[i16], run: &Run) -> Result<(), Refusal> {
+    for number in 0..run.count {
+        let frame = run.first.wrapping_add(number);
+        samples.push(captured.get(frame).copied().unwrap_or(0))?;
+        samples.push(0)?;
+    }
+    Ok(())
+}
+
+// Checks a reader's file: it is the captured frames of its runs.
+fn check_recording(
+    alloc: Global,
+    number: usize,
+    reader: &Recording,
+    sounds: &Sounds<'_>,
+    files: &MemoryShelf,
+) -> Result<(), Refusal> {
+    let mut samples = Vec::new(alloc);
+    for run in reader.runs.iter() {
+        push_run(&mut samples, sounds.captured, run)?;
+    }
+    let file = wav_around(alloc, sounds.head, &samples)?;
+    let name = format!(in alloc; "o.r{number}.wav")?;
+    if files.file(name.as_bytes()) != Some(file.as_slice()) {
+        return Err("a recorded file isn't its runs".into());
+    }
+    Ok(())
+}
+
+// Checks what a run left of a plan, and counts the rows that show a position which the card passed in the midst of a phase.
 pub(super) fn check(
     alloc: Global,
     plan: &Plan,
     sounds: &Sounds<'_>,
     left: &Left,
-) -> Result<(), Refusal> {
+) -> Result<usize, Refusal> {
     if left.status != 0 || !left.errors.bytes().is_empty() {
         return Err("the run wasn't done".into());
     }
     check_report(alloc, plan, sounds, text_in(left.out.bytes()), &left.shelf)
 }
 
-// Checks a report of a plan and the files beside it: the rows are those of the script's lines, in order; no position seen falls; each
-// client's segments are what its rows say; the played samples are the saturated sums of the segments; what was late is in no segment;
-// and each reader's file is the captured frames of its runs, as many as it was answered.
+// Checks a report of a plan and the files beside it. The rows are those of the script's lines, in order. Each row is what follows from
+// the earlier ones of its actor and from what it leaves open, which can be so: the position seen was published in the phase and doesn't
+// fall, what was late or overtaken is of the call and was passed by the phase's end, and a stop comes after as many steps as its `die`
+// lets pass. The segments and runs are what follows from the rows. The played samples are the saturated sums of the segments, and each
+// reader's file is the captured frames of its runs.
 pub(super) fn check_report(
     alloc: Global,
     plan: &Plan,
     sounds: &Sounds<'_>,
     report: &str,
     files: &MemoryShelf,
-) -> Result<(), Refusal> {
-    let clients = sounds.clients.len();
-    let samples = (plan.position as usize).wrapping_mul(sounds.channels);
-    let mut found = Found::new(alloc, clients.wrapping_add(sounds.readers), samples)?;
+) -> Result<usize, Refusal> {
+    let mut actors = Actors::new(alloc, plan.geometry, sounds)?;
     let mut lines = report.lines();
-    if lines.next() != Some("dmixlab 1") {
-        return Err("the report begins otherwise".into());
-    }
+    check_line(&mut lines, "dmixlab 1")?;
     for planned in plan.rows.iter() {
         let line = lines.next().ok_or("a row is missing")?;
-        found.row(alloc, planned, line)?;
+        actors.row(alloc, planned, line)?;
     }
-    check_tail(alloc, lines, &mut found, sounds, plan.position)?;
-    found.check_late()?;
-    found.stretches.check(alloc, &found.placed, clients)?;
-    let file = wav_around(alloc, sounds.head, &found.played(alloc)?)?;
-    if files.file(b"o.wav") != Some(file.as_slice()) {
-        return Err("the played samples are no sums of the segments".into());
+    actors.check_clients(alloc, &mut lines)?;
+    actors.check_readers(alloc, &mut lines)?;
+    let last = format!(in alloc; "played 0 {}", plan.position)?;
+    check_line(&mut lines, last.as_str())?;
+    check_line(&mut lines, "end")?;
+    if lines.next().is_some() {
+        return Err("a line is after the end".into());
     }
-    check_readers(alloc, &found, sounds, files)
+    check_files(alloc, plan, &actors, sounds, files)?;
+    Ok(actors.between)
 }
 
-// Checks the readers' files.
-fn check_readers(
+// Checks the files.
+fn check_files(
     alloc: Global,
-    found: &Found,
+    plan: &Plan,
+    actors: &Actors,
     sounds: &Sounds<'_>,
     files: &MemoryShelf,
 ) -> Result<(), Refusal> {
-    for number in 0..sounds.readers {
-        let recorded = found.recorded.get(number).ok_or("no such reader")?;
-        let file = wav_around(alloc, sounds.head, recorded)?;
-        let name = format!(in alloc; "o.r{number}.wav")?;
-        if files.file(name.as_bytes()) != Some(file.as_slice()) {
-            return Err("a recorded file isn't its runs".into());
-        }
-        let actor = sounds.clients.len().wrapping_add(number);
-        let read = found.read.get(actor).copied().unwrap_or(0);
-        if read.wrapping_mul(sounds.channels) != recorded.len() {
-            return Err("a reader was answered another number of frames".into());
-        }
+    let samples = (plan.position as usize).wrapping_mul(CHANNELS);
+    let sums = actors.sums(alloc, sounds, samples)?;
+    let file = wav_around(alloc, sounds.head, &saturated(alloc, &sums)?)?;
+    if files.file(b"o.wav") != Some(file.as_slice()) {
+        return Err("the played samples are no sums of the segments".into());
+    }
+    for (number, reader) in actors.readers.iter().enumerate() {
+        check_recording(alloc, number, reader, sounds, files)?;
     }
     Ok(())
 }

@@ -1,5 +1,6 @@
 //! Mixed phases, in which clients and readers run while the card plays. What each sees of the card depends on the order of the
 //! threads, so these runs are repeated, and each is checked by what must hold in every order.
+use super::actors::Geometry;
 use super::checker::{Plan, Sounds, check};
 use lab_calls::{Left, MONO, STEREO, call, files_of, text_in, wav_around, wav_of};
 use std::alloc::{AllocError, Global};
@@ -7,11 +8,11 @@ use std::marker::Sync;
 use std::test::Fail;
 use std::thread::Threads;
 
-// The samples of client number k, 2,048 frames of two channels, which differ from one client to the next.
-fn sound_of(alloc: Global, client: u32) -> Result<Vec<i16>, AllocError> {
+// The samples of client number k, of so many frames of two channels, which differ from one client to the next.
+fn sound_of(alloc: Global, client: u32, frames: usize) -> Result<Vec<i16>, AllocError> {
     let mut samples = Vec::new(alloc);
-    for number in 0..4096u32 {
-        let mixed = client
+    for number in 0..frames.wrapping_mul(2) {
+        let mixed = (client as usize)
             .wrapping_mul(7919)
             .wrapping_add(number.wrapping_mul(10477))
             % 24576;
@@ -20,35 +21,48 @@ fn sound_of(alloc: Global, client: u32) -> Result<Vec<i16>, AllocError> {
     Ok(samples)
 }
 
-// The samples of so many clients.
-pub(super) fn sounds_of(alloc: Global, clients: u32) -> Result<Vec<Vec<i16>>, AllocError> {
+// The samples of so many clients, of so many frames each.
+pub(super) fn sounds_of(
+    alloc: Global,
+    clients: u32,
+    frames: usize,
+) -> Result<Vec<Vec<i16>>, AllocError> {
     let mut sounds = Vec::new(alloc);
     for client in 0..clients {
-        sounds.push(sound_of(alloc, client)?)?;
+        sounds.push(sound_of(alloc, client, frames)?)?;
     }
     Ok(sounds)
 }
 
-// What is captured: 1,024 frames, 1, 2 and so on.
+// What is captured: 8,192 frames, 1, 2 and so on.
 pub(super) fn captured(alloc: Global) -> Result<Vec<i16>, AllocError> {
     let mut samples = Vec::new(alloc);
-    for number in 1..1025i16 {
+    for number in 1..8193i16 {
         samples.push(number)?;
     }
     Ok(samples)
 }
 
 // The lines of the card, of so many clients and of so many readers, and their openings.
-pub(super) fn opened(alloc: Global, clients: u32, readers: u32) -> Result<Plan, AllocError> {
+pub(super) fn opened(
+    alloc: Global,
+    geometry: Geometry,
+    clients: u32,
+    readers: u32,
+) -> Result<Plan, AllocError> {
     let mut declared = String::new(alloc);
-    declared.push_str("card channels 2 rate 48000 period 64 ring 256 capture captured\n")?;
+    let (period, ring) = (geometry.period, geometry.ring);
+    writeln!(
+        declared,
+        "card channels 2 rate 48000 period {period} ring {ring} capture captured"
+    )?;
     for client in 0..clients {
         writeln!(declared, "client c{client} f{client}")?;
     }
     for reader in 0..readers {
         writeln!(declared, "reader r{reader}")?;
     }
-    let mut plan = Plan::new(alloc, declared.as_str())?;
+    let mut plan = Plan::new(alloc, geometry, declared.as_str())?;
     for actor in 0..clients {
         let name = format!(in alloc; "c{actor}")?;
         plan.open(alloc, name.as_str(), actor as usize)?;
@@ -81,10 +95,22 @@ pub(super) fn push_phase(
     plan.end()
 }
 
+// A ring of four periods.
+pub(super) const SMALL: Geometry = Geometry {
+    period: 64,
+    ring: 256,
+};
+
+// A ring of 256 periods.
+const LARGE: Geometry = Geometry {
+    period: 64,
+    ring: 16384,
+};
+
 // The script of so many clients and readers: they start without the card, run with it, are prepared again where they had an
 // xrun, run with it again, and at last the card plays alone.
 fn plan_of(alloc: Global, actors: (u32, u32)) -> Result<Plan, AllocError> {
-    let mut plan = opened(alloc, actors.0, actors.1)?;
+    let mut plan = opened(alloc, SMALL, actors.0, actors.1)?;
     push_phase(alloc, &mut plan, actors, &[], (&["write 128"], &["start"]))?;
     push_phase(
         alloc,
@@ -142,45 +168,86 @@ pub(super) fn left_of<R: Threads + Sync>(
     call(rt, alloc, &["run", "s", "o"], files, (&[], &[]))
 }
 
-// Runs the script of so many clients and readers so often, and checks each run.
+// The script of two clients and two readers that go on while the card plays 128 periods in one phase: the clients write, ask and take
+// back, and the readers read.
+fn plan_of_many_periods(alloc: Global) -> Result<Plan, AllocError> {
+    let mut plan = opened(alloc, LARGE, 2, 2)?;
+    let actors = (2, 2);
+    push_phase(alloc, &mut plan, actors, &[], (&["write 9000"], &["start"]))?;
+    push_phase(
+        alloc,
+        &mut plan,
+        actors,
+        &[8192],
+        (
+            &[
+                "avail",
+                "write 4000",
+                "delay",
+                "rewindable",
+                "rewind 6000",
+                "write 3000",
+                "delay",
+                "rewind 100",
+                "rewindable",
+                "avail",
+            ],
+            &["avail", "read 900", "avail", "read 5000", "read 5000"],
+        ),
+    )?;
+    push_phase(alloc, &mut plan, (0, 0), &[8192], (&[], &[]))?;
+    Ok(plan)
+}
+
+// Runs a plan of so many clients and readers so often, and checks each run. The clients' files have as many frames as the ring, and
+// 2,048 at least.
 fn check_runs<R: Threads + Sync>(
     rt: &R,
     alloc: Global,
+    plan: &Plan,
     actors: (u32, u32),
     times: u32,
 ) -> Result<(), Fail> {
-    let plan = plan_of(alloc, actors)?;
-    let clients = sounds_of(alloc, actors.0)?;
+    let frames = plan.geometry.ring.max(2048);
+    let clients = sounds_of(alloc, actors.0, frames)?;
     let captured = captured(alloc)?;
     let sounds = Sounds {
-        channels: 2,
         head: STEREO,
         clients: &clients,
         readers: actors.1 as usize,
         captured: &captured,
     };
     for _ in 0..times {
-        let left = left_of(rt, alloc, &plan, &sounds)?;
-        check(alloc, &plan, &sounds, &left)?;
+        let left = left_of(rt, alloc, plan, &sounds)?;
+        check(alloc, plan, &sounds, &left)?;
     }
     Ok(())
 }
 
 #[test]
 fn two_clients_run_while_the_card_plays(rt: HostRuntime) -> Result<(), Fail> {
-    check_runs(&rt, rt.alloc(), (2, 0), 50)
+    let plan = plan_of(rt.alloc(), (2, 0))?;
+    check_runs(&rt, rt.alloc(), &plan, (2, 0), 50)
 }
 
 #[test]
 fn eight_clients_and_two_readers_run_while_the_card_plays(rt: HostRuntime) -> Result<(), Fail> {
-    check_runs(&rt, rt.alloc(), (8, 2), 20)
+    let plan = plan_of(rt.alloc(), (8, 2))?;
+    check_runs(&rt, rt.alloc(), &plan, (8, 2), 20)
 }
 
 #[test]
 fn sixty_four_clients_and_sixteen_readers_run_while_the_card_plays(
     rt: HostRuntime,
 ) -> Result<(), Fail> {
-    check_runs(&rt, rt.alloc(), (64, 16), 4)
+    let plan = plan_of(rt.alloc(), (64, 16))?;
+    check_runs(&rt, rt.alloc(), &plan, (64, 16), 4)
+}
+
+#[test]
+fn clients_and_readers_run_while_the_card_passes_many_periods(rt: HostRuntime) -> Result<(), Fail> {
+    let plan = plan_of_many_periods(rt.alloc())?;
+    check_runs(&rt, rt.alloc(), &plan, (2, 2), 20)
 }
 
 // A client that writes while the card plays 64 frames starts before or after them, and the report says which.
