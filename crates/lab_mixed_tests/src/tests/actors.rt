@@ -1,4 +1,4 @@
-//! What clients and readers have in common: what a line asks, what its row leaves open, and what follows for its answer.
+//! What clients and readers have in common: a call, what the order of the threads decides of its outcome, and its answer.
 use super::checker::Refusal;
 
 // The channels of the card, of each client and of each reader in each plan.
@@ -11,27 +11,27 @@ pub(super) struct Geometry {
     pub(super) ring: usize,
 }
 
-// A line of an actor: its phase, the positions before and after that phase, the call, and the frames that it names.
+// A call of an actor: its phase, the positions before and after that phase, its name, and the frames that it asks for.
 #[derive(Clone, Copy)]
-pub(super) struct Asked<'a> {
+pub(super) struct Call<'a> {
     pub(super) phase: usize,
     pub(super) before: usize,
     pub(super) after: usize,
-    pub(super) call: &'a str,
+    pub(super) name: &'a str,
     pub(super) frames: usize,
 }
 
-// How a call ended, so far as the order of the threads decides it: as it was asked, by a stop, or at a frame and channel that the
-// card had passed. Beside it the position that the actor has seen.
+// How a call ended: as it should, by a stop, or at a frame and channel that the card had passed.
 #[derive(Clone, Copy)]
 pub(super) enum End {
     Whole,
-    Stopped,
-    Passed(usize, usize),
+    Stop,
+    At(usize, usize),
 }
 
+// What the order of the threads decides of a call: how it ended, and the position that the actor has seen after it.
 #[derive(Clone, Copy)]
-pub(super) struct Shown {
+pub(super) struct Outcome {
     pub(super) end: End,
     pub(super) seen: Option<usize>,
 }
@@ -74,7 +74,7 @@ pub(super) struct Actor {
     pub(super) state: State,
     pub(super) seen: Option<usize>,
     steps: Option<usize>,
-    stopped: Option<usize>,
+    stop_phase: Option<usize>,
 }
 
 impl Actor {
@@ -84,27 +84,27 @@ impl Actor {
             state: State::Open,
             seen: None,
             steps: None,
-            stopped: None,
+            stop_phase: None,
         }
     }
 
     // The answer of a line that is decided by the state alone and makes no step: none where the call has to be made.
-    pub(super) fn answer_by_state(&mut self, asked: &Asked<'_>) -> Option<Answer> {
-        if let Some(phase) = self.stopped {
-            if phase == asked.phase {
+    pub(super) fn answer_by_state(&mut self, call: &Call<'_>) -> Option<Answer> {
+        if let Some(phase) = self.stop_phase {
+            if phase == call.phase {
                 return Some(Answer::Word("stopped"));
             }
             *self = Actor::new();
-            self.stopped = Some(0);
+            self.stop_phase = Some(0);
         }
-        let word = match (self.state, asked.call) {
-            (State::Open, "open") if self.stopped.is_none() => {
+        let word = match (self.state, call.name) {
+            (State::Open, "open") if self.stop_phase.is_none() => {
                 self.state = State::Prepared;
                 "ok"
             }
             (State::Open, _) | (_, "open") => "EBADFD",
             (_, "die") => {
-                self.steps = Some(asked.frames);
+                self.steps = Some(call.frames);
                 "ok"
             }
             (State::Running, "prepare") | (State::Running | State::Xrun, "start") => "EBADFD",
@@ -119,8 +119,8 @@ impl Actor {
     }
 
     // Stops the actor.
-    pub(super) fn stop(&mut self, asked: &Asked<'_>) -> Answer {
-        self.stopped = Some(asked.phase);
+    pub(super) fn stop(&mut self, call: &Call<'_>) -> Answer {
+        self.stop_phase = Some(call.phase);
         Answer::Word("stopped")
     }
 
@@ -135,7 +135,7 @@ impl Actor {
 
     // How many of so many pieces of work, of some steps each, are done before it is stopped. It has to be stopped before the last one
     // is.
-    pub(super) fn done_at_stop(&self, pieces: usize, steps: usize) -> Result<usize, Refusal> {
+    pub(super) fn count_at_stop(&self, pieces: usize, steps: usize) -> Result<usize, Refusal> {
         let done = self.steps.and_then(|left| left.checked_div(steps));
         match done {
             Some(done) if done < pieces => Ok(done),
@@ -148,17 +148,17 @@ impl Actor {
     pub(super) fn load(
         &mut self,
         geometry: &Geometry,
-        asked: &Asked<'_>,
-        shown: &Shown,
+        call: &Call<'_>,
+        outcome: &Outcome,
     ) -> Result<Option<usize>, Refusal> {
         if self.steps == Some(0) {
             return Ok(None);
         }
         self.make(1)?;
-        let position = shown.seen.ok_or("no position was seen")?;
+        let position = outcome.seen.ok_or("no position was seen")?;
         let is_period = position.checked_rem(geometry.period) == Some(0);
-        let is_published = is_period || position == asked.before || position == asked.after;
-        let is_in_phase = asked.before <= position && position <= asked.after;
+        let is_published = is_period || position == call.before || position == call.after;
+        let is_in_phase = call.before <= position && position <= call.after;
         if !is_published || !is_in_phase || position < self.seen.unwrap_or(0) {
             return Err("a position that can't have been seen".into());
         }

@@ -1,7 +1,7 @@
 //! What must hold of a run whose threads may go in any order: a plan, which is a script and how the rows of its report begin, and a
 //! check of the report and the files against it. A row leaves open which position was seen, whether it was stopped, and which sample
 //! the card had passed. What follows for the rest of the report and for the files is worked out here and compared.
-use super::actors::{Answer, Asked, CHANNELS, End, Geometry, Shown};
+use super::actors::{Answer, CHANNELS, Call, End, Geometry, Outcome};
 use super::playback::{Playback, Segment};
 use super::recording::{Recording, Run};
 use lab_calls::{Left, text_in, wav_around};
@@ -34,7 +34,7 @@ impl<T: Drop> From<AllocFailed<T>> for Refusal {
 // A row that is planned: how it begins, whose it is (a row of the card is planned whole), its phase, and the positions before and
 // after that phase.
 #[derive(Drop)]
-struct Planned {
+struct PlannedRow {
     begins: String,
     actor: Option<usize>,
     phase: usize,
@@ -47,7 +47,7 @@ struct Planned {
 pub(super) struct Plan {
     pub(super) text: String,
     pub(super) geometry: Geometry,
-    rows: Vec<Planned>,
+    rows: Vec<PlannedRow>,
     phase: usize,
     position: u64,
 }
@@ -78,7 +78,7 @@ impl Plan {
         actor: usize,
     ) -> Result<(), AllocError> {
         writeln!(self.text, "open {name}")?;
-        self.rows.push(Planned {
+        self.rows.push(PlannedRow {
             begins: format!(in alloc; "{} {name} open = ", self.phase)?,
             actor: Some(actor),
             phase: self.phase,
@@ -98,7 +98,7 @@ impl Plan {
             self.position = self.position.wrapping_add(*frames);
             let (phase, position) = (self.phase, self.position);
             writeln!(self.text, "card play {frames}")?;
-            self.rows.push(Planned {
+            self.rows.push(PlannedRow {
                 begins: format!(in alloc;
                     "{phase} card play {frames} = {frames} RUNNING {position}"
                 )?,
@@ -122,7 +122,7 @@ impl Plan {
     ) -> Result<(), AllocError> {
         for line in lines {
             writeln!(self.text, "{name} {line}")?;
-            self.rows.push(Planned {
+            self.rows.push(PlannedRow {
                 begins: format!(in alloc; "{} {name} {line} = ", self.phase)?,
                 actor: Some(actor),
                 phase: self.phase,
@@ -171,19 +171,19 @@ fn number_at(words: &[&str], place: usize) -> Option<usize> {
     words.get(place)?.parse::<usize>().ok()
 }
 
-// What the words of a row after its '=' show.
-fn shown_by(words: &[&str]) -> Shown {
-    let passed = match (words.get(1), number_at(words, 2), number_at(words, 3)) {
+// The outcome that the words of a row after its '=' show.
+fn outcome_of(words: &[&str]) -> Outcome {
+    let place = match (words.get(1), number_at(words, 2), number_at(words, 3)) {
         (Some(&"late" | &"overtaken"), Some(frame), Some(channel)) => Some((frame, channel)),
         _ => None,
     };
-    let end = match (words.first(), passed) {
-        (Some(&"EPIPE"), Some((frame, channel))) => End::Passed(frame, channel),
-        (Some(&"stopped"), _) => End::Stopped,
+    let end = match (words.first(), place) {
+        (Some(&"EPIPE"), Some((frame, channel))) => End::At(frame, channel),
+        (Some(&"stopped"), _) => End::Stop,
         _ => End::Whole,
     };
     let seen = number_at(words, words.len().wrapping_sub(1));
-    Shown { end, seen }
+    Outcome { end, seen }
 }
 
 // The text of an answer.
@@ -218,7 +218,7 @@ impl Actors {
     }
 
     // Checks a row.
-    fn row(&mut self, alloc: Global, planned: &Planned, line: &str) -> Result<(), Refusal> {
+    fn row(&mut self, alloc: Global, planned: &PlannedRow, line: &str) -> Result<(), Refusal> {
         let begins = planned.begins.as_str();
         let rest = line.strip_prefix(begins).ok_or("a row begins otherwise")?;
         let wanted = match planned.actor {
@@ -236,34 +236,34 @@ impl Actors {
     fn rest_of(
         &mut self,
         alloc: Global,
-        planned: &Planned,
+        planned: &PlannedRow,
         actor: usize,
         rest: &str,
     ) -> Result<String, Refusal> {
         let line = words_of(alloc, planned.begins.as_str())?;
-        let asked = Asked {
+        let call = Call {
             phase: planned.phase,
             before: planned.before as usize,
             after: planned.after as usize,
-            call: *line.get(2).ok_or("a line has no call")?,
+            name: *line.get(2).ok_or("a line has no call")?,
             frames: number_at(&line, 3).unwrap_or(0),
         };
-        let shown = shown_by(&words_of(alloc, rest)?);
+        let outcome = outcome_of(&words_of(alloc, rest)?);
         let count = self.clients.len();
         let (answer, after) = if actor < count {
             let client = self.clients.get_mut(actor).ok_or("no such client")?;
-            (client.answer(&asked, &shown)?, client.actor)
+            (client.answer(&call, &outcome)?, client.actor)
         } else {
             let reader = self.readers.get_mut(actor.wrapping_sub(count));
             let reader = reader.ok_or("no such reader")?;
-            (reader.answer(&asked, &shown)?, reader.actor)
+            (reader.answer(&call, &outcome)?, reader.actor)
         };
         let text = text_of(alloc, answer)?;
         let state = after.state.word();
         let Some(seen) = after.seen else {
             return Ok(format!(in alloc; "{text} {state} -")?);
         };
-        if asked.before < seen && seen < asked.after {
+        if call.before < seen && seen < call.after {
             self.between = self.between.wrapping_add(1);
         }
         Ok(format!(in alloc; "{text} {state} {seen}")?)
@@ -366,7 +366,7 @@ fn add_segment(sums: &mut [i32], sound: &[i16], segment: &Segment) -> Result<(),
 }
 
 // The sums, saturated.
-fn saturated(alloc: Global, sums: &[i32]) -> Result<Vec<i16>, AllocError> {
+fn saturated_samples(alloc: Global, sums: &[i32]) -> Result<Vec<i16>, AllocError> {
     let mut samples = Vec::new(alloc);
     for sum in sums {
         let sample = (*sum).clamp(-32768, 32767);
@@ -459,7 +459,7 @@ fn check_files(
 ) -> Result<(), Refusal> {
     let samples = (plan.position as usize).wrapping_mul(CHANNELS);
     let sums = actors.sums(alloc, sounds, samples)?;
-    let file = wav_around(alloc, sounds.head, &saturated(alloc, &sums)?)?;
+    let file = wav_around(alloc, sounds.head, &saturated_samples(alloc, &sums)?)?;
     if files.file(b"o.wav") != Some(file.as_slice()) {
         return Err("the played samples are no sums of the segments".into());
     }

@@ -168,36 +168,46 @@ pub(super) fn left_of<R: Threads + Sync>(
     call(rt, alloc, &["run", "s", "o"], files, (&[], &[]))
 }
 
-// The script of two clients and two readers that go on while the card plays 128 periods in one phase: the clients write, ask and take
-// back, and the readers read.
-fn plan_of_many_periods(alloc: Global) -> Result<Plan, AllocError> {
-    let mut plan = opened(alloc, LARGE, 2, 2)?;
+// The script of two clients and two readers that go on while the card plays 32 periods in one phase: the clients write, ask and take
+// back, the readers read, and each that has an xrun is prepared again. Of a ring of four periods the card passes eight laps.
+fn plan_of_many_periods(alloc: Global, geometry: Geometry) -> Result<Plan, AllocError> {
+    let mut plan = opened(alloc, geometry, 2, 2)?;
     let actors = (2, 2);
-    push_phase(alloc, &mut plan, actors, &[], (&["write 9000"], &["start"]))?;
-    push_phase(
-        alloc,
-        &mut plan,
-        actors,
-        &[8192],
-        (
-            &[
-                "avail",
-                "write 4000",
-                "delay",
-                "rewindable",
-                "rewind 6000",
-                "write 3000",
-                "delay",
-                "rewind 100",
-                "rewindable",
-                "avail",
-            ],
-            &["avail", "read 900", "avail", "read 5000", "read 5000"],
-        ),
-    )?;
-    push_phase(alloc, &mut plan, (0, 0), &[8192], (&[], &[]))?;
+    push_phase(alloc, &mut plan, actors, &[], (&["write 2200"], &["start"]))?;
+    push_phase(alloc, &mut plan, actors, &[2048], (WRITES, READS))?;
+    push_phase(alloc, &mut plan, (0, 0), &[2048], (&[], &[]))?;
     Ok(plan)
 }
+
+const WRITES: &[&str] = &[
+    "avail",
+    "write 1000",
+    "delay",
+    "prepare",
+    "write 300",
+    "rewindable",
+    "rewind 1500",
+    "write 700",
+    "prepare",
+    "write 200",
+    "delay",
+    "rewind 30",
+    "rewindable",
+    "avail",
+];
+
+const READS: &[&str] = &[
+    "avail",
+    "read 200",
+    "prepare",
+    "read 1",
+    "read 200",
+    "avail",
+    "read 1200",
+    "prepare",
+    "start",
+    "read 1200",
+];
 
 // Runs a plan of so many clients and readers so often, and checks each run. The clients' files have as many frames as the ring, and
 // 2,048 at least.
@@ -246,8 +256,11 @@ fn sixty_four_clients_and_sixteen_readers_run_while_the_card_plays(
 
 #[test]
 fn clients_and_readers_run_while_the_card_passes_many_periods(rt: HostRuntime) -> Result<(), Fail> {
-    let plan = plan_of_many_periods(rt.alloc())?;
-    check_runs(&rt, rt.alloc(), &plan, (2, 2), 20)
+    for geometry in [SMALL, LARGE] {
+        let plan = plan_of_many_periods(rt.alloc(), geometry)?;
+        check_runs(&rt, rt.alloc(), &plan, (2, 2), 5)?;
+    }
+    Ok(())
 }
 
 // A client that writes while the card plays 64 frames starts before or after them, and the report says which.

@@ -1,5 +1,5 @@
 //! What follows for a client's answers and segments from its lines, where the rows say which position it saw and where it was late.
-use super::actors::{Actor, Answer, Asked, CHANNELS, End, Geometry, Shown, State};
+use super::actors::{Actor, Answer, CHANNELS, Call, End, Geometry, Outcome, State};
 use super::checker::Refusal;
 use std::alloc::Global;
 
@@ -20,9 +20,9 @@ pub(super) struct Playback {
     pub(super) actor: Actor,
     sound: usize,
     source: usize,
-    written: usize,
+    frames: usize,
     start: usize,
-    placed: usize,
+    samples: usize,
     cursor: usize,
     high: usize,
     floor: usize,
@@ -37,9 +37,9 @@ impl Playback {
             actor: Actor::new(),
             sound,
             source: 0,
-            written: 0,
+            frames: 0,
             start: 0,
-            placed: 0,
+            samples: 0,
             cursor: 0,
             high: 0,
             floor: 0,
@@ -48,30 +48,28 @@ impl Playback {
     }
 
     // The answer of a line.
-    pub(super) fn answer(&mut self, asked: &Asked<'_>, shown: &Shown) -> Result<Answer, Refusal> {
-        if let Some(answer) = self.actor.answer_by_state(asked) {
+    pub(super) fn answer(&mut self, call: &Call<'_>, outcome: &Outcome) -> Result<Answer, Refusal> {
+        if let Some(answer) = self.actor.answer_by_state(call) {
             return Ok(answer);
         }
-        match (self.actor.state, asked.call) {
+        match (self.actor.state, call.name) {
             (_, "prepare") => self.prepare(),
-            (State::Prepared, "write") => self.write_prepared(asked, shown),
-            (State::Prepared, "avail") => {
-                Ok(Answer::Count(self.geometry.ring.wrapping_sub(self.written)))
-            }
-            (State::Prepared, "delay" | "rewindable") => Ok(Answer::Count(self.written)),
-            (State::Running, "rewind" | "rewindable") => self.rewind(asked, shown),
-            (State::Running, "write" | "avail" | "delay" | "sync") => self.sync(asked, shown),
+            (State::Prepared, "write") => self.write_prepared(call, outcome),
+            (State::Prepared, "avail") => Ok(Answer::Count(self.geometry.ring)),
+            (State::Prepared, "delay" | "rewind" | "rewindable") => Ok(Answer::Count(0)),
+            (State::Running, "rewind" | "rewindable") => self.rewind(call, outcome),
+            (State::Running, "write" | "avail" | "delay" | "sync") => self.sync(call, outcome),
             _ => Err("no plan has this call".into()),
         }
     }
 
     // Lists the segment of the time since it was prepared last, where something is in place.
     pub(super) fn list_segment(&mut self) -> Result<(), Refusal> {
-        if self.placed > 0 {
+        if self.samples > 0 {
             self.segments.push(Segment {
                 source: self.source,
                 card: self.start,
-                samples: self.placed,
+                samples: self.samples,
             })?;
         }
         Ok(())
@@ -80,60 +78,60 @@ impl Playback {
     // Begins anew, with the frame of the file after those that were written.
     fn prepare(&mut self) -> Result<Answer, Refusal> {
         self.list_segment()?;
-        self.source = self.source.wrapping_add(self.written);
-        self.written = 0;
-        self.placed = 0;
+        self.source = self.source.wrapping_add(self.frames);
+        self.frames = 0;
+        self.samples = 0;
         Ok(Answer::Word("ok"))
     }
 
     // The frames that a write offers: no more than the file has.
-    fn offered(&self, asked: &Asked<'_>) -> usize {
-        let place = self.source.wrapping_add(self.written);
-        asked.frames.min(self.sound.saturating_sub(place))
+    fn offer(&self, call: &Call<'_>) -> usize {
+        let place = self.source.wrapping_add(self.frames);
+        call.frames.min(self.sound.saturating_sub(place))
     }
 
-    // A write of a prepared client starts it, a period past the position that it sees and not before its next sample.
-    fn write_prepared(&mut self, asked: &Asked<'_>, shown: &Shown) -> Result<Answer, Refusal> {
-        let free = self.geometry.ring.saturating_sub(self.written);
-        let count = self.offered(asked).min(free);
-        if self.written.wrapping_add(count) == 0 {
+    // A prepared client has written nothing: its first frame starts it, a period past the position that it sees and not before its next
+    // sample.
+    fn write_prepared(&mut self, call: &Call<'_>, outcome: &Outcome) -> Result<Answer, Refusal> {
+        let count = self.offer(call).min(self.geometry.ring);
+        if count == 0 {
             return Ok(Answer::Count(0));
         }
-        let Some(seen) = self.actor.load(&self.geometry, asked, shown)? else {
-            return Ok(self.actor.stop(asked));
+        let Some(seen) = self.actor.load(&self.geometry, call, outcome)? else {
+            return Ok(self.actor.stop(call));
         };
         let next = self.cursor.div_ceil(CHANNELS);
         self.start = seen.wrapping_add(self.geometry.period).max(next);
         self.actor.state = State::Running;
-        self.commit(asked, shown, seen, count)
+        self.commit(call, outcome, seen, count)
     }
 
     // The frames that are free at a position, which are more than the buffer's where the card has passed all.
     fn avail(&self, seen: usize) -> usize {
-        let passed = seen.saturating_sub(self.start);
-        let free = self.geometry.ring.wrapping_add(passed);
-        free.wrapping_sub(self.written)
+        let progress = seen.saturating_sub(self.start);
+        let free = self.geometry.ring.wrapping_add(progress);
+        free.wrapping_sub(self.frames)
     }
 
     // A call of a running client that commits: a position is loaded, and there is an xrun where the whole buffer is free.
-    fn sync(&mut self, asked: &Asked<'_>, shown: &Shown) -> Result<Answer, Refusal> {
-        let Some(seen) = self.actor.load(&self.geometry, asked, shown)? else {
-            return Ok(self.actor.stop(asked));
+    fn sync(&mut self, call: &Call<'_>, outcome: &Outcome) -> Result<Answer, Refusal> {
+        let Some(seen) = self.actor.load(&self.geometry, call, outcome)? else {
+            return Ok(self.actor.stop(call));
         };
         let avail = self.avail(seen);
         if self.geometry.ring <= avail {
             self.actor.state = State::Xrun;
             return Ok(Answer::Avail(avail));
         }
-        let offered = if asked.call == "write" {
-            self.offered(asked)
+        let offer = if call.name == "write" {
+            self.offer(call)
         } else {
             0
         };
-        let end = self.start.wrapping_add(self.written);
-        let answer = self.commit(asked, shown, seen, offered.min(avail))?;
-        Ok(match (answer, asked.call) {
-            (Answer::Count(0), "write") if offered > 0 => Answer::Word("EAGAIN"),
+        let end = self.start.wrapping_add(self.frames);
+        let answer = self.commit(call, outcome, seen, offer.min(avail))?;
+        Ok(match (answer, call.name) {
+            (Answer::Count(0), "write") if offer > 0 => Answer::Word("EAGAIN"),
             (Answer::Count(_), "sync") => Answer::Word("ok"),
             (Answer::Count(_), "avail") => Answer::Count(avail),
             (Answer::Count(_), "delay") => Answer::Count(end.saturating_sub(seen)),
@@ -145,31 +143,31 @@ impl Playback {
     // answer is the number of frames where all are in place.
     fn commit(
         &mut self,
-        asked: &Asked<'_>,
-        shown: &Shown,
+        call: &Call<'_>,
+        outcome: &Outcome,
         seen: usize,
         count: usize,
     ) -> Result<Answer, Refusal> {
-        let written = self.written.wrapping_add(count);
+        let frames = self.frames.wrapping_add(count);
         let reach = seen.wrapping_add(self.geometry.ring);
-        let whole = written.min(reach.saturating_sub(self.start));
-        let due = whole.wrapping_mul(CHANNELS).saturating_sub(self.placed);
-        let is_passed = due > 0 && self.frame_of(self.placed) < seen;
-        match shown.end {
+        let whole = frames.min(reach.saturating_sub(self.start));
+        let due = whole.wrapping_mul(CHANNELS).saturating_sub(self.samples);
+        let is_passed = due > 0 && self.frame_of(self.samples) < seen;
+        match outcome.end {
             End::Whole if !is_passed => {
                 self.place(due)?;
-                self.written = written;
+                self.frames = frames;
                 Ok(Answer::Count(count))
             }
-            End::Stopped => {
+            End::Stop => {
                 let (pieces, steps) = if is_passed { (1, 1) } else { (due, 2) };
-                let done = self.actor.done_at_stop(pieces, steps)?;
+                let done = self.actor.count_at_stop(pieces, steps)?;
                 self.place(done)?;
-                Ok(self.actor.stop(asked))
+                Ok(self.actor.stop(call))
             }
-            End::Passed(frame, channel) => {
-                let done = self.sample_at(frame, channel)?.wrapping_sub(self.placed);
-                let is_due = done < due && frame < asked.after && is_passed == (frame < seen);
+            End::At(frame, channel) => {
+                let done = self.sample_at(frame, channel)?.wrapping_sub(self.samples);
+                let is_due = done < due && frame < call.after && is_passed == (frame < seen);
                 if !is_due || (is_passed && done > 0) {
                     return Err("a sample that can't have been late".into());
                 }
@@ -203,9 +201,9 @@ impl Playback {
         if self.cursor < self.high {
             self.floor = self.high;
         }
-        self.placed = self.placed.wrapping_add(count);
+        self.samples = self.samples.wrapping_add(count);
         let first = self.start.wrapping_mul(CHANNELS);
-        self.cursor = first.wrapping_add(self.placed);
+        self.cursor = first.wrapping_add(self.samples);
         self.high = self.high.max(self.cursor);
         Ok(())
     }
@@ -220,16 +218,16 @@ impl Playback {
     // The frames that can be taken back: those that aren't in place, and those that the card hasn't passed at the position seen.
     fn rewindable(&self, seen: usize) -> usize {
         let floor = self.floor.div_ceil(CHANNELS).max(self.start);
-        let fixed = seen.max(floor);
-        let end = self.start.wrapping_add(self.written);
-        let whole = self.frame_of(self.placed);
-        end.saturating_sub(fixed.min(whole))
+        let least = seen.max(floor);
+        let end = self.start.wrapping_add(self.frames);
+        let whole = self.frame_of(self.samples);
+        end.saturating_sub(least.min(whole))
     }
 
     // A rewind or a question how far one could go: a position is loaded, and there is an xrun where the whole buffer is free.
-    fn rewind(&mut self, asked: &Asked<'_>, shown: &Shown) -> Result<Answer, Refusal> {
-        let Some(seen) = self.actor.load(&self.geometry, asked, shown)? else {
-            return Ok(self.actor.stop(asked));
+    fn rewind(&mut self, call: &Call<'_>, outcome: &Outcome) -> Result<Answer, Refusal> {
+        let Some(seen) = self.actor.load(&self.geometry, call, outcome)? else {
+            return Ok(self.actor.stop(call));
         };
         let avail = self.avail(seen);
         if self.geometry.ring <= avail {
@@ -237,40 +235,40 @@ impl Playback {
             return Ok(Answer::Avail(avail));
         }
         let rewindable = self.rewindable(seen);
-        if asked.call == "rewindable" {
+        if call.name == "rewindable" {
             return Ok(Answer::Count(rewindable));
         }
-        self.take_back(asked, shown, rewindable.min(asked.frames))
+        self.take_back(call, outcome, rewindable.min(call.frames))
     }
 
     // Takes back the last frames, first those that aren't in place, and then samples from the last one on, in two steps each.
     fn take_back(
         &mut self,
-        asked: &Asked<'_>,
-        shown: &Shown,
+        call: &Call<'_>,
+        outcome: &Outcome,
         count: usize,
     ) -> Result<Answer, Refusal> {
-        let written = self.written.wrapping_sub(count);
-        let rest = self.placed.min(written.wrapping_mul(CHANNELS));
-        match shown.end {
+        let frames = self.frames.wrapping_sub(count);
+        let rest = self.samples.min(frames.wrapping_mul(CHANNELS));
+        match outcome.end {
             End::Whole => {
                 self.unplace(rest)?;
-                self.written = written;
+                self.frames = frames;
                 Ok(Answer::Count(count))
             }
-            End::Stopped => {
-                let due = self.placed.wrapping_sub(rest);
-                let done = self.actor.done_at_stop(due, 2)?;
-                self.unplace(self.placed.wrapping_sub(done))?;
-                Ok(self.actor.stop(asked))
+            End::Stop => {
+                let due = self.samples.wrapping_sub(rest);
+                let done = self.actor.count_at_stop(due, 2)?;
+                self.unplace(self.samples.wrapping_sub(done))?;
+                Ok(self.actor.stop(call))
             }
-            End::Passed(frame, channel) => {
+            End::At(frame, channel) => {
                 let sample = self.sample_at(frame, channel)?;
-                if sample < rest || self.placed <= sample || asked.after <= frame {
+                if sample < rest || self.samples <= sample || call.after <= frame {
                     return Err("a sample that can't have been late".into());
                 }
                 self.unplace(sample.wrapping_add(1))?;
-                self.written = self.placed / CHANNELS;
+                self.frames = self.samples / CHANNELS;
                 self.late(frame, channel)
             }
         }
@@ -278,10 +276,10 @@ impl Playback {
 
     // Takes back all but so many samples.
     fn unplace(&mut self, rest: usize) -> Result<(), Refusal> {
-        let count = self.placed.wrapping_sub(rest);
+        let count = self.samples.wrapping_sub(rest);
         if count > 0 {
             self.actor.make(count.wrapping_mul(2))?;
-            self.placed = rest;
+            self.samples = rest;
             let first = self.start.wrapping_mul(CHANNELS);
             self.cursor = first.wrapping_add(rest);
         }

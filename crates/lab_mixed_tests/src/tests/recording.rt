@@ -1,5 +1,5 @@
 //! What follows for a reader's answers and runs from its lines, where the rows say which position it saw and where it was overtaken.
-use super::actors::{Actor, Answer, Asked, CHANNELS, End, Geometry, Shown, State};
+use super::actors::{Actor, Answer, CHANNELS, Call, End, Geometry, Outcome, State};
 use super::checker::Refusal;
 use std::alloc::Global;
 
@@ -31,66 +31,71 @@ impl Recording {
     }
 
     // The answer of a line.
-    pub(super) fn answer(&mut self, asked: &Asked<'_>, shown: &Shown) -> Result<Answer, Refusal> {
-        if let Some(answer) = self.actor.answer_by_state(asked) {
+    pub(super) fn answer(&mut self, call: &Call<'_>, outcome: &Outcome) -> Result<Answer, Refusal> {
+        if let Some(answer) = self.actor.answer_by_state(call) {
             return Ok(answer);
         }
-        match (self.actor.state, asked.call) {
+        match (self.actor.state, call.name) {
             (_, "prepare") => Ok(Answer::Word("ok")),
             (State::Prepared, "avail") => Ok(Answer::Count(0)),
-            (State::Prepared, "read") if asked.frames == 0 => Ok(Answer::Count(0)),
-            (State::Prepared, "start" | "read") => self.start(asked, shown),
-            (State::Running, "read" | "avail") => self.sync(asked, shown),
+            (State::Prepared, "read") if call.frames == 0 => Ok(Answer::Count(0)),
+            (State::Prepared, "start" | "read") => self.start(call, outcome),
+            (State::Running, "read" | "avail") => self.sync(call, outcome),
             _ => Err("no plan has this call".into()),
         }
     }
 
     // A start, also by a read, which finds nothing: the next frame is the one at the position that it sees.
-    fn start(&mut self, asked: &Asked<'_>, shown: &Shown) -> Result<Answer, Refusal> {
-        let Some(seen) = self.actor.load(&self.geometry, asked, shown)? else {
-            return Ok(self.actor.stop(asked));
+    fn start(&mut self, call: &Call<'_>, outcome: &Outcome) -> Result<Answer, Refusal> {
+        let Some(seen) = self.actor.load(&self.geometry, call, outcome)? else {
+            return Ok(self.actor.stop(call));
         };
         self.actor.state = State::Running;
         self.next = seen;
-        Ok(Answer::Word(if asked.call == "read" { "EAGAIN" } else { "ok" }))
+        Ok(Answer::Word(if call.name == "read" { "EAGAIN" } else { "ok" }))
     }
 
     // A call of a running reader: a position is loaded, and there is an xrun where as many frames wait as the ring has.
-    fn sync(&mut self, asked: &Asked<'_>, shown: &Shown) -> Result<Answer, Refusal> {
-        let Some(seen) = self.actor.load(&self.geometry, asked, shown)? else {
-            return Ok(self.actor.stop(asked));
+    fn sync(&mut self, call: &Call<'_>, outcome: &Outcome) -> Result<Answer, Refusal> {
+        let Some(seen) = self.actor.load(&self.geometry, call, outcome)? else {
+            return Ok(self.actor.stop(call));
         };
         let avail = seen.wrapping_sub(self.next);
         if self.geometry.ring <= avail {
             self.actor.state = State::Xrun;
             return Ok(Answer::Avail(avail));
         }
-        if asked.call == "avail" {
+        if call.name == "avail" {
             return Ok(Answer::Count(avail));
         }
-        if asked.frames > 0 && avail == 0 {
+        if call.frames > 0 && avail == 0 {
             return Ok(Answer::Word("EAGAIN"));
         }
-        self.read(asked, shown, asked.frames.min(avail))
+        self.read(call, outcome, call.frames.min(avail))
     }
 
     // Reads so many frames, in one step a sample. One is overtaken only where the frame a ring after it was stored.
-    fn read(&mut self, asked: &Asked<'_>, shown: &Shown, count: usize) -> Result<Answer, Refusal> {
+    fn read(
+        &mut self,
+        call: &Call<'_>,
+        outcome: &Outcome,
+        count: usize,
+    ) -> Result<Answer, Refusal> {
         let samples = count.wrapping_mul(CHANNELS);
-        match shown.end {
+        match outcome.end {
             End::Whole => {
                 self.actor.make(samples)?;
                 self.append(count)?;
                 Ok(Answer::Count(count))
             }
-            End::Stopped => {
-                self.actor.done_at_stop(samples, 1)?;
-                Ok(self.actor.stop(asked))
+            End::Stop => {
+                self.actor.count_at_stop(samples, 1)?;
+                Ok(self.actor.stop(call))
             }
-            End::Passed(frame, channel) => {
+            End::At(frame, channel) => {
                 let frames = frame.wrapping_sub(self.next);
                 let stored = frame.wrapping_add(self.geometry.ring);
-                if count <= frames || CHANNELS <= channel || asked.after <= stored {
+                if count <= frames || CHANNELS <= channel || call.after <= stored {
                     return Err("a frame that can't have been overtaken".into());
                 }
                 let before = frames.wrapping_mul(CHANNELS).wrapping_add(channel);
