@@ -72,7 +72,7 @@ def main():
     random.seed(1)
     with tempfile.TemporaryDirectory() as name:
         folder = Path(name)
-        write_wav(folder / "c0.wav", array.array("h", [random.randint(-3000, 3000) for _ in range(WRITES * ROUND)]))
+        write_wav(folder / "c0.wav", RATE, array.array("h", [random.randint(-3000, 3000) for _ in range(WRITES * ROUND)]))
         print(f"a placed sample: {placed_sample(program, folder):.1f} instructions")
         for period in (1024, 64):
             print(f"a played word, by a period of {period}: {played_word(program, folder, period):.1f} instructions")
