@@ -5,4 +5,5 @@ mod Held
 mod Forms
 mod Longer
 mod Going
+mod Kept
 mod Steps

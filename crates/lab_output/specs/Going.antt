@@ -1,7 +1,8 @@
 -- A run's files from call to call: begun, appended to, and finished.
-use Rattle.std.specs.Prelude.{◌≡◌, ◌⊎◌, ℕ, ◌+◌, ◌*◌, ◌^◌, ◌<◌, ◌≤◌, ℤ, List, [], ◌∷◌, length, map, take, All, Option, IfSome, IsSome, IsSomeAnd, ⊤}
-use Rattle.std.specs.List.{AllByRecursion}
+use Rattle.std.specs.Prelude.{◌≡◌, ◌⊎◌, ℕ, ◌+◌, ◌*◌, ◌^◌, ◌<◌, ◌≤◌, ℤ, List, [], ◌∷◌, ◌++◌, length, map, take, All, Option, IfSome, IsSome, IsSomeAnd, ⊤}
+use Rattle.std.specs.List.{AllByRecursion, flat_map}
 use Rattle.std.specs.Option.{option_map}
+use Rattle.wav_io.specs.Canonical.{sample_bytes}
 use Rattle.lab_shelf.specs.Files.{Files, bytes_under, with_file, with_change, with_first_bytes, IsPartWritten, IsPartFinished}
 use Rattle.lab_output.specs.declared.file.OutputFile.{OutputFile}
 use Rattle.lab_script.specs.declared.script.Script.{Script}
@@ -80,6 +81,25 @@ AreLonger [] [] = ⊤
 AreLonger [] (other ∷ others) = ⊥
 AreLonger (sound ∷ sounds) [] = ⊥
 AreLonger (sound ∷ sounds) (other ∷ others) = IsPartOf sound other × AreLonger sounds others
+
+-- a file has a head of 44 bytes, these samples after it, and maybe more bytes
+pub record HasSamples (samples : List ℤ) (content : List ℕ) : Type 0 where
+  pub head : List ℕ
+  pub more : List ℕ
+  pub head_length : length head ≡ 44
+  pub content_is : content ≡ head ++ (flat_map sample_bytes samples ++ more)
+
+-- each output is there and has its samples, and maybe more bytes
+abbrev pub HaveSamples : List OutputFile → List (List ℤ) → Files → Type 0
+HaveSamples [] sounds files = ⊤
+HaveSamples (output ∷ outputs) [] files = ⊤
+HaveSamples (output ∷ outputs) (samples ∷ sounds) files =
+    IsSomeAnd (bytes_under files output.name) (HasSamples samples)
+    × HaveSamples outputs sounds files
+
+-- the same of files that may not be known
+abbrev pub KeepSamples : List OutputFile → List (List ℤ) → Option Files → Type 0
+KeepSamples outputs sounds files = IfSome files (HaveSamples outputs sounds)
 
 -- what a run writes is in order: its files have heads and names that differ, and there is a number of samples for each
 pub record AreOutputs (outputs : Outputs) : Type 0 where

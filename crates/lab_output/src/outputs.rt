@@ -6,7 +6,7 @@ ghost use Rattle.lab_report.specs.Text.{IsRowOf, IsTailOf};
 ghost use Rattle.lab_shelf.specs.Changes.{Changes};
 ghost use Rattle.lab_shelf.specs.Files.{Files, TookPart};
 ghost use Rattle.lab_output.specs.Files.{MayHold, nothing, finished_files};
-ghost use Rattle.lab_output.specs.Going.{AreLonger, AreNew, AreOutputs, IsFew, IsGoingOn, SomeGoOn};
+ghost use Rattle.lab_output.specs.Going.{AreLonger, AreNew, AreOutputs, IsFew, IsGoingOn, KeepSamples, SomeGoOn};
 ghost use Rattle.lab_output.specs.Text.{head_text, rows_text, tail_from};
 ghost use Rattle.lab_stop.specs.Stops.{IsWriteStop, WriteFaults};
 ghost use Rattle.lab_stop.specs.declared.stop.Stop.TheVariants as stops;
@@ -130,8 +130,8 @@ impl Outputs {
     /// is the canonical WAV file of its samples.
     ///
     /// The files have to be such as `begin` and `append` left them. It stops with `Write` where the shelf
-    /// fails, and with `Memory` only where no memory is left; the files before that one are finished then.
-    /// A reliable shelf whose files are known doesn't fail here.
+    /// fails, and with `Memory` only where no memory is left; the files before that one are finished then,
+    /// and each file has all its samples still. A reliable shelf whose files are known doesn't fail here.
     pub fn finish<S: Shelf>(&self, shelf: &mut S) -> Result<(), Stop>
         requires outputs { AreOutputs self.now }
         requires going_on { SomeGoOn self.now (S.files shelf.old) }
@@ -144,6 +144,10 @@ impl Outputs {
             → IsGoingOn self.now.files.items self.now.samples.items sounds
             before (S.files shelf.old)
             → Changes (MayHold self.now.files.items sounds) before (S.files shelf.new) }
+        ensures kept { (before : Option Files) (sounds : List (List ℤ))
+            → IsGoingOn self.now.files.items self.now.samples.items sounds
+            before (S.files shelf.old)
+            → KeepSamples self.now.files.items sounds (S.files shelf.new) }
         ensures only { IfErr result IsWriteStop }
         ensures fetch_faults { S.fetch_faults shelf.new ≡ S.fetch_faults shelf.old }
         ensures faults { WriteFaults result (S.write_faults shelf.old) (S.write_faults shelf.new) }

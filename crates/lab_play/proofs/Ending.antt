@@ -11,6 +11,7 @@ use Rattle.lab_headline.specs.Headline.{Headline}
 use Rattle.lab_output.specs.declared.file.OutputFile.{OutputFile}
 use Rattle.lab_output.specs.declared.outputs.Outputs.{Outputs}
 use Rattle.lab_output.specs.Files.{MayHold, output_files, finished_files}
+use Rattle.lab_output.specs.Going.{KeepSamples}
 use Rattle.lab_output.specs.Text.{head_text, tail_from, text_so_far}
 use Rattle.lab_phase.specs.declared.finish.Outcome as left
 use Rattle.lab_phase.specs.declared.lab.Lab.{Lab}
@@ -32,7 +33,7 @@ use Rattle.lab_shelf.specs.Changes.{Changes, TookPart-all, TookPart-then}
 use Rattle.lab_shelf.specs.Files.{Files, TookPart}
 use Rattle.lab_stop.specs.declared.stop.Stop.{Stop}
 use Rattle.lab_play.specs.Played.{HasPlayed, rises, sounds_of}
-use Rattle.lab_play.specs.Order.{StopsInHeads, StopsInTail}
+use Rattle.lab_play.specs.Order.{AreSoundsAtEnd, StopsInHeads, StopsInTail}
 use Rattle.lab_play.specs.Playing.{IsPlaying, IsStopped, Scene, Start, scene, sounds_at, text_at}
 use Rattle.lab_play.proofs.ItemsStopped.{HasStopped-at, HasStopped-with, TookPart-rows}
 
@@ -84,6 +85,13 @@ module _ (start : Start) (stops : Stops) (lab : Lab) (outputs : Outputs) (files 
   sounds-at_end =
       ap (λ (xs : List ℤ). xs ∷ recorded_from (session_of lab) (capture_of lab) 0 is.stage.readers) (sym samples)
       ∙ ap (λ (xss : List (List ℤ)). outcome.played.items ∷ xss) (sym (ap (λ (o : Outcome). o.recorded) at-end))
+
+  -- and they are those of the stage
+  mix-at_end : AreSoundsAtEnd start.input (session_of lab) is.stage (sounds_at lab is.stage)
+  mix-at_end =
+      sounds-at_end
+      ∙ (ap sounds_of at-end
+      ∙ ap (λ (capture : Option Sound). sounds_of (outcome_of (session_of lab) capture is.stage)) is.lab_is.script_is.capture_is)
 
   run-at_end : LabRun (session_of lab) start.input.capture start.input.script.body (rises start.stops stops).clients (rises start.stops stops).readers (outcome_in outcome)
   run-at_end =
@@ -146,23 +154,31 @@ module _ (start : Start) (stops : Stops) (lab : Lab) (outputs : Outputs) (files 
       (sym has.next ∙ (all ∙ (ap (λ (s : Script). length s.body) (sym own.script_is) ∙ ap length has.reached.body)))
 
   -- the files aren't all finished
-  pub IsStopped-finish : (files_after : Option Files) → Changes (MayHold outputs.files.items (sounds_at lab is.stage)) start.files files_after → IsStopped start files_after taken
-  IsStopped-finish files_after changes =
+  pub IsStopped-finish : (files_after : Option Files) → Changes (MayHold outputs.files.items (sounds_at lab is.stage)) start.files files_after
+      → KeepSamples outputs.files.items (sounds_at lab is.stage) files_after → IsStopped start files_after taken
+  IsStopped-finish files_after changes keep =
       let part : TookPart start.taken taken (text_so_far start.input.script is.stage.rows) =
       TookPart-rows start.input.script is.stage.rows outputs.rows start.taken taken (TookPart-all start.taken taken _ is.written.text) in
-      let heads : StopsInHeads start.input.script is.lab_is.stage_is.has_done.others is.stage start.taken taken = record { last = last-end; text = part } in
+      let heads : StopsInHeads start.input start.out (session_of lab) is.lab_is.stage_is.has_done.others is.stage (sounds_at lab is.stage) files_after start.taken taken =
+      record {
+        last = last-end;
+        sounds_are = mix-at_end;
+        kept = subst (λ (outs : List OutputFile). KeepSamples outs (sounds_at lab is.stage) files_after) is.written.files_are keep;
+        text = part;
+      } in
       HasStopped-at start stops lab is.stage files_after taken is.lab_is (changes-end files_after changes) part (inr (inr (inr (inl heads))))
 
   -- the rest of the text isn't all put
   pub IsStopped-tail : (files_after : Option Files) (taken_after : Option (List ℕ)) → Changes (MayHold outputs.files.items (sounds_at lab is.stage)) start.files files_after
-      → files_after ≡ option_map (stored outputs.files.items (sounds_at lab is.stage)) start.files
+      → files_after ≡ option_map (finished_files outputs.files.items (sounds_at lab is.stage)) start.files
       → TookPart taken taken_after (tail_from start.input.script outputs.rows outcome.report) → IsStopped start files_after taken_after
   IsStopped-tail files_after taken_after changes files_are part =
       let has = is.lab_is.stage_is.has_done in
-      let tail : StopsInTail start.input.script start.out has.others (sounds_at lab is.stage) start.files files_after =
+      let tail : StopsInTail start.input start.out (session_of lab) has.others is.stage (sounds_at lab is.stage) start.files files_after =
       record {
         last = last-end;
-        files = files_are ∙ ap (λ (outs : List OutputFile). option_map (stored outs (sounds_at lab is.stage)) start.files) is.written.files_are;
+        sounds_are = mix-at_end;
+        files = files_are ∙ ap (λ (outs : List OutputFile). option_map (finished_files outs (sounds_at lab is.stage)) start.files) is.written.files_are;
       } in
       HasStopped-with start stops lab is.stage files_after taken_after is.lab_is (changes-end files_after changes)
       (subst (λ (others : List Item). TookPart start.taken taken_after (text_at start.input.script (session_of lab) others is.stage)) (sym last-end)

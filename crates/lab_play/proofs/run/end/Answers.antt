@@ -26,7 +26,8 @@ returns-in_err-finish-clause-part g c =
     (λ start stops is. IsStopped-finish start stops c.args.lab c.args.outputs.now (g.S.Shelf.files c.args.shelf.now) (g.K.Sink.taken c.args.out.now) is
     (subst (λ (s : Script). items_done c.args.lab ≡ length s.body) (same-script script own.start start own.stops stops at own.script_is own.is is) c.requires.all) c.in-Ok.outcome
     c.in-Ok.ensures.stage c.in-Ok.ensures.run c.in-Ok.ensures.played (g.S.Shelf.files c.finish-2.new.shelf)
-    (c.finish-2.ensures.changes start.files (sounds_at c.args.lab is.stage) is.written.going_on))
+    (c.finish-2.ensures.changes start.files (sounds_at c.args.lab is.stage) is.written.going_on)
+    (c.finish-2.ensures.kept start.files (sounds_at c.args.lab is.stage) is.written.going_on))
 
 pub returns-in_err-finish-clause-never : goal.returns-in_err-finish-clause-never
 returns-in_err-finish-clause-never g c shelf out known failed =

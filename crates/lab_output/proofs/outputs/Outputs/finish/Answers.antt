@@ -3,6 +3,7 @@ use Rattle.lab_output.specs.declared.file.OutputFile.{OutputFile}
 use Rattle.lab_output.specs.Going.{HaveFiles, HaveHeadRoom}
 use Rattle.lab_output.proofs.Going.{finish-stored, finish-Changes, IsGoingOn-rooms}
 use Rattle.lab_output.proofs.Held.{IsGoingOn-there}
+use Rattle.lab_output.proofs.Kept.{finish-samples}
 use Rattle.lab_output.proofs.outputs.Outputs.finish.Goals as goal
 
 pub returns-clause-stored : goal.returns-clause-stored
@@ -25,3 +26,7 @@ returns-clause-never g c before sounds going told reliable =
     c.finish_files.ensures.never reliable
     (subst (λ (os : List OutputFile). HaveFiles (g.S.Shelf.files c.args.shelf.now) os) (sym c.as_slice.ensures.value)
     (IsGoingOn-there _ _ sounds before _ c.requires.outputs.apart going told))
+
+pub returns-clause-kept : goal.returns-clause-kept
+returns-clause-kept g c before sounds going =
+    finish-samples c.finish_files.result _ _ _ _ sounds before _ _ c.requires.outputs.apart going c.finish_files.ensures.closed c.finish_files.ensures.part
