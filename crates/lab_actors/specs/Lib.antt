@@ -1,4 +1,5 @@
 pub mod Actors
 pub mod Gates
 pub mod Pairs
+pub mod Rows
 pub mod Walks

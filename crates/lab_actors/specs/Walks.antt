@@ -75,6 +75,11 @@ AreEach-length R number (x ∷ xs) (y ∷ ys) are = ap suc (AreEach-length R (nu
 AreEach-length R number [] (y ∷ ys) are = absurd are
 AreEach-length R number (x ∷ xs) [] are = absurd are
 
+-- a list and itself
+pub AreEach-same : {X : Type 0} (R : ℕ → X → X → Type 0) (number : ℕ) (xs : List X) → ((n : ℕ) (x : X) → R n x x) → AreEach R number xs xs
+AreEach-same R number [] same = tt
+AreEach-same R number (x ∷ xs) same = (same number x, AreEach-same R (number + 1) xs same)
+
 -- one item of each
 pub AreEach-at : {X Y : Type 0} (R : ℕ → X → Y → Type 0) (number : ℕ) (xs : List X) (ys : List Y) → AreEach R number xs ys → (i : ℕ) (d : X) (e : Y) → i < length xs
     → R (number + i) (slice_index_or xs i d) (slice_index_or ys i e)

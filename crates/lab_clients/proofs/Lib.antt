@@ -3,6 +3,5 @@ mod EndLaws
 mod OpenAt
 mod OpeningLaws
 mod ReapLaws
-mod RowLemmas
 mod RunLemmas
 mod SameLemmas

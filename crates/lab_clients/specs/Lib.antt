@@ -6,5 +6,6 @@ pub mod Opening
 pub mod Phase
 pub mod Reaped
 pub mod Reported
+pub mod Same
 pub mod StepLaws
 pub mod Steps

@@ -26,6 +26,7 @@ use Rattle.lab_card.specs.MeetLaws.{IsSameCard-joined, Rests-same, rules_between
 use Rattle.lab_card.specs.Meets.{IsSameCard}
 use Rattle.lab_card.specs.Stages.{CardPhase-rules, IsCardAt}
 use Rattle.lab_actors.specs.Gates.{AreCounted, stops_at}
+use Rattle.lab_actors.specs.Rows.{EachMay-rows, lines_from}
 use Rattle.lab_actors.specs.Walks.{AreEach, AreEach-joined, AreEach-length, AreJoined}
 use Rattle.lab_client.specs.declared.client.LabClient.{LabClient}
 use Rattle.lab_client.specs.ClientPhase.{ClientRun, LastsAreOwn, client-phase}
@@ -34,6 +35,7 @@ use Rattle.lab_clients.specs.declared.clients.LabClients.{LabClients}
 use Rattle.lab_clients.specs.AtStage.{AreAt, AreDone, IsClientAt, IsClientIn, clients_of, laid_for, laid_open, places_of}
 use Rattle.lab_clients.specs.Kept.{AreEach-rows, IsClientIn-same, IsSameOpened-heard, IsSameOpened-informed, IsSameOpened-joined, IsSameOpened-run, IsSetUp-same, holding_by-same, laid_for-same, laid_open-rows}
 use Rattle.lab_clients.specs.Reported.{AllLayAlike, given_by, given_by-append, laid_for-phase, own_segments, segments_from}
+use Rattle.lab_clients.specs.Same.{with_places}
 use Rattle.lab_clients.specs.Steps.{HasClientRows, HasTakenRoom, IsHeardBy, IsInformedBy, RunsAt, sound_at}
 
 -- ---- the card in a phase
@@ -214,10 +216,10 @@ module _ (session : Session) (stage : Stage) (lines : List Line) (ring : TableId
 -- ---- the clients of the lab
 
 -- The steps of a phase, one after the other: all clients took room for their lines, met notes of the card, did their lines each with its
--- gate, gave notes to the card, and gave their rows to the lab.
+-- gate, and gave notes to the card.
 pub record ClientSteps {G : Type 0} (stops : G → ℕ) (gates after : List G)
     (sounds : List Sound) (phase : ℕ) (lines : List Line) (c d : Card)
-    (before heard done : LabClients) : Type 0 where
+    (before heard : LabClients) : Type 0 where
   pub roomy : LabClients
   pub informed : LabClients
   pub run : LabClients
@@ -226,8 +228,6 @@ pub record ClientSteps {G : Type 0} (stops : G → ℕ) (gates after : List G)
   pub run_lines : AreEach (RunsAt stops gates after sounds phase lines) 0
       (clients_of informed) (clients_of run)
   pub hear : AreEach (IsHeardBy d) 0 (clients_of run) (clients_of heard)
-  pub take_rows : AreEach HasClientRows 0 (clients_of heard) (clients_of done)
-  pub same_places : places_of done ≡ places_of before
 
 -- A phase of the clients of the lab: the clients of a run may do their lines so, with these rows; they are those of the lab then, whose gates had
 -- stopped them so often since the lab began.
@@ -241,10 +241,10 @@ pub record ClientsPhase (session : Session) (stage : Stage) (lines : List Line)
   pub counted : AreCounted base after 0 next
 
 -- what the steps of all clients make one after the other
-steps-through : {G : Type 0} (stops : G → ℕ) (gates after : List G) (sounds : List Sound) (phase : ℕ) (lines : List Line) (c d : Card) (before heard done : LabClients)
-    → ClientSteps stops gates after sounds phase lines c d before heard done
+steps-through : {G : Type 0} (stops : G → ℕ) (gates after : List G) (sounds : List Sound) (phase : ℕ) (lines : List Line) (c d : Card) (before heard : LabClients)
+    → ClientSteps stops gates after sounds phase lines c d before heard
     → AreEach (GoesThrough stops gates after sounds phase lines c d) 0 (clients_of before) (clients_of heard)
-steps-through stops gates after sounds phase lines c d before heard done steps =
+steps-through stops gates after sounds phase lines c d before heard steps =
     AreEach-joined (AreJoined (AreJoined (HasTakenRoom lines) (IsInformedBy c)) (RunsAt stops gates after sounds phase lines)) (IsHeardBy d) 0
     (clients_of before) (clients_of steps.run) (clients_of heard)
     (AreEach-joined (AreJoined (HasTakenRoom lines) (IsInformedBy c)) (RunsAt stops gates after sounds phase lines) 0 (clients_of before) (clients_of steps.informed)
@@ -253,45 +253,52 @@ steps-through stops gates after sounds phase lines c d before heard done steps =
     steps.run_lines)
     steps.hear
 
--- the same clients at the same places
-abbrev with_places : LabClients → Places → LabClients
-with_places cs p = record cs { places = p }
+module _ (session : Session) (stage : Stage) (lines : List Line) (held : Held) (xs : List (AtPort × Client)) (base : ℕ → ℕ) (laws : PhaseLaws) {G : Type 0} (stops : G → ℕ)
+    (gates after : List G) (c d : Card) (before heard : LabClients) (files : length session.sounds ≡ length xs) (are : AreAt session held xs before)
+    (card : CardInPhase session stage lines (ring_of_places (places_of before)) (key_of_places (places_of before)) c d) (counted : AreCounted base (stops_at stops gates) 0 xs)
+    (steps : ClientSteps stops gates after session.sounds (stage.phases + 1) lines c d before heard) where
+  through : AreEach (GoesThrough stops gates after session.sounds (stage.phases + 1) lines c d) 0 (clients_of before) (clients_of heard)
+  through = steps-through stops gates after session.sounds (stage.phases + 1) lines c d before heard steps
 
--- What the steps of a phase make of the clients of the lab is what the phase allows to those of a run.
-pub clients-phase : (session : Session) (stage : Stage) (lines : List Line) (held : Held) (xs : List (AtPort × Client)) (base : ℕ → ℕ) → PhaseLaws
-    → {G : Type 0} (stops : G → ℕ) (gates after : List G) (c d : Card) (before heard done : LabClients) → length session.sounds ≡ length xs → AreAt session held xs before
-    → CardInPhase session stage lines (ring_of_places (places_of before)) (key_of_places (places_of before)) c d → AreCounted base (stops_at stops gates) 0 xs
-    → ClientSteps stops gates after session.sounds (stage.phases + 1) lines c d before heard done
-    → ClientsPhase session stage lines held base (stops_at stops after) xs (flat_map rows_of (clients_of heard)) done
-clients-phase session stage lines held xs base laws stops gates after c d before heard done files are card counted steps =
-    let ring : TableId = ring_of_places (places_of before) in
-    let key : Key = key_of_places (places_of before) in
-    let through = steps-through stops gates after session.sounds (stage.phases + 1) lines c d before heard done steps in
-    let go : ClientsGo session stage lines ring key are.holdings base (stops_at stops after) 0 (clients_of before) xs (clients_of heard) =
-    clients-go session stage lines ring key are.holdings base laws stops gates after c d card 0 (clients_of before) (clients_of heard) xs (omega (arith, files))
-    are.each counted through in
-    let len : length (clients_of done) ≡ length (clients_of before) =
-    AreEach-length HasClientRows 0 (clients_of heard) (clients_of done) steps.take_rows
-    ∙ AreEach-length (GoesThrough stops gates after session.sounds (stage.phases + 1) lines c d) 0 (clients_of before) (clients_of heard) through in
-    let at_same : AreDone session held go.next (with_places done (places_of before)) = record {
-      card = are.card;
-      holdings = are.holdings;
-      held_by = are.held_by;
-      are_held = are.are_held;
-      no_others = λ n past. are.no_others n (omega (arith, len, past));
-      each = AreEach-rows session ring key are.holdings 0 (clients_of heard) (clients_of done) go.next steps.take_rows go.are;
-      reported = λ f k.
-          let was = are.reported f k in
-          let laid = go.laid f k in
-          let taken = laid_open-rows 0 (clients_of heard) (clients_of done) f k steps.take_rows in
-          omega (arith, ints, was, laid, taken);
-    } in
-    record {
-      next = go.next;
-      may = go.may;
-      are = subst (λ (p : Places). AreDone session held go.next (with_places done p)) (sym steps.same_places) at_same;
-      counted = go.counted;
-    }
+  go : ClientsGo session stage lines (ring_of_places (places_of before)) (key_of_places (places_of before)) are.holdings base (stops_at stops after) 0 (clients_of before) xs
+      (clients_of heard)
+  go =
+      clients-go session stage lines (ring_of_places (places_of before)) (key_of_places (places_of before)) are.holdings base laws stops gates after c d card 0 (clients_of before)
+      (clients_of heard) xs (omega (arith, files)) are.each counted through
+
+  -- The clients have a row for each of their lines then.
+  pub length-client_rows : length (flat_map rows_of (clients_of heard)) ≡ lines_from (λ n. ops_by (is_client n) lines) 0 (length xs)
+  length-client_rows =
+      EachMay-rows (client_kinds session stage) (rules_of session stage lines) (λ n. ops_by (is_client n) lines) 0 xs go.next (flat_map rows_of (clients_of heard)) go.may
+
+  -- Once their rows are the lab's, what the steps make of the clients of the lab is what the phase allows to those of a run.
+  pub clients-phase : (done : LabClients) → AreEach HasClientRows 0 (clients_of heard) (clients_of done) → places_of done ≡ places_of before
+      → ClientsPhase session stage lines held base (stops_at stops after) xs (flat_map rows_of (clients_of heard)) done
+  clients-phase done take_rows same_places =
+      let ring : TableId = ring_of_places (places_of before) in
+      let key : Key = key_of_places (places_of before) in
+      let len : length (clients_of done) ≡ length (clients_of before) =
+      AreEach-length HasClientRows 0 (clients_of heard) (clients_of done) take_rows
+      ∙ AreEach-length (GoesThrough stops gates after session.sounds (stage.phases + 1) lines c d) 0 (clients_of before) (clients_of heard) through in
+      let at_same : AreDone session held go.next (with_places done (places_of before)) = record {
+        card = are.card;
+        holdings = are.holdings;
+        held_by = are.held_by;
+        are_held = are.are_held;
+        no_others = λ n past. are.no_others n (omega (arith, len, past));
+        each = AreEach-rows session ring key are.holdings 0 (clients_of heard) (clients_of done) go.next take_rows go.are;
+        reported = λ f k.
+            let was = are.reported f k in
+            let laid = go.laid f k in
+            let taken = laid_open-rows 0 (clients_of heard) (clients_of done) f k take_rows in
+            omega (arith, ints, was, laid, taken);
+      } in
+      record {
+        next = go.next;
+        may = go.may;
+        are = subst (λ (p : Places). AreDone session held go.next (with_places done p)) (sym same_places) at_same;
+        counted = go.counted;
+      }
 
 -- ---- a phase without a line of a client
 

@@ -1,5 +1,6 @@
 -- All clients of a script, in a phase: what each step of it makes of them.
-use Rattle.std.specs.Prelude.{◌≡◌, ℕ, ◌<◌, ◌≤◌, nat_lt, Bool, List, [], length, slice_index_or}
+use Rattle.std.specs.Prelude.{◌≡◌, ℕ, ◌<◌, ◌≤◌, nat_lt, Bool, List, [], length, slice_index_or, Option, None, Some, ⊤}
+use Rattle.std.proofs.Common.{refl}
 use Rattle.wav_io.specs.Sound.{Sound}
 use Rattle.card_sim.specs.declared.card.Card.{Card}
 use Rattle.lab_script.specs.declared.line.Line.{Line}
@@ -8,7 +9,9 @@ use Rattle.lab_run.specs.Phases.{is_client, ops_by}
 use Rattle.lab_card.specs.Meets.{IsSameCard}
 use Rattle.lab_actors.specs.Gates.{stops_at}
 use Rattle.lab_client.specs.declared.client.LabClient.{LabClient}
-use Rattle.lab_client.specs.Clients.{CanRun, HasRoom, IsClientHeard, IsClientInformed, IsOfCard, IsSameBut, RunsLines, number_of, rows_of}
+use Rattle.lab_client.specs.declared.open_client.OpenClient.{OpenClient}
+use Rattle.lab_client.specs.Clients.{CanRun, HasRoom, IsClientHeard, IsClientInformed, IsOfCard, IsSameBut, RunsLines, Stays, number_of, open_of, rows_of}
+use Rattle.lab_client.specs.OpenClients.{IsSameOpen}
 
 -- the file of a number
 abbrev pub sound_at : List Sound → ℕ → Sound
@@ -22,13 +25,30 @@ AreOfCard c ds = (i : ℕ) (d : LabClient) → i < length ds → IsOfCard c (sli
 abbrev pub has_lines : List Line → LabClient → Bool
 has_lines lines d = nat_lt 0 (length (ops_by (is_client (number_of d)) lines))
 
--- a client is as before, but for its room, and maybe for its rows
-abbrev pub IsSameAt : ℕ → LabClient → LabClient → Type 0
-IsSameAt i d e = IsSameBut d e
-
+-- a client is as before, but for its room
 pub record IsSameWithRows (i : ℕ) (d e : LabClient) : Type 0 where
   pub same : IsSameBut d e
   pub rows : rows_of e ≡ rows_of d
+
+IsSameOpen-none : (o : OpenClient) → IsSameOpen o o
+IsSameOpen-none o = record {
+  same = record { bindings = refl; opened_at = refl; member = refl };
+  seat = refl;
+  number = refl;
+  client = refl;
+  left = refl;
+  ended = refl;
+}
+
+IsSameBut-none : (d : LabClient) → IsSameBut d d
+IsSameBut-none d = record { own = by_open (open_of d); rest = record { number = refl; ended = refl } }
+  where
+    by_open : (o : Option OpenClient) → Stays IsSameOpen ⊤ o o
+    by_open None = tt
+    by_open (Some o) = IsSameOpen-none o
+
+pub IsSameWithRows-none : (i : ℕ) (d : LabClient) → IsSameWithRows i d d
+IsSameWithRows-none i d = record { same = IsSameBut-none d; rows = refl }
 
 -- a client took the room of its lines
 pub record HasTakenRoom (lines : List Line) (i : ℕ) (d e : LabClient) : Type 0 where

@@ -14,14 +14,15 @@ use std::thread::Threads;
 use wav_io::Wav;
 
 impl LabClients<'_> {
-    ghost use Rattle.std.specs.Prelude.{◌≡◌, ◌++◌, ◌↔◌, ◌≤◌, All, [], IfErr, IsTrue, OnErr, OnOk, count_by, length};
+    ghost use Rattle.std.specs.Prelude.{◌≡◌, ◌++◌, ◌↔◌, ◌≤◌, All, [], IfErr, IsTrue, OnErr, OnOk, count_by, length, vec_capacity};
     ghost use Rattle.std.specs.List.{flat_map};
     ghost use Rattle.lab_script.specs.declared.line.Line.{Line};
     ghost use Rattle.lab_actor.specs.ClientLines.{IsFew};
+    ghost use Rattle.lab_actor.specs.Room.{HasSpace};
     ghost use Rattle.lab_card.specs.Meets.{IsSameCard};
     ghost use Rattle.lab_client.specs.Clients.{rows_of};
     ghost use Rattle.lab_clients.specs.AtStage.{clients_of, places_of};
-    ghost use Rattle.lab_clients.specs.Steps.{AreOfCard, AreReady, AreSameFrom, HasClientRows, HasTakenRoom, IsHeardBy, IsInformedBy, IsSameAt, IsSameWithRows, RunsAt, has_lines};
+    ghost use Rattle.lab_clients.specs.Steps.{AreOfCard, AreReady, AreSameFrom, HasClientRows, HasTakenRoom, IsHeardBy, IsInformedBy, IsSameWithRows, RunsAt, has_lines};
     ghost use Rattle.lab_actors.specs.Walks.{AreEach};
 
     /// How many clients there are, open or not.
@@ -123,20 +124,17 @@ impl LabClients<'_> {
         hear_clients(card, self.clients.as_mut_slice());
     }
 
-    /// Moves the rows of all clients to the end of the lab's, client by client: they have none then. It refuses, with `Memory`, only where
-    /// no memory is left; then the rows of the clients up to some client are moved, and the others keep theirs.
-    pub fn take_rows(&mut self, rows: &mut Vec<Row>) -> Result<(), PcmError>
+    /// Moves the rows of all clients to the end of the lab's, client by client: they have none then. It takes no memory.
+    ///
+    /// The caller has room for them.
+    pub fn take_rows(&mut self, rows: &mut Vec<Row>)
+        requires { HasSpace (length (flat_map rows_of (clients_of self.old))) rows.old }
         ensures places { places_of self.new ≡ places_of self.old }
-        ensures rows { OnOk result
-            (rows.new.items ≡ rows.old.items ++ flat_map rows_of (clients_of self.old)) }
-        ensures clients { OnOk result
-            (AreEach HasClientRows 0 (clients_of self.old) (clients_of self.new)) }
-        ensures kept { OnErr result (rows.new.items ++ flat_map rows_of (clients_of self.new)
-            ≡ rows.old.items ++ flat_map rows_of (clients_of self.old)) }
-        ensures same { OnErr result
-            (AreEach IsSameAt 0 (clients_of self.old) (clients_of self.new)) }
-        ensures only { IfErr result (λ e. e ≡ PcmError.Memory) }
+        ensures rows { rows.new.items
+            ≡ rows.old.items ++ flat_map rows_of (clients_of self.old) }
+        ensures room { vec_capacity rows.old ≤ vec_capacity rows.new }
+        ensures clients { AreEach HasClientRows 0 (clients_of self.old) (clients_of self.new) }
     {
-        take_client_rows(rows, self.clients.as_mut_slice())
+        take_client_rows(rows, self.clients.as_mut_slice());
     }
 }

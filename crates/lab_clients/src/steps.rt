@@ -1,13 +1,14 @@
 //! All clients of a script, in a phase.
-ghost use Rattle.std.specs.Prelude.{◌≡◌, ◌++◌, ◌<◌, ◌≤◌, ℕ, All, IfErr, IsTrue, OnErr, OnOk, ◌↔◌, count_by, length};
+ghost use Rattle.std.specs.Prelude.{◌≡◌, ◌++◌, ◌<◌, ◌≤◌, ℕ, All, IfErr, IsTrue, OnErr, OnOk, ◌↔◌, count_by, length, vec_capacity};
 ghost use Rattle.std.specs.List.{flat_map};
 ghost use Rattle.wav_io.specs.Sound.{Sound};
 ghost use Rattle.lab_script.specs.declared.line.Line.{Line};
 ghost use Rattle.lab_actor.specs.ClientLines.{IsFew};
+ghost use Rattle.lab_actor.specs.Room.{HasSpace};
 ghost use Rattle.lab_card.specs.Meets.{IsSameCard};
 ghost use Rattle.lab_client.specs.declared.client.LabClient.{LabClient};
 ghost use Rattle.lab_client.specs.Clients.{HasRoom, rows_of};
-ghost use Rattle.lab_clients.specs.Steps.{AreOfCard, AreReady, AreSameFrom, HasClientRows, HasTakenRoom, IsHeardBy, IsInformedBy, IsSameAt, IsSameWithRows, RunsAt, has_lines};
+ghost use Rattle.lab_clients.specs.Steps.{AreOfCard, AreReady, AreSameFrom, HasClientRows, HasTakenRoom, IsHeardBy, IsInformedBy, IsSameWithRows, RunsAt, has_lines};
 ghost use Rattle.lab_actors.specs.Walks.{AreEach};
 
 use card_sim::Card;
@@ -111,22 +112,14 @@ pub(crate) fn run_in_turn<G: Gate>(
     }
 }
 
-/// Moves the rows of all clients to the end of the lab's. It refuses, with `Memory`, only where no memory is left; then the rows of the
-/// clients up to some client are moved, and the others keep theirs.
-pub(crate) fn take_client_rows(
-    rows: &mut Vec<Row>,
-    clients: &mut [LabClient<'_>],
-) -> Result<(), PcmError>
-    ensures rows { OnOk result (rows.new.items ≡ rows.old.items ++ flat_map rows_of clients.old) }
-    ensures clients { OnOk result (AreEach HasClientRows 0 clients.old clients.new) }
-    ensures kept { OnErr result (rows.new.items ++ flat_map rows_of clients.new
-        ≡ rows.old.items ++ flat_map rows_of clients.old) }
-    ensures same { OnErr result (AreEach IsSameAt 0 clients.old clients.new) }
-    ensures only { IfErr result (λ e. e ≡ PcmError.Memory) }
+/// Moves the rows of all clients to the end of the lab's, which have the room for them.
+pub(crate) fn take_client_rows(rows: &mut Vec<Row>, clients: &mut [LabClient<'_>])
+    requires { HasSpace (length (flat_map rows_of clients.old)) rows.old }
+    ensures rows { rows.new.items ≡ rows.old.items ++ flat_map rows_of clients.old }
+    ensures room { vec_capacity rows.old ≤ vec_capacity rows.new }
+    ensures clients { AreEach HasClientRows 0 clients.old clients.new }
 {
     for index in 0..clients.len() {
-        rows.reserve(clients[index].rows().len())?;
         clients[index].take_rows(rows);
     }
-    Ok(())
 }

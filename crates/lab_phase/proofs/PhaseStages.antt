@@ -40,9 +40,9 @@ use Rattle.lab_phase.specs.Asked.{CanMeet}
 use Rattle.lab_phase.specs.AtStage.{AreActorsOf, AreOfRings, IsAtStage, IsCardOf, IsNextItem, capture_of, played_by, played_of, session_of}
 use Rattle.lab_phase.specs.BorderLaws.{HasDone-next, AreSetUp-same, session_of-same}
 use Rattle.lab_phase.specs.Counts.{AreAll-reached}
-use Rattle.lab_phase.specs.PhaseLaws.{ActorLaws, HaveDone, asks_at, have-done}
-use Rattle.lab_phase.specs.PhaseRuns.{AreStopsOf, CountsPhase, DoesPhase, HasRunLines, HasRunPhase, IsLonger, Reaps, RunsPhase, Stops, stops_by}
-use Rattle.lab_phase.specs.PhaseSteps.{HaveMet, HaveRoom}
+use Rattle.lab_phase.specs.PhaseLaws.{ActorLaws, HaveDone, asks_at, few-rows, have-done}
+use Rattle.lab_phase.specs.PhaseRuns.{AreStopsOf, CountsPhase, DoesPhase, HasRunLines, HasRunPhase, IsLonger, Reaps, RunsPhase, Stops, asks_of_lab, stops_by}
+use Rattle.lab_phase.specs.PhaseSteps.{GiveFewRows, HaveMet, HaveRoom}
 use Rattle.lab_phase.specs.Reached.{IsFirstOf, IsFirstOf-next}
 use Rattle.lab_phase.specs.Scripts.{IsPhase-next}
 use Rattle.lab_phase.proofs.StageLaws.{CanMeet-at, FitsRing-reached, IsAskedAt-reached, files-reached}
@@ -91,6 +91,9 @@ module _ (lab : Lab) (stage : Stage) (asked : Asked) (at : IsAtStage lab stage) 
       FitsRing-reached lab.script.now lab.wavs.now (session_of lab) at.has_done.done (first-item lab stage asked.lines.now at is).others stage asked
       (reached-phase lab stage asked.lines.now at is) a0 laws actors-at.card_is.is.at
 
+  pub no-rows : a0.rows.items ≡ []
+  no-rows = actors-at.card_is.rows
+
   pub can-meet : (gates : ℕ) → 128 ≤ gates → asked.wavs.now ≡ lab.wavs.now → (a : CardActor) (cs : LabClients) (rs : LabReaders)
       → HaveRoom asked.lines.now a0 a lab.clients cs lab.readers rs → CanMeet gates asked a cs rs
   can-meet gates many files a cs rs room =
@@ -130,7 +133,24 @@ rows-joined xs xs2 ks ks2 bs bs2 cs cs2 first more =
     let after : xs2 ++ ks2 ++ bs2 ++ cs2 ≡ xs2 ++ (ks2 ++ bs2 ++ cs2) = simp append_assoc in
     before ∙ (ap (λ (rows : List Row). xs ++ rows) more ∙ (ap (λ (rows : List Row). rows ++ (ks2 ++ bs2 ++ cs2)) first ∙ sym after))
 
-module _ {G : Type 0} (stops : G → ℕ) (gates gates_after : List G) (lab mid : Lab) (lines : List Line) (laws : ActorLaws) (is : IsNextItem lab (item.Phase lines))
+-- the actors have no more rows of the phase than it has lines
+pub GiveFewRows-at : {G : Type 0} (stops : G → ℕ) (gates : List G) (lab : Lab) (lines : List Line) (a0 : CardActor) → ActorLaws → IsNext lab (item.Phase lines)
+    → length (ops_by is_of_card lines) ≢ length lines → lab.card ≡ Some a0 → (stage : Stage) (base : Stops) → IsAtStage lab stage → AreStopsOf base (stops_by stops gates) stage
+    → GiveFewRows stops gates (asks_of_lab lab lines) a0 lab.clients lab.readers
+GiveFewRows-at stops gates lab lines a0 laws is others card_is stage base at counted gates_after a f cs fs rs gs room met =
+    few-rows (session_of lab) (capture_of lab) stage lines laws (length lab.script.now.clients) (length lab.script.now.readers) (phase-lines lab stage lines at is)
+    (unplugs_by-others (length lab.script.now.clients) (length lab.script.now.readers) lines (phase-lines lab stage lines at is) others) stops (take 64 gates) (take 64 gates_after)
+    (drop 64 gates) (drop 64 gates_after) a0 a f lab.clients cs fs lab.readers rs gs
+    (subst (λ (card : Option CardActor). AreActorsOf (session_of lab) (capture_of lab) stage card lab.clients lab.readers) card_is at.actors) room
+    (subst
+    (λ (n : ℕ). HaveMet stops (take 64 gates) (take 64 gates_after) (drop 64 gates) (drop 64 gates_after)
+    (record { sounds = lab.wavs.now; capture = capture_of lab; phase = n + 1; lines = lines }) a cs rs f fs gs)
+    at.phases met)
+    base.clients base.readers
+    (files-reached lab.script.now lab.wavs.now (session_of lab) at.has_done.done (first-item lab stage lines at is).others lines stage (reached-phase lab stage lines at is))
+    (AreAll-reached (session_of lab) stage at.has_done.done at.has_done.reached.may).readers counted.clients counted.readers
+
+module _ {G : Type 0} (stops : G → ℕ) (gates gates_after : List G) (lab mid : Lab) (lines : List Line) (laws : ActorLaws) (is : IsNext lab (item.Phase lines))
     (others : length (ops_by is_of_card lines) ≢ length lines) (run : HasRunLines stops gates gates_after lab lines mid) (stage : Stage) (base : Stops)
     (at : IsAtStage lab stage) (counted : AreStopsOf base (stops_by stops gates) stage) where
   actors-before : AreActorsOf (session_of lab) (capture_of lab) stage (Some run.card) lab.clients lab.readers
@@ -153,10 +173,11 @@ module _ {G : Type 0} (stops : G → ℕ) (gates gates_after : List G) (lab mid 
   done-lines =
       have-done (session_of lab) (capture_of lab) stage lines laws (length lab.script.now.clients) (length lab.script.now.readers) (phase-lines lab stage lines at is)
       (unplugs_by-others (length lab.script.now.clients) (length lab.script.now.readers) lines (phase-lines lab stage lines at is) others) stops (take 64 gates) (take 64 gates_after)
-      (drop 64 gates) (drop 64 gates_after) run.card run.run.roomy_card run.run.met_card run.card_after lab.clients run.run.roomy_clients run.run.met_clients mid.clients lab.readers
-      run.run.roomy_readers run.run.met_readers mid.readers lab.rows.items mid.rows.items actors-before run.run.room met-at run.run.given base.clients base.readers
+      (drop 64 gates) (drop 64 gates_after) run.card run.run.roomy_card run.run.met_card lab.clients run.run.roomy_clients run.run.met_clients lab.readers run.run.roomy_readers
+      run.run.met_readers actors-before run.run.room met-at base.clients base.readers
       (files-reached lab.script.now lab.wavs.now (session_of lab) at.has_done.done (first-item lab stage lines at is).others lines stage (reached-phase lab stage lines at is))
-      (AreAll-reached (session_of lab) stage at.has_done.done at.has_done.reached.may).readers counted.clients counted.readers
+      (AreAll-reached (session_of lab) stage at.has_done.done at.has_done.reached.may).readers counted.clients counted.readers run.card_after mid.clients mid.readers lab.rows.items
+      mid.rows.items run.run.given
 
   -- the card and all others are of the same rings as before
   rings-after : AreOfRings run.card_after.card mid.clients mid.readers

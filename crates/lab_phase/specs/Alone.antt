@@ -12,7 +12,7 @@ use Rattle.lab_card.specs.CardLines.{unplugs_by}
 use Rattle.lab_card.specs.Unplugs.{unplugs_by-ops_by}
 
 -- no line is another actor's where as many are the card's as there are
-own-at-most : (lines : List Line) → length (ops_by is_of_card lines) ≤ length lines
+pub own-at-most : (lines : List Line) → length (ops_by is_of_card lines) ≤ length lines
 own-at-most [] = omega arith
 own-at-most (line ∷ lines) = by_test (is_of_card line.actor) (own-at-most lines)
   where

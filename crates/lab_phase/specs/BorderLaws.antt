@@ -1,5 +1,5 @@
 -- What an opening and a closing make of a lab.
-use Rattle.std.specs.Prelude.{◌≡◌, ℕ, zero, suc, ◌+◌, ◌<◌, List, [], ◌∷◌, ◌++◌, length, slice_get, Option, Some, None, Result, Ok, Err, IfOk, OnOk}
+use Rattle.std.specs.Prelude.{◌≡◌, ℕ, zero, suc, ◌+◌, ◌<◌, List, [], ◌∷◌, ◌++◌, length, slice_get, Option, Some, None, Result, Ok, Err, IfOk, OnErr, OnOk}
 use Rattle.std.specs.Global.{Vec}
 use Rattle.std.proofs.Common.{refl, sym, ap, subst, ◌∙◌, arith}
 use Rattle.std.proofs.lemmas.Option.{none-some}
@@ -220,3 +220,12 @@ next-inside lab one is = slice_get-inside lab.script.now.body lab.next one is
 pub OnOk-more : {X E : Type 0} (P Q : Type 0) (r : Result X E) → (P → Q) → OnOk r P → OnOk r Q
 OnOk-more P Q (Ok x) more is = more is
 OnOk-more P Q (Err e) more is = tt
+
+-- a fact, whatever the answer; and one that follows from two others
+pub OnErr-always : {X E P : Type 0} (r : Result X E) → P → OnErr r P
+OnErr-always (Ok x) is = tt
+OnErr-always (Err e) is = is
+
+pub OnErr-both : {X E : Type 0} (P Q S : Type 0) (r : Result X E) → (P → Q → S) → OnErr r P → OnErr r Q → OnErr r S
+OnErr-both P Q S (Ok x) more first second = tt
+OnErr-both P Q S (Err e) more first second = more first second

@@ -12,5 +12,6 @@ pub mod PhaseSteps
 pub mod Places
 pub mod Played
 pub mod Reached
+pub mod Same
 pub mod Scripts
 pub mod StopLaws

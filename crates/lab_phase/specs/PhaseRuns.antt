@@ -18,7 +18,7 @@ use Rattle.lab_readers.specs.AtStage as readers
 use Rattle.lab_readers.specs.declared.readers.LabReaders.{LabReaders}
 use Rattle.lab_phase.specs.declared.lab.Lab.{Lab}
 use Rattle.lab_phase.specs.AtStage.{AreActorsOf, IsAtStage, IsSameRing, IsSameScript, capture_of, items_done, played_of, session_of}
-use Rattle.lab_phase.specs.PhaseSteps.{Asks, CardHasRun, HaveGivenRows, HaveMet, HaveRoom}
+use Rattle.lab_phase.specs.PhaseSteps.{AreSameButRoom, Asks, CardHasRun, HaveGivenRows, HaveMet, HaveRoom}
 
 -- ---- the gates
 
@@ -99,6 +99,18 @@ pub record CountsPhase (lab after : Lab) : Type 0 where
   pub next : after.next ≡ lab.next + 1
 
 -- ---- the steps
+
+-- the lab is as it was, but for its room
+pub record IsSameLab (lab after : Lab) : Type 0 where
+  pub same : IsSameScript lab after
+  pub rows : after.rows.items ≡ lab.rows.items
+  pub phases : after.phases ≡ lab.phases
+  pub next : after.next ≡ lab.next
+  pub card : CardActor
+  pub card_after : CardActor
+  pub card_is : lab.card ≡ Some card
+  pub card_then : after.card ≡ Some card_after
+  pub actors : AreSameButRoom card card_after lab.clients after.clients lab.readers after.readers
 
 -- the card took the room of its lines, did them, and its rows were moved to the end of the lab's
 pub record PlaysAlone (asked : Asks) (rows after : List Row) (a b : CardActor) : Type 0 where

@@ -1,6 +1,7 @@
 -- What the steps of a phase make of the card, the clients and the readers of a lab.
-use Rattle.std.specs.Prelude.{◌≡◌, ℕ, List, [], ◌++◌, Option}
+use Rattle.std.specs.Prelude.{◌≡◌, ℕ, ◌≤◌, List, [], ◌++◌, Option, drop, length, take}
 use Rattle.std.specs.List.{flat_map}
+use Rattle.std.proofs.Common.{refl}
 use Rattle.wav_io.specs.Sound.{Sound}
 use Rattle.card_sim.specs.declared.card.Card.{Card}
 use Rattle.lab_script.specs.declared.line.Line.{Line}
@@ -8,7 +9,7 @@ use Rattle.lab_script.specs.Script.{is_of_card}
 use Rattle.lab_report.specs.declared.row.Row.{Row}
 use Rattle.lab_run.specs.Phases.{ops_by}
 use Rattle.lab_actors.specs.Gates.{stops_at}
-use Rattle.lab_actors.specs.Walks.{AreEach}
+use Rattle.lab_actors.specs.Walks.{AreEach, AreEach-same}
 use Rattle.lab_card.specs.declared.card.CardActor.{CardActor}
 use Rattle.lab_card.specs.CardLines.{CardPart, frames_by}
 use Rattle.lab_card.specs.Meets.{IsSameCard}
@@ -36,11 +37,33 @@ pub record HaveRoom (lines : List Line) (a b : CardActor) (cs ds : LabClients)
   pub card : b.card ≡ a.card
   pub played : b.played.items ≡ a.played.items
   pub rows : b.rows.items ≡ a.rows.items
-  pub room : card_room.HasRoom b (Rattle.std.specs.Prelude.length (ops_by is_of_card lines))
+  pub room : card_room.HasRoom b (length (ops_by is_of_card lines))
       (frames_by (ops_by is_of_card lines))
   pub clients : AreEach (clients.HasTakenRoom lines) 0 (clients_of cs) (clients_of ds)
   pub places : places_of ds ≡ places_of cs
   pub readers : EachReader (readers.HasTakenRoom lines) rs ss
+
+-- a card is as it was, but for its room
+pub record IsSameButRoom (a b : CardActor) : Type 0 where
+  pub card : b.card ≡ a.card
+  pub played : b.played.items ≡ a.played.items
+  pub rows : b.rows.items ≡ a.rows.items
+
+-- all are as they were, but for their room
+pub record AreSameButRoom (a b : CardActor) (cs ds : LabClients)
+    (rs ss : LabReaders) : Type 0 where
+  pub card : IsSameButRoom a b
+  pub clients : AreEach clients.IsSameWithRows 0 (clients_of cs) (clients_of ds)
+  pub places : places_of ds ≡ places_of cs
+  pub readers : EachReader readers.HasKept rs ss
+
+pub AreSameButRoom-card : (a b : CardActor) (cs : LabClients) (rs : LabReaders) → IsSameButRoom a b → AreSameButRoom a b cs cs rs rs
+AreSameButRoom-card a b cs rs same = record {
+  card = same;
+  clients = AreEach-same clients.IsSameWithRows 0 (clients_of cs) clients.IsSameWithRows-none;
+  places = refl;
+  readers = record { spare = refl; each = AreEach-same readers.HasKept 0 (readers_of rs) readers.HasKept-none };
+}
 
 -- the card did its lines; the clients, and the readers, did theirs, each with its gate
 abbrev pub CardHasRun : Asks → CardActor → CardActor → Type 0
@@ -97,6 +120,22 @@ pub record HaveMet {G : Type 0} (stops : G → ℕ) (near near_after far far_aft
       (clients_of fs)
   pub hear_readers : EachReader (readers.IsHeardBy heard) run_readers gs
   pub places : places_of fs ≡ places_of cs
+
+-- the rows of a phase: the card's, then the clients', then the readers'
+abbrev pub rows_by : CardActor → LabClients → LabReaders → List Row
+rows_by a cs rs =
+    a.rows.items ++ flat_map client.rows_of (clients_of cs)
+    ++ flat_map reader.rows_of (readers_of rs)
+
+-- Whatever actors do by the lines of a phase, once they took the room of them, they have no more rows of it than it has lines.
+abbrev pub GiveFewRows : {G : Type 0} → (G → ℕ) → List G → Asks → CardActor → LabClients
+    → LabReaders → Type 0
+GiveFewRows {G = G} stops gates asked a cs rs =
+    (gates_after : List G) (b d : CardActor) (ds es : LabClients) (ss ts : LabReaders)
+    → HaveRoom asked.lines a b cs ds rs ss
+    → HaveMet stops (take 64 gates) (take 64 gates_after) (drop 64 gates) (drop 64 gates_after)
+    asked b ds ss d es ts
+    → length (rows_by d es ts) ≤ length asked.lines
 
 -- the rows of all were moved to the end of the lab's
 pub record HaveGivenRows (rows after : List Row) (a b : CardActor) (cs ds : LabClients)

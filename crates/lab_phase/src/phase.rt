@@ -1,5 +1,5 @@
 //! The phases of the script's body.
-ghost use Rattle.std.specs.Prelude.{◌≡◌, IfErr, OnOk, length};
+ghost use Rattle.std.specs.Prelude.{◌≡◌, [], IfErr, OnErr, OnOk, length};
 ghost use Rattle.lab_script.specs.Script.{is_of_card};
 ghost use Rattle.lab_run.specs.Phases.{ops_by};
 ghost use Rattle.lab_card.specs.declared.card.CardActor.{CardActor};
@@ -7,7 +7,7 @@ ghost use Rattle.lab_card.specs.Room.{FitsRing};
 ghost use Rattle.lab_clients.specs.declared.clients.LabClients.{LabClients};
 ghost use Rattle.lab_readers.specs.declared.readers.LabReaders.{LabReaders};
 ghost use Rattle.lab_phase.specs.Asked.{CanMeet, asks_of};
-ghost use Rattle.lab_phase.specs.PhaseSteps.{HaveRoom};
+ghost use Rattle.lab_phase.specs.PhaseSteps.{AreSameButRoom, GiveFewRows, HaveRoom, IsSameButRoom};
 ghost use Rattle.lab_phase.specs.PhaseRuns.{HaveRunLines, PlaysAlone};
 
 use crate::lab::Lab;
@@ -23,26 +23,31 @@ use snd_base::PcmError;
 use std::marker::{Send, Sync};
 use std::thread::Threads;
 
-/// The card takes the room of its lines, does them, and gives its rows to the lab. It refuses, with `Memory`, only where no memory is
-/// left.
+/// The room of the card's lines and of their rows is taken; then the card does the lines, and gives its rows to the lab. It refuses, with
+/// `Memory`, only where no memory is left; then no line was done, and the card and the rows are as they were, but for their room.
 fn play_alone(
     card: &mut CardActor<'_>,
     rows: &mut Vec<Row>,
     asked: &Asked<'_>,
 ) -> Result<(), PcmError>
-    requires { FitsRing card.old (ops_by is_of_card asked.now.lines.now) }
+    requires fits { FitsRing card.old (ops_by is_of_card asked.now.lines.now) }
+    requires none { card.old.rows.items ≡ [] }
     ensures plays { OnOk result
         (PlaysAlone (asks_of asked.now) rows.old.items rows.new.items card.old card.new) }
+    ensures kept { OnErr result (IsSameButRoom card.old card.new) }
+    ensures rows { OnErr result (rows.new.items ≡ rows.old.items) }
     ensures only { IfErr result (λ e. e ≡ PcmError.Memory) }
 {
+    rows.reserve(asked.lines.len())?;
     card.take_room(asked.lines)?;
     card.run_lines(asked.capture, asked.phase, asked.lines);
-    rows.append(&mut card.rows)?;
+    rows.append(&mut card.rows).unwrap();
     Ok(())
 }
 
-/// The card, the clients and the readers take the room of their lines, meet, do the lines, meet again, and give their rows to the lab. It
-/// refuses, with `Memory`, only where no memory is left.
+/// The card, the clients and the readers take the room of their lines, and the lab that of their rows; then they meet, do the lines, meet
+/// again, and give their rows to the lab. It refuses, with `Memory`, only where no memory is left; then no line was done, and all are as
+/// they were, but for their room.
 fn run_together<R: Threads + Sync, G: Gate + Send>(
     rt: &R,
     card: &mut CardActor<'_>,
@@ -56,29 +61,36 @@ fn run_together<R: Threads + Sync, G: Gate + Send>(
     requires meet { (a : CardActor) (cs : LabClients) (rs : LabReaders)
         → HaveRoom asked.now.lines.now card.old a clients.old cs readers.old rs
         → CanMeet (length gates.old) asked.now a cs rs }
+    requires few_rows { GiveFewRows G.stops gates.old (asks_of asked.now)
+        card.old clients.old readers.old }
     ensures run { OnOk result (HaveRunLines G.stops gates.old gates.new (asks_of asked.now)
         rows.old.items rows.new.items card.old card.new clients.old clients.new
         readers.old readers.new) }
+    ensures kept { OnErr result (AreSameButRoom
+        card.old card.new clients.old clients.new readers.old readers.new) }
+    ensures rows { OnErr result (rows.new.items ≡ rows.old.items) }
+    ensures gates { OnErr result (gates.new ≡ gates.old) }
     ensures only { IfErr result (λ e. e ≡ PcmError.Memory) }
 {
-    take_room(card, clients, readers, asked.lines)?;
+    take_room(card, clients, readers, rows, asked.lines)?;
     run_lines(rt, card, clients, readers, gates, asked);
-    take_rows(rows, card, clients, readers)
+    take_rows(rows, card, clients, readers);
+    Ok(())
 }
 
 impl<'r> Lab<'r, '_> {
-    ghost use Rattle.std.specs.Prelude.{◌≡◌, ◌≢◌, ◌≤◌, ◌<◌, IfErr, OnOk, length};
+    ghost use Rattle.std.specs.Prelude.{◌≡◌, ◌≢◌, ◌≤◌, ◌<◌, IfErr, OnErr, OnOk, length};
     ghost use Rattle.lab_script.specs.declared.line.Item.TheVariants as item;
     ghost use Rattle.lab_script.specs.Script.{is_of_card};
     ghost use Rattle.lab_run.specs.Phases.{ops_by};
     ghost use Rattle.lab_clients.specs.Reaped.{AreDoneInRun};
-    ghost use Rattle.lab_phase.specs.AtStage.{IsLab, IsNextItem};
-    ghost use Rattle.lab_phase.specs.PhaseRuns.{CountsPhase, DoesPhase, HasRunLines, IsLabWith, Reaps, RunsPhase, Stops, stops_by};
+    ghost use Rattle.lab_phase.specs.AtStage.{IsLab, IsNext};
+    ghost use Rattle.lab_phase.specs.PhaseRuns.{CountsPhase, DoesPhase, HasRunLines, IsLabWith, IsSameLab, Reaps, RunsPhase, Stops, stops_by};
 
     /// Does the next phase of the script's body: the card and all clients and readers do their lines, at once where two of them have some,
     /// each in a thread of its own where one can be made. Before the lines each client and reader gets a note of the card's position, and
-    /// after them the card gets one of each; then those are closed that their gates stopped. It refuses, with `Memory`, only where no memory
-    /// is left; the lab isn't called again then.
+    /// after them the card gets one of each; then those are closed that their gates stopped. The room for all that the phase leaves is taken
+    /// first. It refuses, with `Memory`, only where no memory is left; then no line was done, and the lab is as it was, but for its room.
     ///
     /// The caller has the lines of the script's next item, and 128 gates, the same in each call: the first 64 are the clients', by their
     /// numbers, and the ones after them the readers'. Nothing else stopped an actor since the lab began.
@@ -94,6 +106,8 @@ impl<'r> Lab<'r, '_> {
         ensures does { OnOk result
             (DoesPhase (stops_by G.stops gates.old) (stops_by G.stops gates.new)
             self.old lines.now self.new) }
+        ensures kept { OnErr result (IsSameLab self.old self.new) }
+        ensures gates { OnErr result (gates.new ≡ gates.old) }
         ensures only { IfErr result (λ e. e ≡ PcmError.Memory) }
     {
         runs_are_of_scripts();
@@ -115,6 +129,8 @@ impl<'r> Lab<'r, '_> {
         ensures runs { OnOk result
             (RunsPhase (stops_by G.stops gates.old) (stops_by G.stops gates.new)
             self.old lines.now self.new) }
+        ensures kept { OnErr result (IsSameLab self.old self.new) }
+        ensures gates { OnErr result (gates.new ≡ gates.old) }
         ensures only { IfErr result (λ e. e ≡ PcmError.Memory) }
     {
         if line_count(lines) == lines.len() {
@@ -131,6 +147,7 @@ impl<'r> Lab<'r, '_> {
         requires alone { length (ops_by is_of_card lines.now) ≡ length lines.now }
         ensures runs { OnOk result
             ((stops : Stops) → RunsPhase stops stops self.old lines.now self.new) }
+        ensures kept { OnErr result (IsSameLab self.old self.new) }
         ensures only { IfErr result (λ e. e ≡ PcmError.Memory) }
     {
         runs_are_of_scripts();
@@ -160,6 +177,8 @@ impl<'r> Lab<'r, '_> {
         ensures runs { OnOk result
             (RunsPhase (stops_by G.stops gates.old) (stops_by G.stops gates.new)
             self.old lines.now self.new) }
+        ensures kept { OnErr result (IsSameLab self.old self.new) }
+        ensures gates { OnErr result (gates.new ≡ gates.old) }
         ensures only { IfErr result (λ e. e ≡ PcmError.Memory) }
     {
         last_frames_are_own();
@@ -177,14 +196,20 @@ impl<'r> Lab<'r, '_> {
         lines: &[Line],
         gates: &mut [G],
     ) -> Result<(), PcmError>
-        requires at { IsLab self.old }
-        requires next { IsNextItem self.old (item.Phase lines.now) }
+        requires at { IsLabWith (stops_by G.stops gates.old) self.old }
+        requires next { IsNext self.old (item.Phase lines.now) }
         requires gates { 128 ≤ length gates.old }
+        requires others { length (ops_by is_of_card lines.now) ≢ length lines.now }
         ensures runs { OnOk result
             (HasRunLines G.stops gates.old gates.new self.old lines.now self.new) }
+        ensures kept { OnErr result (IsSameLab self.old self.new) }
+        ensures gates { OnErr result (gates.new ≡ gates.old) }
         ensures only { IfErr result (λ e. e ≡ PcmError.Memory) }
     {
         runs_are_of_scripts();
+        last_frames_are_own();
+        members_are_unreported();
+        parts_are_runs();
         let asked = Asked {
             wavs: self.wavs,
             capture: self.capture,

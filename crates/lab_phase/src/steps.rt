@@ -1,11 +1,12 @@
 //! The steps of a phase in which clients or readers have lines.
-ghost use Rattle.std.specs.Prelude.{◌≡◌, ◌≤◌, ◌++◌, IfErr, OnOk, drop, length, take};
+ghost use Rattle.std.specs.Prelude.{◌≡◌, ◌≤◌, ◌++◌, IfErr, OnErr, OnOk, drop, length, take};
 ghost use Rattle.std.specs.Thread.{IsSend, IsSync};
 ghost use Rattle.lab_script.specs.Script.{is_of_card};
 ghost use Rattle.lab_run.specs.Phases.{ops_by};
+ghost use Rattle.lab_actor.specs.Room.{HasSpace};
 ghost use Rattle.lab_card.specs.Room.{FitsRing};
 ghost use Rattle.lab_phase.specs.Asked.{CardCanRun, ClientsCanRun, CanMeet, ReadersCanRun, asks_of, busy_in};
-ghost use Rattle.lab_phase.specs.PhaseSteps.{CardHasRun, ClientsHaveRun, HaveGivenRows, HaveMet, HaveRoom, HaveRun, ReadersHaveRun};
+ghost use Rattle.lab_phase.specs.PhaseSteps.{AreSameButRoom, CardHasRun, ClientsHaveRun, HaveGivenRows, HaveMet, HaveRoom, HaveRun, ReadersHaveRun, rows_by};
 
 use lab_card::{CardActor, line_count};
 use lab_clients::LabClients;
@@ -30,20 +31,27 @@ pub(crate) struct Asked<'l> {
     pub lines: &'l [Line],
 }
 
-/// Takes the room that the lines want, so that they take no memory. It refuses, with `Memory`, only where no memory is left.
+/// Takes the room that the lines want, so that nothing after it takes memory: the actors' for their lines, and the lab's for all rows of
+/// the phase. It refuses, with `Memory`, only where no memory is left; then all are as they were, but for their room.
 ///
 /// The caller knows that the frames that the card plays are before its rings' end.
 pub(crate) fn take_room(
     card: &mut CardActor<'_>,
     clients: &mut LabClients<'_>,
     readers: &mut LabReaders<'_>,
+    rows: &mut Vec<Row>,
     lines: &[Line],
 ) -> Result<(), PcmError>
     requires { FitsRing card.old (ops_by is_of_card lines.now) }
     ensures room { OnOk result (HaveRoom lines.now
         card.old card.new clients.old clients.new readers.old readers.new) }
+    ensures rows_room { OnOk result (HasSpace (length lines.now) rows.new) }
+    ensures kept { OnErr result (AreSameButRoom
+        card.old card.new clients.old clients.new readers.old readers.new) }
+    ensures rows { rows.new.items ≡ rows.old.items }
     ensures only { IfErr result (λ e. e ≡ PcmError.Memory) }
 {
+    rows.reserve(lines.len())?;
     card.take_room(lines)?;
     clients.take_room(lines)?;
     readers.take_room(lines)
@@ -191,19 +199,20 @@ pub(crate) fn run_lines<R: Threads + Sync, G: Gate + Send>(
     readers.hear(&mut card.card);
 }
 
-/// Moves the rows of a phase to the end of the lab's: the card's, then the clients', then the readers'. It refuses, with `Memory`, only
-/// where no memory is left.
+/// Moves the rows of a phase to the end of the lab's: the card's, then the clients', then the readers'. It takes no memory.
+///
+/// The caller has taken the room of them (`take_room`).
 pub(crate) fn take_rows(
     rows: &mut Vec<Row>,
     card: &mut CardActor<'_>,
     clients: &mut LabClients<'_>,
     readers: &mut LabReaders<'_>,
-) -> Result<(), PcmError>
-    ensures given { OnOk result (HaveGivenRows rows.old.items rows.new.items
-        card.old card.new clients.old clients.new readers.old readers.new) }
-    ensures only { IfErr result (λ e. e ≡ PcmError.Memory) }
+)
+    requires { HasSpace (length (rows_by card.old clients.old readers.old)) rows.old }
+    ensures { HaveGivenRows rows.old.items rows.new.items
+        card.old card.new clients.old clients.new readers.old readers.new }
 {
-    rows.append(&mut card.rows)?;
-    clients.take_rows(rows)?;
-    readers.take_rows(rows)
+    rows.append(&mut card.rows).unwrap();
+    clients.take_rows(rows);
+    readers.take_rows(rows);
 }

@@ -1,5 +1,5 @@
 //! One reader of a script, whether it is open or not.
-ghost use Rattle.std.specs.Prelude.{◌≡◌, ◌≢◌, ◌++◌, ◌<◌, ◌∷◌, ◌↔◌, [], All, IfErr, IfOk, IsSome, IsTrue, None, OnErr, OnOk, Some, length, vec_len};
+ghost use Rattle.std.specs.Prelude.{◌≡◌, ◌≢◌, ◌++◌, ◌<◌, ◌≤◌, ◌∷◌, ◌↔◌, [], All, IfErr, IfOk, IsSome, IsTrue, None, OnErr, OnOk, Some, length, vec_capacity, vec_len};
 ghost use Rattle.lab_script.specs.declared.line.Line.{Line};
 ghost use Rattle.lab_run.specs.Items.{is_reader_stopped};
 ghost use Rattle.lab_run.specs.LabRun.{runs_of};
@@ -231,6 +231,7 @@ impl<'r> LabReader<'r> {
     pub fn take_rows(&mut self, all: &mut Vec<Row>)
         requires { HasSpace (length (rows_of self.old)) all.old }
         ensures all { all.new.items ≡ all.old.items ++ rows_of self.old }
+        ensures room { vec_capacity all.old ≤ vec_capacity all.new }
         ensures rows { rows_of self.new ≡ [] }
         ensures same { IsSameButRows self.old self.new }
     {

@@ -2,6 +2,7 @@ pub mod AtStage
 pub mod Counted
 pub mod End
 pub mod Idle
+pub mod Kept
 pub mod Lists
 pub mod Opening
 pub mod Phase

@@ -21,6 +21,7 @@ use Rattle.lab_run.specs.Rules.{AtPort, Rules}
 use Rattle.lab_run.specs.Stage.{Session, Stage}
 use Rattle.lab_actors.specs.Actors.{ActorMay, ActorsMay, actors-may}
 use Rattle.lab_actors.specs.Gates.{AreCounted}
+use Rattle.lab_actors.specs.Rows.{EachMay-rows, lines_from}
 use Rattle.lab_actors.specs.Walks.{AreEach, AreEach-joined, AreEach-map, AreJoined}
 use Rattle.lab_card.specs.declared.card.CardActor.{CardActor}
 use Rattle.lab_card.specs.Findings.{CardPhase, records-between, rules_between}
@@ -37,6 +38,7 @@ use Rattle.lab_reader.specs.RecordedLaws.{IsCapturedUpTo-phase, IsCapturedUpTo-s
 use Rattle.lab_readers.specs.declared.readers.LabReaders.{LabReaders}
 use Rattle.lab_readers.specs.AtStage.{AreAt, AreDone, IsReaderAt, IsReaderDone, IsReaderIn, readers_of, ring_of, spare_of}
 use Rattle.lab_readers.specs.Counted.{AreCounted-each, AreEach-counted, IsCounted}
+use Rattle.lab_readers.specs.Kept.{IsReaderIn-same}
 use Rattle.lab_readers.specs.Lists.{AreEach-moved}
 use Rattle.lab_readers.specs.Steps.{EachReader, HasRowsTaken, HasTakenRoom, IsHeardBy, IsInformedBy, RunsBehind}
 
@@ -75,20 +77,17 @@ IsOver-phase ring geometry capture phase c a b d lines is over =
 
 -- ---- the readers
 
--- The steps of all readers in a phase: they took the room of their lines, met notes of the card, did their lines with their gates, the card met
--- their notes, and their rows were taken.
+-- The steps of all readers in a phase: they took the room of their lines, met notes of the card, did their lines with their gates, and the card met
+-- their notes.
 pub record ReadersSteps (c d : Card) (phase : ℕ) (stops after : ℕ → ℕ)
-    (lines : List Line) (before end : LabReaders) (rows : List Row) : Type 0 where
+    (lines : List Line) (before heard : LabReaders) : Type 0 where
   pub roomy : LabReaders
   pub informed : LabReaders
   pub run : LabReaders
-  pub heard : LabReaders
   pub take_room : EachReader (HasTakenRoom lines) before roomy
   pub inform : EachReader (IsInformedBy c) roomy informed
   pub run_lines : EachReader (RunsBehind stops after phase lines) informed run
   pub hear : EachReader (IsHeardBy d) run heard
-  pub take_rows : EachReader HasRowsTaken heard end
-  pub rows_are : rows ≡ flat_map rows_of (readers_of heard)
 
 -- Readers may do their lines of a phase so, with these rows, and are so afterwards; their gates had stopped them so often before the lab began, and
 -- have stopped them so often after the phase.
@@ -209,46 +208,61 @@ module _ (session : Session) (stage : Stage) (capture : Option Sound) (ring : Ta
 IsReaderDone-taken : (session : Session) (capture : Option Sound) (ring : TableId) (number : ℕ) (r s : LabReader) (x : AtPort × Reader)
     → IsReaderIn session capture ring session.ring number r x → HasRowsTaken number r s → IsReaderDone session capture ring session.ring number s x
 IsReaderDone-taken session capture ring number r s x is taken = record {
-  is = record {
-    numbered = taken.same.file.number ∙ is.numbered;
-    reader = reader_in-same r s taken.same ∙ is.reader;
-    at = IsAt-same ring session.ring r s x.0 taken.same is.at;
-    recorded = IsRecorded-same capture session.ring (bindings_of (slice_index_or session.readers number None)) r s taken.same is.recorded;
-  };
+  is = IsReaderIn-same session capture ring number r s x taken.same is;
   rows = taken.rows;
 }
 
--- What the steps of a phase make of all readers is what the phase may make of the readers of a run, whichever meets with the card they had: the card
--- gave notes and met some from c on, did its lines, and gave notes and met some up to d and beyond. Where there is a reader it stores what it captures.
-pub readers-phase : (session : Session) (stage : Stage) (capture : Option Sound) (lines : List Line) (base stops after : ℕ → ℕ) (c : Card) (a b : CardActor) (d : Card)
-    → CardPhase capture (stage.phases + 1) c a b d lines → IsCardAt session stage c → IsCapturedUpTo capture c → ReaderPartsAreRuns
-    → (xs : List (AtPort × Reader)) (rs ss : LabReaders) (rows : List Row) → (0 < length xs → records_of c ≡ true) → IsOver (ring_of rs) session.ring c → AreAt session capture xs rs → AreCounted base stops 0 xs
-    → ReadersSteps c d (stage.phases + 1) stops after lines rs ss rows → ReadersMay session stage capture lines base after xs rows ss
-readers-phase session stage capture lines base stops after c a b d is card up_to runs xs rs ss rows records over are counted steps =
-    let phase : ℕ = stage.phases + 1 in
-    let first : List LabReader = readers_of rs in
-    let last : List LabReader = readers_of steps.heard in
+-- what the steps make of one reader after the other
+steps-through : (c d : Card) (phase : ℕ) (stops after : ℕ → ℕ) (lines : List Line) (before heard : LabReaders) → ReadersSteps c d phase stops after lines before heard
+    → AreEach (StepsOf c d phase stops after lines) 0 (readers_of before) (readers_of heard)
+steps-through c d phase stops after lines before heard steps =
+    let first : List LabReader = readers_of before in
     let inform : AreEach (AreJoined (HasTakenRoom lines) (IsInformedBy c)) 0 first (readers_of steps.informed) =
     AreEach-joined (HasTakenRoom lines) (IsInformedBy c) 0 first (readers_of steps.roomy) (readers_of steps.informed) steps.take_room.each steps.inform.each in
     let run : AreEach (AreJoined (AreJoined (HasTakenRoom lines) (IsInformedBy c)) (RunsBehind stops after phase lines)) 0 first (readers_of steps.run) =
     AreEach-joined (AreJoined (HasTakenRoom lines) (IsInformedBy c)) (RunsBehind stops after phase lines) 0 first (readers_of steps.informed) (readers_of steps.run) inform
     steps.run_lines.each in
-    let all : AreEach (StepsOf c d phase stops after lines) 0 first last =
-    AreEach-joined (AreJoined (AreJoined (HasTakenRoom lines) (IsInformedBy c)) (RunsBehind stops after phase lines)) (IsHeardBy d) 0 first (readers_of steps.run) last run
-    steps.hear.each in
-    let parts = parts-any session stage capture (ring_of rs) lines base stops after c a b d is card over up_to runs xs first last records are.each counted all in
-    let seat : spare_of ss ≡ spare_of rs =
-    steps.take_rows.spare ∙ (steps.hear.spare ∙ (steps.run_lines.spare ∙ (steps.inform.spare ∙ steps.take_room.spare))) in
-    let done : AreEach (IsReaderDone session capture (ring_of rs) session.ring) 0 (readers_of ss) parts.next =
-    AreEach-moved (λ n w y. IsReaderIn session capture (ring_of rs) session.ring n w y × IsCounted base after n y) HasRowsTaken (IsReaderDone session capture (ring_of rs) session.ring) 0
-    last (readers_of ss) parts.next (λ n r s x now taken. IsReaderDone-taken session capture (ring_of rs) n r s x now.0 taken) parts.are steps.take_rows.each in
-    record {
-      next = parts.next;
-      may = subst (λ (own : List Row). EachMay (reader_kinds stage) (rules_of session stage lines) (λ n. ops_by (is_reader n) lines) 0 xs parts.next own)
-          (parts.rows_are ∙ sym steps.rows_are) parts.may;
-      done = record {
-        card = record { ring = ap seats.geometry_of seat ∙ are.card.ring; first = are.card.first };
-        each = subst (λ (own : ReaderSeat). AreEach (IsReaderDone session capture (seats.ring_of own) session.ring) 0 (readers_of ss) parts.next) (sym seat) done;
-      };
-      counted = AreCounted-each (λ n w y. IsReaderIn session capture (ring_of rs) session.ring n w y × IsCounted base after n y) base after 0 last parts.next (λ n w y now. now.1) parts.are;
-    }
+    AreEach-joined (AreJoined (AreJoined (HasTakenRoom lines) (IsInformedBy c)) (RunsBehind stops after phase lines)) (IsHeardBy d) 0 first (readers_of steps.run)
+    (readers_of heard) run steps.hear.each
+
+-- Whichever meets with the card the readers had in a phase: the card gave notes and met some from c on, did its lines, and gave notes and met some up to d
+-- and beyond. Where there is a reader it stores what it captures.
+module _ (session : Session) (stage : Stage) (capture : Option Sound) (lines : List Line) (base stops after : ℕ → ℕ) (c : Card) (a b : CardActor) (d : Card)
+    (is : CardPhase capture (stage.phases + 1) c a b d lines) (card : IsCardAt session stage c) (up_to : IsCapturedUpTo capture c) (runs : ReaderPartsAreRuns)
+    (xs : List (AtPort × Reader)) (rs heard : LabReaders) (records : 0 < length xs → records_of c ≡ true) (over : IsOver (ring_of rs) session.ring c)
+    (are : AreAt session capture xs rs) (counted : AreCounted base stops 0 xs) (steps : ReadersSteps c d (stage.phases + 1) stops after lines rs heard) where
+  abbrev IsNext : ℕ → LabReader → AtPort × Reader → Type 0
+  IsNext n w y = IsReaderIn session capture (ring_of rs) session.ring n w y × IsCounted base after n y
+
+  parts : ActorsMay (reader_kinds stage) (rules_of session stage lines) (λ n. ops_by (is_reader n) lines) IsNext rows_of 0 xs (readers_of heard)
+  parts =
+      parts-any session stage capture (ring_of rs) lines base stops after c a b d is card over up_to runs xs (readers_of rs) (readers_of heard) records are.each counted
+      (steps-through c d (stage.phases + 1) stops after lines rs heard steps)
+
+  rows-may : EachMay (reader_kinds stage) (rules_of session stage lines) (λ n. ops_by (is_reader n) lines) 0 xs parts.next (flat_map rows_of (readers_of heard))
+  rows-may =
+      subst (λ (own : List Row). EachMay (reader_kinds stage) (rules_of session stage lines) (λ n. ops_by (is_reader n) lines) 0 xs parts.next own) parts.rows_are parts.may
+
+  -- The readers have a row for each of their lines then.
+  pub length-reader_rows : length (flat_map rows_of (readers_of heard)) ≡ lines_from (λ n. ops_by (is_reader n) lines) 0 (length xs)
+  length-reader_rows =
+      EachMay-rows (reader_kinds stage) (rules_of session stage lines) (λ n. ops_by (is_reader n) lines) 0 xs parts.next (flat_map rows_of (readers_of heard)) rows-may
+
+  -- Once their rows were taken, what the steps make of all readers is what the phase may make of the readers of a run.
+  pub readers-phase : (ss : LabReaders) → EachReader HasRowsTaken heard ss
+      → ReadersMay session stage capture lines base after xs (flat_map rows_of (readers_of heard)) ss
+  readers-phase ss take_rows =
+      let seat : spare_of ss ≡ spare_of rs =
+      take_rows.spare ∙ (steps.hear.spare ∙ (steps.run_lines.spare ∙ (steps.inform.spare ∙ steps.take_room.spare))) in
+      let done : AreEach (IsReaderDone session capture (ring_of rs) session.ring) 0 (readers_of ss) parts.next =
+      AreEach-moved IsNext HasRowsTaken (IsReaderDone session capture (ring_of rs) session.ring) 0 (readers_of heard) (readers_of ss) parts.next
+      (λ n r s x now taken. IsReaderDone-taken session capture (ring_of rs) n r s x now.0 taken) parts.are take_rows.each in
+      record {
+        next = parts.next;
+        may = rows-may;
+        done = record {
+          card = record { ring = ap seats.geometry_of seat ∙ are.card.ring; first = are.card.first };
+          each = subst (λ (own : ReaderSeat). AreEach (IsReaderDone session capture (seats.ring_of own) session.ring) 0 (readers_of ss) parts.next) (sym seat) done;
+        };
+        counted = AreCounted-each IsNext base after 0 (readers_of heard) parts.next (λ n w y now. now.1) parts.are;
+      }

@@ -14,7 +14,7 @@ use std::marker::{Send, Sync};
 use std::thread::Threads;
 
 impl LabReaders<'_> {
-    ghost use Rattle.std.specs.Prelude.{◌≡◌, ◌++◌, ◌≤◌, All, IfErr, List, OnOk, Option, count_by, length, map, ℕ};
+    ghost use Rattle.std.specs.Prelude.{◌≡◌, ◌++◌, ◌≤◌, All, IfErr, List, OnOk, Option, count_by, length, map, vec_capacity, ℕ};
     ghost use Rattle.std.specs.List.{flat_map};
     ghost use Rattle.wav_io.specs.Sound.{Sound};
     ghost use Rattle.lab_script.specs.declared.line.Line.{Line};
@@ -23,6 +23,7 @@ impl LabReaders<'_> {
     ghost use Rattle.lab_run.specs.Rules.{AtPort};
     ghost use Rattle.lab_run.specs.Stage.{Session};
     ghost use Rattle.lab_actor.specs.ReaderLines.{IsFewRead};
+    ghost use Rattle.lab_actor.specs.Room.{HasSpace};
     ghost use Rattle.lab_actors.specs.Gates.{stops_at};
     ghost use Rattle.lab_card.specs.Meets.{IsSameCard};
     ghost use Rattle.lab_reader.specs.Readers.{IsOf, rows_of};
@@ -108,15 +109,17 @@ impl LabReaders<'_> {
         hear_readers(card, self.readers.as_mut_slice());
     }
 
-    /// Moves the rows of their lines to the end of others, in the order of the readers. It refuses, with `Memory`, only where no memory is
-    /// left; some rows may have been moved then.
-    pub fn take_rows(&mut self, rows: &mut Vec<Row>) -> Result<(), PcmError>
-        ensures rows { OnOk result
-            (rows.new.items ≡ rows.old.items ++ flat_map rows_of (readers_of self.old)) }
-        ensures readers { OnOk result (EachReader HasRowsTaken self.old self.new) }
-        ensures only { IfErr result (λ e. e ≡ PcmError.Memory) }
+    /// Moves the rows of their lines to the end of others, in the order of the readers: they have none then. It takes no memory.
+    ///
+    /// The caller has room for them.
+    pub fn take_rows(&mut self, rows: &mut Vec<Row>)
+        requires { HasSpace (length (flat_map rows_of (readers_of self.old))) rows.old }
+        ensures rows { rows.new.items
+            ≡ rows.old.items ++ flat_map rows_of (readers_of self.old) }
+        ensures room { vec_capacity rows.old ≤ vec_capacity rows.new }
+        ensures readers { EachReader HasRowsTaken self.old self.new }
     {
-        take_reader_rows(rows, self.readers.as_mut_slice())
+        take_reader_rows(rows, self.readers.as_mut_slice());
     }
 
     /// Closes each that was stopped, by its gate or by a `die`, at the end of a phase; its seat is let go.

@@ -1,8 +1,9 @@
 //! Lists of readers, in a phase.
-ghost use Rattle.std.specs.Prelude.{◌≡◌, ◌++◌, ◌≤◌, All, IfErr, OnOk, count_by, length};
+ghost use Rattle.std.specs.Prelude.{◌≡◌, ◌++◌, ◌≤◌, All, IfErr, OnOk, count_by, length, vec_capacity};
 ghost use Rattle.std.specs.List.{flat_map};
 ghost use Rattle.lab_script.specs.declared.line.Line.{Line};
 ghost use Rattle.lab_actor.specs.ReaderLines.{IsFewRead};
+ghost use Rattle.lab_actor.specs.Room.{HasSpace};
 ghost use Rattle.lab_actors.specs.Gates.{stops_at};
 ghost use Rattle.lab_actors.specs.Walks.{AreEach};
 ghost use Rattle.lab_card.specs.Meets.{IsSameCard};
@@ -71,20 +72,16 @@ pub(crate) fn run_in_turn<G: Gate>(
     }
 }
 
-/// Moves the rows of all readers to the end of the lab's. It refuses, with `Memory`, only where no memory is left.
-pub(crate) fn take_reader_rows(
-    rows: &mut Vec<Row>,
-    readers: &mut [LabReader<'_>],
-) -> Result<(), PcmError>
-    ensures rows { OnOk result (rows.new.items ≡ rows.old.items ++ flat_map rows_of readers.old) }
-    ensures readers { OnOk result (AreEach HasRowsTaken 0 readers.old readers.new) }
-    ensures only { IfErr result (λ e. e ≡ PcmError.Memory) }
+/// Moves the rows of all readers to the end of the lab's, which have the room for them.
+pub(crate) fn take_reader_rows(rows: &mut Vec<Row>, readers: &mut [LabReader<'_>])
+    requires { HasSpace (length (flat_map rows_of readers.old)) rows.old }
+    ensures rows { rows.new.items ≡ rows.old.items ++ flat_map rows_of readers.old }
+    ensures room { vec_capacity rows.old ≤ vec_capacity rows.new }
+    ensures readers { AreEach HasRowsTaken 0 readers.old readers.new }
 {
     for index in 0..readers.len() {
-        rows.reserve(readers[index].rows().len())?;
         readers[index].take_rows(rows);
     }
-    Ok(())
 }
 
 /// How many readers have lines among those of a phase.

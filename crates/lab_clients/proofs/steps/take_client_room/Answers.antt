@@ -1,7 +1,6 @@
-use Rattle.std.proofs.Common.{refl}
 use Rattle.lab_actors.specs.Walks.{AreEach-walked, HasWalked-map, HasWalked-step}
-use Rattle.lab_clients.specs.Steps.{HasTakenRoom, IsSameWithRows}
-use Rattle.lab_clients.proofs.SameLemmas.{AreEach-part, IsSameBut-none, OnErr-always}
+use Rattle.lab_clients.specs.Steps.{HasTakenRoom, IsSameWithRows, IsSameWithRows-none}
+use Rattle.lab_clients.proofs.SameLemmas.{AreEach-part, OnErr-always}
 use Rattle.lab_clients.proofs.steps.take_client_room.Goals as goal
 
 pub loop-index-preserved : goal.loop-index-preserved
@@ -15,7 +14,7 @@ returns-in_err-take_room-clause-same c =
     let l = c.loop-index in
     let old = c.args.clients.now in
     OnErr-always c.from_residual.result
-    (AreEach-part IsSameWithRows old _ _ (λ i d. record { same = IsSameBut-none d; rows = refl })
+    (AreEach-part IsSameWithRows old _ _ IsSameWithRows-none
     (HasWalked-step IsSameWithRows old l.clients l.index c.take_room.new.self c.index-clients-index.result c.loop-index-test.true
     (HasWalked-map (HasTakenRoom c.args.lines.now) IsSameWithRows old l.clients l.index (λ i d e below taken. record { same = taken.same; rows = taken.rows }) l.invariant)
     (record { same = c.take_room.ensures.same; rows = c.take_room.ensures.rows })))

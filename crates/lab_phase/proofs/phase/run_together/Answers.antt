@@ -1,26 +1,27 @@
-use Rattle.lab_phase.specs.Asked.{asks_of}
-use Rattle.lab_phase.specs.BorderLaws.{OnOk-more}
-use Rattle.lab_phase.specs.PhaseRuns.{HaveRunLines}
+use Rattle.std.proofs.Common.{List, arith, subst}
+use Rattle.lab_report.specs.declared.row.Row.{Row}
 use Rattle.lab_phase.specs.PhaseSteps.{HaveGivenRows}
 use Rattle.lab_phase.proofs.phase.run_together.Goals as goal
 
+pub take_rows-requires : goal.take_rows-requires
+take_rows-requires g c =
+    let space = c.in_ok-take_room.ensures.rows_room in
+    let few = c.requires.few_rows c.run_lines.new.gates c.take_room.new.card c.run_lines.new.card c.take_room.new.clients c.run_lines.new.clients c.take_room.new.readers c.run_lines.new.readers
+    c.in_ok-take_room.ensures.room c.run_lines.ensures in
+    omega (arith, space, few)
+
 pub returns-clause-run : goal.returns-clause-run
-returns-clause-run g c =
-    OnOk-more
-    (HaveGivenRows c.args.rows.now.items c.take_rows.new.rows.items c.run_lines.new.card c.take_rows.new.card c.run_lines.new.clients c.take_rows.new.clients c.run_lines.new.readers
-    c.take_rows.new.readers)
-    (HaveRunLines g.G.Gate.stops c.args.gates.now c.run_lines.new.gates (asks_of c.args.asked.now) c.args.rows.now.items c.take_rows.new.rows.items c.args.card.now c.take_rows.new.card
-    c.args.clients.now c.take_rows.new.clients c.args.readers.now c.take_rows.new.readers)
-    c.take_rows.result
-    (λ given. record {
-      roomy_card = c.take_room.new.card;
-      roomy_clients = c.take_room.new.clients;
-      roomy_readers = c.take_room.new.readers;
-      met_card = c.run_lines.new.card;
-      met_clients = c.run_lines.new.clients;
-      met_readers = c.run_lines.new.readers;
-      room = c.in_ok-take_room.ensures.room;
-      met = c.run_lines.ensures;
-      given = given;
-    })
-    c.take_rows.ensures.given
+returns-clause-run g c = record {
+  roomy_card = c.take_room.new.card;
+  roomy_clients = c.take_room.new.clients;
+  roomy_readers = c.take_room.new.readers;
+  met_card = c.run_lines.new.card;
+  met_clients = c.run_lines.new.clients;
+  met_readers = c.run_lines.new.readers;
+  room = c.in_ok-take_room.ensures.room;
+  met = c.run_lines.ensures;
+  given = subst
+      (λ (rows : List Row). HaveGivenRows rows c.take_rows.new.rows.items c.run_lines.new.card c.take_rows.new.card c.run_lines.new.clients c.take_rows.new.clients c.run_lines.new.readers
+      c.take_rows.new.readers)
+      c.take_room.ensures.rows c.take_rows.ensures;
+}

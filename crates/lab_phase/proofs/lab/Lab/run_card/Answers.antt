@@ -1,22 +1,47 @@
-use Rattle.std.proofs.Common.{rules, refl, Some, ◌+◌}
+use Rattle.std.proofs.Common.{◌≡◌, rules, refl, Some, ◌+◌}
 use Rattle.lab_phase.specs.Asked.{asks_of}
 use Rattle.lab_phase.specs.declared.lab.Lab.{Lab}
 use Rattle.lab_phase.specs.declared.steps.Asked.{Asked}
-use Rattle.lab_phase.specs.BorderLaws.{OnOk-more}
-use Rattle.lab_phase.specs.PhaseRuns.{PlaysAlone, RunsPhase, Stops}
+use Rattle.lab_phase.specs.BorderLaws.{OnErr-both, OnOk-more}
+use Rattle.lab_phase.specs.PhaseRuns.{IsSameLab, PlaysAlone, RunsPhase, Stops}
+use Rattle.lab_phase.specs.PhaseSteps.{AreSameButRoom-card, IsSameButRoom}
 use Rattle.lab_phase.proofs.AloneStages.{RunsPhase-alone}
-use Rattle.lab_phase.proofs.PhaseStages.{fits-phase, phases-few}
+use Rattle.lab_phase.proofs.PhaseStages.{fits-phase, no-rows, phases-few}
 use Rattle.lab_phase.proofs.lab.Lab.run_card.Goals as goal
 
 pub overflow_add-asked : goal.overflow_add-asked
 overflow_add-asked c =
     let few = phases-few c.args.self.now c.requires.at.stage c.args.lines.now c.requires.at.at c.requires.next c.runs_are_of_scripts.ensures.stages in search (few, rules)
 
-pub play_alone-requires : goal.play_alone-requires
-play_alone-requires c =
+pub play_alone-requires-clause-none : goal.play_alone-requires-clause-none
+play_alone-requires-clause-none c =
+    let lab : Lab = c.args.self.now in
+    let asked : Asked = record { wavs = lab.wavs; capture = lab.capture; phase = lab.phases + 1; lines = c.args.lines } in
+    no-rows lab c.requires.at.stage asked c.requires.at.at c.requires.next c.in-Some.card c.in-Some.is c.runs_are_of_scripts.ensures.phases
+
+pub play_alone-requires-clause-fits : goal.play_alone-requires-clause-fits
+play_alone-requires-clause-fits c =
     let lab : Lab = c.args.self.now in
     let asked : Asked = record { wavs = lab.wavs; capture = lab.capture; phase = lab.phases + 1; lines = c.args.lines } in
     fits-phase lab c.requires.at.stage asked c.requires.at.at c.requires.next c.in-Some.card c.in-Some.is c.runs_are_of_scripts.ensures.phases
+
+pub returns-clause-kept : goal.returns-clause-kept
+returns-clause-kept c =
+    let lab : Lab = c.args.self.now in
+    let after : Lab = record lab { card = Some c.play_alone.new.card; rows = c.play_alone.new.rows } in
+    OnErr-both (IsSameButRoom c.in-Some.card c.play_alone.new.card) (after.rows.items ≡ lab.rows.items) (IsSameLab lab after) c.play_alone.result
+    (λ same rows. record {
+      same = record { script = refl; wavs = refl; capture = refl; openings = refl };
+      rows = rows;
+      phases = refl;
+      next = refl;
+      card = c.in-Some.card;
+      card_after = c.play_alone.new.card;
+      card_is = c.in-Some.is;
+      card_then = refl;
+      actors = AreSameButRoom-card c.in-Some.card c.play_alone.new.card lab.clients lab.readers same;
+    })
+    c.play_alone.ensures.kept c.play_alone.ensures.rows
 
 pub returns-clause-runs : goal.returns-clause-runs
 returns-clause-runs c =
