@@ -20,9 +20,9 @@ use Rattle.lab_run.specs.Stage.{Session, Stage, first_stage}
 use Rattle.lab_card.specs.declared.card.CardActor.{CardActor}
 use Rattle.lab_card.specs.Moves.{frames_since_first, geometry_of_card}
 use Rattle.lab_phase.specs.declared.lab.Lab.{Lab}
-use Rattle.lab_phase.specs.AtStage.{IsAtStage, IsCardOf, capture_of, session_of}
+use Rattle.lab_phase.specs.AtStage.{IsAtStage, IsCardOf, capture_of, played_by, played_of, session_of}
 use Rattle.lab_phase.specs.CardStage.{first_word}
-use Rattle.lab_phase.specs.Ended.{HaveAllPlaces, IsAtEnd, IsMixOf}
+use Rattle.lab_phase.specs.Ended.{HasPlayedMix, HaveAllPlaces, IsAtEnd, IsMixBy, IsMixOf}
 use Rattle.lab_phase.specs.Places.{place_count-reached}
 use Rattle.lab_phase.specs.Played.{played-mix_of}
 
@@ -91,7 +91,7 @@ module _ (lab : Lab) (stage : Stage) (at : IsAtStage lab stage) (a : CardActor) 
   channels-at = ap (λ (g : Geometry). g.channels) own-card.is.at.ring
       ∙ (at.has_done.reached.session_is.ring.channels ∙ ap (λ (card : CardLine). card.channels) (sym at.has_done.reached.session_is.card))
 
-  mixed-at : IsMixOf session (all_segments stage.clients) a.card → a.played.items ≡ mix_of session (all_segments stage.clients) (stage.position - first_frame session.card)
+  pub mixed-at : IsMixOf session (all_segments stage.clients) a.card → a.played.items ≡ mix_of session (all_segments stage.clients) (stage.position - first_frame session.card)
   mixed-at mix =
       let g : Geometry = geometry_of_card a.card in
       played-mix_of session (all_segments stage.clients) g (first_word g) a.played.items mix.laid (stage.position - first_frame session.card) channels-at first-at
@@ -106,3 +106,8 @@ module _ (lab : Lab) (stage : Stage) (at : IsAtStage lab stage) (a : CardActor) 
       → outcome_with report a.played.items recorded ≡ outcome_of session (capture_of lab) stage
   outcome-at report recorded rows segments all first frames mix records =
       outcome-parts session (capture_of lab) stage report a.played.items recorded (rows ∙ at.rows) segments all (first ∙ first-at) (frames ∙ frames-at) (mixed-at mix) records
+
+-- once its rings are closed, it is known what its card played
+pub played-mixed : (lab : Lab) (a : CardActor) → lab.card ≡ Some a → IsMixBy lab.clients a.card → HasPlayedMix lab
+played-mixed lab a is mix stage at =
+    ap played_by is ∙ mixed-at lab stage at a is (mix (session_of lab) (held_of stage) stage.clients at.actors.clients_are)

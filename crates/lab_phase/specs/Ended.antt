@@ -1,5 +1,5 @@
 -- What a run leaves, as the lab gives it at its end.
-use Rattle.std.specs.Prelude.{◌≡◌, ℕ, ℤ, List, length, map}
+use Rattle.std.specs.Prelude.{◌≡◌, ℕ, ◌-◌, ℤ, List, length, map}
 use Rattle.std.specs.Global.{Vec}
 use Rattle.mix_core.specs.History.{AreExact, AreInOrder}
 use Rattle.mix_core.specs.Laid.{total}
@@ -7,10 +7,11 @@ use Rattle.mix_core.specs.declared.port.Entry.{Entry}
 use Rattle.snd_base.specs.declared.places.Segment.{Segment}
 use Rattle.sum_table.specs.Players.{track_of}
 use Rattle.card_sim.specs.declared.card.Card.{Card}
+use Rattle.lab_script.specs.Script.{first_frame}
 use Rattle.lab_run.specs.Client.{Client}
 use Rattle.lab_run.specs.Items.{Held}
 use Rattle.lab_run.specs.LabRun as runs
-use Rattle.lab_run.specs.LabRun.{AreWithin, LabRun, all_segments, entries_of, outcome_of}
+use Rattle.lab_run.specs.LabRun.{AreWithin, LabRun, all_segments, entries_of, mix_of, outcome_of}
 use Rattle.lab_run.specs.Rules.{AtPort}
 use Rattle.lab_run.specs.Stage.{Session, Stage}
 use Rattle.lab_card.specs.Moves.{geometry_of_card, seat_of_card}
@@ -19,7 +20,7 @@ use Rattle.lab_clients.specs.AtStage as clients
 use Rattle.lab_clients.specs.declared.clients.LabClients.{LabClients}
 use Rattle.lab_phase.specs.declared.finish.Outcome.{Outcome}
 use Rattle.lab_phase.specs.declared.lab.Lab.{Lab}
-use Rattle.lab_phase.specs.AtStage.{IsAtStage, capture_of, session_of}
+use Rattle.lab_phase.specs.AtStage.{IsAtStage, capture_of, played_of, session_of}
 
 -- what was left, as a run has it
 abbrev pub outcome_in : Outcome → runs.Outcome
@@ -67,3 +68,10 @@ abbrev pub IsMixBy : LabClients → Card → Type 0
 IsMixBy cs c =
     (session : Session) (held : Held) (xs : List (AtPort × Client))
     → clients.AreAt session held xs cs → IsMixOf session (all_segments xs) c
+
+-- at whatever stage the lab was, the card played the saturated sums of what the segments so far placed
+abbrev pub HasPlayedMix : Lab → Type 0
+HasPlayedMix lab =
+    (stage : Stage) → IsAtStage lab stage
+    → played_of lab ≡ mix_of (session_of lab) (all_segments stage.clients)
+    (stage.position - first_frame (session_of lab).card)

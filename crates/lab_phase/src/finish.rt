@@ -62,7 +62,7 @@ fn close_rings<'r>(clients: LabClients<'r>, card: Card<'r, 'r>)
 impl<'r> Lab<'r, '_> {
     ghost use Rattle.std.specs.Prelude.{◌≡◌, IfErr, IfOk};
     ghost use Rattle.lab_phase.specs.AtStage.{IsLab, played_of};
-    ghost use Rattle.lab_phase.specs.Ended.{IsAtEnd, LeavesRun, LeavesStage};
+    ghost use Rattle.lab_phase.specs.Ended.{HasPlayedMix, IsAtEnd, LeavesRun, LeavesStage};
 
     /// Ends the run: closes what is still open and both rings, and gives the report with all segments and runs, what the card played and
     /// what each reader recorded. It refuses, with `Memory`, only where no memory is left.
@@ -105,5 +105,33 @@ impl<'r> Lab<'r, '_> {
             played,
             recorded,
         })
+    }
+
+    /// Ends the run before its script's end: closes what is still open and both rings. Only closed rings tell that the card played the
+    /// mix of the segments so far. It takes no memory.
+    pub fn stop(self)
+        requires at { IsLab self }
+        ensures mix { HasPlayedMix self.entry }
+    {
+        let Lab {
+            alloc: _,
+            script: _,
+            wavs: _,
+            capture: _,
+            openings: _,
+            card,
+            clients,
+            readers: _,
+            rows: _,
+            phases: _,
+            next: _,
+        } = self;
+        let CardActor {
+            card,
+            played: _,
+            rows: _,
+            captured: _,
+        } = card.unwrap();
+        close_rings(clients, card);
     }
 }
