@@ -16,7 +16,7 @@ use Rattle.lab_output.specs.Text.{head_text, tail_from, text_so_far}
 use Rattle.lab_phase.specs.declared.finish.Outcome as left
 use Rattle.lab_phase.specs.declared.lab.Lab.{Lab}
 use Rattle.lab_phase.specs.AtStage.{capture_of, items_done, played_of, session_of}
-use Rattle.lab_phase.specs.Ended.{LeavesRun, LeavesStage, outcome_in}
+use Rattle.lab_phase.specs.Ended.{HasPlayedMix, LeavesRun, LeavesStage, outcome_in}
 use Rattle.lab_phase.specs.PhaseRuns.{Stops}
 use Rattle.lab_phase.specs.StopLaws.{AreWithin-counted}
 use Rattle.lab_report.specs.declared.report.Report.{Report}
@@ -34,8 +34,8 @@ use Rattle.lab_shelf.specs.Files.{Files, TookPart}
 use Rattle.lab_stop.specs.declared.stop.Stop.{Stop}
 use Rattle.lab_play.specs.Played.{HasPlayed, rises, sounds_of}
 use Rattle.lab_play.specs.Order.{AreSoundsAtEnd, StopsInHeads, StopsInTail}
-use Rattle.lab_play.specs.Playing.{IsPlaying, IsStopped, Scene, Start, scene, sounds_at, text_at}
-use Rattle.lab_play.proofs.ItemsStopped.{HasStopped-at, HasStopped-with, TookPart-rows}
+use Rattle.lab_play.specs.Playing.{HasStoppedWithMix, IsPlaying, Scene, Start, scene, sounds_at, text_at}
+use Rattle.lab_play.proofs.ItemsStopped.{HasStopped-at, HasStopped-with, HasStoppedWithMix-at, TookPart-rows}
 
 -- what a law says of each run
 abbrev pub RunFacts : Type 0
@@ -153,10 +153,14 @@ module _ (start : Start) (stops : Stops) (lab : Lab) (outputs : Outputs) (files 
       none-left has.done has.others
       (sym has.next ∙ (all ∙ (ap (λ (s : Script). length s.body) (sym own.script_is) ∙ ap length has.reached.body)))
 
+  -- what the card played is the mix of the segments
+  mixed-end : HasPlayedMix lab
+  mixed-end at_stage at = sym samples ∙ ap (λ (o : Outcome). o.played) (leaves at_stage at)
+
   -- the files aren't all finished
-  pub IsStopped-finish : (files_after : Option Files) → Changes (MayHold outputs.files.items (sounds_at lab is.stage)) start.files files_after
-      → KeepSamples outputs.files.items (sounds_at lab is.stage) files_after → IsStopped start files_after taken
-  IsStopped-finish files_after changes keep =
+  pub HasStopped-finish : (files_after : Option Files) → Changes (MayHold outputs.files.items (sounds_at lab is.stage)) start.files files_after
+      → KeepSamples outputs.files.items (sounds_at lab is.stage) files_after → HasStoppedWithMix start.input start.out start.files files_after start.taken taken
+  HasStopped-finish files_after changes keep =
       let part : TookPart start.taken taken (text_so_far start.input.script is.stage.rows) =
       TookPart-rows start.input.script is.stage.rows outputs.rows start.taken taken (TookPart-all start.taken taken _ is.written.text) in
       let heads : StopsInHeads start.input start.out (session_of lab) is.lab_is.stage_is.has_done.others is.stage (sounds_at lab is.stage) files_after start.taken taken =
@@ -166,13 +170,14 @@ module _ (start : Start) (stops : Stops) (lab : Lab) (outputs : Outputs) (files 
         kept = subst (λ (outs : List OutputFile). KeepSamples outs (sounds_at lab is.stage) files_after) is.written.files_are keep;
         text = part;
       } in
-      HasStopped-at start stops lab is.stage files_after taken is.lab_is (changes-end files_after changes) part (inr (inr (inr (inl heads))))
+      HasStoppedWithMix-at start lab files_after taken
+      (HasStopped-at start stops lab is.stage files_after taken is.lab_is (changes-end files_after changes) part (inr (inr (inr (inl heads))))) mixed-end
 
   -- the rest of the text isn't all put
-  pub IsStopped-tail : (files_after : Option Files) (taken_after : Option (List ℕ)) → Changes (MayHold outputs.files.items (sounds_at lab is.stage)) start.files files_after
+  pub HasStopped-tail : (files_after : Option Files) (taken_after : Option (List ℕ)) → Changes (MayHold outputs.files.items (sounds_at lab is.stage)) start.files files_after
       → files_after ≡ option_map (finished_files outputs.files.items (sounds_at lab is.stage)) start.files
-      → TookPart taken taken_after (tail_from start.input.script outputs.rows outcome.report) → IsStopped start files_after taken_after
-  IsStopped-tail files_after taken_after changes files_are part =
+      → TookPart taken taken_after (tail_from start.input.script outputs.rows outcome.report) → HasStoppedWithMix start.input start.out start.files files_after start.taken taken_after
+  HasStopped-tail files_after taken_after changes files_are part =
       let has = is.lab_is.stage_is.has_done in
       let tail : StopsInTail start.input start.out (session_of lab) has.others is.stage (sounds_at lab is.stage) start.files files_after =
       record {
@@ -180,12 +185,13 @@ module _ (start : Start) (stops : Stops) (lab : Lab) (outputs : Outputs) (files 
         sounds_are = mix-at_end;
         files = files_are ∙ ap (λ (outs : List OutputFile). option_map (finished_files outs (sounds_at lab is.stage)) start.files) is.written.files_are;
       } in
-      HasStopped-with start stops lab is.stage files_after taken_after is.lab_is (changes-end files_after changes)
+      HasStoppedWithMix-at start lab files_after taken_after
+      (HasStopped-with start stops lab is.stage files_after taken_after is.lab_is (changes-end files_after changes)
       (subst (λ (others : List Item). TookPart start.taken taken_after (text_at start.input.script (session_of lab) others is.stage)) (sym last-end)
       (subst (λ (report : Report). TookPart start.taken taken_after (report_text start.input.script report)) (ap (λ (o : Outcome). o.report) at-end)
       (subst (λ (text : List ℕ). TookPart start.taken taken_after text) (text-whole start.input.script outcome.report outputs.rows)
       (TookPart-then start.taken taken taken_after (text_so_far start.input.script (take outputs.rows outcome.report.rows)) (tail_from start.input.script outputs.rows outcome.report)
-      text-written part)))) (inr (inr (inr (inr tail))))
+      text-written part)))) (inr (inr (inr (inr tail))))) mixed-end
 
 -- ---- results
 

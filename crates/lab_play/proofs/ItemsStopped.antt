@@ -1,21 +1,23 @@
 -- What is left of a run that stops: its lab was at a stage, of which it is known what the files and the output may hold.
---     HasStopped-at      by what the files and the output hold
+--     HasStopped-with, HasStopped-at      by what the files and the output hold
 --     HasStopped-playing      where nothing was written since all that the lab holds was written
+--     HasStoppedWithMix-at, HasStoppedWithMix-silent      and its card played the mix
 --     stops-in_rows      the files of a run hold all that its lab holds
-use Rattle.std.specs.Prelude.{◌≡◌, ℕ, ◌-◌, ◌*◌, ℤ, List, [], ◌∷◌, ◌++◌, drop, length, take, Option, Some, None, IsSomeAnd}
-use Rattle.std.specs.List.{flat_map}
+use Rattle.std.specs.Prelude.{◌≡◌, ℕ, ◌-◌, ◌*◌, ℤ, List, [], ◌∷◌, ◌++◌, drop, length, map, take, Option, Some, None, IsSomeAnd}
+use Rattle.std.specs.List.{flat_map, range_with_len}
 use Rattle.std.specs.Option.{option_map}
-use Rattle.std.proofs.Common.{inl, inr, sym, ap, subst, ◌∙◌, append_assoc}
+use Rattle.std.proofs.Common.{refl, inl, inr, sym, ap, subst, ◌∙◌, append_assoc}
 use Rattle.std.proofs.lemmas.List.{take-append-drop}
 use Rattle.std.proofs.lemmas.List.Concat.{flat_map-append}
 use Rattle.snd_base.specs.Places as rings
 use Rattle.wav_io.specs.Sound.{Sound}
 use Rattle.lab_script.specs.declared.line.Item.{Item}
+use Rattle.lab_script.specs.declared.script.CardLine.{CardLine}
 use Rattle.lab_script.specs.declared.script.Script.{Script}
 use Rattle.lab_script.specs.Script.{first_frame}
 use Rattle.lab_report.specs.declared.row.Row.{Row}
 use Rattle.lab_report.specs.Text.{row_line, tail_text}
-use Rattle.lab_run.specs.LabRun.{recorded_from, report_of}
+use Rattle.lab_run.specs.LabRun.{all_segments, entries_of, mix_of, mixed_at, recorded_from, report_of}
 use Rattle.lab_run.specs.Openings.{IsSessionOf}
 use Rattle.lab_run.specs.ScriptWords.{IsReached}
 use Rattle.lab_run.specs.Stage.{Session, Stage}
@@ -24,7 +26,9 @@ use Rattle.lab_card.specs.Moves.{frames_since_first, geometry_of_card}
 use Rattle.lab_phase.specs.declared.lab.Lab.{Lab}
 use Rattle.lab_phase.specs.AtStage.{IsCardOf, capture_of, played_by, played_of, session_of}
 use Rattle.lab_phase.specs.CardStage.{IsCardIn}
+use Rattle.lab_phase.specs.Ended.{HasPlayedMix}
 use Rattle.lab_phase.specs.PhaseRuns.{Stops}
+use Rattle.lab_input.specs.Input.{RunInput}
 use Rattle.lab_output.specs.declared.file.OutputFile.{OutputFile}
 use Rattle.lab_output.specs.Files.{MayHold, unfinished_files, output_files}
 use Rattle.lab_output.specs.GoingLaws.{AreLonger-same, IsGoingOn-Changes}
@@ -32,7 +36,7 @@ use Rattle.lab_output.specs.Text.{head_text, text_so_far}
 use Rattle.lab_shelf.specs.Changes.{Changes, TookPart-all, TookPart-first}
 use Rattle.lab_shelf.specs.Files.{Files, TookPart}
 use Rattle.lab_play.specs.Order.{RowsFollowFrames, StopsInRows}
-use Rattle.lab_play.specs.Playing.{IsLabOf, IsPlaying, IsStopped, Scene, Start, sounds_at, text_at}
+use Rattle.lab_play.specs.Playing.{HasStopped, HasStoppedWithMix, IsLabOf, IsPlaying, IsStopped, IsStoppedAt, Scene, Start, sounds_at, text_at}
 
 -- ---- what its card played
 
@@ -82,37 +86,42 @@ TookPart-stage script session (one ∷ others) stage taken now part = part
 pub HasStopped-with : (start : Start) (stops : Stops) (lab : Lab) (stage : Stage) (files : Option Files) (taken : Option (List ℕ)) → (is : IsLabOf start stops lab stage)
     → Changes (MayHold (output_files start.input.script start.out) (sounds_at lab stage)) start.files files
     → TookPart start.taken taken (text_at start.input.script (session_of lab) is.stage_is.has_done.others stage)
-    → RowsFollowFrames start.input start.out (session_of lab) is.stage_is.has_done.others stage (sounds_at lab stage) start.files files start.taken taken → IsStopped start files taken
+    → RowsFollowFrames start.input start.out (session_of lab) is.stage_is.has_done.others stage (sounds_at lab stage) start.files files start.taken taken → IsStoppedAt start lab files taken
 HasStopped-with start stops lab stage files taken is changes part order =
     let own = is.script_is in
     let has = is.stage_is.has_done in
     record {
-      session = session_of lab;
-      session_is = own.session_is;
-      done = has.done;
-      others = has.others;
-      stage = stage;
-      reached = subst (λ (s : Script). IsReached s start.input.sounds (session_of lab) has.done has.others stage) own.script_is
-          (subst (λ (wavs : List Sound). IsReached lab.script.now wavs (session_of lab) has.done has.others stage) own.wavs_are has.reached);
-      played = played_of lab;
-      frames = frames-card start.input.script start.input.sounds (session_of lab) (capture_of lab) stage
-          (IsCardOf (session_of lab) (capture_of lab) stage lab.clients lab.readers) lab.card own.session_is (λ a is_card. is_card.is) is.stage_is.actors.card_is;
-      changes = subst
-          (λ (capture : Option Sound). Changes
-          (MayHold (output_files start.input.script start.out) (played_of lab ∷ recorded_from (session_of lab) capture 0 stage.readers)) start.files files)
-          own.capture_is changes;
-      text = part;
-      order = subst
-          (λ (capture : Option Sound). RowsFollowFrames start.input start.out (session_of lab) has.others stage
-          (played_of lab ∷ recorded_from (session_of lab) capture 0 stage.readers) start.files files start.taken taken)
-          own.capture_is order;
+      stopped = record {
+        session = session_of lab;
+        session_is = own.session_is;
+        done = has.done;
+        others = has.others;
+        stage = stage;
+        reached = subst (λ (s : Script). IsReached s start.input.sounds (session_of lab) has.done has.others stage) own.script_is
+            (subst (λ (wavs : List Sound). IsReached lab.script.now wavs (session_of lab) has.done has.others stage) own.wavs_are has.reached);
+        played = played_of lab;
+        frames = frames-card start.input.script start.input.sounds (session_of lab) (capture_of lab) stage
+            (IsCardOf (session_of lab) (capture_of lab) stage lab.clients lab.readers) lab.card own.session_is (λ a is_card. is_card.is) is.stage_is.actors.card_is;
+        changes = subst
+            (λ (capture : Option Sound). Changes
+            (MayHold (output_files start.input.script start.out) (played_of lab ∷ recorded_from (session_of lab) capture 0 stage.readers)) start.files files)
+            own.capture_is changes;
+        text = part;
+        order = subst
+            (λ (capture : Option Sound). RowsFollowFrames start.input start.out (session_of lab) has.others stage
+            (played_of lab ∷ recorded_from (session_of lab) capture 0 stage.readers) start.files files start.taken taken)
+            own.capture_is order;
+      };
+      at = is.stage_is;
+      session_is = refl;
+      played_is = refl;
     }
 
 -- the output took the first bytes of the text of the lab's rows
 pub HasStopped-at : (start : Start) (stops : Stops) (lab : Lab) (stage : Stage) (files : Option Files) (taken : Option (List ℕ)) → (is : IsLabOf start stops lab stage)
     → Changes (MayHold (output_files start.input.script start.out) (sounds_at lab stage)) start.files files
     → TookPart start.taken taken (text_so_far start.input.script stage.rows)
-    → RowsFollowFrames start.input start.out (session_of lab) is.stage_is.has_done.others stage (sounds_at lab stage) start.files files start.taken taken → IsStopped start files taken
+    → RowsFollowFrames start.input start.out (session_of lab) is.stage_is.has_done.others stage (sounds_at lab stage) start.files files start.taken taken → IsStoppedAt start lab files taken
 HasStopped-at start stops lab stage files taken is changes part order =
     HasStopped-with start stops lab stage files taken is changes
     (TookPart-stage start.input.script (session_of lab) is.stage_is.has_done.others stage start.taken taken part) order
@@ -138,8 +147,32 @@ HasStopped-playing start stops at is =
     let part : TookPart start.taken at.taken (text_so_far start.input.script is.stage.rows) =
     TookPart-rows start.input.script is.stage.rows at.outputs.rows start.taken at.taken
     (TookPart-all start.taken at.taken (text_so_far start.input.script (take at.outputs.rows is.stage.rows)) written.text) in
-    HasStopped-at start stops at.lab is.stage at.files at.taken is.lab_is
+    (HasStopped-at start stops at.lab is.stage at.files at.taken is.lab_is
     (subst (λ (outputs : List OutputFile). Changes (MayHold outputs sounds) start.files at.files) written.files_are
     (IsGoingOn-Changes at.outputs.files.items at.outputs.samples.items sounds sounds start.files at.files written.going_on (AreLonger-same sounds)))
     part
-    (stops-in_rows start at.lab is.lab_is.stage_is.has_done.others is.stage at.outputs.files.items at.files at.taken written.files_are written.going_on.files part)
+    (stops-in_rows start at.lab is.lab_is.stage_is.has_done.others is.stage at.outputs.files.items at.files at.taken written.files_are written.going_on.files part)).stopped
+
+-- ---- what its card played
+
+-- its lab's rings are closed
+pub HasStoppedWithMix-at : (start : Start) (lab : Lab) (files : Option Files) (taken : Option (List ℕ)) → IsStoppedAt start lab files taken → HasPlayedMix lab
+    → HasStoppedWithMix start.input start.out start.files files start.taken taken
+HasStoppedWithMix-at start lab files taken is mix = record {
+  stopped = is.stopped;
+  mix = is.played_is
+      ∙ (mix is.stopped.stage is.at
+      ∙ ap (λ (session : Session). mix_of session (all_segments is.stopped.stage.clients) (is.stopped.stage.position - first_frame session.card)) (sym is.session_is));
+}
+
+-- it played nothing
+pub HasStoppedWithMix-silent : (input : RunInput) (out : List ℕ) (before after : Option Files) (taken taken_after : Option (List ℕ)) → (is : HasStopped input out before after taken taken_after)
+    → is.played ≡ [] → HasStoppedWithMix input out before after taken taken_after
+HasStoppedWithMix-silent input out before after taken taken_after is silent =
+    let none : (is.stage.position - first_frame is.session.card) * is.session.card.channels ≡ 0 =
+    ap (λ (card : CardLine). (is.stage.position - first_frame card) * card.channels) is.session_is.card ∙ (sym is.frames ∙ ap length silent) in
+    record {
+      stopped = is;
+      mix = silent
+          ∙ sym (ap (λ (n : ℕ). map (mixed_at is.session.card.channels (first_frame is.session.card) (entries_of is.session (all_segments is.stage.clients))) (range_with_len 0 n)) none);
+    }

@@ -4,6 +4,8 @@
 --     IsPlaying      all that the lab played and its readers recorded is written, at a moment between two items
 --     HasUnwrittenPhase      a phase is done of which nothing is written yet
 --     HasStopped      what is left of a run that stopped
+--     HasStoppedWithMix      and the card played the mix of the segments so far
+--     IsStoppedAt      a run stopped at the stage of a lab
 use Rattle.std.specs.Prelude.{◌≡◌, ℕ, ◌-◌, ◌*◌, ◌≤◌, ℤ, List, [], ◌∷◌, ◌++◌, length, take, Option, Some}
 use Rattle.std.specs.Option.{option_map}
 use Rattle.lab_script.specs.declared.line.Item.{Item}
@@ -11,7 +13,7 @@ use Rattle.lab_script.specs.declared.script.Script.{Script}
 use Rattle.lab_script.specs.Script.{first_frame}
 use Rattle.lab_report.specs.declared.row.Row.{Row}
 use Rattle.lab_report.specs.Text.{report_text}
-use Rattle.lab_run.specs.LabRun.{recorded_from, report_of}
+use Rattle.lab_run.specs.LabRun.{all_segments, mix_of, recorded_from, report_of}
 use Rattle.lab_run.specs.Openings.{IsSessionOf}
 use Rattle.lab_run.specs.ScriptWords.{IsReached}
 use Rattle.lab_run.specs.Stage.{Session, Stage}
@@ -102,6 +104,18 @@ pub record HasStopped (input : RunInput) (out : List ℕ) (before after : Option
 abbrev pub IsStopped : Start → Option Files → Option (List ℕ) → Type 0
 IsStopped start files taken = HasStopped start.input start.out start.files files start.taken taken
 
+-- and what its card played up to that stage, of which OUT.wav holds the first samples, are the saturated sums of what the segments so far placed
+pub record HasStoppedWithMix (input : RunInput) (out : List ℕ) (before after : Option Files) (taken taken_after : Option (List ℕ)) : Type 0 where
+  pub stopped : HasStopped input out before after taken taken_after
+  pub mix : stopped.played ≡ mix_of stopped.session (all_segments stopped.stage.clients) (stopped.stage.position - first_frame stopped.session.card)
+
+-- a run that began so stopped at the stage of this lab, and what it played is what the lab played
+pub record IsStoppedAt (start : Start) (lab : Lab) (files : Option Files) (taken : Option (List ℕ)) : Type 0 where
+  pub stopped : HasStopped start.input start.out start.files files start.taken taken
+  pub at : IsAtStage lab stopped.stage
+  pub session_is : stopped.session ≡ session_of lab
+  pub played_is : stopped.played ≡ played_of lab
+
 -- ---- what calls make of a run, whatever it began with
 
 -- the run goes on
@@ -111,6 +125,10 @@ SceneGoesOn stops before stops_after after = (start : Start) → IsPlaying start
 -- it stopped, and left this
 abbrev pub StopsWith : Stops → Scene → Option Files → Option (List ℕ) → Type 0
 StopsWith stops before files taken = (start : Start) → IsPlaying start stops before → IsStopped start files taken
+
+-- and at the stage of a lab
+abbrev pub StopsAt : Stops → Scene → Lab → Option Files → Option (List ℕ) → Type 0
+StopsAt stops before lab files taken = (start : Start) → IsPlaying start stops before → IsStoppedAt start lab files taken
 
 -- and all that the lab holds after an item is written still, where it was before, and however often gates have stopped
 abbrev pub StaysWritten : Lab → Lab → Type 0
@@ -122,7 +140,7 @@ abbrev pub CatchesUp : Scene → Scene → Type 0
 CatchesUp before after = (start : Start) (stops : Stops) → HasUnwrittenPhase start stops before → IsPlaying start stops after
 
 abbrev pub StopsBehind : Scene → Option Files → Option (List ℕ) → Type 0
-StopsBehind before files taken = (start : Start) (stops : Stops) → HasUnwrittenPhase start stops before → IsStopped start files taken
+StopsBehind before files taken = (start : Start) (stops : Stops) → HasUnwrittenPhase start stops before → IsStoppedAt start before.lab files taken
 
 -- there is a run of a script that is at this moment
 pub record CanPlay (script : Script) (stops : Stops) (at : Scene) : Type 0 where

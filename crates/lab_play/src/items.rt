@@ -6,7 +6,7 @@ ghost use Rattle.lab_stop.specs.declared.stop.Stop.TheVariants as stops;
 ghost use Rattle.lab_phase.specs.AtStage.{DoesItem, IsBorderItem, IsLab, IsNextItem, IsSameScript, items_done, played_of};
 ghost use Rattle.lab_phase.specs.PhaseRuns.{stops_by};
 ghost use Rattle.lab_play.specs.Counts.{PlayFaults};
-ghost use Rattle.lab_play.specs.Playing.{CanPlay, SceneGoesOn, IsKnownRun, StaysWritten, StopsWith, scene};
+ghost use Rattle.lab_play.specs.Playing.{CanPlay, SceneGoesOn, IsKnownRun, StaysWritten, StopsAt, StopsWith, scene};
 
 use crate::write::write_phase;
 use lab_output::Outputs;
@@ -50,6 +50,10 @@ pub(crate) fn do_items<R: Threads + Sync, S: Shelf, K: Sink, G: Gate + Send>(
         (stops_by G.stops gates.old)
         (scene lab.old outputs.old (S.files shelf.old) (K.taken out.old))
         (S.files shelf.new) (K.taken out.new)) }
+    ensures at { IfErr result (λ stop. stop ≡ stops.Write → StopsAt
+        (stops_by G.stops gates.old)
+        (scene lab.old outputs.old (S.files shelf.old) (K.taken out.old))
+        lab.new (S.files shelf.new) (K.taken out.new)) }
     ensures only { IfErr result IsWriteStop }
     ensures fetch_faults { S.fetch_faults shelf.new ≡ S.fetch_faults shelf.old }
     ensures faults { PlayFaults result (S.write_faults shelf.old) (S.write_faults shelf.new)
@@ -105,6 +109,10 @@ fn do_item<R: Threads + Sync, S: Shelf, K: Sink, G: Gate + Send>(
         (stops_by G.stops gates.old)
         (scene lab.old outputs.old (S.files shelf.old) (K.taken out.old))
         (S.files shelf.new) (K.taken out.new)) }
+    ensures at { IfErr result (λ stop. stop ≡ stops.Write → StopsAt
+        (stops_by G.stops gates.old)
+        (scene lab.old outputs.old (S.files shelf.old) (K.taken out.old))
+        lab.new (S.files shelf.new) (K.taken out.new)) }
     ensures only { IfErr result IsWriteStop }
     ensures fetch_faults { S.fetch_faults shelf.new ≡ S.fetch_faults shelf.old }
     ensures faults { PlayFaults result (S.write_faults shelf.old) (S.write_faults shelf.new)
@@ -160,6 +168,10 @@ fn do_phase<R: Threads + Sync, S: Shelf, K: Sink, G: Gate + Send>(
         (stops_by G.stops gates.old)
         (scene lab.old outputs.old (S.files shelf.old) (K.taken out.old))
         (S.files shelf.new) (K.taken out.new)) }
+    ensures at { IfErr result (λ stop. stop ≡ stops.Write → StopsAt
+        (stops_by G.stops gates.old)
+        (scene lab.old outputs.old (S.files shelf.old) (K.taken out.old))
+        lab.new (S.files shelf.new) (K.taken out.new)) }
     ensures only { IfErr result IsWriteStop }
     ensures fetch_faults { S.fetch_faults shelf.new ≡ S.fetch_faults shelf.old }
     ensures faults { PlayFaults result (S.write_faults shelf.old) (S.write_faults shelf.new)
