@@ -6,7 +6,7 @@ use Rattle.lab_input.specs.Input.{RunInput, input_in}
 use Rattle.lab_output.specs.Files.{output_files, finished_files}
 use Rattle.lab_phase.specs.PhaseRuns.{Stops}
 use Rattle.lab_play.specs.Played.{HaveNoStops, IsRunOf, sounds_of}
-use Rattle.lab_play.specs.Playing.{HasStopped}
+use Rattle.lab_play.specs.Playing.{HasStopped, HasStoppedWithMix}
 use Rattle.lab_report.specs.Text.{report_text}
 use Rattle.lab_run.specs.LabRun.{Outcome, lab_text}
 use Rattle.lab_run.specs.Openings.{IsSessionOf}
@@ -46,3 +46,9 @@ pub record IsUnfinished (script out : List ℕ) (before after : Option Files) (t
   pub input : RunInput
   pub read : ForSome before (λ files. input_in files script ≡ Ok input)
   pub stopped : HasStopped input out before after taken taken_after
+
+-- and what its card had played up to that stage, of which OUT.wav holds the first samples, are the saturated sums of what the segments so far placed
+pub record IsUnfinishedWithMix (script out : List ℕ) (before after : Option Files) (taken taken_after : Option (List ℕ)) : Type 0 where
+  pub input : RunInput
+  pub read : ForSome before (λ files. input_in files script ≡ Ok input)
+  pub stopped : HasStoppedWithMix input out before after taken taken_after

@@ -6,7 +6,7 @@ ghost use Rattle.lab_play.specs.Played.{rises};
 ghost use Rattle.lab_shelf.specs.Counts.{Rose};
 ghost use Rattle.lab_stop.specs.Stops.{EndsOf, EndsReliably, InputFaults, OutputFaults, Refuses};
 ghost use Rattle.lab_commands.specs.Words.{form_of, texts};
-ghost use Rattle.lab_commands.specs.Top.{cause_in, ComesExactly, EndsWell, Headline, IsOnlyLeft, IsLeftByFault, IsMissing, IsTextRefused, IsValidCall, IsWavRefused, CommandLeaves};
+ghost use Rattle.lab_commands.specs.Top.{cause_in, ComesExactly, EndsWell, Headline, IsOnlyLeft, IsLeftByFault, IsLeftByWrite, IsMissing, IsTextRefused, IsValidCall, IsWavRefused, CommandLeaves, WriteLeaves};
 
 use crate::commands::{conf_command, make_command, refine_command, run_command};
 use crate::words::{Command, help, read_command, version};
@@ -130,6 +130,10 @@ pub fn dmixlab<R: Threads + Sync, S: Shelf, K: Sink, E: Sink, G: Gate + Send>(
         (rises (stops_by G.stops gates.old) (stops_by G.stops gates.new))
         (S.files shelf.old) (S.files shelf.new) (K.taken out.old) (K.taken out.new) }
 
+    // Of a run whose write failed, what the card had played is the mix of the segments so far.
+    ensures mix { result ≡ 5 → IsLeftByWrite (texts words.now)
+        (S.files shelf.old) (S.files shelf.new) (K.taken out.old) (K.taken out.new) }
+
     // `errors` takes nothing where all was done.
     ensures silent { result ≡ 0 → E.taken errors.new ≡ E.taken errors.old }
 {
@@ -153,6 +157,8 @@ fn command<R: Threads + Sync, S: Shelf, K: Sink, G: Gate + Send>(
     requires { 128 ≤ length gates.old }
     ensures leaves { CommandLeaves result (form_of (texts words.now))
         (rises (stops_by G.stops gates.old) (stops_by G.stops gates.new))
+        (S.files shelf.old) (S.files shelf.new) (K.taken out.old) (K.taken out.new) }
+    ensures mix { WriteLeaves (form_of (texts words.now)) result
         (S.files shelf.old) (S.files shelf.new) (K.taken out.old) (K.taken out.new) }
     ensures cause { ForSome (S.files shelf.old)
         (λ files. EndsOf result (cause_in (form_of (texts words.now)) files)) }
