@@ -18,7 +18,8 @@ use Rattle.lab_shelf.specs.Files.{Files}
 -- each gate stopped its actor at most so often (`IsRunOf`). OUT.wav is the WAV file of what the card played, and OUT.NAME.wav that of what each reader
 -- recorded; no other file changed, and the output took the report's text. Where no gate stopped an actor, and no phase has lines of the card and of
 -- others, that run is the only one, and each actor does in it what it does by itself.
-pub record HasFinished (script out : List ℕ) (stops : Stops) (before after : Option Files) (taken taken_after : Option (List ℕ)) : Type 0 where
+pub record HasFinished (script out : List ℕ) (stops : Stops) (before after : Option Files)
+    (taken taken_after : Option (List ℕ)) : Type 0 where
   pub input : RunInput
   pub read : ForSome before (λ files. input_in files script ≡ Ok input)
   pub session : Session
@@ -26,29 +27,36 @@ pub record HasFinished (script out : List ℕ) (stops : Stops) (before after : O
   pub is : IsRunOf input session stops outcome
   pub exact : HaveNoStops stops → IsExactRun session input.capture input.script.body outcome
   pub own : HaveNoStops stops → IsOwnRun input.script session outcome
-  pub files : after ≡ option_map (finished_files (output_files input.script out) (sounds_of outcome)) before
+  pub files : after
+      ≡ option_map (finished_files (output_files input.script out) (sounds_of outcome)) before
   pub text : taken_after ≡ option_map (λ t. t ++ report_text input.script outcome.report) taken
 
 -- what is stored and put is what a script and its WAV files have by themselves: the one report and the one list of samples that their lines leave no
 -- choice of
-pub record IsOnlyRun (out : List ℕ) (files : Files) (after : Option Files) (taken taken_after : Option (List ℕ)) (input : RunInput) (session : Session) : Type 0 where
-  pub files_are : after ≡ Some (finished_files (output_files input.script out) (sounds_of (lab_text session input.capture input.script.body)) files)
-  pub text : taken_after ≡ option_map (λ t. t ++ report_text input.script (lab_text session input.capture input.script.body).report) taken
+pub record IsOnlyRun (out : List ℕ) (files : Files) (after : Option Files)
+    (taken taken_after : Option (List ℕ)) (input : RunInput) (session : Session) : Type 0 where
+  pub files_are : after
+      ≡ Some (finished_files (output_files input.script out) (sounds_of (lab_text session input.capture input.script.body)) files)
+  pub text : taken_after
+      ≡ option_map (λ t. t ++ report_text input.script (lab_text session input.capture input.script.body).report) taken
 
 -- of whatever input and session the files give
-abbrev pub IsOnlyRunOf : List ℕ → List ℕ → Stops → Option Files → Option Files → Option (List ℕ) → Option (List ℕ) → Type 0
+abbrev pub IsOnlyRunOf : List ℕ → List ℕ → Stops → Option Files → Option Files → Option (List ℕ)
+    → Option (List ℕ) → Type 0
 IsOnlyRunOf script out stops before after taken taken_after =
     ForSome before (λ files. (input : RunInput) (session : Session) → input_in files script ≡ Ok input → IsSessionOf input.script input.sounds session
     → AreUnmixed input.script.body → HaveNoStops stops → IsOnlyRun out files after taken taken_after input session)
 
 -- A run stopped while it was written: its input was what the files held, and what is written is of a run of it that reached a stage (`HasStopped`).
-pub record IsUnfinished (script out : List ℕ) (before after : Option Files) (taken taken_after : Option (List ℕ)) : Type 0 where
+pub record IsUnfinished (script out : List ℕ) (before after : Option Files)
+    (taken taken_after : Option (List ℕ)) : Type 0 where
   pub input : RunInput
   pub read : ForSome before (λ files. input_in files script ≡ Ok input)
   pub stopped : HasStopped input out before after taken taken_after
 
 -- and what its card had played up to that stage, of which OUT.wav holds the first samples, are the saturated sums of what the segments so far placed
-pub record IsUnfinishedWithMix (script out : List ℕ) (before after : Option Files) (taken taken_after : Option (List ℕ)) : Type 0 where
+pub record IsUnfinishedWithMix (script out : List ℕ) (before after : Option Files)
+    (taken taken_after : Option (List ℕ)) : Type 0 where
   pub input : RunInput
   pub read : ForSome before (λ files. input_in files script ≡ Ok input)
   pub stopped : HasStoppedWithMix input out before after taken taken_after

@@ -71,17 +71,20 @@ pub record EndsWell (result : ℕ) (words : List (List ℕ)) (files : Files) : T
   pub valid : IsValidCall words files → (result ≡ 0) ⊎ (result ≡ 6)
 
 -- a text was put, and no file changed
-pub record HasPut (text : List ℕ) (before after : Option Files) (taken taken_after : Option (List ℕ)) : Type 0 where
+pub record HasPut (text : List ℕ) (before after : Option Files)
+    (taken taken_after : Option (List ℕ)) : Type 0 where
   pub files : after ≡ before
   pub put : taken_after ≡ option_map (λ t. t ++ text) taken
 
 -- the first bytes of a text were put, and no file changed
-pub record HasPutPart (text : List ℕ) (before after : Option Files) (taken taken_after : Option (List ℕ)) : Type 0 where
+pub record HasPutPart (text : List ℕ) (before after : Option Files)
+    (taken taken_after : Option (List ℕ)) : Type 0 where
   pub files : after ≡ before
   pub put : TookPart taken taken_after text
 
 -- what a command leaves that is done, form by form; the gates stopped actors so often
-abbrev pub DoneIn : Option Form → Stops → Option Files → Option Files → Option (List ℕ) → Option (List ℕ) → Type 0
+abbrev pub DoneIn : Option Form → Stops → Option Files → Option Files → Option (List ℕ)
+    → Option (List ℕ) → Type 0
 DoneIn None gates before after taken taken_after = ⊥
 DoneIn (Some (run script out)) gates before after taken taken_after = HasFinished script out gates before after taken taken_after
 DoneIn (Some (refine text)) gates before after taken taken_after = HasAnswered text before after taken taken_after
@@ -91,7 +94,8 @@ DoneIn (Some help) gates before after taken taken_after = HasPut help_text befor
 DoneIn (Some version) gates before after taken taken_after = HasPut version_text before after taken taken_after
 
 -- what a command leaves that ended in its output, form by form; the gates stopped actors so often
-abbrev pub PartIn : Option Form → Stops → Option Files → Option Files → Option (List ℕ) → Option (List ℕ) → Type 0
+abbrev pub PartIn : Option Form → Stops → Option Files → Option Files → Option (List ℕ)
+    → Option (List ℕ) → Type 0
 PartIn None gates before after taken taken_after = ⊥
 PartIn (Some (run script out)) gates before after taken taken_after = IsUnfinished script out before after taken taken_after
 PartIn (Some (refine text)) gates before after taken taken_after = AnsweredPart text before after taken taken_after
@@ -102,7 +106,8 @@ PartIn (Some version) gates before after taken taken_after = HasPutPart version_
 
 -- what a command leaves that is done is the only thing that it can leave: a run of a script without mixed phases, whose gates stopped nobody, has one
 -- report and one list of samples for each file, so also a run of a workload, and a configuration has one device of a name
-abbrev pub OnlyIn : Option Form → Stops → Option Files → Option Files → Option (List ℕ) → Option (List ℕ) → Type 0
+abbrev pub OnlyIn : Option Form → Stops → Option Files → Option Files → Option (List ℕ)
+    → Option (List ℕ) → Type 0
 OnlyIn (Some (run script out)) gates before after taken taken_after = IsOnlyRunOf script out gates before after taken taken_after
 OnlyIn (Some (conf file name)) gates before after taken taken_after =
     ForSome before (λ files. (device : Device) → device_in files file name ≡ Ok device → IsOnlyDevice after files taken taken_after device)
@@ -110,34 +115,41 @@ OnlyIn (Some (make workload)) gates before after taken taken_after = HaveNoStops
 OnlyIn other gates before after taken taken_after = ⊤
 
 -- what a call leaves with status 0
-abbrev pub Headline : List (List ℕ) → Stops → Option Files → Option Files → Option (List ℕ) → Option (List ℕ) → Type 0
+abbrev pub Headline : List (List ℕ) → Stops → Option Files → Option Files → Option (List ℕ)
+    → Option (List ℕ) → Type 0
 Headline words gates before after taken taken_after = DoneIn (form_of words) gates before after taken taken_after
 
 -- what a call leaves with status 0 is the only thing that it can leave
-abbrev pub IsOnlyLeft : List (List ℕ) → Stops → Option Files → Option Files → Option (List ℕ) → Option (List ℕ) → Type 0
+abbrev pub IsOnlyLeft : List (List ℕ) → Stops → Option Files → Option Files → Option (List ℕ)
+    → Option (List ℕ) → Type 0
 IsOnlyLeft words gates before after taken taken_after = OnlyIn (form_of words) gates before after taken taken_after
 
 -- what a call leaves with another status: nothing was written, or, with 5 or 6, it ended in its output
-abbrev pub IsLeftByFault : ℕ → List (List ℕ) → Stops → Option Files → Option Files → Option (List ℕ) → Option (List ℕ) → Type 0
+abbrev pub IsLeftByFault : ℕ → List (List ℕ) → Stops → Option Files → Option Files → Option (List ℕ)
+    → Option (List ℕ) → Type 0
 IsLeftByFault result words gates before after taken taken_after =
     IsUntouched before after taken taken_after
     ⊎ (((result ≡ 5) ⊎ (result ≡ 6)) × PartIn (form_of words) gates before after taken taken_after)
 
 -- what a call leaves with status 5: of `run` it is known which samples it had played
-abbrev pub MixIn : Option Form → Option Files → Option Files → Option (List ℕ) → Option (List ℕ) → Type 0
+abbrev pub MixIn : Option Form → Option Files → Option Files → Option (List ℕ) → Option (List ℕ)
+    → Type 0
 MixIn (Some (run script out)) before after taken taken_after = IsUnfinishedWithMix script out before after taken taken_after
 MixIn other before after taken taken_after = ⊤
 
-abbrev pub IsLeftByWrite : List (List ℕ) → Option Files → Option Files → Option (List ℕ) → Option (List ℕ) → Type 0
+abbrev pub IsLeftByWrite : List (List ℕ) → Option Files → Option Files → Option (List ℕ)
+    → Option (List ℕ) → Type 0
 IsLeftByWrite words before after taken taken_after = MixIn (form_of words) before after taken taken_after
 
 -- the same of a command, by how it ended
-abbrev pub WriteLeaves : {X : Type 0} → Option Form → Result X Stop → Option Files → Option Files → Option (List ℕ) → Option (List ℕ) → Type 0
+abbrev pub WriteLeaves : {X : Type 0} → Option Form → Result X Stop → Option Files → Option Files
+    → Option (List ℕ) → Option (List ℕ) → Type 0
 WriteLeaves (Some (run script out)) (Err stops.Write) before after taken taken_after = IsUnfinishedWithMix script out before after taken taken_after
 WriteLeaves form r before after taken taken_after = ⊤
 
 -- what a command leaves, by how it ended
-abbrev pub CommandLeaves : {X : Type 0} → Result X Stop → Option Form → Stops → Option Files → Option Files → Option (List ℕ) → Option (List ℕ) → Type 0
+abbrev pub CommandLeaves : {X : Type 0} → Result X Stop → Option Form → Stops → Option Files
+    → Option Files → Option (List ℕ) → Option (List ℕ) → Type 0
 CommandLeaves (Ok x) form gates before after taken taken_after = DoneIn form gates before after taken taken_after
 CommandLeaves (Err stops.Words) form gates before after taken taken_after = IsUntouched before after taken taken_after
 CommandLeaves (Err (stops.Script error)) form gates before after taken taken_after = IsUntouched before after taken taken_after

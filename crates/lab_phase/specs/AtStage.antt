@@ -117,7 +117,8 @@ abbrev pub IsNextItem : Lab → Item → Type 0
 IsNextItem lab item = slice_get lab.script.now.body lab.next ≡ Some item
 
 -- the item of a script whose number is that of the items that are done
-pub IsNextItem-at : (lab : Lab) (script : Script) (done : ℕ) (item : Item) → script_of lab ≡ script → items_done lab ≡ done → slice_get script.body done ≡ Some item
+pub IsNextItem-at : (lab : Lab) (script : Script) (done : ℕ) (item : Item) → script_of lab ≡ script
+    → items_done lab ≡ done → slice_get script.body done ≡ Some item
     → IsNextItem lab item
 IsNextItem-at lab script done item same count is =
     ap (λ (n : ℕ). slice_get lab.script.now.body n) count ∙ (ap (λ (s : Script). slice_get s.body done) same ∙ is)

@@ -57,7 +57,8 @@ pub record AreSameButRoom (a b : CardActor) (cs ds : LabClients)
   pub places : places_of ds ≡ places_of cs
   pub readers : EachReader readers.HasKept rs ss
 
-pub AreSameButRoom-card : (a b : CardActor) (cs : LabClients) (rs : LabReaders) → IsSameButRoom a b → AreSameButRoom a b cs cs rs rs
+pub AreSameButRoom-card : (a b : CardActor) (cs : LabClients) (rs : LabReaders) → IsSameButRoom a b
+    → AreSameButRoom a b cs cs rs rs
 AreSameButRoom-card a b cs rs same = record {
   card = same;
   clients = AreEach-same clients.IsSameWithRows 0 (clients_of cs) clients.IsSameWithRows-none;

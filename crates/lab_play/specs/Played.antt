@@ -32,24 +32,29 @@ sounds_of outcome = outcome.played ∷ outcome.recorded
 -- A run of a script may leave this report and these samples, where each actor's own gate stops it so often at most. What they say (`Headline`): the card
 -- played, at each frame and channel, the saturated sum of exactly the samples that the report's segments placed there, each once; a client that was
 -- stopped takes away nothing of another; a late row names a place without a sample of its stretch; each reader recorded the captured frames of its runs.
-pub record IsRunOf (input : RunInput) (session : Session) (stops : Stops) (outcome : Outcome) : Type 0 where
+pub record IsRunOf (input : RunInput) (session : Session) (stops : Stops)
+    (outcome : Outcome) : Type 0 where
   pub session_is : IsSessionOf input.script input.sounds session
   pub run : LabRun session input.capture input.script.body stops.clients stops.readers outcome
   pub headline : Headline input.script input.sounds session input.capture outcome
 
 -- a run is done with this outcome: each of its files is the canonical WAV file of its samples, no other file changed, and the report's text was put
-pub record HasPlayed (input : RunInput) (out : List ℕ) (stops : Stops) (outcome : Outcome) (before after : Option Files) (taken taken_after : Option (List ℕ)) : Type 0 where
+pub record HasPlayed (input : RunInput) (out : List ℕ) (stops : Stops) (outcome : Outcome)
+    (before after : Option Files) (taken taken_after : Option (List ℕ)) : Type 0 where
   pub session : Session
   pub is : IsRunOf input session stops outcome
-  pub files : after ≡ option_map (finished_files (output_files input.script out) (sounds_of outcome)) before
+  pub files : after
+      ≡ option_map (finished_files (output_files input.script out) (sounds_of outcome)) before
   pub text : taken_after ≡ option_map (λ t. t ++ report_text input.script outcome.report) taken
 
 -- nothing was written
-pub record IsUntouched (before after : Option Files) (taken taken_after : Option (List ℕ)) : Type 0 where
+pub record IsUntouched (before after : Option Files)
+    (taken taken_after : Option (List ℕ)) : Type 0 where
   pub files : after ≡ before
   pub text : taken_after ≡ taken
 
 -- a run isn't done: nothing was written, or it stopped at a stage
-abbrev pub HasPlayedPart : RunInput → List ℕ → Option Files → Option Files → Option (List ℕ) → Option (List ℕ) → Type 0
+abbrev pub HasPlayedPart : RunInput → List ℕ → Option Files → Option Files → Option (List ℕ)
+    → Option (List ℕ) → Type 0
 HasPlayedPart input out before after taken taken_after =
     IsUntouched before after taken taken_after ⊎ HasStopped input out before after taken taken_after

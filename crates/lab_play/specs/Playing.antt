@@ -52,12 +52,14 @@ abbrev pub sounds_at : Lab → Stage → List (List ℤ)
 sounds_at lab stage = played_of lab ∷ recorded_from (session_of lab) (capture_of lab) 0 stage.readers
 
 -- these samples are written of each output, and the lines of some first rows
-pub record AreWritten (start : Start) (sounds : List (List ℤ)) (rows : List Row) (outputs : Outputs) (files : Option Files) (taken : Option (List ℕ)) : Type 0 where
+pub record AreWritten (start : Start) (sounds : List (List ℤ)) (rows : List Row) (outputs : Outputs)
+    (files : Option Files) (taken : Option (List ℕ)) : Type 0 where
   pub outputs_are : AreOutputs outputs
   pub files_are : outputs.files.items ≡ output_files start.input.script start.out
   pub going_on : IsGoingOn outputs.files.items outputs.samples.items sounds start.files files
   pub few : outputs.rows ≤ length rows
-  pub text : taken ≡ option_map (λ t. t ++ text_so_far start.input.script (take outputs.rows rows)) start.taken
+  pub text : taken
+      ≡ option_map (λ t. t ++ text_so_far start.input.script (take outputs.rows rows)) start.taken
 
 -- the lab of the run is at a stage, at which its gates have stopped so often
 pub record IsLabOf (start : Start) (stops : Stops) (lab : Lab) (stage : Stage) : Type 0 where
@@ -87,7 +89,8 @@ text_at script session (one ∷ others) stage = text_so_far script stage.rows
 
 -- A run stopped: it had reached a stage. Each of its files is as it was before the run, or has one of the forms of its samples so far, and no other file
 -- changed; the first bytes of the report's text were put, and no row before the frames of its phase.
-pub record HasStopped (input : RunInput) (out : List ℕ) (before after : Option Files) (taken taken_after : Option (List ℕ)) : Type 0 where
+pub record HasStopped (input : RunInput) (out : List ℕ) (before after : Option Files)
+    (taken taken_after : Option (List ℕ)) : Type 0 where
   pub session : Session
   pub session_is : IsSessionOf input.script input.sounds session
   pub done : List Item
@@ -95,7 +98,8 @@ pub record HasStopped (input : RunInput) (out : List ℕ) (before after : Option
   pub stage : Stage
   pub reached : IsReached input.script input.sounds session done others stage
   pub played : List ℤ
-  pub frames : length played ≡ (stage.position - first_frame input.script.card) * input.script.card.channels
+  pub frames : length played
+      ≡ (stage.position - first_frame input.script.card) * input.script.card.channels
   pub changes : Changes (MayHold (output_files input.script out) (played ∷ recorded_from session input.capture 0 stage.readers)) before after
   pub text : TookPart taken taken_after (text_at input.script session others stage)
   pub order : RowsFollowFrames input out session others stage (played ∷ recorded_from session input.capture 0 stage.readers) before after taken taken_after
@@ -105,12 +109,15 @@ abbrev pub IsStopped : Start → Option Files → Option (List ℕ) → Type 0
 IsStopped start files taken = HasStopped start.input start.out start.files files start.taken taken
 
 -- and what its card played up to that stage, of which OUT.wav holds the first samples, are the saturated sums of what the segments so far placed
-pub record HasStoppedWithMix (input : RunInput) (out : List ℕ) (before after : Option Files) (taken taken_after : Option (List ℕ)) : Type 0 where
+pub record HasStoppedWithMix (input : RunInput) (out : List ℕ) (before after : Option Files)
+    (taken taken_after : Option (List ℕ)) : Type 0 where
   pub stopped : HasStopped input out before after taken taken_after
-  pub mix : stopped.played ≡ mix_of stopped.session (all_segments stopped.stage.clients) (stopped.stage.position - first_frame stopped.session.card)
+  pub mix : stopped.played
+      ≡ mix_of stopped.session (all_segments stopped.stage.clients) (stopped.stage.position - first_frame stopped.session.card)
 
 -- a run that began so stopped at the stage of this lab, and what it played is what the lab played
-pub record IsStoppedAt (start : Start) (lab : Lab) (files : Option Files) (taken : Option (List ℕ)) : Type 0 where
+pub record IsStoppedAt (start : Start) (lab : Lab) (files : Option Files)
+    (taken : Option (List ℕ)) : Type 0 where
   pub stopped : HasStopped start.input start.out start.files files start.taken taken
   pub at : IsAtStage lab stopped.stage
   pub session_is : stopped.session ≡ session_of lab
