@@ -10,7 +10,7 @@ use Rattle.lab_card.specs.Meets.{IsSameCard}
 use Rattle.lab_actors.specs.Gates.{stops_at}
 use Rattle.lab_client.specs.declared.client.LabClient.{LabClient}
 use Rattle.lab_client.specs.declared.open_client.OpenClient.{OpenClient}
-use Rattle.lab_client.specs.Clients.{CanRun, HasRoom, IsClientHeard, IsClientInformed, IsOfCard, IsSameBut, RunsLines, Stays, number_of, open_of, rows_of}
+use Rattle.lab_client.specs.Clients.{CanRun, HasRoom, IsClientHeard, IsClientInformed, IsOfCard, IsSameBut, RunsLines, GoesOrRests, number_of, open_of, rows_of}
 use Rattle.lab_client.specs.OpenClients.{IsSameOpen}
 
 -- the file of a number
@@ -43,7 +43,7 @@ IsSameOpen-none o = record {
 IsSameBut-none : (d : LabClient) → IsSameBut d d
 IsSameBut-none d = record { own = by_open (open_of d); rest = record { number = refl; ended = refl } }
   where
-    by_open : (o : Option OpenClient) → Stays IsSameOpen ⊤ o o
+    by_open : (o : Option OpenClient) → GoesOrRests IsSameOpen ⊤ o o
     by_open None = tt
     by_open (Some o) = IsSameOpen-none o
 

@@ -84,7 +84,7 @@ numbered-at {Y = Y} of none n number zero (x ∷ xs) at is =
     own = map (λ y. (number, y)) (of x)
 
     others : List (ℕ × Y)
-    others = numbered of (number + 1) xs
+    others = with_numbers of (number + 1) xs
 
     first : members_of number (own ++ others) ≡ of x
     first = members-append number own others
@@ -93,6 +93,6 @@ numbered-at {Y = Y} of none n number zero (x ∷ xs) at is =
         ∙ members-own number (of x)
 numbered-at of none n number (suc i) (x ∷ xs) at is =
     let other : nat_eq number n ≡ false = grind (arith, nat_tests, at) in
-    members-append n (map (λ y. (number, y)) (of x)) (numbered of (number + 1) xs)
-    ∙ ap (λ r. r ++ members_of n (numbered of (number + 1) xs)) (members-other n number (of x) other)
+    members-append n (map (λ y. (number, y)) (of x)) (with_numbers of (number + 1) xs)
+    ∙ ap (λ r. r ++ members_of n (with_numbers of (number + 1) xs)) (members-other n number (of x) other)
     ∙ numbered-at of none n (number + 1) i xs (omega (arith, at)) is

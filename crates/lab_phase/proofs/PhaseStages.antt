@@ -134,7 +134,7 @@ rows-joined xs xs2 ks ks2 bs bs2 cs cs2 first more =
     before ∙ (ap (λ (rows : List Row). xs ++ rows) more ∙ (ap (λ (rows : List Row). rows ++ (ks2 ++ bs2 ++ cs2)) first ∙ sym after))
 
 -- the actors have no more rows of the phase than it has lines
-pub GiveFewRows-at : {G : Type 0} (stops : G → ℕ) (gates : List G) (lab : Lab) (lines : List Line) (a0 : CardActor) → ActorLaws → IsNext lab (item.Phase lines)
+pub GiveFewRows-at : {G : Type 0} (stops : G → ℕ) (gates : List G) (lab : Lab) (lines : List Line) (a0 : CardActor) → ActorLaws → IsNextItem lab (item.Phase lines)
     → length (ops_by is_of_card lines) ≢ length lines → lab.card ≡ Some a0 → (stage : Stage) (base : Stops) → IsAtStage lab stage → AreStopsOf base (stops_by stops gates) stage
     → GiveFewRows stops gates (asks_of_lab lab lines) a0 lab.clients lab.readers
 GiveFewRows-at stops gates lab lines a0 laws is others card_is stage base at counted gates_after a f cs fs rs gs room met =
@@ -150,7 +150,7 @@ GiveFewRows-at stops gates lab lines a0 laws is others card_is stage base at cou
     (files-reached lab.script.now lab.wavs.now (session_of lab) at.has_done.done (first-item lab stage lines at is).others lines stage (reached-phase lab stage lines at is))
     (AreAll-reached (session_of lab) stage at.has_done.done at.has_done.reached.may).readers counted.clients counted.readers
 
-module _ {G : Type 0} (stops : G → ℕ) (gates gates_after : List G) (lab mid : Lab) (lines : List Line) (laws : ActorLaws) (is : IsNext lab (item.Phase lines))
+module _ {G : Type 0} (stops : G → ℕ) (gates gates_after : List G) (lab mid : Lab) (lines : List Line) (laws : ActorLaws) (is : IsNextItem lab (item.Phase lines))
     (others : length (ops_by is_of_card lines) ≢ length lines) (run : HasRunLines stops gates gates_after lab lines mid) (stage : Stage) (base : Stops)
     (at : IsAtStage lab stage) (counted : AreStopsOf base (stops_by stops gates) stage) where
   actors-before : AreActorsOf (session_of lab) (capture_of lab) stage (Some run.card) lab.clients lab.readers

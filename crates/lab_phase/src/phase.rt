@@ -84,7 +84,7 @@ impl<'r> Lab<'r, '_> {
     ghost use Rattle.lab_script.specs.Script.{is_of_card};
     ghost use Rattle.lab_run.specs.Phases.{ops_by};
     ghost use Rattle.lab_clients.specs.Reaped.{AreDoneInRun};
-    ghost use Rattle.lab_phase.specs.AtStage.{IsLab, IsNext};
+    ghost use Rattle.lab_phase.specs.AtStage.{IsLab, IsNextItem};
     ghost use Rattle.lab_phase.specs.PhaseRuns.{CountsPhase, DoesPhase, HasRunLines, IsLabWith, IsSameLab, Reaps, RunsPhase, Stops, stops_by};
 
     /// Does the next phase of the script's body: the card and all clients and readers do their lines, at once where two of them have some,
@@ -197,7 +197,7 @@ impl<'r> Lab<'r, '_> {
         gates: &mut [G],
     ) -> Result<(), PcmError>
         requires at { IsLabWith (stops_by G.stops gates.old) self.old }
-        requires next { IsNext self.old (item.Phase lines.now) }
+        requires next { IsNextItem self.old (item.Phase lines.now) }
         requires gates { 128 ≤ length gates.old }
         requires others { length (ops_by is_of_card lines.now) ≢ length lines.now }
         ensures runs { OnOk result

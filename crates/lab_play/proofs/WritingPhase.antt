@@ -22,7 +22,6 @@ use Rattle.lab_output.specs.Text.{rows_text, text_so_far}
 use Rattle.lab_shelf.specs.Changes.{Changes, TookPart-all}
 use Rattle.lab_shelf.specs.Files.{Files, TookPart}
 use Rattle.lab_play.specs.Appending.{CanAppend}
-use Rattle.lab_play.specs.Order.{StopsInFrames}
 use Rattle.lab_play.specs.Playing.{HasUnwrittenPhase, IsPlaying, IsStoppedAt, Start, scene, sounds_at}
 use Rattle.lab_play.proofs.ItemsStopped.{HasStopped-at, TookPart-rows, frames-card, stops-in_rows}
 use Rattle.lab_play.proofs.Writing.{count-at, longer-length, member}
@@ -124,17 +123,8 @@ module _ (start : Start) (stops : Stops) (lab : Lab) (outputs : Outputs) (files 
       (changes start.files is.stage is.sounds is.lab_is.stage_is is.longer is.written.going_on)
 
   -- an append failed
-  pub stops-appending : AppendsKeep lab outputs files files_after → IsStoppedAt start lab files_after taken
-  stops-appending keep =
-      let frames : StopsInFrames start.input start.out (session_of lab) is.lab_is.stage_is.has_done.others is.stage (sounds_at lab is.stage) files_after start.taken taken =
-      record {
-        earlier_sounds = is.sounds;
-        phase = is.order;
-        longer = is.longer;
-        kept = subst (λ (own : List OutputFile). KeepSamples own is.sounds files_after) is.written.files_are
-            (keep start.files is.stage is.sounds is.lab_is.stage_is is.longer is.written.going_on);
-      } in
-      HasStopped-at start stops lab is.stage files_after taken is.lab_is own-changes
+  pub stops-appending : IsStoppedAt start lab files_after taken
+  stops-appending = HasStopped-at start stops lab is.stage files_after taken is.lab_is own-changes
       (TookPart-rows start.input.script is.stage.rows outputs.rows start.taken taken
       (TookPart-all start.taken taken (text_so_far start.input.script (take outputs.rows is.stage.rows)) is.written.text)) (inr (inl is.order))
 

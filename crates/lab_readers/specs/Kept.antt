@@ -16,10 +16,10 @@ use Rattle.lab_readers.specs.declared.readers.LabReaders.{LabReaders}
 use Rattle.lab_readers.specs.AtStage.{AreAt, IsReaderAt, IsReaderIn, readers_of, ring_of}
 use Rattle.lab_readers.specs.Lists.{AreEach-moved}
 use Rattle.lab_readers.specs.Steps.{EachReader, HasKept}
-use Rattle.lab_reader.specs.Runs.{IsSame}
+use Rattle.lab_reader.specs.Runs.{IsSameButRows}
 
 -- it is the same reader of a run
-pub IsReaderIn-same : (session : Session) (capture : Option Sound) (ring : TableId) (number : ℕ) (r s : LabReader) (x : AtPort × Reader) → IsSame r s
+pub IsReaderIn-same : (session : Session) (capture : Option Sound) (ring : TableId) (number : ℕ) (r s : LabReader) (x : AtPort × Reader) → IsSameButRows r s
     → IsReaderIn session capture ring session.ring number r x → IsReaderIn session capture ring session.ring number s x
 IsReaderIn-same session capture ring number r s x same is = record {
   numbered = same.file.number ∙ is.numbered;

@@ -124,7 +124,8 @@ impl Shelf for MemoryShelf {
     }
 
     fn store(&mut self, name: &[u8], bytes: &[u8]) -> Result<(), ShelfFault>
-        ensures foreseen { IsAsForeseen result (Some (write_answers self.old.failing self.old.calls)) }
+        ensures foreseen { IsAsForeseen result
+            (Some (write_answers self.old.failing self.old.calls)) }
         ensures after { self.new ≡ after_store result self.old name.now bytes.now }
         ensures ok { OnOk result
             (Some self.new.files ≡ Some (with_file self.old.files name.now bytes.now)) }
@@ -145,7 +146,8 @@ impl Shelf for MemoryShelf {
     }
 
     fn begin(&mut self, name: &[u8], head: &[u8]) -> Result<(), ShelfFault>
-        ensures foreseen { IsAsForeseen result (Some (write_answers self.old.failing self.old.calls)) }
+        ensures foreseen { IsAsForeseen result
+            (Some (write_answers self.old.failing self.old.calls)) }
         ensures after { self.new ≡ after_store result self.old name.now head.now }
         ensures ok { OnOk result
             (Some self.new.files ≡ Some (with_file self.old.files name.now head.now)) }
@@ -273,7 +275,8 @@ impl Sink for MemorySink {
     ghost is_reliable = { λ s. s.failing ≡ [] };
 
     fn put(&mut self, bytes: &[u8]) -> Result<(), ShelfFault>
-        ensures foreseen { IsAsForeseen result (Some (write_answers self.old.failing self.old.calls)) }
+        ensures foreseen { IsAsForeseen result
+            (Some (write_answers self.old.failing self.old.calls)) }
         ensures after { self.new ≡ after_put result self.old bytes.now }
         ensures ok { OnOk result (Some self.new.taken ≡ Some (self.old.taken ++ bytes.now)) }
         ensures err { OnErr result (TookPart (Some self.old.taken)

@@ -169,32 +169,12 @@ pub(super) fn left_of<R: Threads + Sync>(
 }
 
 // The script of two clients and two readers that go on while the card plays 32 periods in one phase: the clients write, ask and take
-// back, and the readers read.
-fn plan_of_many_periods(alloc: Global) -> Result<Plan, AllocError> {
-    let mut plan = opened(alloc, LARGE, 2, 2)?;
+// back, the readers read, and each that has an xrun is prepared again. Of a ring of four periods the card passes eight laps.
+fn plan_of_many_periods(alloc: Global, geometry: Geometry) -> Result<Plan, AllocError> {
+    let mut plan = opened(alloc, geometry, 2, 2)?;
     let actors = (2, 2);
     push_phase(alloc, &mut plan, actors, &[], (&["write 2200"], &["start"]))?;
-    push_phase(
-        alloc,
-        &mut plan,
-        actors,
-        &[2048],
-        (
-            &[
-                "avail",
-                "write 1000",
-                "delay",
-                "rewindable",
-                "rewind 1500",
-                "write 700",
-                "delay",
-                "rewind 30",
-                "rewindable",
-                "avail",
-            ],
-            &["avail", "read 200", "avail", "read 1200", "read 1200"],
-        ),
-    )?;
+    push_phase(alloc, &mut plan, actors, &[2048], (WRITES, READS))?;
     push_phase(alloc, &mut plan, (0, 0), &[2048], (&[], &[]))?;
     Ok(plan)
 }
@@ -276,8 +256,11 @@ fn sixty_four_clients_and_sixteen_readers_run_while_the_card_plays(
 
 #[test]
 fn clients_and_readers_run_while_the_card_passes_many_periods(rt: HostRuntime) -> Result<(), Fail> {
-    let plan = plan_of_many_periods(rt.alloc())?;
-    check_runs(&rt, rt.alloc(), &plan, (2, 2), 10)
+    for geometry in [SMALL, LARGE] {
+        let plan = plan_of_many_periods(rt.alloc(), geometry)?;
+        check_runs(&rt, rt.alloc(), &plan, (2, 2), 5)?;
+    }
+    Ok(())
 }
 
 // A client that writes while the card plays 64 frames starts before or after them, and the report says which.
