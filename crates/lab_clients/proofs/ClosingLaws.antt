@@ -1,16 +1,16 @@
 -- A closing of a client makes of the clients of the lab what it makes of those of a run.
-use Rattle.std.specs.Prelude.{◌≡◌, ℕ, ◌<◌, pos, All, true, List, length, Option, Some, None, IfSome, IsSome, is_some, slice_index_or, slice_set}
+use Rattle.std.specs.Prelude.{◌≡◌, ◌≢◌, ℕ, ◌<◌, pos, All, true, List, length, Option, Some, None, IfSome, IsSome, is_some, slice_index_or, slice_set}
 use Rattle.std.proofs.Common.{refl, sym, ◌∙◌, ap, subst, arith}
 use Rattle.std.proofs.lemmas.Int.{ints}
 use Rattle.std.proofs.lemmas.List.{append-nil}
 use Rattle.snd_base.specs.declared.errors.PcmError.TheVariants.{BadState}
 use Rattle.snd_base.specs.declared.geometry.Geometry.{Geometry}
-use Rattle.mix_core.specs.Laid.{total}
+use Rattle.mix_core.specs.Laid.{standing}
 use Rattle.mix_core.specs.Marks.{high_frame}
 use Rattle.sum_table.specs.declared.seats.mix.MixSeat.{MixSeat}
 use Rattle.sum_table.specs.declared.view.Key.{Key}
 use Rattle.sum_table.specs.Joins.{OneRing}
-use Rattle.sum_table.specs.Seats.{TableId, key_of, member_of, ring_of, view_of}
+use Rattle.sum_table.specs.Seats.{TableId, key_of, member_of, ring_of}
 use Rattle.lobby.specs.Lobbies.{free_seats}
 use Rattle.lobby.specs.Seats.{last_of}
 use Rattle.dmix_client.specs.declared.stream.PlaybackStream.{PlaybackStream}
@@ -26,8 +26,11 @@ use Rattle.lab_run.specs.Rules.{AtPort}
 use Rattle.lab_run.specs.Stage.{Session, Stage, after_close, close_client, ended_client, new_port, no_client, with_row}
 use Rattle.lab_places.specs.declared.places.Places.{Places}
 use Rattle.dshare.specs.Shared.{AreOfCard}
-use Rattle.lab_places.specs.Held.{CanClose, Closes, IsHeldBy, IsOwnLast, IsSameCard, closed_held, key_of_places, lobby_of, ring_of_places, share_of, shares_of}
+use Rattle.lab_places.specs.Held.{CanClose, Closes, HoldsPlace, IsHeldBy, IsOwnLast, IsSameCard, closed_held, key_of_places, lobby_of, ring_of_places, share_of, shares_of}
+use Rattle.lab_places.specs.HeldLaws.{HoldsPlace-one}
 use Rattle.lab_places.specs.Holdings.{AreHeld, AreHeld-closed, CanClose-held, Holding, Holdings}
+use Rattle.lab_places.specs.Laid.{laid_list, laid_lists}
+use Rattle.lab_actors.specs.Walks.{AreEach, AreEach-map}
 use Rattle.lab_client.specs.declared.client.LabClient.{LabClient}
 use Rattle.lab_client.specs.declared.open_client.OpenClient.{OpenClient}
 use Rattle.lab_client.specs.ClientPhase.{LastsAreOwn}
@@ -36,11 +39,13 @@ use Rattle.lab_client.specs.OpenClients.{IsOpenAt, stream_of}
 use Rattle.lab_client.specs.OpeningLaws.{IsAt-closed, IsOwnLast-closed}
 use Rattle.lab_client.specs.Openings.{HasClosed, IsHigh, closed_client}
 use Rattle.lab_clients.specs.declared.clients.LabClients.{LabClients}
-use Rattle.lab_clients.specs.AtStage.{AreAfter, AreAt, AreIn, IsClientAt, IsClientIn, IsReported, IsSetUp, clients_of, holding_by, laid_for, places_of}
-use Rattle.lab_clients.specs.Exchanged.{AreIn-exchanged, ChangesAt-with_holding, IsClientAt-holding, IsLaidWith, IsReported-exchanged, KeepsHolding, MovesLaid, Relation, with_holding}
+use Rattle.lab_clients.specs.AtStage.{AreAfter, AreAt, AreIn, IsClientAt, IsClientIn, IsSetUp, clients_of, holding_by, places_of}
+use Rattle.lab_clients.specs.Exchanged.{AreIn-exchanged, ChangesAt-with_holding, IsAsOften-exchanged, IsClientAt-holding, IsClientAt-in_run, IsInRun, IsLaidWith, KeepsHolding, MovesLaid, Relation, with_holding, worth_all-with}
 use Rattle.lab_clients.specs.Opening.{AreAtStage, AreOfRun, client_among, clients_but, held_but}
+use Rattle.lab_clients.specs.Placed.{IsReported, laid_for, worth_left, worth_of}
 use Rattle.lab_clients.specs.Steps.{sound_at}
 use Rattle.lab_clients.proofs.OpeningLaws.{AreAfter-still, IsClientAt-number, is_some-own, none-own, own-number}
+use Rattle.lab_clients.proofs.SeatLaws.{IsApart, IsPlacedFor-at, IsReported-closed}
 
 -- a closing at the places, whichever client it is
 abbrev pub ClosesAny : Places → List ℕ → ℕ → MixSeat → Places → Type 0
@@ -88,7 +93,7 @@ module _ (Is : Relation (AtPort × Client)) (session : Session) (held : Held) (x
 
 -- A client that is open is closed, whatever else is so of clients as long as it is: the others are as they were, and it isn't open any more. The
 -- relation `Is` is of a client of a run, which keeps what it holds.
-module _ (Is : Relation (AtPort × Client)) (keeps : KeepsHolding Is) (session : Session) (held : Held) (xs : List (AtPort × Client)) (cs ds : LabClients) (number : ℕ)
+module _ (Is : Relation (AtPort × Client)) (keeps : KeepsHolding Is) (in_run : IsInRun Is) (session : Session) (held : Held) (xs : List (AtPort × Client)) (cs ds : LabClients) (number : ℕ)
     (d e : LabClient) (o : OpenClient) (seat : MixSeat) (channels : List ℕ) (position : ℕ) (are : AreIn Is session held xs cs) (inside : number < length (clients_of cs))
     (is : d ≡ slice_index_or (clients_of cs) number d)
     (was : IsClientIn session (ring_of_places (places_of cs)) (key_of_places (places_of cs)) are.holdings number d (client_among session xs number))
@@ -159,18 +164,35 @@ module _ (Is : Relation (AtPort × Client)) (keeps : KeepsHolding Is) (session :
   }
 
   moves : MovesLaid (free_seats (lobby_of (places_of cs))) (slice_index_or (clients_of cs) number d) (free_seats (lobby_of (places_of ds))) e
-  moves f k =
-      let old : laid_for (open_of (slice_index_or (clients_of cs) number d)) f k ≡ total (view_of seat).laid f k =
-      ap (λ (c : LabClient). laid_for (open_of c) f k) (sym is)
-      ∙ (ap (λ (own : Option OpenClient). laid_for own f k) open_is ∙ ap (λ (s : MixSeat). total (view_of s).laid f k) (sym closed.seat_is)) in
-      let new : laid_for (open_of e) f k ≡ pos 0 = ap (λ (own : Option OpenClient). laid_for own f k) closed.closed in
-      let places = laid f k in
+  moves worth =
+      let old : worth_left worth (laid_for (open_of (slice_index_or (clients_of cs) number d))) ≡ worth_of worth (standing (laid_list seat)) =
+      ap (λ (c : LabClient). worth_left worth (laid_for (open_of c))) (sym is)
+      ∙ (ap (λ (own : Option OpenClient). worth_left worth (laid_for own)) open_is ∙ ap (λ (s : MixSeat). worth_of worth (standing (laid_list s))) (sym closed.seat_is)) in
+      let new : worth_left worth (laid_for (open_of e)) ≡ pos 0 = ap (λ (own : Option OpenClient). worth_left worth (laid_for own)) closed.closed in
+      let places = worth_all-with worth (free_seats (lobby_of (places_of cs))) seat (free_seats (lobby_of (places_of ds))) laid in
       omega (arith, ints, old, new, places)
 
-  reported_still : IsReported session (free_seats (lobby_of (places_of ds))) (slice_set (clients_of cs) number e) (slice_set xs number ended)
+  -- no other client is at its place
+  apart-by : (n : ℕ) (a : LabClient) (b : AtPort × Client) → IsClientIn session ring key are.holdings n a b → n ≢ number → (own : Option OpenClient) → open_of a ≡ own
+      → IfSome own (λ (p : OpenClient). member_of seat ≢ member_of p.seat)
+  apart-by n a b other differ None own_open = tt
+  apart-by n a b other differ (Some p) own_open = λ same.
+      differ (HoldsPlace-one n number (member_of p.seat) other.last was.last held.lobby.places
+      (are.are_held.place n (record { place = member_of p.seat; before = other.last; channels = p.bindings }) (other.holds ∙ ap (holding_by other.last) own_open))
+      (subst (λ place. HoldsPlace number place was.last held.lobby.places) (ap member_of (sym closed.seat_is) ∙ same) (are.are_held.place number own-holding holds_it)))
+
+  apart : AreEach (λ n a b. IsApart number (member_of seat) n a) 0 (clients_of cs) xs
+  apart =
+      AreEach-map (Is session ring key are.holdings) (λ n a b. IsApart number (member_of seat) n a) 0 (clients_of cs) xs
+      (λ n a b each differ. apart-by n a b (in_run session ring key are.holdings n a b each) differ (open_of a) refl) are.each
+
+  reported_still : IsReported session (laid_lists (free_seats (lobby_of (places_of ds)))) (slice_set (clients_of cs) number e) (slice_set xs number ended)
   reported_still =
-      IsReported-exchanged session (free_seats (lobby_of (places_of cs))) (free_seats (lobby_of (places_of ds))) (clients_of cs) number d e xs (no_client session.ring) ended inside
-      (append-nil (segments_of client.1)) moves are.reported
+      IsReported-closed session (free_seats (lobby_of (places_of cs))) seat (free_seats (lobby_of (places_of ds))) laid (clients_of cs) number e o o.actor.number xs client ended are.reported
+      (IsPlacedFor-at session are.reported.history (clients_of cs) xs number d (no_client session.ring) are.reported.clients inside is (Some o) open_is) own_is closed.seat_is closed.closed refl
+      apart
+      (IsAsOften-exchanged session (free_seats (lobby_of (places_of cs))) (free_seats (lobby_of (places_of ds))) (clients_of cs) number d e xs (no_client session.ring) ended inside
+      (append-nil (segments_of client.1)) moves are.reported.as_often)
 
   -- what is held then is what a run has
   held_is : held_but session held xs number ≡ then_held
@@ -220,9 +242,9 @@ module _ (cs : LabClients) (number : ℕ) (d e : LabClient) (seat : MixSeat) (ch
       → (session : Session) (held : Held) (xs : List (AtPort × Client)) → AreAt session held xs cs → AreAt session (held_but session held xs number) (clients_but session xs number) ds
   AreAt-closed ds lasts closes same clients laid session held xs are =
       let was = IsClientAt-number session held xs cs number d are inside is in
-      AreIn-closed IsClientAt IsClientAt-holding session held xs cs ds number d e closing.own seat channels position are inside is was.is closing.open_is closing.closed lasts closes same clients
+      AreIn-closed IsClientAt IsClientAt-holding IsClientAt-in_run session held xs cs ds number d e closing.own seat channels position are inside is was.is closing.open_is closing.closed lasts closes same clients
       laid (record {
-        is = IsClientIn-closed IsClientAt IsClientAt-holding session held xs cs ds number d e closing.own seat channels position are inside is was.is closing.open_is closing.closed lasts
+        is = IsClientIn-closed IsClientAt IsClientAt-holding IsClientAt-in_run session held xs cs ds number d e closing.own seat channels position are inside is was.is closing.open_is closing.closed lasts
             closes same clients laid;
         goes = refl;
         rows = closing.closed.rows ∙ was.rows;

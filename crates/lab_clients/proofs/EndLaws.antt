@@ -1,29 +1,29 @@
 -- The clients at the beginning of a run, and at its end.
-use Rattle.std.specs.Prelude.{◌≡◌, ℕ, zero, suc, ◌+◌, ◌<◌, ◌≤◌, ◌+ℤ◌, ℤ, pos, true, false, List, [], ◌∷◌, ◌++◌, length, map, is_none, is_some, Option, Some, None, slice_index_or}
+use Rattle.std.specs.Prelude.{◌≡◌, ℕ, zero, suc, ◌+◌, ◌<◌, ◌≤◌, ℤ, pos, true, false, List, [], ◌∷◌, ◌++◌, length, map, is_none, is_some, Option, Some, None, option_map, replicate, slice_index_or, slice_set}
 use Rattle.std.specs.List.{AllByRecursion, flat_map}
 use Rattle.std.proofs.Common.{refl, sym, ◌∙◌, ap, subst, take, arith, inl, inr}
 use Rattle.std.proofs.lemmas.Bool.{cases_eq, cases_lt, false≢true}
 use Rattle.std.proofs.lemmas.Bool.Decides.{nat_tests}
 use Rattle.std.proofs.lemmas.Int.{ints}
-use Rattle.std.proofs.lemmas.List.{append-nil, length-map, take_more}
+use Rattle.std.proofs.lemmas.List.{append-nil, get_or-map, length-map, length-set, take_more}
 use Rattle.std.proofs.lemmas.List.Concat.{flat_map-append}
 use Rattle.std.proofs.lemmas.List.Elements.{All-from_recursion}
+use Rattle.std.proofs.lemmas.Option.{none-some, same_Some}
 use Rattle.snd_base.specs.Places as rings
 use Rattle.snd_base.specs.declared.geometry.Geometry.{Geometry}
 use Rattle.mix_core.specs.declared.port.Entry.{Entry}
 use Rattle.mix_core.specs.HistoryLaws.{total-append}
-use Rattle.mix_core.specs.Laid.{total}
+use Rattle.mix_core.specs.Laid.{standing, total}
 use Rattle.mix_core.specs.Marks.{high_frame}
 use Rattle.sum_table.specs.declared.seats.mix.MixSeat.{MixSeat}
 use Rattle.sum_table.specs.declared.view.Key.{Key}
-use Rattle.sum_table.specs.Known.{greater, last_frame}
 use Rattle.sum_table.specs.Seats.{TableId, key_of, places_of_seat, view_of}
-use Rattle.lobby.specs.Lobbies.{free_seats, laid_by_all}
-use Rattle.lobby.specs.Seats.{AreFree}
+use Rattle.lobby.specs.Lobbies.{free_seats, laid_by_all, laid_by}
+use Rattle.lobby.specs.Seats.{AreFree, seat_at}
 use Rattle.dmix_client.specs.declared.stream.PlaybackStream.{PlaybackStream}
 use Rattle.lab_script.specs.declared.script.Share.{Share}
 use Rattle.lab_script.specs.Script.{first_frame}
-use Rattle.lab_run.specs.Client.{Client, segments_of}
+use Rattle.lab_run.specs.Client.{Client, present_of, segments_of}
 use Rattle.lab_run.specs.Items.{Held, held_of, held_without}
 use Rattle.lab_run.specs.LabRun.{all_segments, entries_of, with_numbers}
 use Rattle.lab_run.specs.Places.{Place, is_free, is_held_by, left_place}
@@ -31,16 +31,19 @@ use Rattle.lab_run.specs.Rules.{AtPort}
 use Rattle.lab_run.specs.Stage.{Session, Setup, ended_client, first_stage, new_port, no_client}
 use Rattle.lab_places.specs.Held.{AreAtPlaces, HoldsNone, IsHeldBy, key_of_places, lobby_of, new_held, ring_of_places, share_of, shares_of}
 use Rattle.lab_places.specs.Holdings.{AreHeld-new, Holding, Holdings}
+use Rattle.lab_places.specs.Laid.{IsUnlaid, laid_list, laid_lists}
 use Rattle.lab_actors.specs.Walks.{AreEach}
 use Rattle.lab_client.specs.declared.client.LabClient.{LabClient}
 use Rattle.lab_client.specs.declared.open_client.OpenClient.{OpenClient}
 use Rattle.lab_client.specs.Clients.{IsAt, client_by, client_in, ended_of, open_of}
 use Rattle.lab_client.specs.OpeningLaws.{IsAt-closed}
 use Rattle.lab_clients.specs.declared.clients.LabClients.{LabClients}
-use Rattle.lab_clients.specs.AtStage.{AreAt, IsClientAt, IsNewCardOf, IsSetUp, clients_of, holding_by, laid_for, laid_free, laid_open, places_of}
-use Rattle.lab_clients.specs.End.{AreNewClients, HasEnded, IsNewClient, segments_by}
+use Rattle.lab_clients.specs.AtStage.{AreAt, IsClientAt, IsNewCardOf, IsSetUp, clients_of, holding_by, places_of}
+use Rattle.lab_clients.specs.End.{AreNewClients, HasEnded, IsNewClient, IsPlacedAll, segments_by}
 use Rattle.lab_clients.specs.Exchanged.{all_segments-set}
 use Rattle.lab_clients.specs.Opening.{AreOfRun, IsClosedAt, client_among, clients_but, held_but, open_at}
+use Rattle.lab_clients.specs.Placed.{IsClientPlaced, IsPlacedBy, IsPlacedFor, IsReported, SeatSegment, client_segments, laid_for, open_lists, place_segments, worth_all, worth_left, worth_of}
+use Rattle.lab_clients.specs.PlacedLaws.{worth_all-new, worth_at, worth_of-append, worth_of-worth_at}
 use Rattle.lab_clients.specs.Steps.{sound_at}
 use Rattle.lab_clients.proofs.OpenAt.{open_at-past}
 
@@ -91,42 +94,56 @@ module _ (session : Session) (ring : TableId) (key : Key) (ring_is : key.geometr
   AreEach-new number (d ∷ ds) (setup ∷ setups) len are = (IsClientAt-new number d are.0, AreEach-new (number + 1) ds setups (omega (arith, len)) are.1)
 
 -- nothing was placed for clients that were never open, and they have no segments
-laid_open-new : (number : ℕ) (ds : List LabClient) (f k : ℕ) → AreNewClients number ds → laid_open ds f k ≡ pos 0
-laid_open-new number [] f k are = refl
-laid_open-new number (d ∷ ds) f k are =
-    let closed : laid_for (open_of d) f k ≡ pos 0 = ap (λ (o : Option OpenClient). laid_for o f k) (none-open d (ap (λ (c : Client). c.own) are.0.client)) in
-    let more = laid_open-new (number + 1) ds f k are.1 in
+open_lists-new : (worth : Entry → ℤ) (number : ℕ) (ds : List LabClient) → AreNewClients number ds → worth_all worth (open_lists ds) ≡ pos 0
+open_lists-new worth number [] are = refl
+open_lists-new worth number (d ∷ ds) are =
+    let closed : worth_left worth (laid_for (open_of d)) ≡ pos 0 =
+    ap (λ (o : Option OpenClient). worth_left worth (laid_for o)) (none-open d (ap (λ (c : Client). c.own) are.0.client)) in
+    let more = open_lists-new worth (number + 1) ds are.1 in
     omega (arith, ints, closed, more)
+
+IsClientPlaced-new : (session : Session) (ring : Geometry) (number : ℕ) (ds : List LabClient) (setups : List (Option Setup)) → length setups ≡ length ds → AreNewClients number ds
+    → AreEach (IsClientPlaced session []) number ds (map (λ setup. no_client ring) setups)
+IsClientPlaced-new session ring number [] [] len are = tt
+IsClientPlaced-new session ring number [] (setup ∷ setups) len are = absurd (omega (arith, len))
+IsClientPlaced-new session ring number (d ∷ ds) [] len are = absurd (omega (arith, len))
+IsClientPlaced-new session ring number (d ∷ ds) (setup ∷ setups) len are = (
+  subst (λ (o : Option OpenClient). IsPlacedFor session [] number o (no_client ring).1) (sym (none-open d (ap (λ (c : Client). c.own) are.0.client))) refl,
+  IsClientPlaced-new session ring (number + 1) ds setups (omega (arith, len)) are.1,
+)
 
 numbered-none : (ring : Geometry) (number : ℕ) (setups : List (Option Setup))
     → with_numbers (λ (client : AtPort × Client). segments_of client.1) number (map (λ setup. no_client ring) setups) ≡ []
 numbered-none ring number [] = refl
 numbered-none ring number (setup ∷ setups) = numbered-none ring (number + 1) setups
 
--- a seat without a last frame placed nothing, so the seats of a new card's places placed nothing
-laid-none : (es : List Entry) → last_frame es ≡ None → es ≡ []
-laid-none [] is = refl
-laid-none (e ∷ es) is = by_last (last_frame es) is
-  where
-    by_last : (last : Option ℕ) → greater (Some e.frame) last ≡ None → e ∷ es ≡ []
-    by_last None is = absurd (cc)
-    by_last (Some frame) is = absurd (cc)
+-- the lists of the seats of a new card's places
+none-placed : (places place : ℕ) (laid : List Entry) → slice_index_or (replicate places (Some [])) place None ≡ Some laid → [] ≡ laid
+none-placed zero place laid is = absurd (none-some laid is)
+none-placed (suc places) zero laid is = same_Some [] laid is
+none-placed (suc places) (suc place) laid is = none-placed places place laid is
 
-laid_free-new : (seats : List (Option MixSeat)) (places first : ℕ) (f k : ℕ) → AreAtPlaces seats (new_held places first).lobby.places → laid_free seats f k ≡ pos 0
-laid_free-new [] places first f k at = refl
-laid_free-new (seat ∷ seats) zero first f k at = absurd at
-laid_free-new (None ∷ seats) (suc places) first f k at = let more = laid_free-new seats places first f k at.1 in omega (arith, ints, more)
-laid_free-new (Some s ∷ seats) (suc places) first f k at =
-    let more = laid_free-new seats places first f k at.1 in
-    let here : total (view_of s).laid f k ≡ pos 0 = ap (λ (es : List Entry). total es f k) (laid-none (view_of s).laid (sym at.0.1)) in
-    omega (arith, ints, here, more)
+IsReported-new : (session : Session) (seats : List (Option MixSeat)) (ds : List LabClient) → IsUnlaid seats → length session.clients ≡ length ds → AreNewClients 0 ds
+    → IsReported session (laid_lists seats) ds (map (λ setup. no_client session.ring) session.clients)
+IsReported-new session seats ds unlaid len new =
+    subst (λ lists. IsReported session lists ds (map (λ setup. no_client session.ring) session.clients)) (sym unlaid) (record {
+      history = [];
+      free = λ place laid is. subst (λ (es : List Entry). IsPlacedBy session es []) (none-placed (length seats) place laid is) (record { entries = refl; totals = λ f k. refl });
+      clients = IsClientPlaced-new session session.ring 0 ds session.clients len new;
+      as_often = λ worth.
+          let free = worth_all-new worth (length seats) in
+          let open_ones = open_lists-new worth 0 ds new in
+          let none : worth_of worth (entries_of session (all_segments (map (λ setup. no_client session.ring) session.clients))) ≡ pos 0 =
+          ap (λ segments. worth_of worth (entries_of session segments)) (numbered-none session.ring 0 session.clients) in
+          omega (arith, ints, free, open_ones, none);
+    })
 
 -- The clients of a new card are those of a run before its first item.
 pub AreAt-new : (session : Session) (seat : MixSeat) (sharing : Share) (count : ℕ) (cs : LabClients) → IsNewCardOf session seat sharing → length session.clients ≡ count
     → IsHeldBy (places_of cs) (new_held (places_of_seat seat) (rings.first_frame (key_of seat).geometry)) → key_of_places (places_of cs) ≡ key_of seat → share_of (places_of cs) ≡ sharing
-    → (shares_of (places_of cs)).channels ≡ (key_of seat).geometry.channels → AreNewClients 0 (clients_of cs) → length (clients_of cs) ≡ count
+    → (shares_of (places_of cs)).channels ≡ (key_of seat).geometry.channels → IsUnlaid (free_seats (lobby_of (places_of cs))) → AreNewClients 0 (clients_of cs) → length (clients_of cs) ≡ count
     → AreAt session (held_of (first_stage session)) (first_stage session).clients cs
-AreAt-new session seat sharing count cs card setups held_by key_is share_is channels_is new len =
+AreAt-new session seat sharing count cs card setups held_by key_is share_is channels_is unlaid new len =
     let ring_is : (key_of_places (places_of cs)).geometry ≡ session.ring = ap (λ (key : Key). key.geometry) key_is ∙ card.ring in
     let held_is : new_held (places_of_seat seat) (rings.first_frame (key_of seat).geometry) ≡ held_of (first_stage session) =
     ap (λ n. new_held n (rings.first_frame (key_of seat).geometry)) card.places
@@ -143,12 +160,7 @@ AreAt-new session seat sharing count cs card setups held_by key_is share_is chan
       are_held = AreHeld-new (share_of (places_of cs)) session.card.places (first_frame session.card) no_holdings (λ n. refl);
       no_others = λ n past. refl;
       each = AreEach-new session (ring_of_places (places_of cs)) (key_of_places (places_of cs)) ring_is 0 (clients_of cs) session.clients (setups ∙ sym len) new;
-      reported = λ f k.
-          let free = laid_free-new (free_seats (lobby_of (places_of cs))) (places_of_seat seat) (rings.first_frame (key_of seat).geometry) f k held_by.lobby.places in
-          let open_ones = laid_open-new 0 (clients_of cs) f k new in
-          let none : total (entries_of session (all_segments (first_stage session).clients)) f k ≡ pos 0 =
-          ap (λ segments. total (entries_of session segments) f k) (numbered-none session.ring 0 session.clients) in
-          omega (arith, ints, free, open_ones, none);
+      reported = IsReported-new session (free_seats (lobby_of (places_of cs))) (clients_of cs) unlaid (setups ∙ sym len) new;
     }
 
 -- ---- the segments
@@ -188,7 +200,17 @@ take-past (d ∷ ds) (suc n) past = ap (λ more. d ∷ more) (take-past ds n (om
 
 -- before any is
 pub HasEnded-none : (session : Session) (held : Held) (xs : List (AtPort × Client)) (cs : LabClients) → AreAt session held xs cs → HasEnded session held xs cs
-HasEnded-none session held xs cs are = record { then_held = held; ys = xs; are = are; segments = refl; places = refl }
+HasEnded-none session held xs cs are =
+    record { then_held = held; ys = xs; are = are; segments = refl; each = λ number x. refl; count = refl; places = refl }
+
+-- each client has the segments that it had where one is exchanged that has those of the one before
+segments_of-set : (xs : List (AtPort × Client)) (at : ℕ) (y d : AtPort × Client) (number : ℕ) (x : AtPort × Client) → segments_of y.1 ≡ segments_of (slice_index_or xs at d).1
+    → segments_of (slice_index_or (slice_set xs at y) number x).1 ≡ segments_of (slice_index_or xs number x).1
+segments_of-set [] at y d number x same = refl
+segments_of-set (first ∷ xs) zero y d zero x same = same
+segments_of-set (first ∷ xs) zero y d (suc number) x same = refl
+segments_of-set (first ∷ xs) (suc at) y d zero x same = refl
+segments_of-set (first ∷ xs) (suc at) y d (suc number) x same = segments_of-set xs at y d number x same
 
 length-held_but : (session : Session) (held : Held) (xs : List (AtPort × Client)) (number : ℕ) → length (held_but session held xs number).lobby.places ≡ length held.lobby.places
 length-held_but session held xs number = by_own (client_among session xs number).1.own
@@ -208,6 +230,11 @@ HasEnded-more session held xs number cs ds closes has = record {
   segments = all_segments-set has.ys number (ended_client session.ring (client_among session has.ys number)) (no_client session.ring)
       (append-nil (segments_of (client_among session has.ys number).1))
       ∙ has.segments;
+  each = λ n x.
+      segments_of-set has.ys number (ended_client session.ring (client_among session has.ys number)) (no_client session.ring) n x
+      (append-nil (segments_of (client_among session has.ys number).1))
+      ∙ has.each n x;
+  count = length-set has.ys number (ended_client session.ring (client_among session has.ys number)) ∙ has.count;
   places = length-held_but session has.then_held has.ys number ∙ has.places;
 }
 
@@ -283,31 +310,99 @@ AreFree-closed session held xs cs are closed =
     All-from_recursion (λ seat. is_some seat ≡ true) (free_seats (lobby_of (places_of cs)))
     (are-free (free_seats (lobby_of (places_of cs))) held.lobby.places are.held_by.lobby.places (λ n. are.are_held.none n (none-held session held xs cs are closed n)))
 
--- what was placed through all places, as one list
-total-laid_by_all : (seats : List (Option MixSeat)) (f k : ℕ) → total (laid_by_all seats) f k ≡ laid_free seats f k
-total-laid_by_all [] f k = refl
-total-laid_by_all (None ∷ seats) f k = let more = total-laid_by_all seats f k in omega (arith, ints, more)
-total-laid_by_all (Some s ∷ seats) f k =
-    total-append (view_of s).laid (laid_by_all seats) f k ∙ ap (λ (sum : ℤ). total (view_of s).laid f k +ℤ sum) (total-laid_by_all seats f k)
+-- ---- what was placed through all places
 
-laid_open-closed : (ds : List LabClient) (f k : ℕ) → ((n : ℕ) → open_at ds n ≡ None) → laid_open ds f k ≡ pos 0
-laid_open-closed [] f k closed = refl
-laid_open-closed (d ∷ ds) f k closed =
-    let here : laid_for (open_of d) f k ≡ pos 0 = ap (λ (o : Option OpenClient). laid_for o f k) (closed 0) in
-    let more = laid_open-closed ds f k (λ n. closed (suc n)) in
+-- the sum of all lists, and what is left of them
+total-laid_by_all : (seats : List (Option MixSeat)) (f k : ℕ)
+    → ((place : ℕ) (laid : List Entry) → slice_index_or (laid_lists seats) place None ≡ Some laid → total laid f k ≡ total (standing laid) f k)
+    → total (laid_by_all seats) f k ≡ worth_all (worth_at f k) (laid_lists seats)
+total-laid_by_all [] f k each = refl
+total-laid_by_all (None ∷ seats) f k each =
+    let more = total-laid_by_all seats f k (λ place laid is. each (suc place) laid is) in omega (arith, ints, more)
+total-laid_by_all (Some s ∷ seats) f k each =
+    let sum = total-append (laid_list s) (laid_by_all seats) f k in
+    let own = each 0 (laid_list s) refl ∙ sym (worth_of-worth_at f k (standing (laid_list s))) in
+    let more = total-laid_by_all seats f k (λ place laid is. each (suc place) laid is) in
+    omega (arith, ints, sum, own, more)
+
+worth_of-lists : (worth : Entry → ℤ) (seats : List (Option MixSeat)) → worth_of worth (flat_map standing (map laid_by seats)) ≡ worth_all worth (laid_lists seats)
+worth_of-lists worth [] = refl
+worth_of-lists worth (None ∷ seats) = let more = worth_of-lists worth seats in omega (arith, ints, more)
+worth_of-lists worth (Some s ∷ seats) =
+    let more = worth_of-lists worth seats in
+    let sum = worth_of-append worth (standing (laid_list s)) (flat_map standing (map laid_by seats)) in
+    omega (arith, ints, more, sum)
+
+flat_map-lists : (seats : List (Option MixSeat)) → laid_by_all seats ≡ flat_map (λ es. es) (map laid_by seats)
+flat_map-lists [] = refl
+flat_map-lists (seat ∷ seats) = ap (λ (more : List Entry). laid_by seat ++ more) (flat_map-lists seats)
+
+open_lists-closed : (worth : Entry → ℤ) (ds : List LabClient) → ((n : ℕ) → open_at ds n ≡ None) → worth_all worth (open_lists ds) ≡ pos 0
+open_lists-closed worth [] closed = refl
+open_lists-closed worth (d ∷ ds) closed =
+    let here : worth_left worth (laid_for (open_of d)) ≡ pos 0 = ap (λ (o : Option OpenClient). worth_left worth (laid_for o)) (closed 0) in
+    let more = open_lists-closed worth ds (λ n. closed (suc n)) in
     omega (arith, ints, here, more)
 
--- and it is what the segments say
-pub total-ended : (session : Session) (held : Held) (xs : List (AtPort × Client)) (cs : LabClients) (seat : MixSeat) (f k : ℕ) → HasEnded session held xs cs
-    → ((n : ℕ) → open_at (clients_of cs) n ≡ None) → (view_of seat).laid ≡ laid_by_all (free_seats (lobby_of (places_of cs)))
-    → total (view_of seat).laid f k ≡ total (entries_of session (all_segments xs)) f k
-total-ended session held xs cs seat f k has closed laid =
-    let one : total (view_of seat).laid f k ≡ laid_free (free_seats (lobby_of (places_of cs))) f k =
-    ap (λ (es : List Entry). total es f k) laid ∙ total-laid_by_all (free_seats (lobby_of (places_of cs))) f k in
-    let none = laid_open-closed (clients_of cs) f k closed in
-    let said = has.are.reported f k in
-    let sums : total (view_of seat).laid f k ≡ total (entries_of session (all_segments has.ys)) f k = omega (arith, ints, one, none, said) in
-    sums ∙ ap (λ segments. total (entries_of session segments) f k) has.segments
+-- the segments of a client that isn't open
+client_segments-closed : (session : Session) (ring : TableId) (key : Key) (holdings : Holdings) (history : List SeatSegment) (number : ℕ) (ds : List LabClient) (ys : List (AtPort × Client))
+    (i : ℕ) (y : AtPort × Client) → AreEach (IsClientAt session ring key holdings) number ds ys → AreEach (IsClientPlaced session history) number ds ys → ((n : ℕ) → open_at ds n ≡ None)
+    → i < length ys → segments_of (slice_index_or ys i y).1 ≡ client_segments (number + i) history
+client_segments-closed session ring key holdings history number ds [] i y are placed closed inside = absurd (omega (arith, inside))
+client_segments-closed session ring key holdings history number [] (x ∷ ys) i y are placed closed inside = absurd are
+client_segments-closed session ring key holdings history number (d ∷ ds) (x ∷ ys) zero y are placed closed inside =
+    let own : x.1.own ≡ None = ap (λ (c : Client). c.own) (sym are.0.is.client) ∙ ap (λ (o : Option OpenClient). (client_by (ended_of d) o).own) (closed 0) in
+    let ended : x.1.ended ≡ client_segments number history = subst (λ (o : Option OpenClient). IsPlacedFor session history number o x.1) (closed 0) placed.0 in
+    ap (λ (stream : Option PlaybackStream). x.1.ended ++ present_of stream) own
+    ∙ (append-nil x.1.ended ∙ (ended ∙ ap (λ n. client_segments n history) (omega arith)))
+client_segments-closed session ring key holdings history number (d ∷ ds) (x ∷ ys) (suc i) y are placed closed inside =
+    client_segments-closed session ring key holdings history (number + 1) ds ys i y are.1 placed.1 (λ n. closed (suc n)) (omega (arith, inside))
+    ∙ ap (λ n. client_segments n history) (omega arith)
+
+-- the clients are closed, and the seats of all places were joined
+module _ (session : Session) (held : Held) (xs : List (AtPort × Client)) (cs : LabClients) (seat : MixSeat) (has : HasEnded session held xs cs)
+    (closed : (n : ℕ) → open_at (clients_of cs) n ≡ None) (laid : (view_of seat).laid ≡ laid_by_all (free_seats (lobby_of (places_of cs)))) where
+  abbrev seats : List (Option MixSeat)
+  seats = free_seats (lobby_of (places_of cs))
+
+  abbrev reported : IsReported session (laid_lists seats) (clients_of cs) has.ys
+  reported = has.are.reported
+
+  -- all that is left in the lists
+  left-ended : (worth : Entry → ℤ) → worth_all worth (laid_lists seats) ≡ worth_of worth (entries_of session (all_segments xs))
+  left-ended worth =
+      let none = open_lists-closed worth (clients_of cs) closed in
+      let said = reported.as_often worth in
+      let sums : worth_all worth (laid_lists seats) ≡ worth_of worth (entries_of session (all_segments has.ys)) = omega (arith, ints, none, said) in
+      sums ∙ ap (λ segments. worth_of worth (entries_of session segments)) has.segments
+
+  -- a place's list
+  placed-at : (place : ℕ) → place < length seats → (o : Option MixSeat) → seat_at seats place ≡ o → is_some o ≡ true
+      → IsPlacedBy session (slice_index_or (map laid_by seats) place []) (place_segments place reported.history)
+  placed-at place inside None is some = absurd (cc)
+  placed-at place inside (Some s) is some =
+      subst (λ (es : List Entry). IsPlacedBy session es (place_segments place reported.history)) (sym (get_or-map laid_by seats place None [] inside ∙ ap laid_by is))
+      (reported.free place (laid_list s) (get_or-map (option_map laid_list) seats place None None inside ∙ ap (option_map laid_list) is))
+
+  pub IsPlacedAll-ended : IsPlacedAll session xs (view_of seat).laid
+  IsPlacedAll-ended = record {
+    lists = map laid_by seats;
+    joined = laid ∙ flat_map-lists seats;
+    history = reported.history;
+    places = λ place inside.
+        let within : place < length seats = let len = length-map seats laid_by in omega (arith, inside, len) in
+        placed-at place within (seat_at seats place) refl (AreFree-closed session has.then_held has.ys cs has.are closed place None within);
+    clients = λ number x inside.
+        sym (has.each number x)
+        ∙ (client_segments-closed session (ring_of_places (places_of cs)) (key_of_places (places_of cs)) has.are.holdings reported.history 0 (clients_of cs) has.ys number x has.are.each
+        reported.clients closed (let count = has.count in omega (arith, inside, count))
+        ∙ ap (λ n. client_segments n reported.history) (let first : 0 + number ≡ number = omega arith in first));
+    as_often = λ worth. worth_of-lists worth seats ∙ left-ended worth;
+    totals = λ f k.
+        ap (λ (es : List Entry). total es f k) laid
+        ∙ (total-laid_by_all seats f k (λ place es is. (reported.free place es is).totals f k)
+        ∙ (left-ended (worth_at f k) ∙ worth_of-worth_at f k (entries_of session (all_segments xs))));
+  }
 
 pub places-ended : (session : Session) (held : Held) (xs : List (AtPort × Client)) (cs : LabClients) → HasEnded session held xs cs
     → length (free_seats (lobby_of (places_of cs))) ≡ length held.lobby.places

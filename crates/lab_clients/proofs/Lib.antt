@@ -5,3 +5,4 @@ mod OpeningLaws
 mod ReapLaws
 mod RunLemmas
 mod SameLemmas
+mod SeatLaws

@@ -7,10 +7,10 @@ use Rattle.snd_base.specs.declared.errors.PcmError.{PcmError}
 use Rattle.snd_base.specs.declared.errors.PcmError.TheVariants.{BadState, Invalid}
 use Rattle.snd_base.specs.declared.errors.Why.TheVariants as why
 use Rattle.snd_base.specs.declared.geometry.Geometry.{Geometry}
-use Rattle.mix_core.specs.Laid.{total}
+use Rattle.mix_core.specs.Laid.{standing}
 use Rattle.sum_table.specs.declared.seats.mix.MixSeat.{MixSeat}
 use Rattle.sum_table.specs.declared.view.Key.{Key}
-use Rattle.sum_table.specs.Seats.{TableId, member_of, view_of}
+use Rattle.sum_table.specs.Seats.{TableId, member_of}
 use Rattle.lobby.specs.Lobbies.{free_seats}
 use Rattle.lobby.specs.Seats.{last_of}
 use Rattle.dmix_client.specs.declared.stream.PlaybackStream.{PlaybackStream}
@@ -20,12 +20,13 @@ use Rattle.lab_script.specs.declared.script.Share.{Share}
 use Rattle.lab_report.specs.declared.row.Answer.{Answer}
 use Rattle.lab_report.specs.declared.row.Answer.TheVariants.{Done, Failed}
 use Rattle.lab_report.specs.declared.row.Row.{Row}
-use Rattle.lab_run.specs.Client.{Client, present_of, row_by, segments_of}
+use Rattle.lab_run.specs.Client.{Client, present_of, row_by, segments_of, stretch_of}
 use Rattle.lab_run.specs.Items.{Held, held_of}
 use Rattle.lab_run.specs.Rules.{AtPort}
 use Rattle.lab_run.specs.Stage.{Session, Setup, Stage, after_open, client_at, new_port, no_client, open_client, open_client_with, opened_client, renewed_port, with_row}
 use Rattle.lab_places.specs.Held.{IsGiven, IsSameCard, Opens, key_of_places, lobby_of, ring_of_places, share_of}
 use Rattle.lab_places.specs.Holdings.{AreHeld, AreHeld-opened, AreHeld-refused, Holding, Holdings}
+use Rattle.lab_places.specs.Laid.{laid_list, laid_lists}
 use Rattle.lab_places.specs.StageLaws.{came_of, open_client_with-done, open_client_with-refused, with_held, with_opened}
 use Rattle.lab_actors.specs.Walks.{AreEach-at}
 use Rattle.lab_client.specs.declared.client.LabClient.{LabClient}
@@ -34,10 +35,12 @@ use Rattle.lab_client.specs.Clients.{IsAt, client_by, client_in, ended_of, is_op
 use Rattle.lab_client.specs.OpeningLaws.{IsAt-opened, client-opened, new_client}
 use Rattle.lab_client.specs.Openings.{HasOpened, IsNewlyOpen}
 use Rattle.lab_clients.specs.declared.clients.LabClients.{LabClients}
-use Rattle.lab_clients.specs.AtStage.{AreAfter, AreAt, IsClientAt, IsReported, IsSetUp, clients_of, holding_by, laid_for, places_of}
-use Rattle.lab_clients.specs.Exchanged.{AreIn-exchanged, AreIn-places, ChangesAt-with_holding, IsClientAt-holding, IsLaidAlike, IsLaidWith, IsReported-exchanged, MovesLaid, with_holding}
+use Rattle.lab_clients.specs.AtStage.{AreAfter, AreAt, IsClientAt, IsSetUp, clients_of, holding_by, places_of}
+use Rattle.lab_clients.specs.Exchanged.{AreIn-exchanged, AreIn-places, ChangesAt-with_holding, IsAsOften, IsAsOften-exchanged, IsClientAt-holding, IsLaidAlike, IsLaidWith, MovesLaid, with_holding, worth_all-with}
 use Rattle.lab_clients.specs.Opening.{AreAtStage, AreBeforeOpening, client_among}
+use Rattle.lab_clients.specs.Placed.{IsReported, laid_for, worth_left, worth_of}
 use Rattle.lab_clients.specs.Steps.{sound_at}
+use Rattle.lab_clients.proofs.SeatLaws.{IsPlacedFor-at, IsReported-opened}
 
 -- ---- the client of a number
 
@@ -234,16 +237,16 @@ module _ (session : Session) (stage : Stage) (number : ℕ) (setup : Setup) (pos
     rows = no-rows (open_of e) opened.own;
   }
 
-  laid-new : (o : Option OpenClient) → IsSomeAnd o (IsNewlyOpen seat setup position d) → (f k : ℕ) → laid_for o f k ≡ total (view_of seat).laid f k
-  laid-new None never f k = absurd never
-  laid-new (Some o) new f k = ap (λ (s : MixSeat). total (view_of s).laid f k) new.seat_is
+  laid-new : (o : Option OpenClient) → IsSomeAnd o (IsNewlyOpen seat setup position d) → laid_for o ≡ Some (laid_list seat)
+  laid-new None never = absurd never
+  laid-new (Some o) new = ap (λ (s : MixSeat). Some (laid_list s)) new.seat_is
 
   moves : MovesLaid (free_seats (lobby_of (places_of cs))) (slice_index_or (clients_of cs) number d) (free_seats (lobby_of (places_of ds))) e
-  moves f k =
-      let old : laid_for (open_of (slice_index_or (clients_of cs) number d)) f k ≡ pos 0 =
-      ap (λ (c : LabClient). laid_for (open_of c) f k) (sym is) ∙ ap (λ (o : Option OpenClient). laid_for o f k) closed in
-      let new = laid-new (open_of e) opened.own f k in
-      let places = laid f k in
+  moves worth =
+      let old : worth_left worth (laid_for (open_of (slice_index_or (clients_of cs) number d))) ≡ pos 0 =
+      ap (λ (c : LabClient). worth_left worth (laid_for (open_of c))) (sym is) ∙ ap (λ (o : Option OpenClient). worth_left worth (laid_for o)) closed in
+      let new : worth_left worth (laid_for (open_of e)) ≡ worth_of worth (standing (laid_list seat)) = ap (worth_left worth) (laid-new (open_of e) opened.own) in
+      let places = worth_all-with worth (free_seats (lobby_of (places_of ds))) seat (free_seats (lobby_of (places_of cs))) laid in
       omega (arith, ints, old, new, places)
 
   segments-are : segments_of opened-as.1 ≡ segments_of (client_at session stage number).1
@@ -251,10 +254,19 @@ module _ (session : Session) (stage : Stage) (number : ℕ) (setup : Setup) (pos
       ap (λ (own : Option PlaybackStream). (client_at session stage number).1.ended ++ present_of own)
       (sym (own-is session stage phase number cs d before.at inside is ∙ none-own d closed))
 
-  reported-still : IsReported session (free_seats (lobby_of (places_of ds))) (slice_set (clients_of cs) number e) (slice_set stage.clients number opened-as)
-  reported-still =
-      IsReported-exchanged session (free_seats (lobby_of (places_of cs))) (free_seats (lobby_of (places_of ds))) (clients_of cs) number d e stage.clients (no_client session.ring) opened-as
-      inside segments-are moves before.at.are.reported
+  as-often : IsAsOften session (free_seats (lobby_of (places_of ds))) (slice_set (clients_of cs) number e) (slice_set stage.clients number opened-as)
+  as-often =
+      IsAsOften-exchanged session (free_seats (lobby_of (places_of cs))) (free_seats (lobby_of (places_of ds))) (clients_of cs) number d e stage.clients (no_client session.ring) opened-as
+      inside segments-are moves before.at.are.reported.as_often
+
+  -- what its seat placed before is what the segments say that were made through it
+  reported-by : (o : Option OpenClient) → open_of e ≡ o → IsSomeAnd o (IsNewlyOpen seat setup position d)
+      → IsReported session (laid_lists (free_seats (lobby_of (places_of ds)))) (slice_set (clients_of cs) number e) (slice_set stage.clients number opened-as)
+  reported-by None open_is never = absurd never
+  reported-by (Some o) open_is new =
+      IsReported-opened session (free_seats (lobby_of (places_of ds))) seat (free_seats (lobby_of (places_of cs))) laid (clients_of cs) number e o stage.clients opened-as
+      before.at.are.reported open_is new.seat_is (ap stretch_of new.stream)
+      (IsPlacedFor-at session before.at.are.reported.history (clients_of cs) stage.clients number d (no_client session.ring) before.at.are.reported.clients inside is None closed) as-often
 
   held-opened : AreHeld (share_of (places_of cs)) opened-held opened-holdings
   held-opened =
@@ -267,7 +279,7 @@ module _ (session : Session) (stage : Stage) (number : ℕ) (setup : Setup) (pos
   all-opened : AreAt session opened-held (slice_set stage.clients number opened-as) ds
   all-opened =
       AreIn-exchanged IsClientAt IsClientAt-holding session (held_of stage) opened-held stage.clients cs ds number e opened-as (Some own-holding) before.at.are same inside clients
-      at.held_then held-opened own-client reported-still
+      at.held_then held-opened own-client (reported-by (open_of e) refl opened.own)
 
   -- the row of the opening
   opened-row : row_by stage.phases number op.Opens (Some (opened_client session.ring number setup)) Done ≡ row_by phase (number_of e) op.Opens (client_in e).own Done

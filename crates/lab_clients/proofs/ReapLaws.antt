@@ -23,7 +23,7 @@ use Rattle.lab_clients.specs.declared.clients.LabClients.{LabClients}
 use Rattle.lab_clients.specs.AtStage.{AreAt, AreDone, IsClientDone, clients_of, places_of}
 use Rattle.lab_clients.specs.Exchanged.{IsLaidWith}
 use Rattle.lab_clients.specs.Opening.{client_among, clients_but, held_but}
-use Rattle.lab_clients.specs.Reaped.{AreAt-reaped, IsClientDone-holding, clients_reaped, held_reaped, held_to, held_to-all, held_to-next, reaped_to, reaped_to-all, reaped_to-next}
+use Rattle.lab_clients.specs.Reaped.{AreAt-reaped, IsClientDone-holding, IsClientDone-in_run, clients_reaped, held_reaped, held_to, held_to-all, held_to-next, reaped_to, reaped_to-all, reaped_to-next}
 use Rattle.lab_clients.proofs.ClosingLaws.{AreIn-closed, CanClose-client, ClosesAny, IsClientIn-closed, OneRing-client}
 
 -- a client whose gate stopped it is open
@@ -110,9 +110,9 @@ pub AreDone-closed : (session : Session) (held : Held) (xs : List (AtPort × Cli
     → AreDone session (held_but session held xs number) (clients_but session xs number) ds
 AreDone-closed session held xs cs ds number d e seat channels position done inside is was lasts closes same clients laid =
     let own = IsClientDone-number session held xs cs number d done inside is in
-    AreIn-closed IsClientDone IsClientDone-holding session held xs cs ds number d e was.own seat channels position done inside is own.is was.open_is was.closed lasts closes same clients laid
+    AreIn-closed IsClientDone IsClientDone-holding IsClientDone-in_run session held xs cs ds number d e was.own seat channels position done inside is own.is was.open_is was.closed lasts closes same clients laid
     (record {
-      is = IsClientIn-closed IsClientDone IsClientDone-holding session held xs cs ds number d e was.own seat channels position done inside is own.is was.open_is was.closed lasts closes same
+      is = IsClientIn-closed IsClientDone IsClientDone-holding IsClientDone-in_run session held xs cs ds number d e was.own seat channels position done inside is own.is was.open_is was.closed lasts closes same
           clients laid;
       rows = was.closed.rows ∙ own.rows;
     })

@@ -1,29 +1,28 @@
 -- The clients of the lab are the clients of a run at a stage of it, with the places and the channels that they hold, and with what was placed for them.
-use Rattle.std.specs.Prelude.{◌≡◌, ℕ, ◌≤◌, ◌+ℤ◌, ℤ, pos, false, List, [], ◌∷◌, ◌++◌, length, Option, Some, None, slice_index_or, ⊤}
+use Rattle.std.specs.Prelude.{◌≡◌, ℕ, ◌≤◌, false, List, [], ◌∷◌, ◌++◌, length, Option, Some, None, slice_index_or, ⊤}
 use Rattle.snd_base.specs.Places as rings
-use Rattle.mix_core.specs.Laid.{total}
 use Rattle.sum_table.specs.declared.seats.mix.MixSeat.{MixSeat}
 use Rattle.sum_table.specs.declared.view.Key.{Key}
-use Rattle.sum_table.specs.Seats.{TableId, geometry_of, member_of, places_of_seat, view_of}
+use Rattle.sum_table.specs.Seats.{TableId, geometry_of, member_of, places_of_seat}
 use Rattle.lobby.specs.Lobbies.{free_seats}
 use Rattle.lab_script.specs.declared.script.Share.{Share}
 use Rattle.lab_script.specs.Script.{first_frame}
 use Rattle.lab_report.specs.declared.row.Row.{Row}
 use Rattle.lab_run.specs.Client.{Client}
 use Rattle.lab_run.specs.Items.{Held, held_of, is_stopped}
-use Rattle.lab_run.specs.LabRun.{all_segments, entries_of}
 use Rattle.lab_run.specs.Rules.{AtPort}
 use Rattle.lab_run.specs.Stage.{Session, Setup, Stage}
 use Rattle.lab_setup.specs.Usable.{IsUsable}
 use Rattle.lab_places.specs.declared.places.Places.{Places}
 use Rattle.lab_places.specs.Held.{IsHeldBy, key_of_places, lobby_of, ring_of_places, share_of, shares_of}
-pub use Rattle.lab_places.specs.Laid.{laid_by, laid_free}
+use Rattle.lab_places.specs.Laid.{laid_lists}
 use Rattle.lab_places.specs.Holdings.{AreHeld, Holding, Holdings}
 use Rattle.lab_client.specs.declared.client.LabClient.{LabClient}
 use Rattle.lab_client.specs.declared.open_client.OpenClient.{OpenClient}
 use Rattle.lab_client.specs.Clients.{IsAt, client_in, number_of, open_of, rows_of}
 use Rattle.lab_client.specs.OpenClients.{stream_of}
 use Rattle.lab_clients.specs.declared.clients.LabClients.{LabClients}
+use Rattle.lab_clients.specs.Placed.{IsReported}
 use Rattle.lab_clients.specs.Steps.{sound_at}
 use Rattle.lab_actors.specs.Walks.{AreEach}
 
@@ -70,22 +69,6 @@ pub record IsClientAt (session : Session) (ring : TableId) (key : Key)
   pub goes : is_stopped x.1.own ≡ false
   pub rows : rows_of d ≡ []
 
--- what was placed by the seats of all open clients, at a frame and channel
-abbrev pub laid_for : Option OpenClient → ℕ → ℕ → ℤ
-laid_for None f k = pos 0
-laid_for (Some o) f k = total (view_of o.seat).laid f k
-
-abbrev pub laid_open : List LabClient → ℕ → ℕ → ℤ
-laid_open [] f k = pos 0
-laid_open (d ∷ ds) f k = laid_for (open_of d) f k +ℤ laid_open ds f k
-
--- all that was placed is what the segments say
-abbrev pub IsReported : Session → List (Option MixSeat) → List LabClient
-    → List (AtPort × Client) → Type 0
-IsReported session seats ds xs =
-    (f k : ℕ) → laid_free seats f k +ℤ laid_open ds f k
-    ≡ total (entries_of session (all_segments xs)) f k
-
 -- with what a client is opened fits the card's ring and the client's file
 pub record FitsCard (session : Session) (number : ℕ) (own : Setup) : Type 0 where
   pub usable : IsUsable session.ring.channels session.ring.frames own
@@ -115,7 +98,8 @@ pub record AreIn
   pub no_others : (n : ℕ) → length (clients_of cs) ≤ n → holdings n ≡ None
   pub each : AreEach (Is session (ring_of_places cs.places) (key_of_places cs.places) holdings)
       0 cs.clients.items xs
-  pub reported : IsReported session (free_seats (lobby_of cs.places)) cs.clients.items xs
+  pub reported : IsReported session (laid_lists (free_seats (lobby_of cs.places)))
+      cs.clients.items xs
 
 -- the clients of the lab between two phases
 abbrev pub AreAt : Session → Held → List (AtPort × Client) → LabClients → Type 0

@@ -1,15 +1,19 @@
 -- The clients of the lab at the beginning of a run, and at its end.
-use Rattle.std.specs.Prelude.{◌≡◌, ℕ, ◌+◌, List, [], ◌∷◌, length, map, None, ⊤}
+use Rattle.std.specs.Prelude.{◌≡◌, ℕ, ◌+◌, ◌<◌, ℤ, List, [], ◌∷◌, length, map, None, slice_index_or, ⊤}
+use Rattle.std.specs.List.{flat_map}
 use Rattle.snd_base.specs.declared.places.Segment.{Segment}
+use Rattle.mix_core.specs.declared.port.Entry.{Entry}
+use Rattle.mix_core.specs.Laid.{standing, total}
 use Rattle.lab_run.specs.Client.{Client, segments_of}
 use Rattle.lab_run.specs.Items.{Held}
-use Rattle.lab_run.specs.LabRun.{all_segments}
+use Rattle.lab_run.specs.LabRun.{all_segments, entries_of}
 use Rattle.lab_run.specs.Rules.{AtPort}
 use Rattle.lab_run.specs.Stage.{Session}
 use Rattle.lab_client.specs.declared.client.LabClient.{LabClient}
 use Rattle.lab_client.specs.Clients.{client_in, number_of, rows_of}
 use Rattle.lab_clients.specs.declared.clients.LabClients.{LabClients}
 use Rattle.lab_clients.specs.AtStage.{AreAt}
+use Rattle.lab_clients.specs.Placed.{IsPlacedBy, SeatSegment, client_segments, place_segments, worth_of}
 
 -- a client that was never open
 pub record IsNewClient (number : ℕ) (d : LabClient) : Type 0 where
@@ -33,4 +37,23 @@ pub record HasEnded (session : Session) (held : Held) (xs : List (AtPort × Clie
   pub ys : List (AtPort × Client)
   pub are : AreAt session then_held ys cs
   pub segments : all_segments ys ≡ all_segments xs
+  pub each : (number : ℕ) (x : AtPort × Client)
+      → segments_of (slice_index_or ys number x).1 ≡ segments_of (slice_index_or xs number x).1
+  pub count : length ys ≡ length xs
   pub places : length then_held.lobby.places ≡ length held.lobby.places
+
+-- All that was placed, joined to one list in the order of the places, is what the segments of clients say. Each seat placed what the segments say that were
+-- made through it, and these are those of the clients. Of all seats together, whatever an entry is worth, as much is left as the expansions of all segments
+-- are worth: so each frame, channel and sample is there as often. The sums are theirs.
+pub record IsPlacedAll (session : Session) (xs : List (AtPort × Client))
+    (laid : List Entry) : Type 0 where
+  pub lists : List (List Entry)
+  pub joined : laid ≡ flat_map (λ es. es) lists
+  pub history : List SeatSegment
+  pub places : (place : ℕ) → place < length lists
+      → IsPlacedBy session (slice_index_or lists place []) (place_segments place history)
+  pub clients : (number : ℕ) (x : AtPort × Client) → number < length xs
+      → segments_of (slice_index_or xs number x).1 ≡ client_segments number history
+  pub as_often : (worth : Entry → ℤ) → worth_of worth (flat_map standing lists)
+      ≡ worth_of worth (entries_of session (all_segments xs))
+  pub totals : (f k : ℕ) → total laid f k ≡ total (entries_of session (all_segments xs)) f k

@@ -1,13 +1,14 @@
--- Lists of clients in which one is exchanged: what all others are and hold stays, and so do the sums of what was placed, and the segments, but for the one's.
-use Rattle.std.specs.Prelude.{◌≡◌, ◌≢◌, ℕ, zero, suc, ◌+◌, ◌≤◌, ◌<◌, ◌+ℤ◌, ℤ, List, [], ◌∷◌, ◌++◌, map, length, nat_eq, if◌then◌else◌, Bool, true, false, Option, None, slice_index_or, slice_set}
+-- Lists of clients in which one is exchanged: what all others are and hold stays, and so does what was placed for them, and their segments.
+use Rattle.std.specs.Prelude.{◌≡◌, ◌≢◌, ℕ, zero, suc, ◌+◌, ◌≤◌, ◌<◌, ◌+ℤ◌, ℤ, pos, List, [], ◌∷◌, ◌++◌, map, length, nat_eq, if◌then◌else◌, Bool, true, false, Option, None, Some, option_map, slice_index_or, slice_set}
 use Rattle.std.proofs.Common.{refl, sym, ◌∙◌, ap, subst, arith}
 use Rattle.std.proofs.lemmas.Bool.Decides.{nat_tests}
 use Rattle.std.proofs.lemmas.Int.{ints}
-use Rattle.std.proofs.lemmas.List.{length-set}
-use Rattle.mix_core.specs.Laid.{total}
+use Rattle.std.proofs.lemmas.List.{length-map, length-set}
+use Rattle.mix_core.specs.declared.port.Entry.{Entry}
+use Rattle.mix_core.specs.Laid.{standing}
 use Rattle.sum_table.specs.declared.seats.mix.MixSeat.{MixSeat}
 use Rattle.sum_table.specs.declared.view.Key.{Key}
-use Rattle.sum_table.specs.Seats.{TableId}
+use Rattle.sum_table.specs.Seats.{TableId, member_of}
 use Rattle.lobby.specs.Lobbies.{free_seats}
 use Rattle.lab_run.specs.Client.{Client, segments_of}
 use Rattle.lab_run.specs.Items.{Held}
@@ -17,12 +18,15 @@ use Rattle.lab_run.specs.Stage.{Session}
 use Rattle.lab_places.specs.declared.places.Places.{Places}
 use Rattle.lab_places.specs.Held.{IsHeldBy, IsSameCard, key_of_places, lobby_of, ring_of_places, share_of}
 pub use Rattle.lab_places.specs.Laid.{IsLaidAlike, IsLaidWith}
+use Rattle.lab_places.specs.Laid.{laid_list, laid_lists}
 use Rattle.lab_places.specs.Holdings.{AreHeld, ChangesAt, Holding, Holdings}
 use Rattle.lab_actors.specs.Walks.{AreEach}
 use Rattle.lab_client.specs.declared.client.LabClient.{LabClient}
 use Rattle.lab_client.specs.Clients.{open_of}
 use Rattle.lab_clients.specs.declared.clients.LabClients.{LabClients}
-use Rattle.lab_clients.specs.AtStage.{AreIn, IsCardOf, IsClientAt, IsClientIn, IsReported, clients_of, laid_by, laid_for, laid_free, laid_open, places_of}
+use Rattle.lab_clients.specs.AtStage.{AreIn, IsCardOf, IsClientAt, IsClientIn, clients_of, places_of}
+use Rattle.lab_clients.specs.Placed.{IsReported, laid_for, open_lists, worth_all, worth_left, worth_of}
+use Rattle.lab_clients.specs.PlacedLaws.{worth_all-set}
 
 -- ---- two lists item by item
 
@@ -52,21 +56,25 @@ AreEach-set R T number (suc at) (a ∷ xs) (b ∷ ys) x y others own are = (
 
 -- ---- what was placed, and the segments
 
--- the seat of a place, or none, is exchanged
-pub laid_free-set : (seats : List (Option MixSeat)) (place : ℕ) (seat : Option MixSeat) (f k : ℕ) → place < length seats
-    → laid_free (slice_set seats place seat) f k +ℤ laid_by (slice_index_or seats place None) f k ≡ laid_free seats f k +ℤ laid_by seat f k
-laid_free-set [] place seat f k inside = absurd (omega (arith, inside))
-laid_free-set (first ∷ seats) zero seat f k inside = omega (arith, ints)
-laid_free-set (first ∷ seats) (suc place) seat f k inside =
-    let more = laid_free-set seats place seat f k (omega (arith, inside)) in omega (arith, ints, more)
+-- one seat with others
+pub worth_all-with : (worth : Entry → ℤ) (fewer : List (Option MixSeat)) (s : MixSeat) (more : List (Option MixSeat)) → IsLaidWith fewer s more
+    → worth_all worth (laid_lists more) ≡ worth_all worth (laid_lists fewer) +ℤ worth_of worth (standing (laid_list s))
+worth_all-with worth fewer s more is =
+    let number = is.number in
+    let len = length-map fewer (option_map laid_list) in
+    let exchanged = worth_all-set worth (laid_lists fewer) (member_of s) (Some (laid_list s)) (omega (arith, number, len)) in
+    let none : worth_left worth (slice_index_or (laid_lists fewer) (member_of s) None) ≡ pos 0 = ap (worth_left worth) is.out in
+    let whole = ap (worth_all worth) is.with_it in
+    omega (arith, ints, exchanged, none, whole)
 
 -- a client is exchanged
-pub laid_open-set : (ds : List LabClient) (at : ℕ) (d e : LabClient) (f k : ℕ) → at < length ds
-    → laid_open (slice_set ds at e) f k +ℤ laid_for (open_of (slice_index_or ds at d)) f k ≡ laid_open ds f k +ℤ laid_for (open_of e) f k
-laid_open-set [] at d e f k inside = absurd (omega (arith, inside))
-laid_open-set (first ∷ ds) zero d e f k inside = omega (arith, ints)
-laid_open-set (first ∷ ds) (suc at) d e f k inside =
-    let more = laid_open-set ds at d e f k (omega (arith, inside)) in omega (arith, ints, more)
+pub open_lists-set : (worth : Entry → ℤ) (ds : List LabClient) (at : ℕ) (d e : LabClient) → at < length ds
+    → worth_all worth (open_lists (slice_set ds at e)) +ℤ worth_left worth (laid_for (open_of (slice_index_or ds at d)))
+    ≡ worth_all worth (open_lists ds) +ℤ worth_left worth (laid_for (open_of e))
+open_lists-set worth [] at d e inside = absurd (omega (arith, inside))
+open_lists-set worth (first ∷ ds) zero d e inside = omega (arith, ints)
+open_lists-set worth (first ∷ ds) (suc at) d e inside =
+    let more = open_lists-set worth ds at d e (omega (arith, inside)) in omega (arith, ints, more)
 
 -- one that has as much as the one before
 pub numbered-set : {X Y : Type 0} (of : X → List Y) (number at : ℕ) (xs : List X) (x d : X) → of x ≡ of (slice_index_or xs at d)
@@ -81,22 +89,30 @@ pub all_segments-set : (xs : List (AtPort × Client)) (at : ℕ) (x d : AtPort �
     → all_segments (slice_set xs at x) ≡ all_segments xs
 all_segments-set xs at x d same = numbered-set (λ (client : AtPort × Client). segments_of client.1) 0 at xs x d same
 
--- what the free places gained by an exchange, the one client lost, and the other way round
+-- what the seats of free places gained by an exchange, the one client's lost, and the other way round
 abbrev pub MovesLaid : List (Option MixSeat) → LabClient → List (Option MixSeat)
     → LabClient → Type 0
 MovesLaid seats d after e =
-    (f k : ℕ) → laid_free after f k +ℤ laid_for (open_of e) f k
-    ≡ laid_free seats f k +ℤ laid_for (open_of d) f k
+    (worth : Entry → ℤ)
+    → worth_all worth (laid_lists after) +ℤ worth_left worth (laid_for (open_of e))
+    ≡ worth_all worth (laid_lists seats) +ℤ worth_left worth (laid_for (open_of d))
 
--- all that was placed is still what the segments say
-pub IsReported-exchanged : (session : Session) (seats after : List (Option MixSeat)) (ds : List LabClient) (at : ℕ) (d e : LabClient) (xs : List (AtPort × Client)) (x y : AtPort × Client)
-    → at < length ds → segments_of y.1 ≡ segments_of (slice_index_or xs at x).1 → MovesLaid seats (slice_index_or ds at d) after e → IsReported session seats ds xs
-    → IsReported session after (slice_set ds at e) (slice_set xs at y)
-IsReported-exchanged session seats after ds at d e xs x y inside same moves reported f k =
-    let clients = laid_open-set ds at d e f k inside in
-    let places = moves f k in
-    let sums : laid_free after f k +ℤ laid_open (slice_set ds at e) f k ≡ laid_free seats f k +ℤ laid_open ds f k = omega (arith, ints, clients, places) in
-    sums ∙ (reported f k ∙ ap (λ segments. total (entries_of session segments) f k) (sym (all_segments-set xs at y x same)))
+-- all seats together are still worth what the segments are
+abbrev pub IsAsOften : Session → List (Option MixSeat) → List LabClient
+    → List (AtPort × Client) → Type 0
+IsAsOften session seats ds xs =
+    (worth : Entry → ℤ) → worth_all worth (laid_lists seats) +ℤ worth_all worth (open_lists ds)
+    ≡ worth_of worth (entries_of session (all_segments xs))
+
+pub IsAsOften-exchanged : (session : Session) (seats after : List (Option MixSeat)) (ds : List LabClient) (at : ℕ) (d e : LabClient) (xs : List (AtPort × Client)) (x y : AtPort × Client)
+    → at < length ds → segments_of y.1 ≡ segments_of (slice_index_or xs at x).1 → MovesLaid seats (slice_index_or ds at d) after e → IsAsOften session seats ds xs
+    → IsAsOften session after (slice_set ds at e) (slice_set xs at y)
+IsAsOften-exchanged session seats after ds at d e xs x y inside same moves as_often worth =
+    let clients = open_lists-set worth ds at d e inside in
+    let places = moves worth in
+    let sums : worth_all worth (laid_lists after) +ℤ worth_all worth (open_lists (slice_set ds at e)) ≡ worth_all worth (laid_lists seats) +ℤ worth_all worth (open_lists ds) =
+    omega (arith, ints, clients, places) in
+    sums ∙ (as_often worth ∙ ap (λ segments. worth_of worth (entries_of session segments)) (sym (all_segments-set xs at y x same)))
 
 -- ---- what clients hold
 
@@ -146,6 +162,16 @@ KeepsHolding Is =
     (n : ℕ) (d : LabClient) (x : AtPort × Client) → after n ≡ holdings n
     → Is session ring key holdings n d x → Is session ring key after n d x
 
+-- and it tells that it is that client in a run
+abbrev pub IsInRun : Relation (AtPort × Client) → Type 0
+IsInRun Is =
+    (session : Session) (ring : TableId) (key : Key) (holdings : Holdings) (n : ℕ)
+    (d : LabClient) (x : AtPort × Client) → Is session ring key holdings n d x
+    → IsClientIn session ring key holdings n d x
+
+pub IsClientAt-in_run : IsInRun IsClientAt
+IsClientAt-in_run session ring key holdings n d x at = at.is
+
 -- the card of a session at the places later
 pub IsCardOf-same : (session : Session) (p q : Places) → IsSameCard p q → IsCardOf session p → IsCardOf session q
 IsCardOf-same session p q same card = record {
@@ -169,7 +195,7 @@ module _ (Is : Relation (AtPort × Client)) (keeps : KeepsHolding Is) (session :
   pub AreIn-exchanged : number < length (clients_of cs) → clients_of ds ≡ slice_set (clients_of cs) number e → IsHeldBy (places_of ds) after
       → AreHeld (share_of (places_of cs)) after then_holdings
       → Is session (ring_of_places (places_of cs)) (key_of_places (places_of cs)) then_holdings number e y
-      → IsReported session (free_seats (lobby_of (places_of ds))) (slice_set (clients_of cs) number e) (slice_set xs number y)
+      → IsReported session (laid_lists (free_seats (lobby_of (places_of ds)))) (slice_set (clients_of cs) number e) (slice_set xs number y)
       → AreIn Is session after (slice_set xs number y) ds
   AreIn-exchanged inside clients held_by are_held own reported = record {
     card = IsCardOf-same session (places_of cs) (places_of ds) same are.card;
@@ -186,7 +212,7 @@ module _ (Is : Relation (AtPort × Client)) (keeps : KeepsHolding Is) (session :
         ((ChangesAt-with_holding number now are.holdings).others n (λ client. differ (sym client ∙ omega arith))) is)
         (subst (λ n. Is session (ring_of_places (places_of cs)) (key_of_places (places_of cs)) then_holdings n e y) (omega arith) own)
         are.each)));
-    reported = subst (λ items. IsReported session (free_seats (lobby_of (places_of ds))) items (slice_set xs number y)) (sym clients) reported;
+    reported = subst (λ items. IsReported session (laid_lists (free_seats (lobby_of (places_of ds)))) items (slice_set xs number y)) (sym clients) reported;
   }
 
 -- The clients stay, and their places are others: what is held is still what they hold, and nothing was placed in between.
@@ -202,8 +228,8 @@ AreIn-places Is session held after xs cs ds are same clients held_by are_held la
   each = subst (λ items. AreEach (Is session (ring_of_places (places_of ds)) (key_of_places (places_of ds)) are.holdings) 0 items xs) (sym clients)
       (subst (λ key. AreEach (Is session (ring_of_places (places_of ds)) key are.holdings) 0 (clients_of cs) xs) (sym same.key)
       (subst (λ ring. AreEach (Is session ring (key_of_places (places_of cs)) are.holdings) 0 (clients_of cs) xs) (sym same.ring) are.each));
-  reported = subst (λ items. IsReported session (free_seats (lobby_of (places_of ds))) items xs) (sym clients)
-      (λ f k. ap (λ (sum : ℤ). sum +ℤ laid_open (clients_of cs) f k) (laid f k) ∙ are.reported f k);
+  reported = subst (λ items. IsReported session (laid_lists (free_seats (lobby_of (places_of ds)))) items xs) (sym clients)
+      (subst (λ lists. IsReported session lists (clients_of cs) xs) (sym laid) are.reported);
 }
 
 -- the same card, and once more the same card

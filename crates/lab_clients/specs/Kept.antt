@@ -1,24 +1,27 @@
 -- What the steps of a phase keep of a client: what it holds, and with what it was opened.
-use Rattle.std.specs.Prelude.{◌≡◌, ℕ, ◌+◌, ◌+ℤ◌, ℤ, List, [], ◌∷◌, Option, None, Some, slice_index_or, ⊤}
-use Rattle.std.proofs.Common.{refl, sym, ◌∙◌, ap}
-use Rattle.mix_core.specs.Laid.{total}
+use Rattle.std.specs.Prelude.{◌≡◌, ℕ, ◌+◌, ◌+ℤ◌, List, [], ◌∷◌, ◌++◌, map, Option, None, Some, slice_index_or, ⊤}
+use Rattle.std.proofs.Common.{refl, sym, ◌∙◌, ap, subst}
+use Rattle.mix_core.specs.declared.port.Entry.{Entry}
 use Rattle.sum_table.specs.declared.seats.mix.MixSeat.{MixSeat}
 use Rattle.sum_table.specs.declared.view.Key.{Key}
-use Rattle.sum_table.specs.Seats.{TableId, member_of, view_of}
+use Rattle.sum_table.specs.Seats.{TableId, member_of}
 use Rattle.wav_io.specs.Sound.{Sound}
+use Rattle.dmix_client.specs.View.{ClientView}
 use Rattle.card_sim.specs.declared.card.Card.{Card}
 use Rattle.lab_script.specs.declared.line.Line.{Line}
-use Rattle.lab_run.specs.Client.{Client}
+use Rattle.lab_run.specs.Client.{Client, stretch_of}
 use Rattle.lab_run.specs.Rules.{AtPort}
 use Rattle.lab_run.specs.Stage.{Session, Setup}
 use Rattle.lab_places.specs.Holdings.{Holding, Holdings}
+use Rattle.lab_places.specs.Laid.{laid_list}
 use Rattle.lab_actors.specs.Walks.{AreEach}
 use Rattle.lab_client.specs.declared.client.LabClient.{LabClient}
 use Rattle.lab_client.specs.declared.open_client.OpenClient.{OpenClient}
 use Rattle.lab_client.specs.Clients.{AllRefused, IsAtBy, IsClientHeard, IsClientInformed, IsSameBut, RunsLines, GoesOrRests, number_of, open_of}
 use Rattle.lab_client.specs.Keeps.{IsAt-same, client_in-same}
-use Rattle.lab_client.specs.OpenClients.{HasRun, IsHeard, IsInformed, IsSameOpen, IsSameOpening}
-use Rattle.lab_clients.specs.AtStage.{IsClientDone, IsClientIn, IsSetUp, holding_by, laid_for, laid_open}
+use Rattle.lab_client.specs.OpenClients.{HasRun, IsHeard, IsInformed, IsSameOpen, IsSameOpening, stream_of}
+use Rattle.lab_clients.specs.AtStage.{IsClientDone, IsClientIn, IsSetUp, holding_by}
+use Rattle.lab_clients.specs.Placed.{IsClientPlaced, IsPlacedBy, IsPlacedFor, IsReported, SeatSegment, laid_for, open_lists, place_segments, with_number, worth_all}
 use Rattle.lab_clients.specs.Steps.{HasClientRows, sound_at}
 
 -- ---- an opening
@@ -100,15 +103,31 @@ IsClientIn-same session ring key holdings number d e x same is =
       setup = IsSetUp-same (slice_index_or session.clients number None) ring key wav is.last (number_of d) (number_of e) x.0 x.0 (open_of d) (open_of e) opened is.at at is.setup;
     }
 
--- and as much was placed for it
-pub laid_for-same : (d e : LabClient) (f k : ℕ) → IsSameBut d e → laid_for (open_of e) f k ≡ laid_for (open_of d) f k
-laid_for-same d e f k same = by_open (open_of d) (open_of e) same.own
+-- and so is what its seat placed
+pub laid_for-same : (d e : LabClient) → IsSameBut d e → laid_for (open_of e) ≡ laid_for (open_of d)
+laid_for-same d e same = by_open (open_of d) (open_of e) same.own
   where
-    by_open : (o p : Option OpenClient) → GoesOrRests IsSameOpen ⊤ o p → laid_for p f k ≡ laid_for o f k
+    by_open : (o p : Option OpenClient) → GoesOrRests IsSameOpen ⊤ o p → laid_for p ≡ laid_for o
     by_open None None stays = refl
-    by_open (Some o) (Some p) stays = ap (λ (s : MixSeat). total (view_of s).laid f k) stays.seat
+    by_open (Some o) (Some p) stays = ap (λ (s : MixSeat). Some (laid_list s)) stays.seat
     by_open None (Some p) never = absurd never
     by_open (Some o) None never = absurd never
+
+pub IsPlacedFor-same : (session : Session) (history : List SeatSegment) (number : ℕ) (client : Client) (d e : LabClient) → IsSameBut d e
+    → IsPlacedFor session history number (open_of d) client → IsPlacedFor session history number (open_of e) client
+IsPlacedFor-same session history number client d e same = by_open (open_of d) (open_of e) same.own
+  where
+    by_open : (o p : Option OpenClient) → GoesOrRests IsSameOpen ⊤ o p → IsPlacedFor session history number o client → IsPlacedFor session history number p client
+    by_open None None stays is = is
+    by_open (Some o) (Some p) stays is = record {
+      stretches = is.stretches;
+      ended_are = is.ended_are;
+      placed = subst (λ (s : MixSeat). IsPlacedBy session (laid_list s) (place_segments (member_of s) history ++ map (with_number number) (is.stretches ++ stretch_of (stream_of p)))) (sym stays.seat)
+          (subst (λ (v : ClientView). IsPlacedBy session (laid_list o.seat) (place_segments (member_of o.seat) history ++ map (with_number number) (is.stretches ++ stretch_of v.stream)))
+          (sym stays.client) is.placed);
+    }
+    by_open None (Some p) never is = absurd never
+    by_open (Some o) None never is = absurd never
 
 -- ---- clients whose rows were taken
 
@@ -125,10 +144,34 @@ module _ (session : Session) (ring : TableId) (key : Key) (holdings : Holdings) 
   AreEach-rows number [] [] (x ∷ xs) taken are = absurd are
   AreEach-rows number (d ∷ ds) (e ∷ es) [] taken are = absurd are
 
-pub laid_open-rows : (number : ℕ) (ds es : List LabClient) (f k : ℕ) → AreEach HasClientRows number ds es → laid_open es f k ≡ laid_open ds f k
-laid_open-rows number [] [] f k taken = refl
-laid_open-rows number (d ∷ ds) (e ∷ es) f k taken =
-    ap (λ (own : ℤ). own +ℤ laid_open es f k) (laid_for-same d e f k taken.0.same)
-    ∙ ap (λ (others : ℤ). laid_for (open_of d) f k +ℤ others) (laid_open-rows (number + 1) ds es f k taken.1)
-laid_open-rows number [] (e ∷ es) f k taken = absurd taken
-laid_open-rows number (d ∷ ds) [] f k taken = absurd taken
+-- ---- clients of which each is the same but for its rows
+
+module _ (R : ℕ → LabClient → LabClient → Type 0) (same : (n : ℕ) (d e : LabClient) → R n d e → IsSameBut d e) where
+  open_lists-same : (number : ℕ) (ds es : List LabClient) → AreEach R number ds es → open_lists es ≡ open_lists ds
+  open_lists-same number [] [] are = refl
+  open_lists-same number (d ∷ ds) (e ∷ es) are =
+      ap (λ (own : Option (List Entry)). own ∷ open_lists es) (laid_for-same d e (same number d e are.0))
+      ∙ ap (λ (others : List (Option (List Entry))). laid_for (open_of d) ∷ others) (open_lists-same (number + 1) ds es are.1)
+  open_lists-same number [] (e ∷ es) are = absurd are
+  open_lists-same number (d ∷ ds) [] are = absurd are
+
+  IsClientPlaced-same : (session : Session) (history : List SeatSegment) (number : ℕ) (ds es : List LabClient) (xs : List (AtPort × Client)) → AreEach R number ds es
+      → AreEach (IsClientPlaced session history) number ds xs → AreEach (IsClientPlaced session history) number es xs
+  IsClientPlaced-same session history number [] [] [] are placed = tt
+  IsClientPlaced-same session history number (d ∷ ds) (e ∷ es) (x ∷ xs) are placed =
+      (IsPlacedFor-same session history number x.1 d e (same number d e are.0) placed.0, IsClientPlaced-same session history (number + 1) ds es xs are.1 placed.1)
+  IsClientPlaced-same session history number [] (e ∷ es) xs are placed = absurd are
+  IsClientPlaced-same session history number (d ∷ ds) [] xs are placed = absurd are
+  IsClientPlaced-same session history number [] [] (x ∷ xs) are placed = absurd placed
+  IsClientPlaced-same session history number (d ∷ ds) (e ∷ es) [] are placed = absurd placed
+
+  -- all that was placed is still what the segments say
+  pub IsReported-same : (session : Session) (lists : List (Option (List Entry))) (ds es : List LabClient) (xs : List (AtPort × Client)) → AreEach R 0 ds es
+      → IsReported session lists ds xs → IsReported session lists es xs
+  IsReported-same session lists ds es xs are reported = record {
+    history = reported.history;
+    free = reported.free;
+    clients = IsClientPlaced-same session reported.history 0 ds es xs are reported.clients;
+    as_often = λ worth.
+        ap (λ (own : List (Option (List Entry))). worth_all worth lists +ℤ worth_all worth own) (open_lists-same 0 ds es are) ∙ reported.as_often worth;
+  }

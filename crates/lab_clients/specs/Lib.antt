@@ -4,6 +4,8 @@ pub mod Exchanged
 pub mod Kept
 pub mod Opening
 pub mod Phase
+pub mod Placed
+pub mod PlacedLaws
 pub mod Reaped
 pub mod Reported
 pub mod Same

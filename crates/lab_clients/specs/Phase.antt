@@ -3,8 +3,10 @@ use Rattle.std.specs.Prelude.{◌≡◌, ℕ, ◌+◌, ◌<◌, ◌≤◌, ◌+�
 use Rattle.std.specs.List.{flat_map}
 use Rattle.std.proofs.Common.{refl, sym, ◌∙◌, ap, subst, arith}
 use Rattle.std.proofs.lemmas.Int.{ints}
+use Rattle.mix_core.specs.declared.port.Entry.{Entry}
 use Rattle.sum_table.specs.declared.view.Key.{Key}
 use Rattle.sum_table.specs.Seats.{TableId}
+use Rattle.lobby.specs.Lobbies.{free_seats}
 use Rattle.wav_io.specs.Sound.{Sound}
 use Rattle.card_sim.specs.declared.card.Card.{Card}
 use Rattle.lab_script.specs.declared.line.Line.{Line}
@@ -18,8 +20,9 @@ use Rattle.lab_run.specs.Phases.{is_client, ops_by}
 use Rattle.lab_run.specs.Rules.{AtPort, Rules}
 use Rattle.lab_run.specs.Stage.{Session, Stage}
 use Rattle.lab_places.specs.declared.places.Places.{Places}
-use Rattle.lab_places.specs.Held.{key_of_places, ring_of_places}
+use Rattle.lab_places.specs.Held.{key_of_places, lobby_of, ring_of_places}
 use Rattle.lab_places.specs.Holdings.{Holdings}
+use Rattle.lab_places.specs.Laid.{laid_lists}
 use Rattle.lab_card.specs.declared.card.CardActor.{CardActor}
 use Rattle.lab_card.specs.Findings.{CardPhase, rules_between}
 use Rattle.lab_card.specs.MeetLaws.{IsSameCard-joined, Rests-same, rules_between-same}
@@ -32,9 +35,10 @@ use Rattle.lab_client.specs.declared.client.LabClient.{LabClient}
 use Rattle.lab_client.specs.ClientPhase.{ClientRun, LastsAreOwn, client-phase}
 use Rattle.lab_client.specs.Clients.{IsAt, IsCardOf, client_in, ended_of, number_of, open_of, rows_of}
 use Rattle.lab_clients.specs.declared.clients.LabClients.{LabClients}
-use Rattle.lab_clients.specs.AtStage.{AreAt, AreDone, IsClientAt, IsClientIn, clients_of, laid_for, laid_open, places_of}
-use Rattle.lab_clients.specs.Kept.{AreEach-rows, IsClientIn-same, IsSameOpened-heard, IsSameOpened-informed, IsSameOpened-joined, IsSameOpened-run, IsSetUp-same, holding_by-same, laid_for-same, laid_open-rows}
-use Rattle.lab_clients.specs.Reported.{AllLayAlike, given_by, given_by-append, laid_for-phase, own_segments, segments_from}
+use Rattle.lab_clients.specs.AtStage.{AreAt, AreDone, IsClientAt, IsClientIn, clients_of, places_of}
+use Rattle.lab_clients.specs.Kept.{AreEach-rows, IsClientIn-same, IsPlacedFor-same, IsReported-same, IsSameOpened-heard, IsSameOpened-informed, IsSameOpened-joined, IsSameOpened-run, IsSetUp-same, holding_by-same, laid_for-same}
+use Rattle.lab_clients.specs.Placed.{IsClientPlaced, IsReported, SeatSegment, laid_for, open_lists, worth_all, worth_left}
+use Rattle.lab_clients.specs.Reported.{AllLayAlike, IsPlacedFor-phase, given_by, given_by-append, own_segments, segments_from, worth_left-phase}
 use Rattle.lab_clients.specs.Same.{with_places}
 use Rattle.lab_clients.specs.Steps.{HasClientRows, HasTakenRoom, IsHeardBy, IsInformedBy, RunsAt, sound_at}
 
@@ -86,7 +90,7 @@ GoesThrough stops gates after sounds phase lines c d =
     (RunsAt stops gates after sounds phase lines)) (IsHeardBy d)
 
 -- A client did in a phase what a run allows to the client of its number, and is that client then: with a gate that had stopped it so often
--- since the lab began. What was placed for it is what its segments grew by.
+-- since the lab began. What its seat placed is what its segments grew by.
 pub record ClientGoes (session : Session) (stage : Stage) (lines : List Line)
     (ring : TableId) (key : Key) (holdings : Holdings) (base after : ℕ → ℕ) (number : ℕ)
     (d : LabClient) (x : AtPort × Client) (e : LabClient) : Type 0 where
@@ -95,8 +99,12 @@ pub record ClientGoes (session : Session) (stage : Stage) (lines : List Line)
       x (ops_by (is_client number) lines) next (rows_of e)
   pub is : IsClientIn session ring key holdings number e next
   pub counts : next.0.by_gate + base number ≡ after number
-  pub laid : (f k : ℕ) → laid_for (open_of e) f k +ℤ given_by session (own_segments number x.1) f k
-      ≡ laid_for (open_of d) f k +ℤ given_by session (own_segments number next.1) f k
+  pub placed : (history : List SeatSegment) → IsClientPlaced session history number d x
+      → IsClientPlaced session history number e next
+  pub worth : (worth : Entry → ℤ)
+      → worth_left worth (laid_for (open_of e)) +ℤ given_by worth session (own_segments number x.1)
+      ≡ worth_left worth (laid_for (open_of d))
+      +ℤ given_by worth session (own_segments number next.1)
 
 module _ (session : Session) (stage : Stage) (lines : List Line) (ring : TableId) (key : Key) (holdings : Holdings) (base : ℕ → ℕ) (laws : PhaseLaws) {G : Type 0} (stops : G → ℕ)
     (gates after : List G) (c d : Card) (card : CardInPhase session stage lines ring key c d) where
@@ -161,12 +169,16 @@ module _ (session : Session) (stage : Stage) (lines : List Line) (ring : TableId
           setup = setup;
         };
         counts = run.gate;
-        laid = λ f k.
-            subst (λ (own : ℤ). laid_for (open_of z) f k +ℤ given_by session (own_segments number before.1) f k ≡ own +ℤ given_by session (own_segments number (client_in z)) f k)
-            (laid_for-same v w f k room.same)
-            (subst (λ (client : Client). laid_for (open_of z) f k +ℤ given_by session (own_segments number client) f k
-            ≡ laid_for (open_of w) f k +ℤ given_by session (own_segments number (client_in z)) f k) is.client
-            (laid_for-phase session number laws.alike file (ended_of w) (ended_of z) run.ended (open_of w) (open_of z) is.setup setup run.ended_are run.laid f k));
+        placed = λ history placed.
+            IsPlacedFor-phase session number laws.alike file ring key is.last (number_of w) before.0 history before.1 (client_in z) run.ended (open_of w) (open_of z) is.at is.setup setup opened
+            (run.ended_are ∙ ap (λ (client : Client). client.ended ++ run.ended) is.client) run.laid (IsPlacedFor-same session history number before.1 v w room.same placed);
+        worth = λ worth.
+            subst (λ (own : Option (List Entry)). worth_left worth (laid_for (open_of z)) +ℤ given_by worth session (own_segments number before.1)
+            ≡ worth_left worth own +ℤ given_by worth session (own_segments number (client_in z))) (laid_for-same v w room.same)
+            (subst (λ (client : Client). worth_left worth (laid_for (open_of z)) +ℤ given_by worth session (own_segments number client)
+            ≡ worth_left worth (laid_for (open_of w)) +ℤ given_by worth session (own_segments number (client_in z))) is.client
+            (worth_left-phase session number laws.alike file ring key is.last (number_of w) before.0 (ended_of w) (ended_of z) run.ended (open_of w) (open_of z) is.at is.setup setup run.ended_are
+            run.laid worth));
       }
 
 -- ---- all clients
@@ -180,9 +192,11 @@ pub record ClientsGo (session : Session) (stage : Stage) (lines : List Line)
       (λ n. ops_by (is_client n) lines) number xs next (flat_map rows_of es)
   pub are : AreEach (IsClientIn session ring key holdings) number es next
   pub counted : AreCounted base after number next
-  pub laid : (f k : ℕ)
-      → laid_open es f k +ℤ given_by session (segments_from number xs) f k
-      ≡ laid_open ds f k +ℤ given_by session (segments_from number next) f k
+  pub placed : (history : List SeatSegment) → AreEach (IsClientPlaced session history) number ds xs
+      → AreEach (IsClientPlaced session history) number es next
+  pub worth : (worth : Entry → ℤ)
+      → worth_all worth (open_lists es) +ℤ given_by worth session (segments_from number xs)
+      ≡ worth_all worth (open_lists ds) +ℤ given_by worth session (segments_from number next)
 
 module _ (session : Session) (stage : Stage) (lines : List Line) (ring : TableId) (key : Key) (holdings : Holdings) (base : ℕ → ℕ) (laws : PhaseLaws) {G : Type 0} (stops : G → ℕ)
     (gates after : List G) (c d : Card) (card : CardInPhase session stage lines ring key c d) where
@@ -190,7 +204,14 @@ module _ (session : Session) (stage : Stage) (lines : List Line) (ring : TableId
       → AreEach (IsClientAt session ring key holdings) number ds xs → AreCounted base (stops_at stops gates) number xs
       → AreEach (GoesThrough stops gates after session.sounds (stage.phases + 1) lines c d) number ds es
       → ClientsGo session stage lines ring key holdings base (stops_at stops after) number ds xs es
-  clients-go number [] [] [] files are counted go = record { next = []; may = (refl, refl); are = tt; counted = tt; laid = λ f k. refl }
+  clients-go number [] [] [] files are counted go = record {
+    next = [];
+    may = (refl, refl);
+    are = tt;
+    counted = tt;
+    placed = λ history placed. tt;
+    worth = λ worth. refl;
+  }
   clients-go number (v ∷ ds) (z ∷ es) (before ∷ xs) files are counted go =
       let own : ClientGoes session stage lines ring key holdings base (stops_at stops after) number v before z =
       client-goes session stage lines ring key holdings base laws stops gates after c d card number v z before (omega (arith, files)) are.0 counted.0 go.0 in
@@ -201,11 +222,12 @@ module _ (session : Session) (stage : Stage) (lines : List Line) (ring : TableId
         may = (own.next, others.next, rows_of z, flat_map rows_of es, own.may, others.may, refl, refl);
         are = (own.is, others.are);
         counted = (own.counts, others.counted);
-        laid = λ f k.
-            let first = own.laid f k in
-            let more = others.laid f k in
-            let was = given_by-append session (own_segments number before.1) (segments_from (number + 1) xs) f k in
-            let then_is = given_by-append session (own_segments number own.next.1) (segments_from (number + 1) others.next) f k in
+        placed = λ history placed. (own.placed history placed.0, others.placed history placed.1);
+        worth = λ worth.
+            let first = own.worth worth in
+            let more = others.worth worth in
+            let was = given_by-append worth session (own_segments number before.1) (segments_from (number + 1) xs) in
+            let then_is = given_by-append worth session (own_segments number own.next.1) (segments_from (number + 1) others.next) in
             omega (arith, ints, first, more, was, then_is);
       }
   clients-go number [] (z ∷ es) xs files are counted go = absurd go
@@ -271,6 +293,17 @@ module _ (session : Session) (stage : Stage) (lines : List Line) (held : Held) (
   length-client_rows =
       EachMay-rows (client_kinds session stage) (rules_of session stage lines) (λ n. ops_by (is_client n) lines) 0 xs go.next (flat_map rows_of (clients_of heard)) go.may
 
+  reported-heard : IsReported session (laid_lists (free_seats (lobby_of (places_of before)))) (clients_of heard) go.next
+  reported-heard = record {
+    history = are.reported.history;
+    free = are.reported.free;
+    clients = go.placed are.reported.history are.reported.clients;
+    as_often = λ worth.
+        let was = are.reported.as_often worth in
+        let more = go.worth worth in
+        omega (arith, ints, was, more);
+  }
+
   -- Once their rows are the lab's, what the steps make of the clients of the lab is what the phase allows to those of a run.
   pub clients-phase : (done : LabClients) → AreEach HasClientRows 0 (clients_of heard) (clients_of done) → places_of done ≡ places_of before
       → ClientsPhase session stage lines held base (stops_at stops after) xs (flat_map rows_of (clients_of heard)) done
@@ -287,11 +320,8 @@ module _ (session : Session) (stage : Stage) (lines : List Line) (held : Held) (
         are_held = are.are_held;
         no_others = λ n past. are.no_others n (omega (arith, len, past));
         each = AreEach-rows session ring key are.holdings 0 (clients_of heard) (clients_of done) go.next take_rows go.are;
-        reported = λ f k.
-            let was = are.reported f k in
-            let laid = go.laid f k in
-            let taken = laid_open-rows 0 (clients_of heard) (clients_of done) f k take_rows in
-            omega (arith, ints, was, laid, taken);
+        reported = IsReported-same HasClientRows (λ n d e taken. taken.same) session (laid_lists (free_seats (lobby_of (places_of before)))) (clients_of heard) (clients_of done) go.next
+            take_rows reported-heard;
       } in
       record {
         next = go.next;

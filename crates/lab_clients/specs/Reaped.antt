@@ -14,7 +14,7 @@ use Rattle.lab_actors.specs.Walks.{AreEach}
 use Rattle.lab_client.specs.declared.client.LabClient.{LabClient}
 use Rattle.lab_clients.specs.declared.clients.LabClients.{LabClients}
 use Rattle.lab_clients.specs.AtStage.{AreAt, AreDone, IsClientAt, IsClientDone, clients_of, places_of}
-use Rattle.lab_clients.specs.Exchanged.{IsClientIn-holding, KeepsHolding}
+use Rattle.lab_clients.specs.Exchanged.{IsClientIn-holding, IsInRun, KeepsHolding}
 use Rattle.lab_clients.specs.Opening.{client_among}
 
 -- the clients of the lab are those of some run, after the lines of a phase
@@ -136,3 +136,6 @@ AreAt-reaped session held xs cs done = record {
 pub IsClientDone-holding : KeepsHolding IsClientDone
 IsClientDone-holding session ring key holdings after n d x same done =
     record { is = IsClientIn-holding session ring key holdings after n d x same done.is; rows = done.rows }
+
+pub IsClientDone-in_run : IsInRun IsClientDone
+IsClientDone-in_run session ring key holdings n d x done = done.is

@@ -1,22 +1,22 @@
 -- Clients that are as they were, but for their room, are those of the same stage.
-use Rattle.std.specs.Prelude.{◌≡◌, ℕ, ◌+◌, ◌+ℤ◌, ℤ, List, [], ◌∷◌, length}
-use Rattle.std.proofs.Common.{refl, sym, ◌∙◌, ap, subst, arith}
-use Rattle.std.proofs.lemmas.Int.{ints}
+use Rattle.std.specs.Prelude.{◌≡◌, ℕ, ◌+◌, List, [], ◌∷◌, length}
+use Rattle.std.proofs.Common.{sym, ◌∙◌, subst, arith}
 use Rattle.sum_table.specs.declared.view.Key.{Key}
 use Rattle.sum_table.specs.Seats.{TableId}
+use Rattle.lobby.specs.Lobbies.{free_seats}
 use Rattle.lab_run.specs.Client.{Client}
 use Rattle.lab_run.specs.Items.{Held}
 use Rattle.lab_run.specs.Rules.{AtPort}
 use Rattle.lab_run.specs.Stage.{Session}
 use Rattle.lab_places.specs.declared.places.Places.{Places}
-use Rattle.lab_places.specs.Held.{key_of_places, ring_of_places}
+use Rattle.lab_places.specs.Held.{key_of_places, lobby_of, ring_of_places}
 use Rattle.lab_places.specs.Holdings.{Holdings}
+use Rattle.lab_places.specs.Laid.{laid_lists}
 use Rattle.lab_actors.specs.Walks.{AreEach, AreEach-length}
 use Rattle.lab_client.specs.declared.client.LabClient.{LabClient}
-use Rattle.lab_client.specs.Clients.{open_of}
 use Rattle.lab_clients.specs.declared.clients.LabClients.{LabClients}
-use Rattle.lab_clients.specs.AtStage.{AreAt, IsClientAt, clients_of, laid_for, laid_open, places_of}
-use Rattle.lab_clients.specs.Kept.{IsClientIn-same, laid_for-same}
+use Rattle.lab_clients.specs.AtStage.{AreAt, IsClientAt, clients_of, places_of}
+use Rattle.lab_clients.specs.Kept.{IsClientIn-same, IsReported-same}
 use Rattle.lab_clients.specs.Steps.{IsSameWithRows}
 
 module _ (session : Session) (ring : TableId) (key : Key) (holdings : Holdings) where
@@ -31,14 +31,6 @@ module _ (session : Session) (ring : TableId) (key : Key) (holdings : Holdings) 
   AreEach-same_rows number (d ∷ ds) [] xs same are = absurd same
   AreEach-same_rows number [] [] (x ∷ xs) same are = absurd are
   AreEach-same_rows number (d ∷ ds) (e ∷ es) [] same are = absurd are
-
-laid_open-same_rows : (number : ℕ) (ds es : List LabClient) (f k : ℕ) → AreEach IsSameWithRows number ds es → laid_open es f k ≡ laid_open ds f k
-laid_open-same_rows number [] [] f k same = refl
-laid_open-same_rows number (d ∷ ds) (e ∷ es) f k same =
-    ap (λ (own : ℤ). own +ℤ laid_open es f k) (laid_for-same d e f k same.0.same)
-    ∙ ap (λ (others : ℤ). laid_for (open_of d) f k +ℤ others) (laid_open-same_rows (number + 1) ds es f k same.1)
-laid_open-same_rows number [] (e ∷ es) f k same = absurd same
-laid_open-same_rows number (d ∷ ds) [] f k same = absurd same
 
 -- the same clients at the same places
 abbrev pub with_places : LabClients → Places → LabClients
@@ -55,9 +47,6 @@ AreAt-same session held xs cs ds same places are =
       are_held = are.are_held;
       no_others = λ n past. are.no_others n (omega (arith, len, past));
       each = AreEach-same_rows session (ring_of_places (places_of cs)) (key_of_places (places_of cs)) are.holdings 0 (clients_of cs) (clients_of ds) xs same are.each;
-      reported = λ f k.
-          let was = are.reported f k in
-          let laid = laid_open-same_rows 0 (clients_of cs) (clients_of ds) f k same in
-          omega (arith, ints, was, laid);
+      reported = IsReported-same IsSameWithRows (λ n d e kept. kept.same) session (laid_lists (free_seats (lobby_of (places_of cs)))) (clients_of cs) (clients_of ds) xs same are.reported;
     } in
     subst (λ (p : Places). AreAt session held xs (with_places ds p)) (sym places) at_same

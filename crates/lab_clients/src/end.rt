@@ -12,17 +12,16 @@ use sum_table::MixSeat;
 
 impl<'r> LabClients<'r> {
     ghost use Rattle.std.specs.Prelude.{◌≡◌, IfErr, IfOk, List, None, [], length, ℕ};
-    ghost use Rattle.mix_core.specs.Laid.{total};
     ghost use Rattle.sum_table.specs.Joins.{OneRing};
     ghost use Rattle.sum_table.specs.Seats.{key_of, places_of_seat, ring_of, view_of};
     ghost use Rattle.lab_run.specs.Client.{Client};
     ghost use Rattle.lab_run.specs.Items.{Held, held_of};
-    ghost use Rattle.lab_run.specs.LabRun.{all_segments, entries_of};
+    ghost use Rattle.lab_run.specs.LabRun.{all_segments};
     ghost use Rattle.lab_run.specs.Rules.{AtPort};
     ghost use Rattle.lab_run.specs.Stage.{Session, first_stage};
     ghost use Rattle.lab_places.specs.Held.{IsSameCard, key_of_places, ring_of_places};
     ghost use Rattle.lab_clients.specs.AtStage.{AreAt, IsNewCardOf, clients_of, places_of};
-    ghost use Rattle.lab_clients.specs.End.{HasEnded};
+    ghost use Rattle.lab_clients.specs.End.{HasEnded, IsPlacedAll};
     ghost use Rattle.lab_clients.specs.Opening.{AreOfRun, open_at};
 
     /// So many clients, none of which is open, with the places of a new ring, by the seat that has all of them. The caller shows that
@@ -74,12 +73,11 @@ impl<'r> LabClients<'r> {
     }
 
     /// At the end of a run: closes the clients that are still open, and joins the seats of all places. The one seat has all that was placed
-    /// for the clients: at each frame and channel the sum of what their segments say.
+    /// for the clients: seat by seat what the segments say that were made through the seat, and at each frame and channel the sum of them all.
     pub fn into_seat(mut self) -> MixSeat<'r>
         requires { AreOfRun self }
-        ensures reported { (session : Session) (held : Held) (xs : List (AtPort × Client))
-            → AreAt session held xs self.entry → (f k : ℕ)
-            → total (view_of result).laid f k ≡ total (entries_of session (all_segments xs)) f k }
+        ensures placed { (session : Session) (held : Held) (xs : List (AtPort × Client))
+            → AreAt session held xs self.entry → IsPlacedAll session xs (view_of result).laid }
         ensures places { (session : Session) (held : Held) (xs : List (AtPort × Client))
             → AreAt session held xs self.entry → places_of_seat result ≡ length held.lobby.places }
         ensures one_ring { OneRing (ring_of result) (key_of result)

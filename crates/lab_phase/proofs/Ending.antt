@@ -91,18 +91,18 @@ module _ (lab : Lab) (stage : Stage) (at : IsAtStage lab stage) (a : CardActor) 
   channels-at = ap (λ (g : Geometry). g.channels) own-card.is.at.ring
       ∙ (at.has_done.reached.session_is.ring.channels ∙ ap (λ (card : CardLine). card.channels) (sym at.has_done.reached.session_is.card))
 
-  pub mixed-at : IsMixOf session (all_segments stage.clients) a.card → a.played.items ≡ mix_of session (all_segments stage.clients) (stage.position - first_frame session.card)
+  pub mixed-at : IsMixOf session stage.clients a.card → a.played.items ≡ mix_of session (all_segments stage.clients) (stage.position - first_frame session.card)
   mixed-at mix =
       let g : Geometry = geometry_of_card a.card in
       played-mix_of session (all_segments stage.clients) g (first_word g) a.played.items mix.laid (stage.position - first_frame session.card) channels-at first-at
       (subst (λ (words : List Taken). AreInOrder g words) own-card.is.plays.taken mix.in_order)
-      (subst (λ (words : List Taken). AreExact mix.laid words) own-card.is.plays.taken mix.values) mix.totals
+      (subst (λ (words : List Taken). AreExact mix.laid words) own-card.is.plays.taken mix.values) mix.placed.totals
       (own-card.is.plays.len ∙ (ap (λ (n : ℕ). n * g.channels) frames-at ∙ ap (λ (n : ℕ). (stage.position - first_frame session.card) * n) channels-at))
 
   -- what it leaves is what a run leaves that ends at its stage
   pub outcome-at : (report : Report) (recorded : List (List ℤ)) → report.rows ≡ lab.rows.items → report.segments ≡ all_segments stage.clients
       → report.runs ≡ all_runs stage.readers → report.first ≡ rings.first_frame (geometry_of_card a.card) → report.frames ≡ frames_since_first a.card
-      → IsMixOf session (all_segments stage.clients) a.card → recorded ≡ recorded_from session (capture_of lab) 0 stage.readers
+      → IsMixOf session stage.clients a.card → recorded ≡ recorded_from session (capture_of lab) 0 stage.readers
       → outcome_with report a.played.items recorded ≡ outcome_of session (capture_of lab) stage
   outcome-at report recorded rows segments all first frames mix records =
       outcome-parts session (capture_of lab) stage report a.played.items recorded (rows ∙ at.rows) segments all (first ∙ first-at) (frames ∙ frames-at) (mixed-at mix) records

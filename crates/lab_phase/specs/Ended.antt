@@ -1,23 +1,23 @@
 -- What a run leaves, as the lab gives it at its end.
-use Rattle.std.specs.Prelude.{◌≡◌, ℕ, ◌-◌, ℤ, List, length, map}
+use Rattle.std.specs.Prelude.{◌≡◌, ℕ, ◌-◌, ℤ, IsSomeAnd, List, length, map}
 use Rattle.std.specs.Global.{Vec}
 use Rattle.mix_core.specs.History.{AreExact, AreInOrder}
-use Rattle.mix_core.specs.Laid.{total}
 use Rattle.mix_core.specs.declared.port.Entry.{Entry}
-use Rattle.snd_base.specs.declared.places.Segment.{Segment}
 use Rattle.sum_table.specs.Players.{track_of}
 use Rattle.card_sim.specs.declared.card.Card.{Card}
 use Rattle.lab_script.specs.Script.{first_frame}
 use Rattle.lab_run.specs.Client.{Client}
 use Rattle.lab_run.specs.Items.{Held}
 use Rattle.lab_run.specs.LabRun as runs
-use Rattle.lab_run.specs.LabRun.{AreWithin, LabRun, all_segments, entries_of, mix_of, outcome_of}
+use Rattle.lab_run.specs.LabRun.{AreWithin, LabRun, all_segments, mix_of, outcome_of}
 use Rattle.lab_run.specs.Rules.{AtPort}
 use Rattle.lab_run.specs.Stage.{Session, Stage}
 use Rattle.lab_card.specs.Moves.{geometry_of_card, seat_of_card}
 use Rattle.lab_places.specs.Held.{key_of_places}
 use Rattle.lab_clients.specs.AtStage as clients
 use Rattle.lab_clients.specs.declared.clients.LabClients.{LabClients}
+use Rattle.lab_clients.specs.End.{IsPlacedAll}
+use Rattle.lab_card.specs.declared.card.CardActor.{CardActor}
 use Rattle.lab_phase.specs.declared.finish.Outcome.{Outcome}
 use Rattle.lab_phase.specs.declared.lab.Lab.{Lab}
 use Rattle.lab_phase.specs.AtStage.{IsAtStage, capture_of, played_of, session_of}
@@ -56,18 +56,24 @@ pub record HaveAllPlaces (cs : LabClients) : Type 0 where
   pub are : clients.AreAt session held xs cs
   pub all : length held.lobby.places ≡ (key_of_places (clients.places_of cs)).places
 
--- a card took the words of its ring in order, and each is the saturated total of what segments say
-pub record IsMixOf (session : Session) (segments : List (ℕ × Segment)) (c : Card) : Type 0 where
+-- A card took the words of its ring in order, and each is the saturated total of all that was placed, which is what the segments of clients say.
+pub record IsMixOf (session : Session) (xs : List (AtPort × Client)) (c : Card) : Type 0 where
   pub in_order : AreInOrder (geometry_of_card c) (track_of (seat_of_card c)).taken
   pub laid : List Entry
   pub values : AreExact laid (track_of (seat_of_card c)).taken
-  pub totals : (f k : ℕ) → total laid f k ≡ total (entries_of session segments) f k
+  pub placed : IsPlacedAll session xs laid
 
--- and the segments are those of clients, of whatever run they are
+-- and the clients are those of the lab, of whatever run they are
 abbrev pub IsMixBy : LabClients → Card → Type 0
 IsMixBy cs c =
     (session : Session) (held : Held) (xs : List (AtPort × Client))
-    → clients.AreAt session held xs cs → IsMixOf session (all_segments xs) c
+    → clients.AreAt session held xs cs → IsMixOf session xs c
+
+-- so it is of the lab's card, at whatever stage the lab was
+abbrev pub IsMixAtStage : Lab → Type 0
+IsMixAtStage lab =
+    (stage : Stage) → IsAtStage lab stage
+    → IsSomeAnd lab.card (λ (a : CardActor). IsMixOf (session_of lab) stage.clients a.card)
 
 -- at whatever stage the lab was, the card played the saturated sums of what the segments so far placed
 abbrev pub HasPlayedMix : Lab → Type 0

@@ -62,10 +62,11 @@ fn close_rings<'r>(clients: LabClients<'r>, card: Card<'r, 'r>)
 impl<'r> Lab<'r, '_> {
     ghost use Rattle.std.specs.Prelude.{◌≡◌, IfErr, IfOk};
     ghost use Rattle.lab_phase.specs.AtStage.{IsLab, played_of};
-    ghost use Rattle.lab_phase.specs.Ended.{HasPlayedMix, IsAtEnd, LeavesRun, LeavesStage};
+    ghost use Rattle.lab_phase.specs.Ended.{HasPlayedMix, IsAtEnd, IsMixAtStage, LeavesRun, LeavesStage};
 
     /// Ends the run: closes what is still open and both rings, and gives the report with all segments and runs, what the card played and
-    /// what each reader recorded. It refuses, with `Memory`, only where no memory is left.
+    /// what each reader recorded. The card played the mix of all that the clients' seats placed, which is seat by seat what the segments
+    /// say. It refuses, with `Memory`, only where no memory is left.
     ///
     /// The caller has done all items of the script's body.
     pub fn finish(self) -> Result<Outcome, PcmError>
@@ -73,6 +74,7 @@ impl<'r> Lab<'r, '_> {
         requires end { IsAtEnd self }
         ensures stage { IfOk result (λ outcome. LeavesStage self.entry outcome) }
         ensures run { IfOk result (λ outcome. LeavesRun self.entry outcome) }
+        ensures mix { IfOk result (λ outcome. IsMixAtStage self.entry) }
         ensures played { IfOk result (λ outcome. outcome.played.items ≡ played_of self.entry) }
         ensures only { IfErr result (λ e. e ≡ PcmError.Memory) }
     {

@@ -1,13 +1,12 @@
 -- A seat that is handed out, or comes back, takes with it what was placed by it, and nothing else is placed.
 use Rattle.std.proofs.Common.{◌≡◌, ℕ, zero, suc, ◌<◌, List, [], ◌∷◌, Option, None, Some, Result, Ok, Err, length, set, arith, refl, sym, ap, subst, ◌∙◌}
-use Rattle.std.specs.Prelude.{◌+ℤ◌, ℤ, pos}
-use Rattle.std.proofs.lemmas.Int.{ints}
+use Rattle.std.specs.Prelude.{option_map, slice_index_or}
+use Rattle.std.proofs.lemmas.List.{get_or-set_same, length-map, length-set, map-set, set-get_or, set-set}
 use Rattle.std.proofs.lemmas.Option.{none-some}
 use Rattle.snd_base.specs.declared.errors.PcmError.{PcmError}
 use Rattle.snd_base.specs.declared.errors.PcmError.TheVariants.{Busy}
 use Rattle.mix_core.specs.declared.port.Entry.{Entry}
 use Rattle.mix_core.specs.declared.port.Position.{Position}
-use Rattle.mix_core.specs.Laid.{total}
 use Rattle.sum_table.specs.declared.seats.mix.MixSeat.{MixSeat}
 use Rattle.sum_table.specs.declared.seats.player.PlayerSeat.{PlayerSeat}
 use Rattle.sum_table.specs.declared.view.View.{View}
@@ -16,34 +15,55 @@ use Rattle.lobby.specs.declared.lobby.Lobby.{Lobby as Free}
 use Rattle.lobby.specs.Lobbies.{Attaches, CanTakeBack, HandsOut, IsNewLobby, LoadsAt, Outcome, TakesBack, free_seats, seen_of_lobby}
 use Rattle.lobby.specs.Seats.{lowest_free, seat_at}
 use Rattle.lab_places.specs.Held.{HasMetPlayer}
-use Rattle.lab_places.specs.Laid.{IsLaidAlike, IsLaidWith, IsUnlaid, KeepsLaid, laid_by, laid_free, laid_free-set}
+use Rattle.lab_places.specs.Laid.{IsLaidAlike, IsLaidWith, IsUnlaid, KeepsLaid, laid_list, laid_lists}
 
 found-within : (seats : List (Option MixSeat)) (place : ℕ) (s : MixSeat) → seat_at seats place ≡ Some s → place < length seats
 found-within [] place s found = absurd (none-some s found)
 found-within (seat ∷ seats) zero s found = omega arith
 found-within (seat ∷ seats) (suc place) s found = let more = found-within seats place s found in omega (arith, more)
 
+-- the list of the seat of a place
+laid_lists-at : (seats : List (Option MixSeat)) (place : ℕ) → slice_index_or (laid_lists seats) place None ≡ option_map laid_list (seat_at seats place)
+laid_lists-at [] place = refl
+laid_lists-at (seat ∷ seats) zero = refl
+laid_lists-at (seat ∷ seats) (suc place) = laid_lists-at seats place
+
+laid_lists-set : (seats : List (Option MixSeat)) (place : ℕ) (seat : Option MixSeat) → laid_lists (set seats place seat) ≡ set (laid_lists seats) place (option_map laid_list seat)
+laid_lists-set seats place seat = map-set (option_map laid_list) seats place seat
+
+-- a list with the item that is in a place of it
+set-found : (seats : List (Option MixSeat)) (place : ℕ) (s : MixSeat) → seat_at seats place ≡ Some s → set (laid_lists seats) place (Some (laid_list s)) ≡ laid_lists seats
+set-found seats place s found =
+    ap (set (laid_lists seats) place) (sym (laid_lists-at seats place ∙ ap (option_map laid_list) found)) ∙ set-get_or (laid_lists seats) place None
+
 -- a seat that loads a position places nothing
 laid-loaded : (load : MixSeat → MixSeat → Type 0) (before between : List (Option MixSeat)) (place : ℕ) → LoadsAt load before place between → IsLaidAlike before between
-laid-loaded load before between place loads f k =
-    let exchanged = laid_free-set before place (Some loads.loaded) f k (found-within before place loads.seat loads.found) in
-    let was : laid_by (seat_at before place) f k ≡ total (view_of loads.seat).laid f k = ap (λ (seat : Option MixSeat). laid_by seat f k) loads.found in
-    let same : total (view_of loads.loaded).laid f k ≡ total (view_of loads.seat).laid f k = ap (λ (es : List Entry). total es f k) loads.laid in
-    let is : laid_free between f k ≡ laid_free (set before place (Some loads.loaded)) f k = ap (λ (seats : List (Option MixSeat)). laid_free seats f k) loads.after_is in
-    omega (arith, ints, exchanged, was, same, is)
+laid-loaded load before between place loads =
+    ap laid_lists loads.after_is
+    ∙ (laid_lists-set before place (Some loads.loaded)
+    ∙ (ap (λ (es : List Entry). set (laid_lists before) place (Some es)) loads.laid ∙ set-found before place loads.seat loads.found))
 
 -- one that is handed out takes what was placed by it
 laid-handed : (p : ℕ) (before between after : List (Option MixSeat)) (s : MixSeat) → HandsOut p before between s after → IsLaidWith after s between
-laid-handed p before between after s hands f k =
-    let exchanged = laid_free-set between (member_of s) None f k (found-within between (member_of s) s hands.found) in
-    let was : laid_by (seat_at between (member_of s)) f k ≡ total (view_of s).laid f k = ap (λ (seat : Option MixSeat). laid_by seat f k) hands.found in
-    let is : laid_free after f k ≡ laid_free (set between (member_of s) None) f k = ap (λ (seats : List (Option MixSeat)). laid_free seats f k) hands.after_is in
-    omega (arith, ints, exchanged, was, is)
+laid-handed p before between after s hands =
+    let inside = found-within between (member_of s) s hands.found in
+    let without : laid_lists after ≡ set (laid_lists between) (member_of s) None = ap laid_lists hands.after_is ∙ laid_lists-set between (member_of s) None in
+    let len = ap length hands.after_is ∙ length-set between (member_of s) None in
+    let long : member_of s < length (laid_lists between) = let same = length-map between (option_map laid_list) in omega (arith, inside, same) in
+    record {
+      number = omega (arith, inside, len);
+      out = ap (λ (lists : List (Option (List Entry))). slice_index_or lists (member_of s) None) without ∙ get_or-set_same (laid_lists between) (member_of s) None None long;
+      with_it = sym (ap (λ (lists : List (Option (List Entry))). set lists (member_of s) (Some (laid_list s))) without
+          ∙ (set-set (laid_lists between) (member_of s) None (Some (laid_list s)) ∙ set-found between (member_of s) s hands.found));
+    }
+
+IsLaidWith-alike : (fewer : List (Option MixSeat)) (s : MixSeat) (more then_more : List (Option MixSeat)) → IsLaidAlike then_more more → IsLaidWith fewer s more → IsLaidWith fewer s then_more
+IsLaidWith-alike fewer s more then_more alike is = record { number = is.number; out = is.out; with_it = sym alike ∙ is.with_it }
 
 laid-outcome : (p : ℕ) (before between after : List (Option MixSeat)) (r : Result MixSeat PcmError) → IsLaidAlike before between → Outcome p before between r after
     → KeepsLaid before r after
-laid-outcome p before between after (Ok s) alike out = λ f k. sym (alike f k) ∙ laid-handed p before between after s out f k
-laid-outcome p before between after (Err e) alike out = λ f k. ap (λ (seats : List (Option MixSeat)). laid_free seats f k) out.1 ∙ alike f k
+laid-outcome p before between after (Ok s) alike out = IsLaidWith-alike after s between before alike (laid-handed p before between after s out)
+laid-outcome p before between after (Err e) alike out = ap laid_lists out.1 ∙ alike
 
 -- an attach
 pub laid-attached : (load : Position → MixSeat → MixSeat → Type 0) (l m : Free) (r : Result MixSeat PcmError)
@@ -55,25 +75,29 @@ laid-attached load l m r none_free free = by_free (lowest_free (free_seats l)) r
     by_free : (o : Option ℕ) → lowest_free (free_seats l) ≡ o → KeepsLaid (free_seats l) r (free_seats m)
     by_free None found =
         let came = none_free found in
-        subst (λ (x : Result MixSeat PcmError). KeepsLaid (free_seats l) x (free_seats m)) (sym came.0)
-        (λ f k. ap (λ (x : Free). laid_free (free_seats x) f k) came.1)
+        subst (λ (x : Result MixSeat PcmError). KeepsLaid (free_seats l) x (free_seats m)) (sym came.0) (ap (λ (x : Free). laid_lists (free_seats x)) came.1)
     by_free (Some place) found =
         let came = free place found in
         laid-outcome came.position.frame (free_seats l) came.between (free_seats m) r (laid-loaded (load came.position) (free_seats l) came.between place came.loads) came.outcome
 
 -- whose seat met the player then
 pub laid-met : (p q : PlayerSeat) (before after : List (Option MixSeat)) (s t : MixSeat) → HasMetPlayer p q s t → KeepsLaid before (Ok s) after → KeepsLaid before (Ok t) after
-laid-met p q before after s t met keeps f k =
-    keeps f k ∙ ap (λ (es : List Entry). total es f k +ℤ laid_free after f k) (sym met.laid)
+laid-met p q before after s t met keeps =
+    let at : member_of s ≡ member_of t = sym met.member in
+    record {
+      number = subst (λ place. place < length after) at keeps.number;
+      out = subst (λ place. slice_index_or (laid_lists after) place None ≡ None) at keeps.out;
+      with_it = keeps.with_it
+          ∙ (ap (λ place. set (laid_lists after) place (Some (laid_list s))) at ∙ ap (λ (es : List Entry). set (laid_lists after) (member_of t) (Some es)) (sym met.laid));
+    }
 
 -- one that comes back brings what was placed by it
 pub laid-back : (k m : Free) (l : Free) (s : MixSeat) → k ≡ l → CanTakeBack l s → TakesBack k m s → IsLaidWith (free_seats l) s (free_seats m)
-laid-back k m l s same can back f n =
-    let exchanged = laid_free-set (free_seats l) (member_of s) (Some s) f n can.out.number in
-    let none : laid_by (seat_at (free_seats l) (member_of s)) f n ≡ pos 0 = ap (λ (seat : Option MixSeat). laid_by seat f n) can.out.is_none in
-    let is : laid_free (free_seats m) f n ≡ laid_free (set (free_seats l) (member_of s) (Some s)) f n =
-    ap (λ (seats : List (Option MixSeat)). laid_free seats f n) (back.seats ∙ ap (λ (x : Free). set (free_seats x) (member_of s) (Some s)) same) in
-    omega (arith, ints, exchanged, none, is)
+laid-back k m l s same can back = record {
+  number = can.out.number;
+  out = laid_lists-at (free_seats l) (member_of s) ∙ ap (option_map laid_list) can.out.is_none;
+  with_it = ap laid_lists (back.seats ∙ ap (λ (x : Free). set (free_seats x) (member_of s) (Some s)) same) ∙ laid_lists-set (free_seats l) (member_of s) (Some s);
+}
 
 -- ---- a new lobby
 
@@ -81,12 +105,11 @@ abbrev IsUnused : Option MixSeat → Type 0
 IsUnused o = (s : MixSeat) × (o ≡ Some s) × ((view_of s).laid ≡ [])
 
 all-unlaid : (seats : List (Option MixSeat)) → ((i : ℕ) → i < length seats → IsUnused (seat_at seats i)) → IsUnlaid seats
-all-unlaid [] each f k = refl
-all-unlaid (seat ∷ seats) each f k =
+all-unlaid [] each = refl
+all-unlaid (seat ∷ seats) each =
     let one = each 0 (omega arith) in
-    let own : laid_by seat f k ≡ pos 0 = ap (λ (o : Option MixSeat). laid_by o f k) one.1 ∙ ap (λ (es : List Entry). total es f k) one.2 in
-    let others = all-unlaid seats (λ i within. each (suc i) (omega (arith, within))) f k in
-    omega (arith, ints, own, others)
+    ap (λ (own : Option (List Entry)). own ∷ laid_lists seats) (ap (option_map laid_list) one.1 ∙ ap Some one.2)
+    ∙ ap (λ (others : List (Option (List Entry))). Some [] ∷ others) (all-unlaid seats (λ i within. each (suc i) (omega (arith, within))))
 
 pub unlaid-new : (whole : MixSeat) (l : Free) → IsNewLobby whole l → IsUnlaid (free_seats l)
 unlaid-new whole l is =

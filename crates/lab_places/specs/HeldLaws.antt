@@ -5,6 +5,7 @@ use Rattle.std.proofs.Common.{refl, sym, ap, ◌∙◌, arith}
 use Rattle.std.proofs.lemmas.Bool.{false≢true}
 use Rattle.std.proofs.lemmas.Bool.Decides.{nat_tests}
 use Rattle.std.proofs.lemmas.List.Quantifiers.{position-Some}
+use Rattle.std.proofs.lemmas.Option.{same_Some}
 use Rattle.snd_base.specs.declared.errors.PcmError.{PcmError}
 use Rattle.snd_base.specs.declared.errors.PcmError.TheVariants.{Busy}
 use Rattle.sum_table.specs.declared.seats.mix.MixSeat.{MixSeat}
@@ -26,6 +27,12 @@ IsFreePlace (suc place) (first ∷ places) = IsFreePlace place places
 
 is_held_by-other : (client other : ℕ) → client ≢ other → is_held_by other (Some client) ≡ false
 is_held_by-other client other differ = grind (arith, nat_tests)
+
+-- a place is held by one client
+pub HoldsPlace-one : (client other place : ℕ) (last before : Option ℕ) (places : List Place) → HoldsPlace client place last places → HoldsPlace other place before places → client ≡ other
+HoldsPlace-one client other place last before [] one two = absurd one
+HoldsPlace-one client other zero last before (first ∷ places) one two = same_Some client other (ap (λ (p : Place). p.holder) (sym one.0 ∙ two.0))
+HoldsPlace-one client other (suc place) last before (first ∷ places) one two = HoldsPlace-one client other place last before places one.1 two.1
 
 -- ---- a client is given a place
 

@@ -75,7 +75,7 @@ pub IsOf-heard : (c d : Card) (r s : LabReader) → IsHeard d r s → IsOf c r �
 IsOf-heard c d r s heard is = OnSeats-follow (IsReaderOf c) (IsReaderOf c) IsSameReader r.seat s.seat (λ p q on. of-ring c p q on.ring on.geometry) heard.seats is
 
 pub IsOf-ran : (c : Card) (phase stops after : ℕ) (lines : List Line) (r s : LabReader) → HasRun phase stops after lines r s → IsOf c r → IsOf c s
-IsOf-ran c phase stops after lines r s ran is = by_seats r.seat s.seat ran is
+IsOf-ran c phase stops after lines r s has is = by_seats r.seat s.seat has.ran is
   where
     by_seats : (p q : Option ReaderSeat) → HasRunAt phase stops after (played_in lines) (ops_of r lines) r.actor s.actor p q → OnSeat p (IsReaderOf c) → OnSeat q (IsReaderOf c)
     by_seats None None has of = tt

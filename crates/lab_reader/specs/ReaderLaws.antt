@@ -1,6 +1,6 @@
 -- A new reader, one that is opened or closed, and one whose rows are taken: what each is in a run, and at its port.
-use Rattle.std.specs.Prelude.{◌≡◌, ℕ, ◌<◌, List, [], All, Option, Some, None}
-use Rattle.std.proofs.Common.{refl, sym, ap, subst, ◌∙◌, arith}
+use Rattle.std.specs.Prelude.{◌≡◌, ℕ, ◌<◌, List, [], length, All, Option, Some, None}
+use Rattle.std.proofs.Common.{refl, sym, ap, subst, ◌∙◌, append-nil, arith}
 use Rattle.atomic_table.specs.Seated.{TableId}
 use Rattle.snd_base.specs.declared.geometry.Geometry.{Geometry}
 use Rattle.snd_base.specs.Places.{first_frame}
@@ -20,7 +20,7 @@ use Rattle.lab_actor.specs.ReaderPart.{HasRoomFor}
 use Rattle.lab_card.specs.Meets.{IsInformedReader}
 use Rattle.lab_reader.specs.declared.reader.LabReader.{LabReader}
 use Rattle.lab_reader.specs.Readers.{HasRoom, HasRoomAt, IsAt, IsOpenAt, IsSeatedAt, OnSeat, OnSeats, ops_of, reader_in_run, reader_in, stream_at}
-use Rattle.lab_reader.specs.Recorded.{IsRecorded, recorded_samples}
+use Rattle.lab_reader.specs.Recorded.{HasGotSince, IsRecorded, recorded_samples}
 use Rattle.lab_reader.specs.Runs.{HasClosed, HasOpened, IsInformed, IsNeverOpen, IsSameButRows}
 
 -- ---- a new one
@@ -38,6 +38,7 @@ pub IsRecorded-new : (capture : Option Sound) (geometry : Geometry) (bindings : 
 IsRecorded-new capture geometry bindings number r on_card new = record {
   on_card = on_card;
   bound = subst (λ (seat : Option ReaderSeat). OnSeat seat (λ at. r.actor.reader.setup.bindings ≡ bindings)) (sym new.closed) tt;
+  got = subst (λ (seat : Option ReaderSeat). OnSeat seat (HasGotSince bindings r.read_before r.actor)) (sym new.closed) tt;
   samples = new.samples ∙ ap (λ (runs : List (ℕ × ℕ)). recorded_samples capture (first_frame geometry) bindings (frames_of_runs runs)) (sym new.frames);
 }
 
@@ -72,6 +73,15 @@ IsRecorded-opened capture geometry bindings seat setup r s bound opened is =
     record {
       on_card = is.on_card;
       bound = subst (λ (at : Option ReaderSeat). OnSeat at (λ now. s.actor.reader.setup.bindings ≡ bindings)) (sym opened.seat_is) stream;
+      got = subst (λ (at : Option ReaderSeat). OnSeat at (HasGotSince bindings s.read_before s.actor)) (sym opened.seat_is) (record {
+        frames = [];
+        got = λ k d inside. absurd (omega (arith, inside));
+        earlier = frames_of_runs s.actor.frames.runs;
+        numbers = sym (append-nil (frames_of_runs s.actor.frames.runs));
+        read = s.actor.samples.items;
+        read_count = ap length opened.file.samples ∙ sym opened.read_before;
+        samples = sym (append-nil s.actor.samples.items);
+      });
       samples = opened.file.samples ∙ (is.samples ∙ ap (λ (runs : List (ℕ × ℕ)). recorded_samples capture (first_frame geometry) bindings (frames_of_runs runs)) (sym opened.file.frames));
     }
 
@@ -90,6 +100,7 @@ pub IsRecorded-closed : (capture : Option Sound) (geometry : Geometry) (bindings
 IsRecorded-closed capture geometry bindings seat r s closed is = record {
   on_card = is.on_card;
   bound = subst (λ (at : Option ReaderSeat). OnSeat at (λ now. s.actor.reader.setup.bindings ≡ bindings)) (sym closed.seat_is) tt;
+  got = subst (λ (at : Option ReaderSeat). OnSeat at (HasGotSince bindings s.read_before s.actor)) (sym closed.seat_is) tt;
   samples = subst (λ (x : ReaderActor). x.samples.items ≡ recorded_samples capture (first_frame geometry) bindings (frames_of_runs x.frames.runs)) (sym closed.actor) is.samples;
 }
 
@@ -140,9 +151,22 @@ pub IsRecorded-same : (capture : Option Sound) (geometry : Geometry) (bindings :
 IsRecorded-same capture geometry bindings r s same is = record {
   on_card = is.on_card;
   bound = subst (λ (seat : Option ReaderSeat). OnSeat seat (λ at. s.actor.reader.setup.bindings ≡ bindings)) (sym same.seat) (by_seat r.seat is.bound);
+  got = subst (λ (seat : Option ReaderSeat). OnSeat seat (HasGotSince bindings s.read_before s.actor)) (sym same.seat) (got_by r.seat is.got);
   samples = same.file.samples ∙ (is.samples ∙ ap (λ (runs : List (ℕ × ℕ)). recorded_samples capture (first_frame geometry) bindings (frames_of_runs runs)) (sym same.file.frames));
 }
   where
     by_seat : (seat : Option ReaderSeat) → OnSeat seat (λ at. r.actor.reader.setup.bindings ≡ bindings) → OnSeat seat (λ at. s.actor.reader.setup.bindings ≡ bindings)
     by_seat None bound = tt
     by_seat (Some at) bound = ap (λ (stream : CaptureStream). stream.setup.bindings) same.stream ∙ bound
+
+    got_by : (seat : Option ReaderSeat) → OnSeat seat (HasGotSince bindings r.read_before r.actor) → OnSeat seat (HasGotSince bindings s.read_before s.actor)
+    got_by None got = tt
+    got_by (Some at) got = record {
+      frames = got.frames;
+      got = got.got;
+      earlier = got.earlier;
+      numbers = ap frames_of_runs same.file.frames ∙ got.numbers;
+      read = got.read;
+      read_count = got.read_count ∙ sym same.read_before;
+      samples = same.file.samples ∙ got.samples;
+    }

@@ -188,7 +188,7 @@ module _ (ring : TableId) (geometry : Geometry) (c d : Card) (over : IsOver ring
       → SeatPart ring geometry c d phase base after (ops_of r lines) before r.actor r.seat u.actor u.seat
   reader-part lines r s t u at sees steps =
       let ran : HasRunAt phase stops after (played_in lines) (ops_of r lines) r.actor t.actor s.seat t.seat =
-      subst (λ (x : ReaderActor). HasRunAt phase stops after (played_in lines) (ops_by (is_reader x.number) lines) x t.actor s.seat t.seat) steps.informed.actor steps.ran in
+      subst (λ (x : ReaderActor). HasRunAt phase stops after (played_in lines) (ops_by (is_reader x.number) lines) x t.actor s.seat t.seat) steps.informed.actor steps.ran.ran in
       subst (λ (y : ReaderActor). SeatPart ring geometry c d phase base after (ops_of r lines) before r.actor r.seat y u.seat) (sym steps.heard.actor)
       (part-seats (played_in lines) (ops_of r lines) r.actor t.actor r.seat s.seat t.seat u.seat at sees steps.informed.seats ran steps.heard.seats steps.heard.knows)
 

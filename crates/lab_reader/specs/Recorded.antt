@@ -1,11 +1,14 @@
 -- What a reader recorded: its samples are those of the capture file at the frames that it read, through its bindings.
-use Rattle.std.specs.Prelude.{◌≡◌, ℕ, ◌-◌, ◌<◌, true, ℤ, List, [], ◌∷◌, ◌++◌, map, All, Option, Some, None}
+use Rattle.std.specs.Prelude.{◌≡◌, ℕ, ◌-◌, ◌<◌, true, ℤ, List, [], ◌∷◌, ◌++◌, map, length, All, Contains, Option, Some, None}
 use Rattle.std.specs.List.{flat_map, slice_index_or}
 use Rattle.std.proofs.Common.{refl, sym, ap, ◌∙◌}
 use Rattle.snd_base.specs.declared.geometry.Geometry.{Geometry}
 use Rattle.snd_base.specs.Places.{first_frame}
+use Rattle.snoop_core.specs.declared.port.Frame.{Frame}
 use Rattle.snoop_table.specs.declared.seats.reader.ReaderSeat.{ReaderSeat}
+use Rattle.snoop_table.specs.Readers.{view_of}
 use Rattle.snoop_table.specs.Writers.{writer_track}
+use Rattle.dsnoop_client.specs.Reads.{through_all}
 use Rattle.wav_io.specs.Sound.{Sound}
 use Rattle.card_sim.specs.declared.card.Card.{Card}
 use Rattle.card_sim.specs.Runs.{records_of, writer_of}
@@ -28,17 +31,32 @@ abbrev pub recorded_samples : Option Sound → ℕ → List ℕ → List ℕ →
 recorded_samples capture first bindings frames =
     flat_map (λ frame. map (captured_from capture first frame) bindings) frames
 
+-- Since its opening, before which it had read so many samples, a reader read frames that its seat got: they are the last ones of its frames, and its
+-- samples from there on are theirs, through bindings.
+pub record HasGotSince (bindings : List ℕ) (read_before : ℕ) (actor : ReaderActor)
+    (seat : ReaderSeat) : Type 0 where
+  pub frames : List Frame
+  pub got : All (Contains (view_of seat).got) frames
+  pub earlier : List ℕ
+  pub numbers : frames_of_runs actor.frames.runs
+      ≡ earlier ++ map (λ (frame : Frame). frame.number) frames
+  pub read : List ℤ
+  pub read_count : length read ≡ read_before
+  pub samples : actor.samples.items ≡ read ++ through_all bindings frames
+
 -- A reader's samples are the captured ones of its frames, through bindings that each go to a channel of the card; where it is open, these are its
--- stream's.
-pub record IsRecordedAt (capture : Option Sound) (geometry : Geometry)
-    (bindings : List ℕ) (actor : ReaderActor) (seat : Option ReaderSeat) : Type 0 where
+-- stream's, and each frame since its opening is one that its seat got.
+pub record IsRecordedAt (capture : Option Sound) (geometry : Geometry) (bindings : List ℕ)
+    (read_before : ℕ) (actor : ReaderActor) (seat : Option ReaderSeat) : Type 0 where
   pub on_card : All (λ channel. channel < geometry.channels) bindings
   pub bound : OnSeat seat (λ at. actor.reader.setup.bindings ≡ bindings)
+  pub got : OnSeat seat (HasGotSince bindings read_before actor)
   pub samples : actor.samples.items
       ≡ recorded_samples capture (first_frame geometry) bindings (frames_of_runs actor.frames.runs)
 
 abbrev pub IsRecorded : Option Sound → Geometry → List ℕ → LabReader → Type 0
-IsRecorded capture geometry bindings r = IsRecordedAt capture geometry bindings r.actor r.seat
+IsRecorded capture geometry bindings r =
+    IsRecordedAt capture geometry bindings r.read_before r.actor r.seat
 
 -- all that a card stored in its snoop ring, where it stores there, is what the capture file has of its frames so far
 abbrev pub IsCapturedUpTo : Option Sound → Card → Type 0

@@ -1,9 +1,10 @@
 -- What a card stored is what the capture file has, and so is what a reader recorded of it, from phase to phase.
 use Rattle.std.specs.Prelude.{◌≡◌, ℕ, zero, suc, ◌+◌, ◌-◌, ◌*◌, ◌<◌, Bool, true, ℤ, pos, List, [], ◌∷◌, ◌++◌, length, map, All, Contains, Option, Some, None}
 use Rattle.std.specs.List.{slice_index_or}
-use Rattle.std.proofs.Common.{refl, sym, ap, subst, ◌∙◌, arith}
-use Rattle.std.proofs.lemmas.List.{get_or-append-add, get_or_append_left}
+use Rattle.std.proofs.Common.{refl, sym, ap, subst, ◌∙◌, append_assoc, arith}
+use Rattle.std.proofs.lemmas.List.{get_or-append-add, get_or_append_left, map-append}
 use Rattle.std.proofs.lemmas.List.Concat.{flat_map-append}
+use Rattle.std.proofs.lemmas.List.Elements.{All-append, Contains-append_left, Contains-append_right}
 use Rattle.std.proofs.lemmas.List.FromFn.{get_or-map-range_with_len, length-map-range_with_len}
 use mathlib.Core.Option.{some}
 use lib.ListN.{get_elem?}
@@ -19,7 +20,7 @@ use Rattle.snoop_table.specs.declared.view.Track.{Track}
 use Rattle.snoop_table.specs.declared.view.View.{View}
 use Rattle.snoop_table.specs.Captured.{next_to_store}
 use Rattle.snoop_table.specs.Readers.{SeatGot, view_of}
-use Rattle.snoop_table.specs.Writers.{writer_geometry, writer_track}
+use Rattle.snoop_table.specs.Writers.{writer_geometry, writer_track, writer_view}
 use Rattle.pcm_stream.specs.declared.setup.Setup as streams
 use Rattle.dsnoop_client.specs.Reads.{bound_samples, through_all}
 use Rattle.wav_io.specs.Sound.{Sound}
@@ -42,7 +43,7 @@ use Rattle.lab_reader.specs.declared.reader.LabReader.{LabReader}
 use Rattle.lab_reader.specs.OfCards.{IsOver}
 use Rattle.lab_reader.specs.Readers.{OnSeats, ops_of}
 use Rattle.lab_reader.specs.ReaderPhase.{Steps}
-use Rattle.lab_reader.specs.Recorded.{IsCapturedUpTo, IsRecorded, IsRecordedAt, captured_from, recorded_samples}
+use Rattle.lab_reader.specs.Recorded.{HasGotSince, IsCapturedUpTo, IsRecorded, IsRecordedAt, captured_from, recorded_samples}
 use Rattle.lab_reader.specs.Runs.{HasRefused, HasRunAt, HasRunOpen}
 
 -- ---- what the card stored
@@ -187,9 +188,45 @@ module _ (capture : Option Sound) (ring : TableId) (geometry : Geometry) (d : Ca
       let second = at_second (view_of s).got got there.0 frame (elem-at got there.0 frame there.1 there.2) in
       knows.got second.0 frame (ap (λ (v : View). get_elem? v.got second.0) same ∙ (ap (λ (fs : List Frame). get_elem? fs second.0) got_them.got ∙ second.1))
 
-  recorded-open : (x y : ReaderActor) (s t u v : ReaderSeat) (phase stops after played : ℕ) (ops : List Op) → IsRecordedAt capture geometry bindings x (Some s)
-      → HasRunOpen phase stops after played ops x y t u → IsSameReader u v → KnowsReader d v → IsRecordedAt capture geometry bindings y (Some v)
-  recorded-open x y s t u v phase stops after played ops before ran same knows =
+  -- its seat got the frames that it read, and those that it had got
+  got-open : (read_before : ℕ) (c : Card) (x y : ReaderActor) (s t u v : ReaderSeat) (phase stops after played : ℕ) (ops : List Op)
+      → IsRecordedAt capture geometry bindings read_before x (Some s) → IsInformedReader c s t → HasRunOpen phase stops after played ops x y t u → IsSameReader u v
+      → HasGotSince bindings read_before y v
+  got-open read_before c x y s t u v phase stops after played ops before informed ran same =
+      let appends = ran.part.appends in
+      let read = appends.samples in
+      let seats : (view_of v).got ≡ ((view_of s).got ++ (writer_view (writer_of c)).got) ++ read.got =
+      ap (λ (w : View). w.got) same.view ∙ (read.got_them.got ∙ ap (λ (fs : List Frame). fs ++ read.got) informed.got) in
+      let was = before.got in
+      record {
+        frames = was.frames ++ read.frames;
+        got = subst (λ (fs : List Frame). All (Contains fs) (was.frames ++ read.frames)) (sym seats)
+            (All-append (Contains (((view_of s).got ++ (writer_view (writer_of c)).got) ++ read.got)) was.frames read.frames
+            (λ k e inside.
+            Contains-append_left ((view_of s).got ++ (writer_view (writer_of c)).got) read.got (slice_index_or was.frames k e)
+            (Contains-append_left (view_of s).got (writer_view (writer_of c)).got (slice_index_or was.frames k e) (was.got k e inside)))
+            (λ k e inside. Contains-append_right ((view_of s).got ++ (writer_view (writer_of c)).got) read.got (slice_index_or read.frames k e) (read.among k e inside)));
+        earlier = was.earlier;
+        numbers = appends.numbers_are
+            ∙ (ap (λ (ns : List ℕ). ns ++ appends.numbers) was.numbers
+            ∙ (append_assoc was.earlier (map (λ (frame : Frame). frame.number) was.frames) appends.numbers
+            ∙ ap (λ (ns : List ℕ). was.earlier ++ ns)
+            (ap (λ (ns : List ℕ). map (λ (frame : Frame). frame.number) was.frames ++ ns) (sym read.numbers_are)
+            ∙ sym (map-append (λ (frame : Frame). frame.number) was.frames read.frames))));
+        read = was.read;
+        read_count = was.read_count;
+        samples = appends.more_are
+            ∙ (ap (λ (zs : List ℤ). zs ++ appends.more) was.samples
+            ∙ (append_assoc was.read (through_all bindings was.frames) appends.more
+            ∙ ap (λ (zs : List ℤ). was.read ++ zs)
+            (ap (λ (zs : List ℤ). through_all bindings was.frames ++ zs) (read.samples_are ∙ ap (λ (bound : List ℕ). through_all bound read.frames) before.bound)
+            ∙ sym (flat_map-append (λ (frame : Frame). bound_samples bindings frame.samples) was.frames read.frames))));
+      }
+
+  recorded-open : (read_before : ℕ) (c : Card) (x y : ReaderActor) (s t u v : ReaderSeat) (phase stops after played : ℕ) (ops : List Op)
+      → IsRecordedAt capture geometry bindings read_before x (Some s) → IsInformedReader c s t
+      → HasRunOpen phase stops after played ops x y t u → IsSameReader u v → KnowsReader d v → IsRecordedAt capture geometry bindings read_before y (Some v)
+  recorded-open read_before c x y s t u v phase stops after played ops before informed ran same knows =
       let appends = ran.part.appends in
       let read = appends.samples in
       let first : ℕ = first_frame geometry in
@@ -206,38 +243,41 @@ module _ (capture : Option Sound) (ring : TableId) (geometry : Geometry) (d : Ca
       record {
         on_card = before.on_card;
         bound = ap (λ (z : streams.Setup). z.bindings) ran.part.same.setup.same_setup ∙ before.bound;
+        got = got-open read_before c x y s t u v phase stops after played ops before informed ran same;
         samples = appends.more_are
             ∙ (ap (λ (zs : List ℤ). zs ++ appends.more) before.samples
             ∙ (ap (λ (zs : List ℤ). recorded_samples capture first bindings (frames_of_runs x.frames.runs) ++ zs) more
             ∙ (sym (recorded-append capture first bindings (frames_of_runs x.frames.runs) appends.numbers) ∙ ap (recorded_samples capture first bindings) (sym appends.numbers_are))));
       }
 
-  recorded-closed : (x y : ReaderActor) (phase stops after : ℕ) (ops : List Op) → IsRecordedAt capture geometry bindings x None → HasRefused phase stops after ops x y
-      → IsRecordedAt capture geometry bindings y None
-  recorded-closed x y phase stops after ops before ran = record {
+  recorded-closed : (read_before : ℕ) (x y : ReaderActor) (phase stops after : ℕ) (ops : List Op) → IsRecordedAt capture geometry bindings read_before x None
+      → HasRefused phase stops after ops x y → IsRecordedAt capture geometry bindings read_before y None
+  recorded-closed read_before x y phase stops after ops before ran = record {
     on_card = before.on_card;
     bound = tt;
+    got = tt;
     samples = ran.file.samples ∙ (before.samples ∙ ap (λ (runs : List (ℕ × ℕ)). recorded_samples capture (first_frame geometry) bindings (frames_of_runs runs)) (sym ran.file.frames));
   }
 
-  recorded-seats : (c : Card) (x y : ReaderActor) (p q l m : Option ReaderSeat) (phase stops after played : ℕ) (ops : List Op) → IsRecordedAt capture geometry bindings x p
+  recorded-seats : (read_before : ℕ) (c : Card) (x y : ReaderActor) (p q l m : Option ReaderSeat) (phase stops after played : ℕ) (ops : List Op) → IsRecordedAt capture geometry bindings read_before x p
       → OnSeats p q (IsInformedReader c) → HasRunAt phase stops after played ops x y q l → OnSeats l m IsSameReader → OnSeats l m (λ seat later. KnowsReader d later)
-      → IsRecordedAt capture geometry bindings y m
-  recorded-seats c x y None None None None phase stops after played ops before informed ran same knows = recorded-closed x y phase stops after ops before ran
-  recorded-seats c x y (Some s) (Some t) (Some u) (Some v) phase stops after played ops before informed ran same knows =
-      recorded-open x y s t u v phase stops after played ops before ran same knows
-  recorded-seats c x y None (Some t) l m phase stops after played ops before informed ran same knows = absurd informed
-  recorded-seats c x y (Some s) None l m phase stops after played ops before informed ran same knows = absurd informed
-  recorded-seats c x y None None (Some u) m phase stops after played ops before informed ran same knows = absurd ran
-  recorded-seats c x y (Some s) (Some t) None m phase stops after played ops before informed ran same knows = absurd ran
-  recorded-seats c x y None None None (Some v) phase stops after played ops before informed ran same knows = absurd same
-  recorded-seats c x y (Some s) (Some t) (Some u) None phase stops after played ops before informed ran same knows = absurd same
+      → IsRecordedAt capture geometry bindings read_before y m
+  recorded-seats read_before c x y None None None None phase stops after played ops before informed ran same knows = recorded-closed read_before x y phase stops after ops before ran
+  recorded-seats read_before c x y (Some s) (Some t) (Some u) (Some v) phase stops after played ops before informed ran same knows =
+      recorded-open read_before c x y s t u v phase stops after played ops before informed ran same knows
+  recorded-seats read_before c x y None (Some t) l m phase stops after played ops before informed ran same knows = absurd informed
+  recorded-seats read_before c x y (Some s) None l m phase stops after played ops before informed ran same knows = absurd informed
+  recorded-seats read_before c x y None None (Some u) m phase stops after played ops before informed ran same knows = absurd ran
+  recorded-seats read_before c x y (Some s) (Some t) None m phase stops after played ops before informed ran same knows = absurd ran
+  recorded-seats read_before c x y None None None (Some v) phase stops after played ops before informed ran same knows = absurd same
+  recorded-seats read_before c x y (Some s) (Some t) (Some u) None phase stops after played ops before informed ran same knows = absurd same
 
   -- What a reader recorded is what the capture file has, also after a phase, of a card that stored nothing else.
   pub IsRecorded-phase : (c : Card) (phase stops after : ℕ) (lines : List Line) (r s t u : LabReader) → IsRecorded capture geometry bindings r
       → Steps c d phase stops after lines r s t u → IsRecorded capture geometry bindings u
   IsRecorded-phase c phase stops after lines r s t u before steps =
       let ran : HasRunAt phase stops after (played_in lines) (ops_of r lines) r.actor t.actor s.seat t.seat =
-      subst (λ (x : ReaderActor). HasRunAt phase stops after (played_in lines) (ops_by (is_reader x.number) lines) x t.actor s.seat t.seat) steps.informed.actor steps.ran in
-      subst (λ (y : ReaderActor). IsRecordedAt capture geometry bindings y u.seat) (sym steps.heard.actor)
-      (recorded-seats c r.actor t.actor r.seat s.seat t.seat u.seat phase stops after (played_in lines) (ops_of r lines) before steps.informed.seats ran steps.heard.seats steps.heard.knows)
+      subst (λ (x : ReaderActor). HasRunAt phase stops after (played_in lines) (ops_by (is_reader x.number) lines) x t.actor s.seat t.seat) steps.informed.actor steps.ran.ran in
+      subst (λ (n : ℕ). IsRecordedAt capture geometry bindings n u.actor u.seat) (sym (steps.heard.read_before ∙ (steps.ran.read_before ∙ steps.informed.read_before)))
+      (subst (λ (y : ReaderActor). IsRecordedAt capture geometry bindings r.read_before y u.seat) (sym steps.heard.actor)
+      (recorded-seats r.read_before c r.actor t.actor r.seat s.seat t.seat u.seat phase stops after (played_in lines) (ops_of r lines) before steps.informed.seats ran steps.heard.seats steps.heard.knows))

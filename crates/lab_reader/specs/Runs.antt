@@ -1,5 +1,5 @@
 -- What the steps of a phase, an opening and a closing make of a reader.
-use Rattle.std.specs.Prelude.{◌≡◌, ℕ, List, [], ◌++◌, Option, Some, None}
+use Rattle.std.specs.Prelude.{◌≡◌, ℕ, List, [], ◌++◌, length, Option, Some, None}
 use Rattle.snoop_table.specs.declared.seats.reader.ReaderSeat.{ReaderSeat}
 use Rattle.snoop_table.specs.Readers.{SameReader, geometry_of, seat_view}
 use Rattle.dsnoop_client.specs.View.{CanUse}
@@ -21,12 +21,14 @@ use Rattle.lab_reader.specs.Readers.{OnSeats, ops_of, seat_port}
 pub record IsInformed (card : Card) (r s : LabReader) : Type 0 where
   pub actor : s.actor ≡ r.actor
   pub seats : OnSeats r.seat s.seat (IsInformedReader card)
+  pub read_before : s.read_before ≡ r.read_before
 
 -- the card met its note, where it is open
 pub record IsHeard (card : Card) (r s : LabReader) : Type 0 where
   pub actor : s.actor ≡ r.actor
   pub seats : OnSeats r.seat s.seat IsSameReader
   pub knows : OnSeats r.seat s.seat (λ seat after. KnowsReader card after)
+  pub read_before : s.read_before ≡ r.read_before
 
 -- its number and what it read are as before
 pub record HasSameFile (a b : ReaderActor) : Type 0 where
@@ -40,6 +42,7 @@ pub record IsSameButRows (r s : LabReader) : Type 0 where
   pub stream : s.actor.reader ≡ r.actor.reader
   pub left : s.actor.left ≡ r.actor.left
   pub file : HasSameFile r.actor s.actor
+  pub read_before : s.read_before ≡ r.read_before
 
 -- it was never open
 pub record IsNeverOpen (number : ℕ) (r : LabReader) : Type 0 where
@@ -73,9 +76,10 @@ HasRunAt phase stops after played ops a b (Some seat) (Some later) =
 HasRunAt phase stops after played ops a b seat later = ⊥
 
 -- it did its lines of a phase
-abbrev pub HasRun : ℕ → ℕ → ℕ → List Line → LabReader → LabReader → Type 0
-HasRun phase stops after lines r s =
-    HasRunAt phase stops after (played_in lines) (ops_of r lines) r.actor s.actor r.seat s.seat
+pub record HasRun (phase stops after : ℕ) (lines : List Line) (r s : LabReader) : Type 0 where
+  pub ran : HasRunAt phase stops after (played_in lines) (ops_of r lines) r.actor s.actor
+      r.seat s.seat
+  pub read_before : s.read_before ≡ r.read_before
 
 -- it is open at a seat, with a stream that is set up so, and with what it read before
 pub record HasOpened (seat : ReaderSeat) (setup : Setup) (r s : LabReader) : Type 0 where
@@ -84,6 +88,7 @@ pub record HasOpened (seat : ReaderSeat) (setup : Setup) (r s : LabReader) : Typ
   pub left : s.actor.left ≡ None
   pub file : HasSameFile r.actor s.actor
   pub rows : s.actor.rows.items ≡ r.actor.rows.items
+  pub read_before : s.read_before ≡ length r.actor.samples.items
 
 -- it gave its seat back, and else it is as before
 pub record HasClosed (seat : ReaderSeat) (r s : LabReader) : Type 0 where

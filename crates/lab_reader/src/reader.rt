@@ -38,6 +38,8 @@ use std::alloc::Global;
 pub struct LabReader<'r> {
     actor: ReaderActor,
     seat: Option<ReaderSeat<'r>>,
+    // How many samples it had read when it was opened last.
+    read_before: usize,
     // So that no two readers of a list have a cache line in common while each is used by a thread of its own: processors fetch two
     // lines of 64 bytes at once.
     apart: [u64; 16],
@@ -72,6 +74,7 @@ impl<'r> LabReader<'r> {
                 rows: Vec::new(alloc),
             },
             seat: None,
+            read_before: 0,
             apart: [0; 16],
         }
     }
@@ -258,6 +261,7 @@ impl<'r> LabReader<'r> {
         let reader = stream(alloc, seat.geometry(), opening)?;
         self.actor.reader = reader;
         self.actor.left = None;
+        self.read_before = self.actor.samples.len();
         self.seat = Some(seat);
         Ok(())
     }

@@ -27,7 +27,7 @@ pub record HasKept (number : ℕ) (r s : LabReader) : Type 0 where
 
 pub HasKept-none : (number : ℕ) (r : LabReader) → HasKept number r r
 HasKept-none number r = record {
-  same = record { seat = refl; stream = refl; left = refl; file = record { number = refl; frames = refl; samples = refl } };
+  same = record { seat = refl; stream = refl; left = refl; file = record { number = refl; frames = refl; samples = refl }; read_before = refl };
   rows = refl;
 }
 

@@ -27,6 +27,6 @@ returns c =
             (subst (λ (p : PlayerSeat). AreInOrder (key_of seat).geometry (track_of p).taken) c.into_seats-player.ensures.player c.close-closed.ensures.in_order);
         laid = (view_of seat).laid;
         values = subst (λ (p : PlayerSeat). AreExact (view_of seat).laid (track_of p).taken) c.into_seats-player.ensures.player c.close-closed.ensures.values;
-        totals = c.into_seat.ensures.reported session held xs are;
+        placed = c.into_seat.ensures.placed session held xs are;
       };
     }

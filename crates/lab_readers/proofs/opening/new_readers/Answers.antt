@@ -11,7 +11,7 @@ loop-number-preserved c =
     let at : c.loop-number.number ≡ 0 + length readers = omega (arith, count) in
     let items = c.in_ok-push.ensures.items in
     record {
-      new = subst (λ (rs : List LabReader). AreNew 0 rs) (sym items)
+      new = subst (λ (rs : List LabReader). AreNew 0 rs) (sym {A = List LabReader} items)
           (AreNew-append 0 readers reader c.loop-number.invariant.new (subst (λ (n : ℕ). IsNeverOpen n reader) at c.new.ensures));
       count = omega (arith, ap length items, length-append readers (reader ∷ []), count);
     }

@@ -2,7 +2,7 @@ use Rattle.std.proofs.Common.{◌∙◌, ap, length, subst, sym}
 use Rattle.lobby.specs.declared.lobby.Lobby.{Lobby}
 use Rattle.lobby.specs.Lobbies.{free_seats, laid_by_all}
 use Rattle.lobby.specs.Seats.{AreFree}
-use Rattle.lab_clients.proofs.EndLaws.{AreFree-closed, places-ended, total-ended}
+use Rattle.lab_clients.proofs.EndLaws.{AreFree-closed, IsPlacedAll-ended, places-ended}
 use Rattle.lab_clients.proofs.clients.LabClients.into_seat.Goals as goal
 
 pub close-requires : goal.close-requires
@@ -12,9 +12,9 @@ close-requires c =
     subst (λ (l : Lobby). AreFree (free_seats l)) (sym c.into_lobby.ensures)
     (AreFree-closed run.session has.then_held has.ys c.close_all.new.self has.are c.close_all.ensures.closed)
 
-pub returns-clause-reported : goal.returns-clause-reported
-returns-clause-reported c session held xs are f k =
-    total-ended session held xs c.close_all.new.self c.close.result f k (c.close_all.ensures.ended session held xs are) c.close_all.ensures.closed
+pub returns-clause-placed : goal.returns-clause-placed
+returns-clause-placed c session held xs are =
+    IsPlacedAll-ended session held xs c.close_all.new.self c.close.result (c.close_all.ensures.ended session held xs are) c.close_all.ensures.closed
     (c.close.ensures.laid ∙ ap (λ (l : Lobby). laid_by_all (free_seats l)) c.into_lobby.ensures)
 
 pub returns-clause-places : goal.returns-clause-places

@@ -1,10 +1,12 @@
-use Rattle.std.specs.Prelude.{map, ℤ}
+use Rattle.std.specs.Prelude.{IsSomeAnd, Option, map, ℤ}
 use Rattle.std.specs.Global.{Vec}
-use Rattle.std.proofs.Common.{◌∙◌}
+use Rattle.std.proofs.Common.{◌∙◌, subst, sym}
 use Rattle.lab_run.specs.Items.{held_of}
 use Rattle.lab_run.specs.Stage.{Session}
+use Rattle.lab_card.specs.declared.card.CardActor.{CardActor}
 use Rattle.lab_phase.specs.declared.lab.Lab.{Lab}
 use Rattle.lab_phase.specs.AtStage.{capture_of, session_of}
+use Rattle.lab_phase.specs.Ended.{IsMixOf}
 use Rattle.lab_phase.proofs.Ending.{HaveAllPlaces-at, may-end, outcome-at}
 use Rattle.lab_phase.proofs.lab.Lab.finish.Goals as goal
 
@@ -29,3 +31,8 @@ returns-clause-run c stage client_stops reader_stops at clients readers = record
   readers = readers;
   is = returns-clause-stage c stage at;
 }
+
+pub returns-clause-mix : goal.returns-clause-mix
+returns-clause-mix c stage at =
+    subst (λ (card : Option CardActor). IsSomeAnd card (λ (a : CardActor). IsMixOf (session_of c.args.self) stage.clients a.card)) (sym c.unwrap-card.ensures)
+    (c.close_rings.ensures.mix (session_of c.args.self) (held_of stage) stage.clients at.actors.clients_are)
