@@ -8,7 +8,7 @@ use Rattle.lab_run.specs.Client.{Client, segments_of}
 use Rattle.lab_run.specs.Stage.{Setup, opened_client}
 use Rattle.lab_client.specs.declared.client.LabClient.{LabClient}
 use Rattle.lab_client.specs.declared.open_client.OpenClient.{OpenClient}
-use Rattle.lab_client.specs.Clients.{client_in, number_of, open_of, rows_of}
+use Rattle.lab_client.specs.Clients.{client_in, ended_of, number_of, open_of, rows_of}
 use Rattle.lab_client.specs.OpenClients.{stream_of}
 
 -- a client that is opened at a seat and a position: its stream is new, and the segments and rows that it had are its own
@@ -22,6 +22,10 @@ pub record IsNewlyOpen (seat : MixSeat) (setup : Setup) (position : ℕ) (d : La
   pub bindings : o.bindings ≡ setup.bindings
   pub seat_is : o.seat ≡ seat
   pub opened_at : o.opened_at ≡ position
+
+-- the segment that its last closing ended is among the others
+abbrev pub HasKeptLast : LabClient → Type 0
+HasKeptLast d = d.ended.items ≡ ended_of d
 
 -- the last frame of a seat is that before its high
 abbrev pub IsHigh : MixSeat → Type 0

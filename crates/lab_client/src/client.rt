@@ -4,13 +4,14 @@ use crate::segments::{present_segment, push_segment, push_segments};
 use crate::stream::set_up;
 use bindings::Bindings;
 use card_sim::Card;
+use dmix_client::Client;
 use lab_actor::{ClientActor, line_count, refuse_lines};
 use lab_report::{Answer, Row};
 use lab_script::{Actor, Line, Op};
 use lab_setup::Opening;
 use mix_core::{Gate, MixPort};
 use pcm_states::State;
-use snd_base::{PcmError, Segment};
+use snd_base::{Geometry, PcmError, Segment};
 use std::alloc::Global;
 use std::mem;
 use sum_table::MixSeat;
@@ -35,19 +36,20 @@ pub struct LabClient<'r> {
 }
 
 impl<'r> LabClient<'r> {
-    ghost use Rattle.std.specs.Prelude.{◌≡◌, ◌↔◌, ◌++◌, ◌+◌, ◌<◌, ◌≤◌, [], All, IfErr, IfSome, IsSome, IsTrue, OnErr, OnOk, length, map, vec_capacity, vec_len};
-    ghost use Rattle.sum_table.specs.Seats.{geometry_of};
+    ghost use Rattle.std.specs.Prelude.{◌≡◌, ◌↔◌, ◌++◌, ◌+◌, ◌<◌, ◌≤◌, [], All, IfErr, IfOk, IfSome, IsSome, IsTrue, OnOk, length, map, vec_capacity, vec_len};
+    ghost use Rattle.sum_table.specs.Seats.{geometry_of, member_of};
     ghost use Rattle.std.specs.Option.{option_to_list};
     ghost use Rattle.lab_setup.specs.Usable.{IsUsable};
     ghost use Rattle.lab_script.specs.declared.line.Line.{Line};
     ghost use Rattle.lab_run.specs.Client.{row_by, segments_of};
     ghost use Rattle.lab_run.specs.Items.{is_stopped};
     ghost use Rattle.lab_run.specs.Phases.{is_client, ops_by};
+    ghost use Rattle.lab_run.specs.Stage.{opened_client};
     ghost use Rattle.lab_actor.specs.ClientLines.{IsFew};
     ghost use Rattle.lab_card.specs.Meets.{IsSameCard};
     ghost use Rattle.lab_client.specs.Clients.{CanRun, HasRoom, IsClientHeard, IsClientInformed, IsOfCard, IsSameBut, RunsLines, client_in, ended_segments, ended_of, is_open, last_by, number_of, open_of, rows_of, seen_by};
     ghost use Rattle.lab_client.specs.declared.open_client.OpenClient.{OpenClient};
-    ghost use Rattle.lab_client.specs.Openings.{HasClosed, HasOpened};
+    ghost use Rattle.lab_client.specs.Openings.{HasClosed, HasKeptLast, HasOpened};
 
     /// The client of a number, which isn't open.
     pub fn new(alloc: Global, number: u32) -> LabClient<'r>
@@ -258,27 +260,51 @@ impl<'r> LabClient<'r> {
         Ok(())
     }
 
-    /// Opens it at the seat of a place and at the card's position, with what its line and its file leave it. Its stream is PREPARED, and has
-    /// accepted nothing. It refuses, with `Memory`, only where no memory is left; then it isn't open, and the seat has ended.
+    /// Makes the stream of its opening, of a member of a ring of this geometry, with what its line and its file leave it, and puts the
+    /// segment of its last closing to the others, so that `open` takes no memory. It refuses, with `Memory`, only where no memory is left.
+    /// Whatever it answers, the client is as it was.
     ///
-    /// The caller shows that it isn't open, that the seat has a place, and that the stream can be set up so at the seat's ring.
+    /// The caller shows that it isn't open, and that the stream can be set up so at the ring.
+    pub fn make_stream(
+        &mut self,
+        alloc: Global,
+        geometry: Geometry,
+        member: u32,
+        opening: &Opening,
+    ) -> Result<Client, PcmError>
+        requires closed { open_of self.old ≡ None }
+        requires usable { IsUsable geometry.channels geometry.frames opening.now }
+        ensures stream { IfOk result
+            (λ client. client.stream ≡ opened_client geometry member opening.now) }
+        ensures kept { OnOk result (HasKeptLast self.new) }
+        ensures closed { open_of self.new ≡ None }
+        ensures same { IsSameBut self.old self.new }
+        ensures same_rows { rows_of self.new ≡ rows_of self.old }
+        ensures only { IfErr result (λ e. e ≡ PcmError.Memory) }
+    {
+        let client = set_up(alloc, geometry, member, opening)?;
+        self.keep_last()?;
+        Ok(client)
+    }
+
+    /// Opens it at the seat of a place and at the card's position, with a stream that was made for the place (`make_stream`), which is
+    /// PREPARED and has accepted nothing. It takes no memory.
+    ///
+    /// The caller shows that it isn't open, and that the stream is of the seat's place.
     pub fn open(
         &mut self,
         alloc: Global,
+        client: Client,
         seat: MixSeat<'r>,
         opening: &Opening,
         opened_at: u64,
-    ) -> Result<(), PcmError>
+    )
         requires closed { open_of self.old ≡ None }
-        requires usable { IsUsable (geometry_of seat).channels
-            (geometry_of seat).frames opening.now }
-        ensures ok { OnOk result (HasOpened seat.entry opening.now opened_at self.old self.new) }
-        ensures same { OnErr result (IsSameBut self.old self.new) }
-        ensures same_rows { OnErr result (rows_of self.new ≡ rows_of self.old) }
-        ensures only { IfErr result (λ e. e ≡ PcmError.Memory) }
+        requires kept { HasKeptLast self.old }
+        requires stream { client.stream
+            ≡ opened_client (geometry_of seat) (member_of seat) opening.now }
+        ensures { HasOpened seat.entry opening.now opened_at self.old self.new }
     {
-        let client = set_up(alloc, seat.geometry(), seat.member(), opening)?;
-        self.keep_last()?;
         let _last = seat.last();
         let actor = ClientActor {
             number: self.number,
@@ -293,7 +319,6 @@ impl<'r> LabClient<'r> {
             seat,
             opened_at,
         });
-        Ok(())
     }
 
     /// Closes it, and gives the seat of its place back, with its bindings and the card's position at its opening. The segment of its

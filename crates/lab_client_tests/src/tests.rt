@@ -111,7 +111,8 @@ fn opened<'a>(
     }
     let mut client = LabClient::new(alloc, 0);
     let position = seat.seen();
-    client.open(alloc, seat, opening, position)?;
+    let stream = client.make_stream(alloc, seat.geometry(), seat.member(), opening)?;
+    client.open(alloc, stream, seat, opening, position);
     Ok(client)
 }
 

@@ -1,12 +1,15 @@
 -- An opening and a closing of a client of the lab: what is asked before them.
-use Rattle.std.specs.Prelude.{◌≡◌, ◌≢◌, ℕ, zero, suc, List, [], ◌∷◌, length, Option, None, slice_index_or, slice_set}
+use Rattle.std.specs.Prelude.{◌≡◌, ◌≢◌, ℕ, zero, suc, List, [], ◌∷◌, length, Option, None, Some, slice_index_or, slice_set}
+use Rattle.snd_base.specs.declared.geometry.Geometry.{Geometry}
+use Rattle.dmix_client.specs.declared.stream.PlaybackStream.{PlaybackStream}
 use Rattle.lab_run.specs.Client.{Client}
 use Rattle.lab_run.specs.Items.{Held, held_of, held_without}
 use Rattle.lab_run.specs.Rules.{AtPort}
-use Rattle.lab_run.specs.Stage.{Session, Setup, Stage, ended_client, no_client}
+use Rattle.lab_run.specs.Stage.{Session, Setup, Stage, ended_client, no_client, opened_client}
 use Rattle.lab_client.specs.declared.client.LabClient.{LabClient}
 use Rattle.lab_client.specs.declared.open_client.OpenClient.{OpenClient}
 use Rattle.lab_client.specs.Clients.{open_of}
+use Rattle.lab_client.specs.Openings.{HasKeptLast}
 use Rattle.lab_clients.specs.declared.clients.LabClients.{LabClients}
 use Rattle.lab_clients.specs.AtStage.{AreAt}
 
@@ -15,6 +18,15 @@ abbrev pub open_at : List LabClient → ℕ → Option OpenClient
 open_at [] at = None
 open_at (d ∷ ds) zero = open_of d
 open_at (d ∷ ds) (suc at) = open_at ds at
+
+-- and the segment that the last closing of the client of a number ended is among its others
+abbrev pub HasKeptLastAt : ℕ → List LabClient → Type 0
+HasKeptLastAt number ds = (d : LabClient) → HasKeptLast (slice_index_or ds number d)
+
+-- a stream was made with what its client is opened with, for a place of a ring, if there is one
+abbrev pub IsMadeFor : Geometry → Option ℕ → Setup → PlaybackStream → Type 0
+IsMadeFor ring next setup stream =
+    (place : ℕ) → next ≡ Some place → stream ≡ opened_client ring place setup
 
 -- the clients of the lab are those of some run, between two phases
 pub record AreOfRun (cs : LabClients) : Type 0 where

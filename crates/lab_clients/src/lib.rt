@@ -3,6 +3,7 @@
 
 mod at_once;
 mod clients;
+mod closing;
 mod end;
 mod opening;
 mod phase;

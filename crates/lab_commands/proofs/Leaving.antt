@@ -1,13 +1,13 @@
 -- How a command ends whose parts read, run and write.
-use Rattle.std.proofs.Common.{◌≡◌, ◌∙◌, ◌⊎◌, ℕ, List, ap, subst, inl, inr, refl, arith}
-use Rattle.std.specs.Prelude.{Option, Some, None, Result, Ok, Err, IfErr, OnOk, OnErr}
+use Rattle.std.proofs.Common.{◌≡◌, ◌∙◌, ◌⊎◌, ℕ, List, ap, subst, inl, inr}
+use Rattle.std.specs.Prelude.{Option, Some, Result, Ok, Err, IfErr, OnOk, OnErr}
 use Rattle.std.specs.Option.{ForSome, option_map}
 use Rattle.wav_io.specs.Sound.{Sound}
 use Rattle.lab_headline.specs.Exact.{IsExactRun, IsOwnRun, IsUnstoppedRun}
 use Rattle.lab_input.specs.Input.{RunInput, input_in}
 use Rattle.lab_phase.specs.PhaseRuns.{Stops}
 use Rattle.lab_play.specs.Played.{HasPlayed, HasPlayedPart, IsUntouched}
-use Rattle.lab_play.specs.Playing.{HasStopped, HasStoppedWithMix}
+use Rattle.lab_play.specs.Playing.{HasStopped}
 use Rattle.lab_run.specs.LabRun.{Outcome}
 use Rattle.lab_run.specs.Openings.{IsSessionOf}
 use Rattle.lab_run.specs.Stage.{Session}
@@ -17,12 +17,12 @@ use Rattle.lab_script.specs.Limits.{IsScript}
 use Rattle.lab_shelf.specs.Files.{Files}
 use Rattle.lab_stop.specs.declared.stop.Stop.{Stop}
 use Rattle.lab_stop.specs.declared.stop.Stop.TheVariants.{Words, Script, Conf, Wav, Read, Write, Memory}
-use Rattle.lab_stop.specs.Stops.{FetchFaults, IsWriteStop, status_of}
+use Rattle.lab_stop.specs.Stops.{IsWriteStop}
 use Rattle.lab_make.specs.declared.workload.Workload.{Workload}
 use Rattle.lab_workload.specs.Made.{IsMade, IsMadePart}
-use Rattle.lab_commands.specs.Words.{Form, conf, help, make, refine, run, version}
-use Rattle.lab_commands.specs.Run.{HasFinished, IsUnfinished, IsUnfinishedWithMix}
-use Rattle.lab_commands.specs.Top.{CommandLeaves, MixIn, WriteLeaves}
+use Rattle.lab_commands.specs.Words.{make, run}
+use Rattle.lab_commands.specs.Run.{HasFinished, IsUnfinished}
+use Rattle.lab_commands.specs.Top.{CommandLeaves}
 
 -- what the laws of runs say of each run
 pub record RunLaws : Type 0 where
@@ -78,47 +78,3 @@ CommandLeaves-made w gates before after taken taken_after (Err (Wav name why)) o
 CommandLeaves-made w gates before after taken taken_after (Err (Read name)) only done part = absurd only
 CommandLeaves-made w gates before after taken taken_after (Err Write) only done part = part
 CommandLeaves-made w gates before after taken taken_after (Err Memory) only done part = part
-
--- ---- a write failed
-
-module _ (input : RunInput) (script out : List ℕ) (before between after : Option Files) (taken taken_after : Option (List ℕ))
-    (read : ForSome before (λ files. input_in files script ≡ Ok input)) (same : between ≡ before) where
-  pub WriteLeaves-stopped : (stop : Stop) → (stop ≡ Write → HasStoppedWithMix input out between after taken taken_after)
-      → WriteLeaves {X = Unit {0}} (Some (run script out)) (Err stop) before after taken taken_after
-  WriteLeaves-stopped Words mix = tt
-  WriteLeaves-stopped (Script error) mix = tt
-  WriteLeaves-stopped (Conf error) mix = tt
-  WriteLeaves-stopped (Wav name why) mix = tt
-  WriteLeaves-stopped (Read name) mix = tt
-  WriteLeaves-stopped Write mix =
-      record { input = input; read = read; stopped = subst (λ (b : Option Files). HasStoppedWithMix input out b after taken taken_after) same (mix refl) }
-  WriteLeaves-stopped Memory mix = tt
-
--- no write fails in a call that reads
-pub WriteLeaves-read : (X : Type 0) (script out : List ℕ) (before after : Option Files) (taken taken_after : Option (List ℕ)) (stop : Stop) (count now : ℕ)
-    → FetchFaults {X = X} (Err stop) count now → WriteLeaves {X = Unit {0}} (Some (run script out)) (Err stop) before after taken taken_after
-WriteLeaves-read X script out before after taken taken_after Words count now faults = tt
-WriteLeaves-read X script out before after taken taken_after (Script error) count now faults = tt
-WriteLeaves-read X script out before after taken taken_after (Conf error) count now faults = tt
-WriteLeaves-read X script out before after taken taken_after (Wav name why) count now faults = tt
-WriteLeaves-read X script out before after taken taken_after (Read name) count now faults = tt
-WriteLeaves-read X script out before after taken taken_after Write count now faults = absurd faults
-WriteLeaves-read X script out before after taken taken_after Memory count now faults = tt
-
--- what a command leaves with status 5
-pub WriteLeaves-status : {X : Type 0} (form : Option Form) (r : Result X Stop) (before after : Option Files) (taken taken_after : Option (List ℕ))
-    → WriteLeaves form r before after taken taken_after → status_of r ≡ 5 → MixIn form before after taken taken_after
-WriteLeaves-status None r before after taken taken_after left five = tt
-WriteLeaves-status (Some (run script out)) (Ok x) before after taken taken_after left five = absurd (omega (arith, five))
-WriteLeaves-status (Some (run script out)) (Err Words) before after taken taken_after left five = absurd (omega (arith, five))
-WriteLeaves-status (Some (run script out)) (Err (Script error)) before after taken taken_after left five = absurd (omega (arith, five))
-WriteLeaves-status (Some (run script out)) (Err (Conf error)) before after taken taken_after left five = absurd (omega (arith, five))
-WriteLeaves-status (Some (run script out)) (Err (Wav name why)) before after taken taken_after left five = absurd (omega (arith, five))
-WriteLeaves-status (Some (run script out)) (Err (Read name)) before after taken taken_after left five = absurd (omega (arith, five))
-WriteLeaves-status (Some (run script out)) (Err Write) before after taken taken_after left five = left
-WriteLeaves-status (Some (run script out)) (Err Memory) before after taken taken_after left five = absurd (omega (arith, five))
-WriteLeaves-status (Some (refine text)) r before after taken taken_after left five = tt
-WriteLeaves-status (Some (conf file name)) r before after taken taken_after left five = tt
-WriteLeaves-status (Some (make workload)) r before after taken taken_after left five = tt
-WriteLeaves-status (Some help) r before after taken taken_after left five = tt
-WriteLeaves-status (Some version) r before after taken taken_after left five = tt

@@ -16,7 +16,7 @@ use Rattle.lab_stop.specs.declared.stop.Stop.TheVariants as stops
 use Rattle.wav_io.specs.declared.error.WavError.{WavError}
 use Rattle.lab_workload.specs.Made.{IsMade, IsMadePart, IsOnlyMade}
 use Rattle.lab_commands.specs.Words.{Form, run, refine, conf, make, help, version, form_of, help_text, version_text}
-use Rattle.lab_commands.specs.Run.{HasFinished, IsOnlyRunOf, IsUnfinished, IsUnfinishedWithMix}
+use Rattle.lab_commands.specs.Run.{HasFinished, IsOnlyRunOf, IsUnfinished}
 
 -- the first cause in the order of the work, form by form
 abbrev pub cause_in : Option Form → Files → Option Cause
@@ -130,22 +130,6 @@ abbrev pub IsLeftByFault : ℕ → List (List ℕ) → Stops → Option Files �
 IsLeftByFault result words gates before after taken taken_after =
     IsUntouched before after taken taken_after
     ⊎ (((result ≡ 5) ⊎ (result ≡ 6)) × PartIn (form_of words) gates before after taken taken_after)
-
--- what a call leaves with status 5: of `run` it is known which samples it had played
-abbrev pub MixIn : Option Form → Option Files → Option Files → Option (List ℕ) → Option (List ℕ)
-    → Type 0
-MixIn (Some (run script out)) before after taken taken_after = IsUnfinishedWithMix script out before after taken taken_after
-MixIn other before after taken taken_after = ⊤
-
-abbrev pub IsLeftByWrite : List (List ℕ) → Option Files → Option Files → Option (List ℕ)
-    → Option (List ℕ) → Type 0
-IsLeftByWrite words before after taken taken_after = MixIn (form_of words) before after taken taken_after
-
--- the same of a command, by how it ended
-abbrev pub WriteLeaves : {X : Type 0} → Option Form → Result X Stop → Option Files → Option Files
-    → Option (List ℕ) → Option (List ℕ) → Type 0
-WriteLeaves (Some (run script out)) (Err stops.Write) before after taken taken_after = IsUnfinishedWithMix script out before after taken taken_after
-WriteLeaves form r before after taken taken_after = ⊤
 
 -- what a command leaves, by how it ended
 abbrev pub CommandLeaves : {X : Type 0} → Result X Stop → Option Form → Stops → Option Files

@@ -10,7 +10,7 @@ ghost use Rattle.lab_refine.specs.Answered.{request_in};
 ghost use Rattle.lab_stop.specs.Causes.{cause};
 ghost use Rattle.lab_stop.specs.Stops.{EndsOf, EndsReliably, InputFaults, OutputFaults, Refuses};
 ghost use Rattle.lab_commands.specs.Words.{conf, make, refine, run};
-ghost use Rattle.lab_commands.specs.Top.{CommandLeaves, WriteLeaves};
+ghost use Rattle.lab_commands.specs.Top.{CommandLeaves};
 
 use lab_conf::describe_device;
 use lab_headline::{actors_do_their_own, runs_are_exact};
@@ -39,8 +39,6 @@ pub(crate) fn run_command<R: Threads + Sync, S: Shelf, K: Sink, G: Gate + Send>(
     requires gates { 128 ≤ length gates.old }
     ensures leaves { CommandLeaves result (Some (run script.now name.now))
         (rises (stops_by G.stops gates.old) (stops_by G.stops gates.new))
-        (S.files shelf.old) (S.files shelf.new) (K.taken out.old) (K.taken out.new) }
-    ensures mix { WriteLeaves (Some (run script.now name.now)) result
         (S.files shelf.old) (S.files shelf.new) (K.taken out.old) (K.taken out.new) }
     ensures cause { ForSome (S.files shelf.old)
         (λ files. EndsOf result (cause (input_in files script.now))) }

@@ -6,7 +6,7 @@ ghost use Rattle.lab_play.specs.Played.{rises};
 ghost use Rattle.lab_shelf.specs.Counts.{Rose};
 ghost use Rattle.lab_stop.specs.Stops.{EndsOf, EndsReliably, InputFaults, OutputFaults, Refuses};
 ghost use Rattle.lab_commands.specs.Words.{form_of, texts};
-ghost use Rattle.lab_commands.specs.Top.{cause_in, ComesExactly, EndsWell, Headline, IsOnlyLeft, IsLeftByFault, IsLeftByWrite, IsMissing, IsTextRefused, IsValidCall, IsWavRefused, CommandLeaves, WriteLeaves};
+ghost use Rattle.lab_commands.specs.Top.{cause_in, ComesExactly, EndsWell, Headline, IsOnlyLeft, IsLeftByFault, IsMissing, IsTextRefused, IsValidCall, IsWavRefused, CommandLeaves};
 
 use crate::commands::{conf_command, make_command, refine_command, run_command};
 use crate::words::{Command, help, read_command, version};
@@ -68,7 +68,8 @@ use std::thread::Threads;
 /// captured frames that the report says the reader read. With 1 to 4 no file changed and `out` took
 /// nothing. With 5 and 6 each of these files is as it was or holds the first bytes of what it was to hold
 /// by then, or all with some bytes of the head still open; no other file changed, and `out` took the
-/// first bytes of the report. `make` stores the clients' files, the script, `made.wav` and `made.report`
+/// first bytes of the report. What the card had played by then are the sums of what the segments so far
+/// placed, saturated once. `make` stores the clients' files, the script, `made.wav` and `made.report`
 /// in this order, and then puts the summary with one call: with status 0 all of them, with 5 and 6 the
 /// first of these, and of one of them maybe a part. `refine` and `conf` change no file: with status 0
 /// `out` took all their lines, put with one call, with 5 and 6 the first bytes of them or nothing.
@@ -125,13 +126,9 @@ pub fn dmixlab<R: Threads + Sync, S: Shelf, K: Sink, E: Sink, G: Gate + Send>(
     ensures reliable { S.is_reliable shelf.old → K.is_reliable out.old
         → ForSome (S.files shelf.old) (λ files. EndsWell result (texts words.now) files) }
 
-    // What is left after another status.
+    // What is left after another status; what the card of a run had played is the mix of the segments so far.
     ensures rest { result ≢ 0 → IsLeftByFault result (texts words.now)
         (rises (stops_by G.stops gates.old) (stops_by G.stops gates.new))
-        (S.files shelf.old) (S.files shelf.new) (K.taken out.old) (K.taken out.new) }
-
-    // Of a run whose write failed, what the card had played is the mix of the segments so far.
-    ensures mix { result ≡ 5 → IsLeftByWrite (texts words.now)
         (S.files shelf.old) (S.files shelf.new) (K.taken out.old) (K.taken out.new) }
 
     // `errors` takes nothing where all was done.
@@ -157,8 +154,6 @@ fn command<R: Threads + Sync, S: Shelf, K: Sink, G: Gate + Send>(
     requires { 128 ≤ length gates.old }
     ensures leaves { CommandLeaves result (form_of (texts words.now))
         (rises (stops_by G.stops gates.old) (stops_by G.stops gates.new))
-        (S.files shelf.old) (S.files shelf.new) (K.taken out.old) (K.taken out.new) }
-    ensures mix { WriteLeaves (form_of (texts words.now)) result
         (S.files shelf.old) (S.files shelf.new) (K.taken out.old) (K.taken out.new) }
     ensures cause { ForSome (S.files shelf.old)
         (λ files. EndsOf result (cause_in (form_of (texts words.now)) files)) }

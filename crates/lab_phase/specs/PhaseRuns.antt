@@ -112,6 +112,13 @@ pub record IsSameLab (lab after : Lab) : Type 0 where
   pub card_then : after.card ≡ Some card_after
   pub actors : AreSameButRoom card card_after lab.clients after.clients lab.readers after.readers
 
+-- the lab runs its script over the same files, did no item more and played nothing more, and is at whatever stage it was at
+pub record StaysAtStage (lab after : Lab) : Type 0 where
+  pub same : IsSameScript lab after
+  pub next : items_done after ≡ items_done lab
+  pub played : played_of after ≡ played_of lab
+  pub at : (stage : Stage) → IsAtStage lab stage → IsAtStage after stage
+
 -- the card took the room of its lines, did them, and its rows were moved to the end of the lab's
 pub record PlaysAlone (asked : Asks) (rows after : List Row) (a b : CardActor) : Type 0 where
   pub roomy : CardActor

@@ -6,14 +6,16 @@ use lab_script::{Actor, Item};
 use snd_base::PcmError;
 
 impl<'r> Lab<'r, '_> {
-    ghost use Rattle.std.specs.Prelude.{◌≡◌, ◌<◌, IfErr, IfOk, OnOk, length};
+    ghost use Rattle.std.specs.Prelude.{◌≡◌, ◌<◌, IfErr, IfOk, OnErr, OnOk, length};
     ghost use Rattle.lab_script.specs.declared.line.Actor.TheVariants as whose;
     ghost use Rattle.lab_script.specs.Limits.{IsBorder};
     ghost use Rattle.lab_run.specs.Stage.{after_close, after_open};
+    ghost use Rattle.lab_actor.specs.Room.{HasSpace};
     ghost use Rattle.lab_phase.specs.AtStage.{AddsRow, DoesItem, DoesRow, IsNextItem, IsBorderItem, IsLab, border_after, played_of, session_of};
+    ghost use Rattle.lab_phase.specs.PhaseRuns.{StaysAtStage};
 
-    /// Does an `open` or a `close` of the script's body, which has one row. It refuses, with `Memory`, only where no memory is left; the
-    /// lab isn't called again then.
+    /// Does an `open` or a `close` of the script's body, which has one row. The room for the row is taken first. It refuses, with `Memory`,
+    /// only where no memory is left; then nothing was opened, and the lab is at its stage.
     ///
     /// The caller has the script's next item, which is no phase.
     pub fn border(&mut self, item: &Item) -> Result<(), PcmError>
@@ -22,10 +24,37 @@ impl<'r> Lab<'r, '_> {
         requires border { IsBorderItem item.now }
         ensures does { OnOk result (DoesItem self.old item.now self.new) }
         ensures played { OnOk result (played_of self.new ≡ played_of self.old) }
+        ensures kept { OnErr result (StaysAtStage self.old self.new) }
+        ensures only { IfErr result (λ e. e ≡ PcmError.Memory) }
+    {
+        self.take_row_room()?;
+        self.do_border(item)
+    }
+
+    // Takes the room of a row.
+    fn take_row_room(&mut self) -> Result<(), PcmError>
+        ensures room { OnOk result (HasSpace 1 self.new.rows) }
+        ensures kept { StaysAtStage self.old self.new }
+        ensures only { IfErr result (λ e. e ≡ PcmError.Memory) }
+    {
+        self.rows.reserve(1)?;
+        Ok(())
+    }
+
+    // Does an `open` or a `close` for whose row there is room.
+    fn do_border(&mut self, item: &Item) -> Result<(), PcmError>
+        requires room { HasSpace 1 self.old.rows }
+        requires at { IsLab self.old }
+        requires next { IsNextItem self.old item.now }
+        requires border { IsBorderItem item.now }
+        ensures does { OnOk result (DoesItem self.old item.now self.new) }
+        ensures played { OnOk result (played_of self.new ≡ played_of self.old) }
+        ensures kept { OnErr result (StaysAtStage self.old self.new) }
         ensures only { IfErr result (λ e. e ≡ PcmError.Memory) }
     {
         let row = self.do_item(item)?;
-        self.add_row(row)
+        self.add_row(row);
+        Ok(())
     }
 
     // Does an `open` or a `close`, and gives its row.
@@ -37,6 +66,7 @@ impl<'r> Lab<'r, '_> {
             (λ row. DoesRow (λ stage. border_after (session_of self.old) stage item.now)
             self.old row self.new) }
         ensures played { played_of self.new ≡ played_of self.old }
+        ensures kept { OnErr result (StaysAtStage self.old self.new) }
         ensures only { IfErr result (λ e. e ≡ PcmError.Memory) }
     {
         match *item {
@@ -46,16 +76,15 @@ impl<'r> Lab<'r, '_> {
         }
     }
 
-    // Appends the row of an item, which is done then.
-    fn add_row(&mut self, row: Row) -> Result<(), PcmError>
-        requires { self.old.next < length self.old.script.now.body }
-        ensures adds { OnOk result (AddsRow row self.old self.new) }
-        ensures only { IfErr result (λ e. e ≡ PcmError.Memory) }
+    // Appends the row of an item, for which there is room; the item is done then.
+    fn add_row(&mut self, row: Row)
+        requires next { self.old.next < length self.old.script.now.body }
+        requires room { HasSpace 1 self.old.rows }
+        ensures { AddsRow row self.old self.new }
     {
         let _items = self.script.body.as_slice().len();
-        self.rows.push(row)?;
+        self.rows.push(row).unwrap();
         self.next += 1;
-        Ok(())
     }
 
     // Opens a client or a reader.
@@ -67,6 +96,7 @@ impl<'r> Lab<'r, '_> {
             (λ row. DoesRow (λ stage. after_open (session_of self.old) stage actor)
             self.old row self.new) }
         ensures played { played_of self.new ≡ played_of self.old }
+        ensures kept { OnErr result (StaysAtStage self.old self.new) }
         ensures only { IfErr result (λ e. e ≡ PcmError.Memory) }
     {
         match actor {
@@ -84,6 +114,7 @@ impl<'r> Lab<'r, '_> {
             (λ row. DoesRow (λ stage. after_open (session_of self.old) stage (whose.Client number))
             self.old row self.new) }
         ensures played { played_of self.new ≡ played_of self.old }
+        ensures kept { OnErr result (StaysAtStage self.old self.new) }
         ensures only { IfErr result (λ e. e ≡ PcmError.Memory) }
     {
         let actor = self.card.take().unwrap();
@@ -108,6 +139,7 @@ impl<'r> Lab<'r, '_> {
             (λ row. DoesRow (λ stage. after_open (session_of self.old) stage (whose.Reader number))
             self.old row self.new) }
         ensures played { played_of self.new ≡ played_of self.old }
+        ensures kept { OnErr result (StaysAtStage self.old self.new) }
         ensures only { IfErr result (λ e. e ≡ PcmError.Memory) }
     {
         let opening = self.openings.readers[number as usize].as_ref();

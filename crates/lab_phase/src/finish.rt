@@ -23,26 +23,35 @@ pub struct Outcome {
     pub recorded: Vec<Vec<i16>>,
 }
 
-/// The report of a run with these rows, segments and runs, which ends with this card.
-fn report_at(
-    card: &Card<'_, '_>,
+/// The first frame of a card, and how many frames it played since.
+fn frames_of(card: &Card<'_, '_>) -> (u64, u64)
+    ensures first { result.0 ≡ first_frame (geometry_of_card card.now) }
+    ensures frames { result.1 ≡ frames_since_first card.now }
+{
+    let first = card.geometry().first_frame();
+    (first, card.position() - first)
+}
+
+/// The report of a run with these rows, segments and runs, whose card began at the first frame and played so many.
+fn report_of(
     rows: Vec<Row>,
     segments: Vec<(u32, Segment)>,
     runs: Vec<(u32, u64, u64)>,
+    first: u64,
+    frames: u64,
 ) -> Report
     ensures rows { result.rows ≡ rows.items }
     ensures segments { result.segments ≡ segments.items }
     ensures runs { result.runs ≡ runs.items }
-    ensures first { result.first ≡ first_frame (geometry_of_card card.now) }
-    ensures frames { result.frames ≡ frames_since_first card.now }
+    ensures first { result.first ≡ first }
+    ensures frames { result.frames ≡ frames }
 {
-    let first = card.geometry().first_frame();
     Report {
         rows: Rows::from_vec(rows),
         segments: Segments::from_vec(segments),
         runs: Runs::from_vec(runs),
         first,
-        frames: card.position() - first,
+        frames,
     }
 }
 
@@ -66,7 +75,7 @@ impl<'r> Lab<'r, '_> {
 
     /// Ends the run: closes what is still open and both rings, and gives the report with all segments and runs, what the card played and
     /// what each reader recorded. The card played the mix of all that the clients' seats placed, which is seat by seat what the segments
-    /// say. It refuses, with `Memory`, only where no memory is left.
+    /// say. It refuses, with `Memory`, only where no memory is left; the rings are closed then too.
     ///
     /// The caller has done all items of the script's body.
     pub fn finish(self) -> Result<Outcome, PcmError>
@@ -74,12 +83,13 @@ impl<'r> Lab<'r, '_> {
         requires end { IsAtEnd self }
         ensures stage { IfOk result (λ outcome. LeavesStage self.entry outcome) }
         ensures run { IfOk result (λ outcome. LeavesRun self.entry outcome) }
-        ensures mix { IfOk result (λ outcome. IsMixAtStage self.entry) }
+        ensures placed { IfOk result (λ outcome. IsMixAtStage self.entry) }
         ensures played { IfOk result (λ outcome. outcome.played.items ≡ played_of self.entry) }
+        ensures mix { HasPlayedMix self.entry }
         ensures only { IfErr result (λ e. e ≡ PcmError.Memory) }
     {
-        let segments = self.clients.segments(self.alloc)?;
-        let runs = self.readers.runs(self.alloc)?;
+        let segments = self.clients.segments(self.alloc);
+        let runs = self.readers.runs(self.alloc);
         let Lab {
             alloc,
             script: _,
@@ -93,15 +103,19 @@ impl<'r> Lab<'r, '_> {
             phases: _,
             next: _,
         } = self;
-        let recorded = readers.into_recorded(alloc)?;
+        let recorded = readers.into_recorded(alloc);
         let CardActor {
             card,
             played,
             rows: _,
             captured: _,
         } = card.unwrap();
-        let report = report_at(&card, rows, segments, runs);
+        let (first, frames) = frames_of(&card);
         close_rings(clients, card);
+        let segments = segments?;
+        let runs = runs?;
+        let recorded = recorded?;
+        let report = report_of(rows, segments, runs, first, frames);
         Ok(Outcome {
             report,
             played,

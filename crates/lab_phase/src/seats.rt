@@ -1,5 +1,5 @@
 //! A card that lends its player to an opening.
-ghost use Rattle.std.specs.Prelude.{◌≡◌, ◌<◌, IfErr, IfOk, IfSome, Some, ℕ, length};
+ghost use Rattle.std.specs.Prelude.{◌≡◌, ◌<◌, IfErr, IfOk, IfSome, OnErr, Some, ℕ, length};
 ghost use Rattle.std.specs.Option.{option_copied};
 ghost use Rattle.sum_table.specs.Joins.{OneRing};
 ghost use Rattle.sum_table.specs.Players.{player_key, player_ring};
@@ -10,6 +10,8 @@ ghost use Rattle.lab_card.specs.Moves.{frame_of_card, seat_of_card};
 ghost use Rattle.lab_places.specs.Held.{IsSameCard, key_of_places, ring_of_places};
 ghost use Rattle.lab_clients.specs.AtStage.{AreAfter, clients_of, places_of};
 ghost use Rattle.lab_clients.specs.Opening.{AreBeforeOpening, AreOfRun};
+ghost use Rattle.lab_clients.specs.Steps.{IsSameWithRows};
+ghost use Rattle.lab_actors.specs.Walks.{AreEach};
 ghost use Rattle.lab_phase.specs.CardStage.{IsSameActor};
 
 use card_player::CardPlayer;
@@ -44,6 +46,9 @@ pub(crate) fn open_beside<'r>(
         → AreBeforeOpening session stage number (option_copied opening.entry)
         (frame_of_card actor.entry.card) phase clients.old
         → AreAfter session stage (after_open session stage (whose.Client number)) row clients.new) }
+    ensures same { OnErr result.1
+        (AreEach IsSameWithRows 0 (clients_of clients.old) (clients_of clients.new)) }
+    ensures same_places { OnErr result.1 (places_of clients.new ≡ places_of clients.old) }
     ensures places { IsSameCard (places_of clients.old) (places_of clients.new) }
     ensures only { IfErr result.1 (λ e. e ≡ PcmError.Memory) }
 {

@@ -3,6 +3,7 @@ use Rattle.std.proofs.Common.{◌≡◌, ℕ, ◌<◌, ◌≤◌, Option, None, 
 use Rattle.snd_base.specs.declared.errors.PcmError.{PcmError}
 use Rattle.snd_base.specs.declared.errors.PcmError.TheVariants.{Busy}
 use Rattle.mix_core.specs.Marks.{start_marks}
+use Rattle.mix_core.specs.declared.port.Position.{Position}
 use Rattle.sum_table.specs.declared.seats.mix.MixSeat.{MixSeat}
 use Rattle.sum_table.specs.declared.seats.player.PlayerSeat.{PlayerSeat}
 use Rattle.sum_table.specs.declared.view.Key.{Key}
@@ -10,8 +11,8 @@ use Rattle.sum_table.specs.Known.{last_frame}
 use Rattle.sum_table.specs.Players.{position_of_player}
 use Rattle.sum_table.specs.Seats.{key_of, marks_of_seat, member_of, view_of}
 use Rattle.lobby.specs.declared.lobby.Lobby.{Lobby as Free}
-use Rattle.lobby.specs.Lobbies.{IsSilentSeat, free_seats, key_of_lobby, ring_of_lobby, seen_of_lobby}
-use Rattle.lobby.specs.Seats.{IsPlace, last_of, lowest_free}
+use Rattle.lobby.specs.Lobbies.{Attaches, IsSilentSeat, free_seats, key_of_lobby, ring_of_lobby, seen_of_lobby}
+use Rattle.lobby.specs.Seats.{IsPlace, last_of, lowest_free, lowest_silent}
 use Rattle.lab_run.specs.Places.{Lobby, after_attach}
 use Rattle.lab_run.specs.PortSteps.{MarksAlike}
 use Rattle.lab_places.specs.declared.places.Places.{Places}
@@ -49,6 +50,18 @@ free-given l m s r ok none_free_is = by_free (lowest_free (free_seats l)) refl
     by_free : (o : Option ℕ) → lowest_free (free_seats l) ≡ o → IsSome (lowest_free (free_seats l))
     by_free None found = absurd (subst IsGranted (sym ok ∙ (none_free_is found).0) tt)
     by_free (Some place) found = subst IsSome (sym found) refl
+
+-- its place is the lowest that was free and silent
+pub place-given : (load : Position → MixSeat → MixSeat → Type 0) (l m : Free) (position : ℕ) (s : MixSeat) → IsSome (lowest_free (free_seats l))
+    → ((place : ℕ) → lowest_free (free_seats l) ≡ Some place → Attaches load place l m (Ok s)) → seen_of_lobby m ≡ position
+    → lowest_silent position (free_seats l) ≡ Some (member_of s)
+place-given load l m position s some_free free_is seen = by_free (lowest_free (free_seats l)) refl
+  where
+    by_free : (o : Option ℕ) → lowest_free (free_seats l) ≡ o → lowest_silent position (free_seats l) ≡ Some (member_of s)
+    by_free None found = let never = subst IsSome found some_free in absurd (cc)
+    by_free (Some place) found =
+        let came : Attaches load place l m (Ok s) = free_is place found in
+        subst (λ n. lowest_silent n (free_seats l) ≡ Some (member_of s)) (sym came.seen ∙ seen) came.outcome.lowest
 
 -- the seat that is given
 pub given-is : (q : Places) (l m : Free) (position : ℕ) (p r : PlayerSeat) (s t : MixSeat) → q.lobby ≡ l → position_of_player p ≡ position

@@ -128,6 +128,14 @@ pub record IsGiven (p : Places) (position : ℕ) (s : MixSeat) : Type 0 where
   pub marks : MarksAlike (key_of_places p).geometry position (marks_of_seat s).high
       (start_marks (key_of_places p).geometry) (marks_of_seat s)
 
+-- the place of a ring that a client is given at a position, if it is given one: the lowest that is free and silent
+abbrev pub next_place : ℕ → Places → Option ℕ
+next_place position p = seats.lowest_silent position (free_seats p.lobby)
+
+-- a seat is that of this place
+abbrev pub IsNextPlace : Places → ℕ → MixSeat → Type 0
+IsNextPlace p position s = next_place position p ≡ Some (member_of s)
+
 -- an answer to a client is that of a run
 abbrev pub IsAnswerOfRun : Result MixSeat PcmError → Result (Unit {0}) PcmError → Type 0
 IsAnswerOfRun r answer = MatchResult r (λ s. answer ≡ Ok tt) (λ e. answer ≡ Err e)

@@ -43,7 +43,7 @@ impl<'a> Places<'a> {
     ghost use Rattle.lab_run.specs.Claims.{with_release};
     ghost use Rattle.lab_run.specs.PortSteps.{last_from};
     ghost use Rattle.lobby.specs.Seats.{last_of};
-    ghost use Rattle.lab_places.specs.Held.{AttachesAt, CanClose, CanRelease, Closes, IsClaimed, IsGiven, IsHeldBy, IsLobby, IsSameCard, IsSameLobby, Opens, key_of_places, lobby_of, new_held, ring_of_places, share_of, shares_of};
+    ghost use Rattle.lab_places.specs.Held.{AttachesAt, CanClose, CanRelease, Closes, IsClaimed, IsGiven, IsHeldBy, IsLobby, IsNextPlace, IsSameCard, IsSameLobby, Opens, key_of_places, lobby_of, new_held, next_place, ring_of_places, share_of, shares_of};
     ghost use Rattle.lab_places.specs.Laid.{IsLaidWith, IsUnlaid, KeepsLaid};
 
     /// The places of a new ring, by the seat that has all of them, each free, and the channels of its card. The caller shows
@@ -71,6 +71,14 @@ impl<'a> Places<'a> {
         })
     }
 
+    /// The place that `open` gives a client at a position, where it gives one: the lowest that is free and silent there, if there is such
+    /// a place.
+    pub fn next_place(&self, position: u64) -> Option<u32>
+        ensures { result ≡ next_place position self.now }
+    {
+        self.lobby.next_place(position)
+    }
+
     /// Opens a client at the card's position, which the player published last: it claims the card's channels of its bindings,
     /// where clients share the card by channels, and then the lowest place that is free and silent is its own. The seat has
     /// seen the position. Where no place is given, the claim is undone.
@@ -91,6 +99,7 @@ impl<'a> Places<'a> {
             → Opens (share_of self.old) number bindings.now
             (position_of_player player.old) held result self.new }
         ensures given { IfOk result (IsGiven self.old (position_of_player player.old)) }
+        ensures place { IfOk result (IsNextPlace self.old (position_of_player player.old)) }
         ensures laid { KeepsLaid (free_seats (lobby_of self.old)) result
             (free_seats (lobby_of self.new)) }
         ensures player { PlayerStays player.old player.new }
@@ -204,6 +213,7 @@ impl<'a> Places<'a> {
         ensures attaches { (number : ℕ) (lobby : runs.Lobby) → IsLobby self.old lobby
             → AttachesAt number (position_of_player player.old) lobby result self.new }
         ensures given { IfOk result (IsGiven self.old (position_of_player player.old)) }
+        ensures place { IfOk result (IsNextPlace self.old (position_of_player player.old)) }
         ensures laid { KeepsLaid (free_seats (lobby_of self.old)) result
             (free_seats (lobby_of self.new)) }
         ensures player { PlayerStays player.old player.new }

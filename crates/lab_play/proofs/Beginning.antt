@@ -23,8 +23,8 @@ use Rattle.lab_script.specs.declared.script.Script.{Script}
 use Rattle.lab_shelf.specs.Changes.{Changes}
 use Rattle.lab_shelf.specs.Files.{Files, TookPart}
 use Rattle.lab_play.specs.Ends.{IsNewRun}
-use Rattle.lab_play.specs.Playing.{HasStoppedWithMix, IsLabOf, IsPlaying, IsStoppedAt, Start, scene, sounds_at}
-use Rattle.lab_play.proofs.ItemsStopped.{HasStopped-at, HasStoppedWithMix-silent}
+use Rattle.lab_play.specs.Playing.{IsLabOf, IsPlaying, IsStopped, Start, scene, sounds_at}
+use Rattle.lab_play.proofs.ItemsStopped.{HasStopped-silent, IsStoppedAt-rows}
 
 -- a session has as many readers as its script
 readers-length : (card : CardLine) (lines : List ReaderLine) (setups : List (Option Setup)) → AreReaderOpenings card lines setups → length lines ≡ length setups
@@ -81,11 +81,11 @@ module _ (input : RunInput) (name : List ℕ) (stops : Stops) (lab : Lab) (outpu
 
   -- some of that is missing: nothing is played, which is the mix of no segments
   pub HasStopped-first : (files : Option Files) (taken_after : Option (List ℕ)) → Changes (MayHold outputs.files.items (nothing outputs.files.items)) before files
-      → TookPart taken taken_after head_text → HasStoppedWithMix input name before files taken taken_after
+      → TookPart taken taken_after head_text → IsStopped start-of files taken_after
   HasStopped-first files taken_after changes part =
-      let stopped : IsStoppedAt start-of lab files taken_after =
-      HasStopped-at start-of stops lab first files taken_after lab-first
+      HasStopped-silent start-of lab files taken_after
+      (IsStoppedAt-rows start-of stops lab first files taken_after lab-first
       (subst (λ (outs : List OutputFile). Changes (MayHold outs (sounds_at lab first)) before files) is.new.files
       (subst (λ (sounds : List (List ℤ)). Changes (MayHold outputs.files.items sounds) before files) sounds-first changes))
-      (subst (λ (text : List ℕ). TookPart taken taken_after text) (sym (append-nil head_text)) part) (inl part) in
-      HasStoppedWithMix-silent input name before files taken taken_after stopped.stopped (stopped.played_is ∙ is.silent)
+      (subst (λ (text : List ℕ). TookPart taken taken_after text) (sym (append-nil head_text)) part) (inl part))
+      is.silent

@@ -33,9 +33,9 @@ use Rattle.lab_shelf.specs.Changes.{Changes, TookPart-all, TookPart-then}
 use Rattle.lab_shelf.specs.Files.{Files, TookPart}
 use Rattle.lab_stop.specs.declared.stop.Stop.{Stop}
 use Rattle.lab_play.specs.Played.{HasPlayed, rises, sounds_of}
-use Rattle.lab_play.specs.Order.{AreSoundsAtEnd, StopsInHeads, StopsInTail}
-use Rattle.lab_play.specs.Playing.{HasStoppedWithMix, IsPlaying, Scene, Start, scene, sounds_at, text_at}
-use Rattle.lab_play.proofs.ItemsStopped.{HasStopped-at, HasStopped-with, HasStoppedWithMix-at, TookPart-rows}
+use Rattle.lab_play.specs.Order.{StopsInHeads, StopsInTail}
+use Rattle.lab_play.specs.Playing.{IsPlaying, IsStopped, Scene, Start, scene, sounds_at, text_at}
+use Rattle.lab_play.proofs.ItemsStopped.{HasStopped-closed, IsStoppedAt-rows, TookPart-rows}
 
 -- what a law says of each run
 abbrev pub RunFacts : Type 0
@@ -85,13 +85,6 @@ module _ (start : Start) (stops : Stops) (lab : Lab) (outputs : Outputs) (files 
   sounds-at_end =
       ap (λ (xs : List ℤ). xs ∷ recorded_from (session_of lab) (capture_of lab) 0 is.stage.readers) (sym samples)
       ∙ ap (λ (xss : List (List ℤ)). outcome.played.items ∷ xss) (sym (ap (λ (o : Outcome). o.recorded) at-end))
-
-  -- and they are those of the stage
-  mix-at_end : AreSoundsAtEnd start.input (session_of lab) is.stage (sounds_at lab is.stage)
-  mix-at_end =
-      sounds-at_end
-      ∙ (ap sounds_of at-end
-      ∙ ap (λ (capture : Option Sound). sounds_of (outcome_of (session_of lab) capture is.stage)) is.lab_is.script_is.capture_is)
 
   run-at_end : LabRun (session_of lab) start.input.capture start.input.script.body (rises start.stops stops).clients (rises start.stops stops).readers (outcome_in outcome)
   run-at_end =
@@ -159,39 +152,45 @@ module _ (start : Start) (stops : Stops) (lab : Lab) (outputs : Outputs) (files 
 
   -- the files aren't all finished
   pub HasStopped-finish : (files_after : Option Files) → Changes (MayHold outputs.files.items (sounds_at lab is.stage)) start.files files_after
-      → KeepSamples outputs.files.items (sounds_at lab is.stage) files_after → HasStoppedWithMix start.input start.out start.files files_after start.taken taken
+      → KeepSamples outputs.files.items (sounds_at lab is.stage) files_after → IsStopped start files_after taken
   HasStopped-finish files_after changes keep =
       let part : TookPart start.taken taken (text_so_far start.input.script is.stage.rows) =
       TookPart-rows start.input.script is.stage.rows outputs.rows start.taken taken (TookPart-all start.taken taken _ is.written.text) in
-      let heads : StopsInHeads start.input start.out (session_of lab) is.lab_is.stage_is.has_done.others is.stage (sounds_at lab is.stage) files_after start.taken taken =
+      let heads : StopsInHeads start.input.script start.out is.lab_is.stage_is.has_done.others is.stage (sounds_at lab is.stage) files_after start.taken taken =
       record {
         last = last-end;
-        sounds_are = mix-at_end;
         kept = subst (λ (outs : List OutputFile). KeepSamples outs (sounds_at lab is.stage) files_after) is.written.files_are keep;
         text = part;
       } in
-      HasStoppedWithMix-at start lab files_after taken
-      (HasStopped-at start stops lab is.stage files_after taken is.lab_is (changes-end files_after changes) part (inr (inr (inr (inl heads))))) mixed-end
+      HasStopped-closed start lab files_after taken
+      (IsStoppedAt-rows start stops lab is.stage files_after taken is.lab_is (changes-end files_after changes) part (inr (inr (inr (inl heads))))) mixed-end
 
   -- the rest of the text isn't all put
   pub HasStopped-tail : (files_after : Option Files) (taken_after : Option (List ℕ)) → Changes (MayHold outputs.files.items (sounds_at lab is.stage)) start.files files_after
       → files_after ≡ option_map (finished_files outputs.files.items (sounds_at lab is.stage)) start.files
-      → TookPart taken taken_after (tail_from start.input.script outputs.rows outcome.report) → HasStoppedWithMix start.input start.out start.files files_after start.taken taken_after
+      → TookPart taken taken_after (tail_from start.input.script outputs.rows outcome.report) → IsStopped start files_after taken_after
   HasStopped-tail files_after taken_after changes files_are part =
       let has = is.lab_is.stage_is.has_done in
-      let tail : StopsInTail start.input start.out (session_of lab) has.others is.stage (sounds_at lab is.stage) start.files files_after =
+      let tail : StopsInTail start.input.script start.out has.others (sounds_at lab is.stage) start.files files_after =
       record {
         last = last-end;
-        sounds_are = mix-at_end;
         files = files_are ∙ ap (λ (outs : List OutputFile). option_map (finished_files outs (sounds_at lab is.stage)) start.files) is.written.files_are;
       } in
-      HasStoppedWithMix-at start lab files_after taken_after
-      (HasStopped-with start stops lab is.stage files_after taken_after is.lab_is (changes-end files_after changes)
-      (subst (λ (others : List Item). TookPart start.taken taken_after (text_at start.input.script (session_of lab) others is.stage)) (sym last-end)
+      let text : TookPart start.taken taken_after (text_at start.input.script (session_of lab) has.others is.stage) =
+      subst (λ (others : List Item). TookPart start.taken taken_after (text_at start.input.script (session_of lab) others is.stage)) (sym last-end)
       (subst (λ (report : Report). TookPart start.taken taken_after (report_text start.input.script report)) (ap (λ (o : Outcome). o.report) at-end)
       (subst (λ (text : List ℕ). TookPart start.taken taken_after text) (text-whole start.input.script outcome.report outputs.rows)
       (TookPart-then start.taken taken taken_after (text_so_far start.input.script (take outputs.rows outcome.report.rows)) (tail_from start.input.script outputs.rows outcome.report)
-      text-written part)))) (inr (inr (inr (inr tail))))) mixed-end
+      text-written part))) in
+      HasStopped-closed start lab files_after taken_after
+      (record {
+        stops = stops;
+        stage = is.stage;
+        lab_is = is.lab_is;
+        changes = changes-end files_after changes;
+        text = text;
+        order = inr (inr (inr (inr tail)));
+      }) mixed-end
 
 -- ---- results
 

@@ -1,4 +1,5 @@
 -- What an item of a script's body makes of a run that goes on.
+--     StaysWritten-stage      the lab stays at its stage: all that it holds is written still
 --     StaysWritten-border      an opening or a closing: all that the lab holds is written still
 --     HasUnwrittenPhase-phase      a phase: what it played, recorded and answered isn't written yet
 use Rattle.std.specs.Prelude.{◌≡◌, ℕ, ◌+◌, ℤ, List, [], ◌∷◌, ◌++◌, length, take, slice_get, Option, Some}
@@ -23,7 +24,7 @@ use Rattle.lab_rows.specs.Growth.{AreGrown, BordersKeepFrames, StagesGrow, frame
 use Rattle.lab_phase.specs.declared.lab.Lab.{Lab}
 use Rattle.lab_phase.specs.AtStage.{DoesItem, IsBorderItem, IsNextItem, IsOfScript, IsSameScript, capture_of, played_of, session_of}
 use Rattle.lab_phase.specs.BorderLaws.{session_of-same}
-use Rattle.lab_phase.specs.PhaseRuns.{DoesPhase, Stops}
+use Rattle.lab_phase.specs.PhaseRuns.{DoesPhase, StaysAtStage, Stops}
 use Rattle.lab_phase.specs.StopLaws.{AreStopsOf-border}
 use Rattle.lab_output.specs.declared.outputs.Outputs.{Outputs}
 use Rattle.lab_output.specs.Going.{AreLonger, IsPartOf}
@@ -70,6 +71,23 @@ AreWritten-rows start sounds rows more all outputs files taken is written =
       text = written.text ∙ ap (λ (some : List Row). option_map (λ (t : List ℕ). t ++ text_so_far start.input.script some) start.taken)
           (sym (take-append-le outputs.rows rows more few));
     })
+
+-- the lab is at the stage where it was
+pub StaysWritten-stage : (lab after : Lab) → StaysAtStage lab after → StaysWritten lab after
+StaysWritten-stage lab after stays stops outputs files taken start is =
+    let own = is.lab_is in
+    let sounds : sounds_at after is.stage ≡ sounds_at lab is.stage =
+    ap (λ (samples : List ℤ). samples ∷ recorded_from (session_of after) (capture_of after) 0 is.stage.readers) stays.played
+    ∙ ap (λ (recorded : List (List ℤ)). played_of lab ∷ recorded) (recorded-script lab after is.stage.readers stays.same) in
+    record {
+      stage = is.stage;
+      lab_is = record {
+        script_is = IsOfScript-same start.input.script start.input.sounds start.input.capture lab after stays.same own.script_is;
+        stage_is = stays.at is.stage own.stage_is;
+        counted = own.counted;
+      };
+      written = subst (λ (samples : List (List ℤ)). AreWritten start samples is.stage.rows outputs files taken) (sym sounds) is.written;
+    }
 
 -- ---- what is longer
 

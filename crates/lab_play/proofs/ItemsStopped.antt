@@ -1,12 +1,12 @@
 -- What is left of a run that stops: its lab was at a stage, of which it is known what the files and the output may hold.
---     HasStopped-with, HasStopped-at      by what the files and the output hold
---     HasStopped-playing      where nothing was written since all that the lab holds was written
---     HasStoppedWithMix-at, HasStoppedWithMix-silent      and its card played the mix
+--     IsStoppedAt-rows      the output took no more than the lab's rows
+--     IsStoppedAt-playing      nothing was written since all that the lab holds was written
+--     HasStopped-closed, HasStopped-silent      once the lab's rings are closed, or where it played nothing
 --     stops-in_rows      the files of a run hold all that its lab holds
 use Rattle.std.specs.Prelude.{◌≡◌, ℕ, ◌-◌, ◌*◌, ℤ, List, [], ◌∷◌, ◌++◌, drop, length, map, take, Option, Some, None, IsSomeAnd}
 use Rattle.std.specs.List.{flat_map, range_with_len}
 use Rattle.std.specs.Option.{option_map}
-use Rattle.std.proofs.Common.{refl, inl, inr, sym, ap, subst, ◌∙◌, append_assoc}
+use Rattle.std.proofs.Common.{inl, inr, sym, ap, subst, ◌∙◌, append_assoc}
 use Rattle.std.proofs.lemmas.List.{take-append-drop}
 use Rattle.std.proofs.lemmas.List.Concat.{flat_map-append}
 use Rattle.snd_base.specs.Places as rings
@@ -28,7 +28,6 @@ use Rattle.lab_phase.specs.AtStage.{IsCardOf, capture_of, played_by, played_of, 
 use Rattle.lab_phase.specs.CardStage.{IsCardIn}
 use Rattle.lab_phase.specs.Ended.{HasPlayedMix}
 use Rattle.lab_phase.specs.PhaseRuns.{Stops}
-use Rattle.lab_input.specs.Input.{RunInput}
 use Rattle.lab_output.specs.declared.file.OutputFile.{OutputFile}
 use Rattle.lab_output.specs.Files.{MayHold, unfinished_files, output_files}
 use Rattle.lab_output.specs.GoingLaws.{AreLonger-same, IsGoingOn-Changes}
@@ -36,7 +35,7 @@ use Rattle.lab_output.specs.Text.{head_text, text_so_far}
 use Rattle.lab_shelf.specs.Changes.{Changes, TookPart-all, TookPart-first}
 use Rattle.lab_shelf.specs.Files.{Files, TookPart}
 use Rattle.lab_play.specs.Order.{RowsFollowFrames, StopsInRows}
-use Rattle.lab_play.specs.Playing.{HasStopped, HasStoppedWithMix, IsLabOf, IsPlaying, IsStopped, IsStoppedAt, Scene, Start, sounds_at, text_at}
+use Rattle.lab_play.specs.Playing.{IsLabOf, IsPlaying, IsStopped, IsStoppedAt, Scene, Start, sounds_at, text_at}
 
 -- ---- what its card played
 
@@ -58,6 +57,13 @@ pub frames-card : (script : Script) (wavs : List Sound) (session : Session) (cap
     → length (played_by card) ≡ (stage.position - first_frame script.card) * script.card.channels
 frames-card script wavs session capture stage P None is in_card own = absurd own
 frames-card script wavs session capture stage P (Some a) is in_card own = frames-actor script wavs session capture stage a is (in_card a own)
+
+-- the card of a lab
+frames-lab : (start : Start) (lab : Lab) (files : Option Files) (taken : Option (List ℕ)) → (is : IsStoppedAt start lab files taken)
+    → length (played_of lab) ≡ (is.stage.position - first_frame start.input.script.card) * start.input.script.card.channels
+frames-lab start lab files taken is =
+    frames-card start.input.script start.input.sounds (session_of lab) (capture_of lab) is.stage
+    (IsCardOf (session_of lab) (capture_of lab) is.stage lab.clients lab.readers) lab.card is.lab_is.script_is.session_is (λ a is_card. is_card.is) is.lab_is.stage_is.actors.card_is
 
 -- ---- the report's text
 
@@ -82,49 +88,19 @@ TookPart-stage script session (one ∷ others) stage taken now part = part
 
 -- ---- a run that stopped
 
--- its lab is at a stage, its files have forms of the lab's samples, and the output took the first bytes of the text of a report at that stage
-pub HasStopped-with : (start : Start) (stops : Stops) (lab : Lab) (stage : Stage) (files : Option Files) (taken : Option (List ℕ)) → (is : IsLabOf start stops lab stage)
-    → Changes (MayHold (output_files start.input.script start.out) (sounds_at lab stage)) start.files files
-    → TookPart start.taken taken (text_at start.input.script (session_of lab) is.stage_is.has_done.others stage)
-    → RowsFollowFrames start.input start.out (session_of lab) is.stage_is.has_done.others stage (sounds_at lab stage) start.files files start.taken taken → IsStoppedAt start lab files taken
-HasStopped-with start stops lab stage files taken is changes part order =
-    let own = is.script_is in
-    let has = is.stage_is.has_done in
-    record {
-      stopped = record {
-        session = session_of lab;
-        session_is = own.session_is;
-        done = has.done;
-        others = has.others;
-        stage = stage;
-        reached = subst (λ (s : Script). IsReached s start.input.sounds (session_of lab) has.done has.others stage) own.script_is
-            (subst (λ (wavs : List Sound). IsReached lab.script.now wavs (session_of lab) has.done has.others stage) own.wavs_are has.reached);
-        played = played_of lab;
-        frames = frames-card start.input.script start.input.sounds (session_of lab) (capture_of lab) stage
-            (IsCardOf (session_of lab) (capture_of lab) stage lab.clients lab.readers) lab.card own.session_is (λ a is_card. is_card.is) is.stage_is.actors.card_is;
-        changes = subst
-            (λ (capture : Option Sound). Changes
-            (MayHold (output_files start.input.script start.out) (played_of lab ∷ recorded_from (session_of lab) capture 0 stage.readers)) start.files files)
-            own.capture_is changes;
-        text = part;
-        order = subst
-            (λ (capture : Option Sound). RowsFollowFrames start.input start.out (session_of lab) has.others stage
-            (played_of lab ∷ recorded_from (session_of lab) capture 0 stage.readers) start.files files start.taken taken)
-            own.capture_is order;
-      };
-      at = is.stage_is;
-      session_is = refl;
-      played_is = refl;
-    }
-
 -- the output took the first bytes of the text of the lab's rows
-pub HasStopped-at : (start : Start) (stops : Stops) (lab : Lab) (stage : Stage) (files : Option Files) (taken : Option (List ℕ)) → (is : IsLabOf start stops lab stage)
+pub IsStoppedAt-rows : (start : Start) (stops : Stops) (lab : Lab) (stage : Stage) (files : Option Files) (taken : Option (List ℕ)) → (is : IsLabOf start stops lab stage)
     → Changes (MayHold (output_files start.input.script start.out) (sounds_at lab stage)) start.files files
     → TookPart start.taken taken (text_so_far start.input.script stage.rows)
     → RowsFollowFrames start.input start.out (session_of lab) is.stage_is.has_done.others stage (sounds_at lab stage) start.files files start.taken taken → IsStoppedAt start lab files taken
-HasStopped-at start stops lab stage files taken is changes part order =
-    HasStopped-with start stops lab stage files taken is changes
-    (TookPart-stage start.input.script (session_of lab) is.stage_is.has_done.others stage start.taken taken part) order
+IsStoppedAt-rows start stops lab stage files taken is changes part order = record {
+  stops = stops;
+  stage = stage;
+  lab_is = is;
+  changes = changes;
+  text = TookPart-stage start.input.script (session_of lab) is.stage_is.has_done.others stage start.taken taken part;
+  order = order;
+}
 
 -- the files hold all that the lab holds, and the output took the first bytes of the text of the lab's rows
 pub stops-in_rows : (start : Start) (lab : Lab) (others : List Item) (stage : Stage) (outputs : List OutputFile) (files : Option Files) (taken : Option (List ℕ))
@@ -140,39 +116,60 @@ stops-in_rows start lab others stage outputs files taken own are part =
     inr (inr (inl rows))
 
 -- nothing was written since all that its lab holds was written
-pub HasStopped-playing : (start : Start) (stops : Stops) (at : Scene) → IsPlaying start stops at → IsStopped start at.files at.taken
-HasStopped-playing start stops at is =
+pub IsStoppedAt-playing : (start : Start) (stops : Stops) (at : Scene) → IsPlaying start stops at → IsStoppedAt start at.lab at.files at.taken
+IsStoppedAt-playing start stops at is =
     let written = is.written in
     let sounds : List (List ℤ) = sounds_at at.lab is.stage in
     let part : TookPart start.taken at.taken (text_so_far start.input.script is.stage.rows) =
     TookPart-rows start.input.script is.stage.rows at.outputs.rows start.taken at.taken
     (TookPart-all start.taken at.taken (text_so_far start.input.script (take at.outputs.rows is.stage.rows)) written.text) in
-    (HasStopped-at start stops at.lab is.stage at.files at.taken is.lab_is
+    IsStoppedAt-rows start stops at.lab is.stage at.files at.taken is.lab_is
     (subst (λ (outputs : List OutputFile). Changes (MayHold outputs sounds) start.files at.files) written.files_are
     (IsGoingOn-Changes at.outputs.files.items at.outputs.samples.items sounds sounds start.files at.files written.going_on (AreLonger-same sounds)))
     part
-    (stops-in_rows start at.lab is.lab_is.stage_is.has_done.others is.stage at.outputs.files.items at.files at.taken written.files_are written.going_on.files part)).stopped
+    (stops-in_rows start at.lab is.lab_is.stage_is.has_done.others is.stage at.outputs.files.items at.files at.taken written.files_are written.going_on.files part)
 
--- ---- what its card played
+-- ---- a run that stopped with its lab
 
--- its lab's rings are closed
-pub HasStoppedWithMix-at : (start : Start) (lab : Lab) (files : Option Files) (taken : Option (List ℕ)) → IsStoppedAt start lab files taken → HasPlayedMix lab
-    → HasStoppedWithMix start.input start.out start.files files start.taken taken
-HasStoppedWithMix-at start lab files taken is mix = record {
-  stopped = is.stopped;
-  mix = is.played_is
-      ∙ (mix is.stopped.stage is.at
-      ∙ ap (λ (session : Session). mix_of session (all_segments is.stopped.stage.clients) (is.stopped.stage.position - first_frame session.card)) (sym is.session_is));
-}
-
--- it played nothing
-pub HasStoppedWithMix-silent : (input : RunInput) (out : List ℕ) (before after : Option Files) (taken taken_after : Option (List ℕ)) → (is : HasStopped input out before after taken taken_after)
-    → is.played ≡ [] → HasStoppedWithMix input out before after taken taken_after
-HasStoppedWithMix-silent input out before after taken taken_after is silent =
-    let none : (is.stage.position - first_frame is.session.card) * is.session.card.channels ≡ 0 =
-    ap (λ (card : CardLine). (is.stage.position - first_frame card) * card.channels) is.session_is.card ∙ (sym is.frames ∙ ap length silent) in
+-- what it left, where its card had played the mix of the segments so far
+HasStopped-mixed : (start : Start) (lab : Lab) (files : Option Files) (taken : Option (List ℕ)) → (is : IsStoppedAt start lab files taken)
+    → played_of lab ≡ mix_of (session_of lab) (all_segments is.stage.clients) (is.stage.position - first_frame (session_of lab).card) → IsStopped start files taken
+HasStopped-mixed start lab files taken is mix =
+    let own = is.lab_is.script_is in
+    let has = is.lab_is.stage_is.has_done in
     record {
-      stopped = is;
-      mix = silent
-          ∙ sym (ap (λ (n : ℕ). map (mixed_at is.session.card.channels (first_frame is.session.card) (entries_of is.session (all_segments is.stage.clients))) (range_with_len 0 n)) none);
+      session = session_of lab;
+      session_is = own.session_is;
+      done = has.done;
+      others = has.others;
+      stage = is.stage;
+      reached = subst (λ (s : Script). IsReached s start.input.sounds (session_of lab) has.done has.others is.stage) own.script_is
+          (subst (λ (wavs : List Sound). IsReached lab.script.now wavs (session_of lab) has.done has.others is.stage) own.wavs_are has.reached);
+      played = played_of lab;
+      frames = frames-lab start lab files taken is;
+      mix = mix;
+      changes = subst
+          (λ (capture : Option Sound). Changes
+          (MayHold (output_files start.input.script start.out) (played_of lab ∷ recorded_from (session_of lab) capture 0 is.stage.readers)) start.files files)
+          own.capture_is is.changes;
+      text = is.text;
+      order = subst
+          (λ (capture : Option Sound). RowsFollowFrames start.input start.out (session_of lab) has.others is.stage
+          (played_of lab ∷ recorded_from (session_of lab) capture 0 is.stage.readers) start.files files start.taken taken)
+          own.capture_is is.order;
     }
+
+-- once the lab's rings are closed
+pub HasStopped-closed : (start : Start) (lab : Lab) (files : Option Files) (taken : Option (List ℕ)) → IsStoppedAt start lab files taken → HasPlayedMix lab → IsStopped start files taken
+HasStopped-closed start lab files taken is mix = HasStopped-mixed start lab files taken is (mix is.stage is.lab_is.stage_is)
+
+-- where the lab played nothing, which is the mix of no frames
+pub HasStopped-silent : (start : Start) (lab : Lab) (files : Option Files) (taken : Option (List ℕ)) → IsStoppedAt start lab files taken → played_of lab ≡ [] → IsStopped start files taken
+HasStopped-silent start lab files taken is silent =
+    let session : Session = session_of lab in
+    let none : (is.stage.position - first_frame session.card) * session.card.channels ≡ 0 =
+    ap (λ (card : CardLine). (is.stage.position - first_frame card) * card.channels) is.lab_is.script_is.session_is.card
+    ∙ (sym (frames-lab start lab files taken is) ∙ ap length silent) in
+    HasStopped-mixed start lab files taken is
+    (silent
+    ∙ sym (ap (λ (n : ℕ). map (mixed_at session.card.channels (first_frame session.card) (entries_of session (all_segments is.stage.clients))) (range_with_len 0 n)) none))

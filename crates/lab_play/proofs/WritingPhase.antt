@@ -23,7 +23,7 @@ use Rattle.lab_shelf.specs.Changes.{Changes, TookPart-all}
 use Rattle.lab_shelf.specs.Files.{Files, TookPart}
 use Rattle.lab_play.specs.Appending.{CanAppend}
 use Rattle.lab_play.specs.Playing.{HasUnwrittenPhase, IsPlaying, IsStoppedAt, Start, scene, sounds_at}
-use Rattle.lab_play.proofs.ItemsStopped.{HasStopped-at, TookPart-rows, frames-card, stops-in_rows}
+use Rattle.lab_play.proofs.ItemsStopped.{IsStoppedAt-rows, TookPart-rows, frames-card, stops-in_rows}
 use Rattle.lab_play.proofs.Writing.{count-at, longer-length, member}
 
 -- ---- what a lab holds is few enough
@@ -124,7 +124,7 @@ module _ (start : Start) (stops : Stops) (lab : Lab) (outputs : Outputs) (files 
 
   -- an append failed
   pub stops-appending : IsStoppedAt start lab files_after taken
-  stops-appending = HasStopped-at start stops lab is.stage files_after taken is.lab_is own-changes
+  stops-appending = IsStoppedAt-rows start stops lab is.stage files_after taken is.lab_is own-changes
       (TookPart-rows start.input.script is.stage.rows outputs.rows start.taken taken
       (TookPart-all start.taken taken (text_so_far start.input.script (take outputs.rows is.stage.rows)) is.written.text)) (inr (inl is.order))
 
@@ -140,7 +140,7 @@ module _ (start : Start) (stops : Stops) (lab : Lab) (outputs : Outputs) (files 
       (subst (λ (n : ℕ). TookPart taken taken_after (rows_text script n rows)) number_is part)) in
       let all : TookPart start.taken taken_after (text_so_far start.input.script is.stage.rows) =
       text_so_far-part start.input.script outputs.rows is.stage.rows start.taken taken taken_after is.written.text text in
-      HasStopped-at start stops lab is.stage files_after taken_after is.lab_is own-changes all
+      IsStoppedAt-rows start stops lab is.stage files_after taken_after is.lab_is own-changes all
       (stops-in_rows start lab is.lab_is.stage_is.has_done.others is.stage after.files.items files_after taken_after
       (ap (λ v. v.items) files_are ∙ is.written.files_are) going.files all)
 

@@ -11,7 +11,7 @@ use Rattle.lab_output.specs.declared.outputs.Outputs.{Outputs}
 use Rattle.lab_output.specs.Going.{AreNew, AreOutputs}
 use Rattle.lab_shelf.specs.Files.{Files}
 use Rattle.lab_play.specs.Played.{HasPlayed, rises}
-use Rattle.lab_play.specs.Playing.{HasStoppedWithMix, IsPlaying, IsStopped, Scene, Start}
+use Rattle.lab_play.specs.Playing.{IsPlaying, IsStopped, Scene, Start}
 
 -- a lab of an input's script before the first item of its body, and outputs of it of which nothing is written
 pub record IsNewRun (input : RunInput) (out : List ℕ) (lab : Lab) (outputs : Outputs) : Type 0 where
@@ -42,10 +42,6 @@ EndsWith before outcome files taken =
 
 abbrev pub StopsAtEnd : Scene → Option Files → Option (List ℕ) → Type 0
 StopsAtEnd before files taken = (start : Start) (stops : Stops) → IsPlaying start stops before → IsStopped start files taken
-
-abbrev pub StopsAtEndWithMix : Scene → Option Files → Option (List ℕ) → Type 0
-StopsAtEndWithMix before files taken =
-    (start : Start) (stops : Stops) → IsPlaying start stops before → HasStoppedWithMix start.input start.out start.files files start.taken taken
 
 -- the files were known when a run at this moment began
 pub record IsKnownAtEnd (at : Scene) : Type 0 where

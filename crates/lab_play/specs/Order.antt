@@ -1,19 +1,16 @@
 -- In which order a run that stopped had written: the rows of a phase are put only once all its frames are appended.
 --     StopsInFrames      not all frames of a phase were appended: none of its rows was put
 --     StopsInRows      the files hold all frames so far: no row was put but of the phases of these
---     AreSoundsAtEnd      the card played the mix of the segments, where the run is done
 --     StopsInHeads      no item was left, and not each file had its true head: nothing was put but rows, and the files have all frames
 --     StopsInTail      each file is finished: any of the report may be put
 --     RowsFollowFrames      one of these, or nothing was put but the first line
-use Rattle.std.specs.Prelude.{◌≡◌, ◌⊎◌, ℕ, ◌-◌, ℤ, List, [], ◌∷◌, Option}
+use Rattle.std.specs.Prelude.{◌≡◌, ◌⊎◌, ℕ, ℤ, List, [], ◌∷◌, Option}
 use Rattle.std.specs.Option.{option_map}
 use Rattle.lab_script.specs.declared.line.Item.{Item}
 use Rattle.lab_script.specs.declared.line.Item.TheVariants as item
 use Rattle.lab_script.specs.declared.line.Line.{Line}
 use Rattle.lab_script.specs.declared.script.Script.{Script}
-use Rattle.lab_script.specs.Script.{first_frame}
 use Rattle.lab_run.specs.Items.{ItemMay}
-use Rattle.lab_run.specs.LabRun.{all_segments, mix_of, recorded_from}
 use Rattle.lab_run.specs.ScriptWords.{IsReached}
 use Rattle.lab_run.specs.Stage.{Session, Stage}
 use Rattle.lab_input.specs.Input.{RunInput}
@@ -38,28 +35,19 @@ pub record StopsInRows (script : Script) (out : List ℕ) (stage : Stage) (sound
   pub files : after ≡ option_map (unfinished_files (output_files script out) sounds) before
   pub text : TookPart taken taken_after (text_so_far script stage.rows)
 
--- the samples of a run that is done: the card played the saturated sums of what the segments placed, and each reader recorded the frames that it got
-abbrev pub AreSoundsAtEnd : RunInput → Session → Stage → List (List ℤ) → Type 0
-AreSoundsAtEnd input session stage sounds =
-    sounds
-    ≡ mix_of session (all_segments stage.clients) (stage.position - first_frame session.card)
-    ∷ recorded_from session input.capture 0 stage.readers
-
 -- all items are done, each file has all its samples, and nothing was put but the first bytes of the rows
-pub record StopsInHeads (input : RunInput) (out : List ℕ) (session : Session)
-    (others : List Item) (stage : Stage) (sounds : List (List ℤ)) (after : Option Files)
+pub record StopsInHeads (script : Script) (out : List ℕ) (others : List Item)
+    (stage : Stage) (sounds : List (List ℤ)) (after : Option Files)
     (taken taken_after : Option (List ℕ)) : Type 0 where
   pub last : others ≡ []
-  pub sounds_are : AreSoundsAtEnd input session stage sounds
-  pub kept : KeepSamples (output_files input.script out) sounds after
-  pub text : TookPart taken taken_after (text_so_far input.script stage.rows)
+  pub kept : KeepSamples (output_files script out) sounds after
+  pub text : TookPart taken taken_after (text_so_far script stage.rows)
 
 -- all items are done, and each file is the canonical WAV file of its samples
-pub record StopsInTail (input : RunInput) (out : List ℕ) (session : Session) (others : List Item)
-    (stage : Stage) (sounds : List (List ℤ)) (before after : Option Files) : Type 0 where
+pub record StopsInTail (script : Script) (out : List ℕ) (others : List Item)
+    (sounds : List (List ℤ)) (before after : Option Files) : Type 0 where
   pub last : others ≡ []
-  pub sounds_are : AreSoundsAtEnd input session stage sounds
-  pub files : after ≡ option_map (finished_files (output_files input.script out) sounds) before
+  pub files : after ≡ option_map (finished_files (output_files script out) sounds) before
 
 -- the output took no byte of a phase's rows before all frames of the phase were appended, and none of what is below the rows before each file was finished
 abbrev pub RowsFollowFrames : RunInput → List ℕ → Session → List Item → Stage → List (List ℤ)
@@ -68,5 +56,5 @@ RowsFollowFrames input out session others stage sounds before after taken taken_
     TookPart taken taken_after head_text
     ⊎ (StopsInFrames input session others stage taken taken_after
     ⊎ (StopsInRows input.script out stage sounds before after taken taken_after
-    ⊎ (StopsInHeads input out session others stage sounds after taken taken_after
-    ⊎ StopsInTail input out session others stage sounds before after)))
+    ⊎ (StopsInHeads input.script out others stage sounds after taken taken_after
+    ⊎ StopsInTail input.script out others sounds before after)))

@@ -4,8 +4,7 @@
 --     IsPlaying      all that the lab played and its readers recorded is written, at a moment between two items
 --     HasUnwrittenPhase      a phase is done of which nothing is written yet
 --     HasStopped      what is left of a run that stopped
---     HasStoppedWithMix      and the card played the mix of the segments so far
---     IsStoppedAt      a run stopped at the stage of a lab
+--     IsStoppedAt      a run stopped at the stage of a lab, whose rings aren't closed yet
 use Rattle.std.specs.Prelude.{◌≡◌, ℕ, ◌-◌, ◌*◌, ◌≤◌, ℤ, List, [], ◌∷◌, ◌++◌, length, take, Option, Some}
 use Rattle.std.specs.Option.{option_map}
 use Rattle.lab_script.specs.declared.line.Item.{Item}
@@ -87,8 +86,9 @@ abbrev pub text_at : Script → Session → List Item → Stage → List ℕ
 text_at script session [] stage = report_text script (report_of session stage)
 text_at script session (one ∷ others) stage = text_so_far script stage.rows
 
--- A run stopped: it had reached a stage. Each of its files is as it was before the run, or has one of the forms of its samples so far, and no other file
--- changed; the first bytes of the report's text were put, and no row before the frames of its phase.
+-- A run stopped: it had reached a stage. What its card had played is the mix of the segments so far. Each of its files is as it was before the run, or
+-- has one of the forms of its samples so far, and no other file changed; the first bytes of the report's text were put, and no row before the frames of
+-- its phase.
 pub record HasStopped (input : RunInput) (out : List ℕ) (before after : Option Files)
     (taken taken_after : Option (List ℕ)) : Type 0 where
   pub session : Session
@@ -100,6 +100,8 @@ pub record HasStopped (input : RunInput) (out : List ℕ) (before after : Option
   pub played : List ℤ
   pub frames : length played
       ≡ (stage.position - first_frame input.script.card) * input.script.card.channels
+  pub mix : played
+      ≡ mix_of session (all_segments stage.clients) (stage.position - first_frame session.card)
   pub changes : Changes (MayHold (output_files input.script out) (played ∷ recorded_from session input.capture 0 stage.readers)) before after
   pub text : TookPart taken taken_after (text_at input.script session others stage)
   pub order : RowsFollowFrames input out session others stage (played ∷ recorded_from session input.capture 0 stage.readers) before after taken taken_after
@@ -108,20 +110,19 @@ pub record HasStopped (input : RunInput) (out : List ℕ) (before after : Option
 abbrev pub IsStopped : Start → Option Files → Option (List ℕ) → Type 0
 IsStopped start files taken = HasStopped start.input start.out start.files files start.taken taken
 
--- and what its card played up to that stage, of which OUT.wav holds the first samples, are the saturated sums of what the segments so far placed
-pub record HasStoppedWithMix (input : RunInput) (out : List ℕ) (before after : Option Files)
-    (taken taken_after : Option (List ℕ)) : Type 0 where
-  pub stopped : HasStopped input out before after taken taken_after
-  pub mix : stopped.played
-      ≡ mix_of stopped.session (all_segments stopped.stage.clients) (stopped.stage.position - first_frame stopped.session.card)
-
--- a run that began so stopped at the stage of this lab, and what it played is what the lab played
+-- it stopped at the stage of a lab: what is left is that of a run that stopped there with what the lab holds
 pub record IsStoppedAt (start : Start) (lab : Lab) (files : Option Files)
     (taken : Option (List ℕ)) : Type 0 where
-  pub stopped : HasStopped start.input start.out start.files files start.taken taken
-  pub at : IsAtStage lab stopped.stage
-  pub session_is : stopped.session ≡ session_of lab
-  pub played_is : stopped.played ≡ played_of lab
+  pub stops : Stops
+  pub stage : Stage
+  pub lab_is : IsLabOf start stops lab stage
+  pub changes : Changes (MayHold (output_files start.input.script start.out) (sounds_at lab stage))
+      start.files files
+  pub text : TookPart start.taken taken
+      (text_at start.input.script (session_of lab) lab_is.stage_is.has_done.others stage)
+  pub order : RowsFollowFrames start.input start.out (session_of lab)
+      lab_is.stage_is.has_done.others stage (sounds_at lab stage) start.files files
+      start.taken taken
 
 -- ---- what calls make of a run, whatever it began with
 
@@ -129,11 +130,7 @@ pub record IsStoppedAt (start : Start) (lab : Lab) (files : Option Files)
 abbrev pub SceneGoesOn : Stops → Scene → Stops → Scene → Type 0
 SceneGoesOn stops before stops_after after = (start : Start) → IsPlaying start stops before → IsPlaying start stops_after after
 
--- it stopped, and left this
-abbrev pub StopsWith : Stops → Scene → Option Files → Option (List ℕ) → Type 0
-StopsWith stops before files taken = (start : Start) → IsPlaying start stops before → IsStopped start files taken
-
--- and at the stage of a lab
+-- it stopped at the stage of a lab, and left this
 abbrev pub StopsAt : Stops → Scene → Lab → Option Files → Option (List ℕ) → Type 0
 StopsAt stops before lab files taken = (start : Start) → IsPlaying start stops before → IsStoppedAt start lab files taken
 

@@ -6,7 +6,7 @@ ghost use Rattle.lab_stop.specs.declared.stop.Stop.TheVariants as stops;
 ghost use Rattle.lab_phase.specs.AtStage.{DoesItem, IsBorderItem, IsLab, IsNextItem, IsSameScript, items_done, played_of};
 ghost use Rattle.lab_phase.specs.PhaseRuns.{stops_by};
 ghost use Rattle.lab_play.specs.Counts.{PlayFaults};
-ghost use Rattle.lab_play.specs.Playing.{CanPlay, SceneGoesOn, IsKnownRun, StaysWritten, StopsAt, StopsWith, scene};
+ghost use Rattle.lab_play.specs.Playing.{CanPlay, SceneGoesOn, IsKnownRun, StaysWritten, StopsAt, scene};
 
 use crate::write::write_phase;
 use lab_output::Outputs;
@@ -22,7 +22,7 @@ use std::thread::Threads;
 
 /// Does all items of the script's body, in order, and writes what each phase played, recorded and
 /// answered. It stops with `Write` where the shelf or the output fails, and with `Memory` only
-/// where no memory is left.
+/// where no memory is left; the lab is at a stage then, between two items.
 ///
 /// The caller has a lab before the first item of the script's body, whose outputs are begun, and
 /// 128 gates: the first 64 are the clients', by their numbers, and those after them the readers'.
@@ -46,11 +46,7 @@ pub(crate) fn do_items<R: Threads + Sync, S: Shelf, K: Sink, G: Gate + Send>(
         (stops_by G.stops gates.new)
         (scene lab.new outputs.new (S.files shelf.new) (K.taken out.new))) }
     ensures all { OnOk result (items_done lab.new ≡ length script.now.body) }
-    ensures part { OnErr result (StopsWith
-        (stops_by G.stops gates.old)
-        (scene lab.old outputs.old (S.files shelf.old) (K.taken out.old))
-        (S.files shelf.new) (K.taken out.new)) }
-    ensures at { IfErr result (λ stop. stop ≡ stops.Write → StopsAt
+    ensures part { OnErr result (StopsAt
         (stops_by G.stops gates.old)
         (scene lab.old outputs.old (S.files shelf.old) (K.taken out.old))
         lab.new (S.files shelf.new) (K.taken out.new)) }
@@ -105,11 +101,7 @@ fn do_item<R: Threads + Sync, S: Shelf, K: Sink, G: Gate + Send>(
         (scene lab.new outputs.new (S.files shelf.new) (K.taken out.new))) }
     ensures next { OnOk result (items_done lab.new ≡ items_done lab.old + 1) }
     ensures same { OnOk result (IsSameScript lab.old lab.new) }
-    ensures part { OnErr result (StopsWith
-        (stops_by G.stops gates.old)
-        (scene lab.old outputs.old (S.files shelf.old) (K.taken out.old))
-        (S.files shelf.new) (K.taken out.new)) }
-    ensures at { IfErr result (λ stop. stop ≡ stops.Write → StopsAt
+    ensures part { OnErr result (StopsAt
         (stops_by G.stops gates.old)
         (scene lab.old outputs.old (S.files shelf.old) (K.taken out.old))
         lab.new (S.files shelf.new) (K.taken out.new)) }
@@ -164,11 +156,7 @@ fn do_phase<R: Threads + Sync, S: Shelf, K: Sink, G: Gate + Send>(
         (scene lab.new outputs.new (S.files shelf.new) (K.taken out.new))) }
     ensures next { OnOk result (items_done lab.new ≡ items_done lab.old + 1) }
     ensures same { OnOk result (IsSameScript lab.old lab.new) }
-    ensures part { OnErr result (StopsWith
-        (stops_by G.stops gates.old)
-        (scene lab.old outputs.old (S.files shelf.old) (K.taken out.old))
-        (S.files shelf.new) (K.taken out.new)) }
-    ensures at { IfErr result (λ stop. stop ≡ stops.Write → StopsAt
+    ensures part { OnErr result (StopsAt
         (stops_by G.stops gates.old)
         (scene lab.old outputs.old (S.files shelf.old) (K.taken out.old))
         lab.new (S.files shelf.new) (K.taken out.new)) }
@@ -190,14 +178,15 @@ fn do_phase<R: Threads + Sync, S: Shelf, K: Sink, G: Gate + Send>(
     }
 }
 
-/// Does an opening or a closing. Its row is put with those of the next phase, or at the end.
+/// Does an opening or a closing. Its row is put with those of the next phase, or at the end. Where it is refused for want of memory the lab
+/// is at its stage.
 fn do_border(lab: &mut Lab<'_, '_>, item: &Item) -> Result<(), Stop>
     requires at { IsLab lab.old }
     requires next { IsNextItem lab.old item.now }
     requires border { IsBorderItem item.now }
     ensures does { OnOk result (DoesItem lab.old item.now lab.new) }
     ensures played { OnOk result (played_of lab.new ≡ played_of lab.old) }
-    ensures written { OnOk result (StaysWritten lab.old lab.new) }
+    ensures written { StaysWritten lab.old lab.new }
     ensures only { IfErr result (λ stop. stop ≡ stops.Memory) }
 {
     stages_grow();

@@ -10,16 +10,16 @@ ghost use Rattle.lab_shelf.specs.Changes.{Changes};
 ghost use Rattle.lab_shelf.specs.Files.{TookPart};
 ghost use Rattle.lab_stop.specs.Stops.{IsWriteStop};
 ghost use Rattle.lab_stop.specs.declared.stop.Stop.TheVariants as stops;
-ghost use Rattle.lab_phase.specs.AtStage.{IsLab, items_done};
-ghost use Rattle.lab_phase.specs.Ended.{HasPlayedMix, outcome_in};
+ghost use Rattle.lab_phase.specs.AtStage.{items_done};
+ghost use Rattle.lab_phase.specs.Ended.{outcome_in};
 ghost use Rattle.lab_phase.specs.PhaseRuns.{stops_by};
 ghost use Rattle.lab_output.specs.Files.{MayHold, nothing};
 ghost use Rattle.lab_output.specs.Going.{AreOutputs, IsGoingOn};
 ghost use Rattle.lab_output.specs.Text.{head_text};
 ghost use Rattle.lab_play.specs.Counts.{PlayFaults};
-ghost use Rattle.lab_play.specs.Ends.{CanEnd, EndsWith, IsKnownAtEnd, IsNewRun, IsSomeNewRun, StopsAtEnd, StopsAtEndWithMix};
+ghost use Rattle.lab_play.specs.Ends.{CanEnd, EndsWith, IsKnownAtEnd, IsNewRun, IsSomeNewRun, StopsAtEnd};
 ghost use Rattle.lab_play.specs.Played.{HasPlayed, HasPlayedPart, rises};
-ghost use Rattle.lab_play.specs.Playing.{HasStopped, HasStoppedWithMix, scene};
+ghost use Rattle.lab_play.specs.Playing.{HasStopped, scene};
 
 use crate::items::do_items;
 use lab_headline::runs_keep_headline;
@@ -68,14 +68,10 @@ pub fn play<R: Threads + Sync, S: Shelf, K: Sink, G: Gate + Send>(
         (rises (stops_by G.stops gates.old) (stops_by G.stops gates.new)) (outcome_in outcome)
         (S.files shelf.old) (S.files shelf.new) (K.taken out.old) (K.taken out.new)) }
 
-    // Otherwise nothing was written, or what is written is of a run that reached a stage.
+    // Otherwise nothing was written, or what is written is of a run that reached a stage, whose card had played the mix of the segments so far.
     ensures part { OnErr result (HasPlayedPart (input_of input.now) name.now
         (S.files shelf.old) (S.files shelf.new) (K.taken out.old) (K.taken out.new)) }
 
-    // Where a write failed, what the card had played is the mix of the segments so far.
-    ensures mix { IfErr result (λ stop. stop ≡ stops.Write
-        → HasStoppedWithMix (input_of input.now) name.now
-        (S.files shelf.old) (S.files shelf.new) (K.taken out.old) (K.taken out.new)) }
     ensures only { IfErr result IsWriteStop }
     ensures fetch_faults { S.fetch_faults shelf.new ≡ S.fetch_faults shelf.old }
     ensures faults { PlayFaults result (S.write_faults shelf.old) (S.write_faults shelf.new)
@@ -158,10 +154,6 @@ fn play_all<R: Threads + Sync, S: Shelf, K: Sink, G: Gate + Send>(
         → IsNewRun input name lab.entry outputs
         → HasStopped input name (S.files shelf.old) (S.files shelf.new) (K.taken out.old)
         (K.taken out.new)) }
-    ensures mix { IfErr result (λ stop. stop ≡ stops.Write → (input : RunInput) (name : List ℕ)
-        → IsNewRun input name lab.entry outputs
-        → HasStoppedWithMix input name (S.files shelf.old) (S.files shelf.new) (K.taken out.old)
-        (K.taken out.new)) }
     ensures only { IfErr result IsWriteStop }
     ensures fetch_faults { S.fetch_faults shelf.new ≡ S.fetch_faults shelf.old }
     ensures faults { PlayFaults result (S.write_faults shelf.old) (S.write_faults shelf.new)
@@ -174,21 +166,9 @@ fn play_all<R: Threads + Sync, S: Shelf, K: Sink, G: Gate + Send>(
     match do_items(rt, alloc, script, &mut lab, &mut outputs, shelf, out, gates) {
         Ok(()) => end(alloc, script, lab, &outputs, shelf, out),
         Err(stop) => {
-            stop_lab(lab, &stop);
+            lab.stop();
             Err(stop)
         }
-    }
-}
-
-/// Ends the lab of a run that stopped within the script's body. The caller has a lab at a stage where a write failed; where no memory was
-/// left it may be within an item.
-fn stop_lab(lab: Lab<'_, '_>, stop: &Stop)
-    requires { stop.now ≡ stops.Write → IsLab lab }
-    ensures { stop.now ≡ stops.Write → HasPlayedMix lab.entry }
-{
-    match *stop {
-        Stop::Write => lab.stop(),
-        _ => {}
     }
 }
 
@@ -235,9 +215,6 @@ fn end<S: Shelf, K: Sink>(
         (S.files shelf.new) (K.taken out.new)) }
     ensures part { OnErr result
         (StopsAtEnd (scene lab.entry outputs.now (S.files shelf.old) (K.taken out.old))
-        (S.files shelf.new) (K.taken out.new)) }
-    ensures mix { IfErr result (λ stop. stop ≡ stops.Write → StopsAtEndWithMix
-        (scene lab.entry outputs.now (S.files shelf.old) (K.taken out.old))
         (S.files shelf.new) (K.taken out.new)) }
     ensures only { IfErr result IsWriteStop }
     ensures fetch_faults { S.fetch_faults shelf.new ≡ S.fetch_faults shelf.old }

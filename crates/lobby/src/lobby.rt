@@ -38,7 +38,7 @@ impl<'a> Lobby<'a> {
     ghost use Rattle.sum_table.specs.Players.{player_key, player_ring, position_of_player};
     ghost use Rattle.lobby.specs.Loads.{HasLoaded, HasLoadedBeside, PlayerStays};
     ghost use Rattle.lobby.specs.Lobbies.{Attaches, CanTakeBack, IsLaterLobby, IsNewLobby, IsSilentSeat, JoinsAll, LoadsAt, Outcome, TakesBack, free_seats, key_of_lobby, reaped_of, ring_of_lobby, seen_of_lobby};
-    ghost use Rattle.lobby.specs.Seats.{AreFree, KeepsLasts, last_of, lowest_free};
+    ghost use Rattle.lobby.specs.Seats.{AreFree, KeepsLasts, last_of, lowest_free, lowest_silent};
 
     /// A lobby of all places that the seat has, each free, with members from 0 upwards. The caller shows that nothing was
     /// placed by the seat.
@@ -112,6 +112,20 @@ impl<'a> Lobby<'a> {
         };
         let position = self.load_beside_at(place, player);
         self.hand_out(position.frame)
+    }
+
+    /// The number of the place whose seat an attach hands out at a position: the lowest one that is free and silent there, if there is
+    /// such a place.
+    pub fn next_place(&self, position: u64) -> Option<u32>
+        ensures { result ≡ lowest_silent position (free_seats self.now) }
+    {
+        let Some(place) = lowest_silent(self.seats.as_slice(), position) else {
+            return None;
+        };
+        let Some(seat) = &self.seats[place] else {
+            unreachable!()
+        };
+        Some(seat.member())
     }
 
     // The refusal where no place is free.

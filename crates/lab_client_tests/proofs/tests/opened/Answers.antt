@@ -12,4 +12,5 @@ returns-clause-can c =
     let from = c.from.ensures in
     let same = c.if-from-wav.false in
     let channels : length c.args.opening.now.bindings ≡ c.args.wav.now.channels = omega (arith, setup, file, len, from, same) in
-    CanRun-opened c.seen-position.result c.args.seat c.args.opening.now c.args.wav.now c.new-client.result c.open.new.self c.requires.places channels c.in_ok-open.ensures.ok
+    CanRun-opened c.seen-position.result c.args.seat c.args.opening.now c.args.wav.now c.make_stream.new.self c.open.new.self c.requires.places channels
+    c.open.ensures

@@ -1,11 +1,10 @@
 use Rattle.std.specs.Prelude.{ℕ, List, Option}
 use Rattle.std.proofs.lemmas.Result.{err_from_is_err_and}
-use Rattle.lab_input.specs.declared.input.Input.{Input}
 use Rattle.lab_input.specs.Read.{input_of}
 use Rattle.lab_phase.specs.PhaseRuns.{Stops, stops_by}
 use Rattle.lab_play.specs.Played.{rises}
 use Rattle.lab_shelf.specs.Files.{Files}
-use Rattle.lab_commands.proofs.Leaving.{Finished-played, CommandLeaves-stopped, WriteLeaves-read, WriteLeaves-stopped}
+use Rattle.lab_commands.proofs.Leaving.{Finished-played, CommandLeaves-stopped}
 use Rattle.lab_commands.proofs.commands.run_command.Goals as goal
 
 pub returns-in_err-play-clause-leaves : goal.returns-in_err-play-clause-leaves
@@ -31,17 +30,3 @@ returns-clause-leaves g c =
     let taken_after : Option (List ℕ) = g.K.Sink.taken c.play.new.out in
     Finished-played (record { exact = c.runs_are_exact.ensures; own = c.actors_do_their_own.ensures }) (input_of c.in_ok-input.input) c.args.script.now c.args.name.now gates before between
     after taken taken_after c.in_ok-input.ensures.input c.in_ok-input.ensures.script c.in_ok-input.ensures.files _ c.in_ok-play.ensures.done
-
-pub returns-in_err-input-clause-mix : goal.returns-in_err-input-clause-mix
-returns-in_err-input-clause-mix g c =
-    let p = err_from_is_err_and c.from_residual.result c.from_residual.ensures.1 in
-    rw (p.1, p.2)
-    (WriteLeaves-read Input c.args.script.now c.args.name.now _ _ _ _ c.in_err-input.field-0.0 _ _ c.in_err-input.ensures.faults)
-
-pub returns-in_err-play-clause-mix : goal.returns-in_err-play-clause-mix
-returns-in_err-play-clause-mix g c =
-    let p = err_from_is_err_and c.from_residual-in_err-play.result c.from_residual-in_err-play.ensures.1 in
-    rw (p.1, p.2)
-    (WriteLeaves-stopped (input_of c.in_ok-input.input) c.args.script.now c.args.name.now (g.S.Shelf.files c.args.shelf.now) (g.S.Shelf.files c.read_input.new.shelf)
-    (g.S.Shelf.files c.play.new.shelf) (g.K.Sink.taken c.args.out.now) (g.K.Sink.taken c.play.new.out) c.in_ok-input.ensures.input c.in_ok-input.ensures.files
-    c.in_err-play.field-0.0 c.in_err-play.ensures.mix)

@@ -1,7 +1,6 @@
 use Rattle.std.proofs.Common.{sym, ◌∙◌}
 use Rattle.lab_commands.specs.Words.{form_of, texts}
 use Rattle.lab_commands.proofs.Ends.{status_of-text, status_of-wav, status_of-reliable}
-use Rattle.lab_commands.proofs.Leaving.{WriteLeaves-status}
 use Rattle.lab_commands.proofs.Only.{DoneIn-only}
 use Rattle.lab_commands.proofs.top.dmixlab.Goals as goal
 
@@ -26,7 +25,3 @@ returns-clause-reliable g c shelf out files told =
     rw c.status.ensures
     (status_of-reliable c.command-end.result (texts c.args.words.now) files (c.command-end.ensures.cause files told) c.command-end.ensures.words
     (c.command-end.ensures.reliable shelf out files told))
-
-pub returns-clause-mix : goal.returns-clause-mix
-returns-clause-mix g c five =
-    WriteLeaves-status (form_of (texts c.args.words.now)) c.command-end.result _ _ _ _ c.command-end.ensures.mix (sym c.status.ensures ∙ five)

@@ -1,12 +1,11 @@
 use Rattle.std.specs.Prelude.{ℕ, ◌+◌, List, length, slice_get}
-use Rattle.std.proofs.Common.{refl, sym, ap, ◌∙◌, ◌≡◌}
+use Rattle.std.proofs.Common.{refl, sym, ap, ◌∙◌}
 use Rattle.std.proofs.lemmas.Option.{slice_get_read}
 use Rattle.lab_script.specs.declared.line.Item.{Item}
-use Rattle.lab_stop.specs.declared.stop.Stop.TheVariants as stop
 use Rattle.lab_phase.specs.AtStage.{IsNextItem-at}
 use Rattle.lab_phase.specs.PhaseRuns.{stops_by}
-use Rattle.lab_play.specs.Playing.{Scene, StopsAt, StopsWith, scene}
-use Rattle.lab_play.proofs.ItemsResults.{IfErr-passed, OnErr-all, stopped-with}
+use Rattle.lab_play.specs.Playing.{Scene, StopsAt, scene}
+use Rattle.lab_play.proofs.ItemsResults.{OnErr-all, stopped-with}
 use Rattle.lab_play.proofs.items.do_items.Goals as goal
 
 pub do_item-requires-clause-playing : goal.do_item-requires-clause-playing
@@ -28,17 +27,8 @@ pub returns-in_err-do_item-clause-part : goal.returns-in_err-do_item-clause-part
 returns-in_err-do_item-clause-part g c =
     let before : Scene = scene c.args.lab.now c.args.outputs.now (g.S.Shelf.files c.args.shelf.now) (g.K.Sink.taken c.args.out.now) in
     OnErr-all
-    (StopsWith (stops_by g.G.Gate.stops c.args.gates.now) before (g.S.Shelf.files c.do_item.new.shelf) (g.K.Sink.taken c.do_item.new.out)) c.from_residual.result
+    (StopsAt (stops_by g.G.Gate.stops c.args.gates.now) before c.do_item.new.lab (g.S.Shelf.files c.do_item.new.shelf) (g.K.Sink.taken c.do_item.new.out)) c.from_residual.result
     (λ start is. c.in_err-do_item.ensures.part start (c.loop-index.invariant.goes_on start is))
-
-pub returns-in_err-do_item-clause-at : goal.returns-in_err-do_item-clause-at
-returns-in_err-do_item-clause-at g c =
-    let before : Scene = scene c.args.lab.now c.args.outputs.now (g.S.Shelf.files c.args.shelf.now) (g.K.Sink.taken c.args.out.now) in
-    IfErr-passed
-    (λ e. e ≡ stop.Write
-    → StopsAt (stops_by g.G.Gate.stops c.args.gates.now) before c.do_item.new.lab (g.S.Shelf.files c.do_item.new.shelf) (g.K.Sink.taken c.do_item.new.out))
-    c.from_residual.result c.in_err-do_item.field-0.0 c.from_residual.ensures.1
-    (λ same start is. c.in_err-do_item.ensures.at same start (c.loop-index.invariant.goes_on start is))
 
 pub returns-in_err-do_item-clause-never : goal.returns-in_err-do_item-clause-never
 returns-in_err-do_item-clause-never g c shelf_reliable out_reliable known =

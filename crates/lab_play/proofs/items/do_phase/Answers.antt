@@ -1,12 +1,12 @@
-use Rattle.std.proofs.Common.{List, Option, ℕ, refl, ◌≡◌}
+use Rattle.std.proofs.Common.{List, Option, ℕ}
 use Rattle.lab_shelf.specs.Files.{Files}
-use Rattle.lab_stop.specs.declared.stop.Stop.TheVariants as stop
 use Rattle.lab_phase.specs.BorderLaws.{OnOk-more}
 use Rattle.lab_phase.specs.PhaseRuns.{Stops, stops_by}
-use Rattle.lab_play.specs.Playing.{CatchesUp, SceneGoesOn, Scene, StopsAt, StopsBehind, StopsWith, scene}
-use Rattle.lab_play.proofs.ItemsDone.{HasUnwrittenPhase-phase}
-use Rattle.lab_play.proofs.ItemsResults.{IfErr-more, OnErr-more, no-write}
-use Rattle.lab_play.proofs.ItemsStopped.{HasStopped-playing}
+use Rattle.lab_phase.specs.Same.{StaysAtStage-same}
+use Rattle.lab_play.specs.Playing.{CatchesUp, SceneGoesOn, Scene, StopsAt, StopsBehind, scene}
+use Rattle.lab_play.proofs.ItemsDone.{HasUnwrittenPhase-phase, StaysWritten-stage}
+use Rattle.lab_play.proofs.ItemsResults.{OnErr-more}
+use Rattle.lab_play.proofs.ItemsStopped.{IsStoppedAt-playing}
 use Rattle.lab_play.proofs.items.do_phase.Goals as goal
 
 pub write_phase-requires : goal.write_phase-requires
@@ -46,23 +46,8 @@ returns-in-Ok-clause-part g c =
     let behind : Scene = scene c.run_phase.new.self c.args.outputs.now files taken in
     let files_now : Option Files = g.S.Shelf.files c.write_phase.new.shelf in
     let taken_now : Option (List ℕ) = g.K.Sink.taken c.write_phase.new.out in
-    OnErr-more (StopsBehind behind files_now taken_now) (StopsWith stops before files_now taken_now) c.write_phase.result
-    (λ stopped start is. (stopped start stops_after
-    (HasUnwrittenPhase-phase c.stages_grow.ensures.grow stops stops_after c.args.lab.now c.run_phase.new.self c.args.lines.now c.in-Ok.ensures.does c.requires.next c.args.outputs.now files taken start is)).stopped)
-    c.write_phase.ensures.part
-
-pub returns-in-Ok-clause-at : goal.returns-in-Ok-clause-at
-returns-in-Ok-clause-at g c =
-    let stops : Stops = stops_by g.G.Gate.stops c.args.gates.now in
-    let stops_after : Stops = stops_by g.G.Gate.stops c.run_phase.new.gates in
-    let files : Option Files = g.S.Shelf.files c.args.shelf.now in
-    let taken : Option (List ℕ) = g.K.Sink.taken c.args.out.now in
-    let before : Scene = scene c.args.lab.now c.args.outputs.now files taken in
-    let behind : Scene = scene c.run_phase.new.self c.args.outputs.now files taken in
-    let files_now : Option Files = g.S.Shelf.files c.write_phase.new.shelf in
-    let taken_now : Option (List ℕ) = g.K.Sink.taken c.write_phase.new.out in
-    IfErr-more (StopsBehind behind files_now taken_now) (λ e. e ≡ stop.Write → StopsAt stops before c.run_phase.new.self files_now taken_now) c.write_phase.result
-    (λ stopped e same start is. stopped start stops_after
+    OnErr-more (StopsBehind behind files_now taken_now) (StopsAt stops before c.run_phase.new.self files_now taken_now) c.write_phase.result
+    (λ stopped start is. stopped start stops_after
     (HasUnwrittenPhase-phase c.stages_grow.ensures.grow stops stops_after c.args.lab.now c.run_phase.new.self c.args.lines.now c.in-Ok.ensures.does c.requires.next c.args.outputs.now files taken start is))
     c.write_phase.ensures.part
 
@@ -81,8 +66,9 @@ returns-in-Ok-clause-never g c shelf_reliable out_reliable known =
 
 pub returns-in-Err-clause-part : goal.returns-in-Err-clause-part
 returns-in-Err-clause-part g c start is =
-    HasStopped-playing start (stops_by g.G.Gate.stops c.args.gates.now)
-    (scene c.args.lab.now c.args.outputs.now (g.S.Shelf.files c.args.shelf.now) (g.K.Sink.taken c.args.out.now)) is
-
-pub returns-in-Err-clause-at : goal.returns-in-Err-clause-at
-returns-in-Err-clause-at g c same = no-write stop.Memory refl same
+    let stops : Stops = stops_by g.G.Gate.stops c.args.gates.now in
+    let files : Option Files = g.S.Shelf.files c.args.shelf.now in
+    let taken : Option (List ℕ) = g.K.Sink.taken c.args.out.now in
+    let stays = StaysAtStage-same c.args.lab.now c.run_phase.new.self c.in-Err.ensures.kept in
+    IsStoppedAt-playing start stops (scene c.run_phase.new.self c.args.outputs.now files taken)
+    (StaysWritten-stage c.args.lab.now c.run_phase.new.self stays stops c.args.outputs.now files taken start is)

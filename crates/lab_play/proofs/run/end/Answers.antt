@@ -1,24 +1,23 @@
 use Rattle.std.specs.Prelude.{◌≡◌, ◌++◌, ℕ, List, Option, Err, length}
 use Rattle.std.specs.Option.{option_map}
-use Rattle.std.proofs.Common.{ap, refl, subst, sym, ◌∙◌}
+use Rattle.std.proofs.Common.{ap, subst, sym, ◌∙◌}
 use Rattle.lab_output.specs.Text.{tail_from}
 use Rattle.lab_phase.specs.AtStage.{items_done}
 use Rattle.lab_report.specs.Text.{IsReportOf}
 use Rattle.lab_script.specs.declared.script.Script.{Script}
 use Rattle.lab_shelf.specs.Files.{TookPart}
 use Rattle.lab_stop.specs.declared.stop.Stop.TheVariants as stop
-use Rattle.lab_play.specs.Ends.{StopsAtEnd, StopsAtEndWithMix}
+use Rattle.lab_play.specs.Ends.{StopsAtEnd}
 use Rattle.lab_play.specs.Playing.{Scene, scene, sounds_at}
 use Rattle.lab_play.proofs.Ending.{HasPlayed-end, HasStopped-finish, HasStopped-tail, report-at_end, rows-few, same-script, stop-passed}
-use Rattle.lab_play.proofs.ItemsResults.{IfErr-passed, OnErr-all, no-write}
-use Rattle.lab_play.proofs.ItemsStopped.{HasStopped-playing}
+use Rattle.lab_play.proofs.ItemsResults.{OnErr-all}
+use Rattle.lab_play.proofs.ItemsStopped.{HasStopped-closed, IsStoppedAt-playing}
 use Rattle.lab_play.proofs.run.end.Goals as goal
 
 pub returns-in-Err-clause-part : goal.returns-in-Err-clause-part
-returns-in-Err-clause-part g c start stops is = HasStopped-playing start stops _ is
-
-pub returns-in-Err-clause-mix : goal.returns-in-Err-clause-mix
-returns-in-Err-clause-mix g c same = no-write stop.Memory refl same
+returns-in-Err-clause-part g c start stops is =
+    let at : Scene = scene c.args.lab c.args.outputs.now (g.S.Shelf.files c.args.shelf.now) (g.K.Sink.taken c.args.out.now) in
+    HasStopped-closed start at.lab at.files at.taken (IsStoppedAt-playing start stops at is) c.finish.ensures.mix
 
 pub returns-in_err-finish-clause-part : goal.returns-in_err-finish-clause-part
 returns-in_err-finish-clause-part g c =
@@ -26,20 +25,7 @@ returns-in_err-finish-clause-part g c =
     let script : Script = c.args.script.now in
     let own = c.requires.playing in
     OnErr-all (StopsAtEnd at (g.S.Shelf.files c.finish-2.new.shelf) (g.K.Sink.taken c.args.out.now)) c.from_residual.result
-    (λ start stops is. (HasStopped-finish start stops c.args.lab c.args.outputs.now (g.S.Shelf.files c.args.shelf.now) (g.K.Sink.taken c.args.out.now) is
-    (subst (λ (s : Script). items_done c.args.lab ≡ length s.body) (same-script script own.start start own.stops stops at own.script_is own.is is) c.requires.all) c.in-Ok.outcome
-    c.in-Ok.ensures.stage c.in-Ok.ensures.run c.in-Ok.ensures.played (g.S.Shelf.files c.finish-2.new.shelf)
-    (c.finish-2.ensures.changes start.files (sounds_at c.args.lab is.stage) is.written.going_on)
-    (c.finish-2.ensures.kept start.files (sounds_at c.args.lab is.stage) is.written.going_on)).stopped)
-
-pub returns-in_err-finish-clause-mix : goal.returns-in_err-finish-clause-mix
-returns-in_err-finish-clause-mix g c =
-    let at : Scene = scene c.args.lab c.args.outputs.now (g.S.Shelf.files c.args.shelf.now) (g.K.Sink.taken c.args.out.now) in
-    let script : Script = c.args.script.now in
-    let own = c.requires.playing in
-    IfErr-passed (λ e. e ≡ stop.Write → StopsAtEndWithMix at (g.S.Shelf.files c.finish-2.new.shelf) (g.K.Sink.taken c.args.out.now)) c.from_residual.result c.in_err-finish.field-0.0
-    c.from_residual.ensures.1
-    (λ same start stops is. HasStopped-finish start stops c.args.lab c.args.outputs.now (g.S.Shelf.files c.args.shelf.now) (g.K.Sink.taken c.args.out.now) is
+    (λ start stops is. HasStopped-finish start stops c.args.lab c.args.outputs.now (g.S.Shelf.files c.args.shelf.now) (g.K.Sink.taken c.args.out.now) is
     (subst (λ (s : Script). items_done c.args.lab ≡ length s.body) (same-script script own.start start own.stops stops at own.script_is own.is is) c.requires.all) c.in-Ok.outcome
     c.in-Ok.ensures.stage c.in-Ok.ensures.run c.in-Ok.ensures.played (g.S.Shelf.files c.finish-2.new.shelf)
     (c.finish-2.ensures.changes start.files (sounds_at c.args.lab is.stage) is.written.going_on)
@@ -81,22 +67,6 @@ returns-in_err-put_tail-clause-part g c =
     let taken_after : Option (List ℕ) = g.K.Sink.taken c.put_tail.new.out in
     OnErr-all (StopsAtEnd at (g.S.Shelf.files c.finish-2.new.shelf) taken_after) c.from_residual-in_err-put_tail.result
     (λ start stops is. let same = same-script script own.start start own.stops stops at own.script_is own.is is in
-    (HasStopped-tail start stops c.args.lab c.args.outputs.now (g.S.Shelf.files c.args.shelf.now) taken is
-    (subst (λ (s : Script). items_done c.args.lab ≡ length s.body) same c.requires.all) c.in-Ok.outcome c.in-Ok.ensures.stage c.in-Ok.ensures.run c.in-Ok.ensures.played
-    (g.S.Shelf.files c.finish-2.new.shelf) taken_after (c.finish-2.ensures.changes start.files (sounds_at c.args.lab is.stage) is.written.going_on)
-    (c.in_ok-finish.ensures.stored start.files (sounds_at c.args.lab is.stage) is.written.going_on)
-    (subst (λ (s : Script). TookPart taken taken_after (tail_from s c.args.outputs.now.rows c.in-Ok.outcome.report)) same c.in_err-put_tail.ensures.text)).stopped)
-
-pub returns-in_err-put_tail-clause-mix : goal.returns-in_err-put_tail-clause-mix
-returns-in_err-put_tail-clause-mix g c =
-    let at : Scene = scene c.args.lab c.args.outputs.now (g.S.Shelf.files c.args.shelf.now) (g.K.Sink.taken c.args.out.now) in
-    let script : Script = c.args.script.now in
-    let own = c.requires.playing in
-    let taken : Option (List ℕ) = g.K.Sink.taken c.args.out.now in
-    let taken_after : Option (List ℕ) = g.K.Sink.taken c.put_tail.new.out in
-    IfErr-passed (λ e. e ≡ stop.Write → StopsAtEndWithMix at (g.S.Shelf.files c.finish-2.new.shelf) taken_after) c.from_residual-in_err-put_tail.result
-    c.in_err-put_tail.field-0.0 c.from_residual-in_err-put_tail.ensures.1
-    (λ at_write start stops is. let same = same-script script own.start start own.stops stops at own.script_is own.is is in
     HasStopped-tail start stops c.args.lab c.args.outputs.now (g.S.Shelf.files c.args.shelf.now) taken is
     (subst (λ (s : Script). items_done c.args.lab ≡ length s.body) same c.requires.all) c.in-Ok.outcome c.in-Ok.ensures.stage c.in-Ok.ensures.run c.in-Ok.ensures.played
     (g.S.Shelf.files c.finish-2.new.shelf) taken_after (c.finish-2.ensures.changes start.files (sounds_at c.args.lab is.stage) is.written.going_on)

@@ -1,4 +1,4 @@
-use Rattle.std.specs.Prelude.{◌≡◌, ℕ, List, Option}
+use Rattle.std.specs.Prelude.{ℕ, List, Option}
 use Rattle.std.specs.Option.{option_copied}
 use Rattle.std.proofs.lemmas.Result.{IfOk-weaker}
 use Rattle.std.proofs.Common.{inr, refl, subst}
@@ -9,11 +9,10 @@ use Rattle.lab_phase.specs.Ended.{outcome_in}
 use Rattle.lab_phase.specs.PhaseRuns.{Stops, stops_by}
 use Rattle.lab_shelf.specs.Files.{Files}
 use Rattle.wav_io.specs.Sound.{Sound}
-use Rattle.lab_stop.specs.declared.stop.Stop.TheVariants as stop
 use Rattle.lab_play.specs.Ends.{IsNewRun}
 use Rattle.lab_play.specs.Played.{HasPlayed, HasPlayedPart, rises}
-use Rattle.lab_play.specs.Playing.{HasStopped, HasStoppedWithMix}
-use Rattle.lab_play.proofs.ItemsResults.{IfErr-weaker, OnErr-more, no-write, passed-memory}
+use Rattle.lab_play.specs.Playing.{HasStopped}
+use Rattle.lab_play.proofs.ItemsResults.{OnErr-more}
 use Rattle.lab_play.proofs.run.play.Goals as goal
 
 pub play_all-requires-clause-new : goal.play_all-requires-clause-new
@@ -78,47 +77,3 @@ returns-clause-part g c =
       new = c.in_ok-outputs.ensures.new;
     })))
     c.play_all.ensures.part
-
-pub returns-clause-mix : goal.returns-clause-mix
-returns-clause-mix g c =
-    let input : RunInput = input_of c.args.input.now in
-    let files : Option Files = g.S.Shelf.files c.args.shelf.now in
-    let taken : Option (List ℕ) = g.K.Sink.taken c.args.out.now in
-    let files_after : Option Files = g.S.Shelf.files c.play_all.new.shelf in
-    let taken_after : Option (List ℕ) = g.K.Sink.taken c.play_all.new.out in
-    IfErr-weaker
-    (λ e. e ≡ stop.Write → (own : RunInput) (name : List ℕ) → IsNewRun own name c.in-Ok.lab c.in_ok-outputs.outputs
-    → HasStoppedWithMix own name files files_after taken taken_after)
-    (λ e. e ≡ stop.Write → HasStoppedWithMix input c.args.name.now files files_after taken taken_after) c.play_all.result
-    (λ e part same. part same input c.args.name.now (record {
-      script_is =
-          subst (λ (capture : Option Sound). IsOfScript c.args.input.now.script c.args.input.now.wavs.items capture c.in-Ok.lab) c.as_ref.ensures.value
-          (subst (λ (wavs : List Sound). IsOfScript c.args.input.now.script wavs (option_copied c.as_ref.result) c.in-Ok.lab) c.deref.ensures.value c.in-Ok.ensures.script);
-      first = c.in-Ok.ensures.first;
-      none = c.in-Ok.ensures.none;
-      silent = c.in-Ok.ensures.silent;
-      outputs_are = c.in_ok-outputs.ensures.outputs;
-      new = c.in_ok-outputs.ensures.new;
-    }))
-    c.play_all.ensures.mix
-
-pub returns-in_err-sum-clause-mix : goal.returns-in_err-sum-clause-mix
-returns-in_err-sum-clause-mix g c =
-    passed-memory
-    (HasStoppedWithMix (input_of c.args.input.now) c.args.name.now (g.S.Shelf.files c.args.shelf.now) (g.S.Shelf.files c.args.shelf.now) (g.K.Sink.taken c.args.out.now)
-    (g.K.Sink.taken c.args.out.now)) c.from_residual.result c.in_err-sum.field-0.0 c.from_residual.ensures.1 c.in_err-sum.ensures.only
-
-pub returns-in_err-snoop-clause-mix : goal.returns-in_err-snoop-clause-mix
-returns-in_err-snoop-clause-mix g c =
-    passed-memory
-    (HasStoppedWithMix (input_of c.args.input.now) c.args.name.now (g.S.Shelf.files c.args.shelf.now) (g.S.Shelf.files c.args.shelf.now) (g.K.Sink.taken c.args.out.now)
-    (g.K.Sink.taken c.args.out.now)) c.from_residual-in_err-snoop.result c.in_err-snoop.field-0.0 c.from_residual-in_err-snoop.ensures.1 c.in_err-snoop.ensures.only
-
-pub returns-in_err-outputs-clause-mix : goal.returns-in_err-outputs-clause-mix
-returns-in_err-outputs-clause-mix g c =
-    passed-memory
-    (HasStoppedWithMix (input_of c.args.input.now) c.args.name.now (g.S.Shelf.files c.args.shelf.now) (g.S.Shelf.files c.args.shelf.now) (g.K.Sink.taken c.args.out.now)
-    (g.K.Sink.taken c.args.out.now)) c.from_residual-in_err-outputs.result c.in_err-outputs.field-0.0 c.from_residual-in_err-outputs.ensures.1 c.in_err-outputs.ensures.only
-
-pub returns-in-Err-clause-mix : goal.returns-in-Err-clause-mix
-returns-in-Err-clause-mix g c same = no-write stop.Memory refl same

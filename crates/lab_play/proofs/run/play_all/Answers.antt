@@ -6,12 +6,12 @@ use Rattle.lab_phase.specs.Ended.{outcome_in}
 use Rattle.lab_phase.specs.PhaseRuns.{Stops, stops_by}
 use Rattle.lab_shelf.specs.Files.{Files}
 use Rattle.lab_stop.specs.declared.stop.Stop.TheVariants as stop
-use Rattle.lab_play.specs.Ends.{EndsWith, IsNewRun, StopsAtEnd, StopsAtEndWithMix}
+use Rattle.lab_play.specs.Ends.{EndsWith, IsNewRun, StopsAtEnd}
 use Rattle.lab_play.specs.Played.{HasPlayed, rises}
-use Rattle.lab_play.specs.Playing.{HasStopped, HasStoppedWithMix, Scene, Start, scene}
+use Rattle.lab_play.specs.Playing.{HasStopped, Scene, Start, scene}
 use Rattle.lab_play.proofs.Beginning.{HasStopped-first, IsPlaying-first, start-of}
-use Rattle.lab_play.proofs.ItemsResults.{IfErr-passed, IfErr-weaker, OnErr-all, OnErr-more}
-use Rattle.lab_play.proofs.ItemsStopped.{HasStoppedWithMix-at}
+use Rattle.lab_play.proofs.ItemsResults.{OnErr-all, OnErr-more}
+use Rattle.lab_play.proofs.ItemsStopped.{HasStopped-closed}
 use Rattle.lab_play.proofs.run.play_all.Goals as goal
 
 pub returns-in_err-begin-clause-part : goal.returns-in_err-begin-clause-part
@@ -23,19 +23,7 @@ returns-in_err-begin-clause-part g c =
     ((input : RunInput) (name : List ℕ) → IsNewRun input name c.args.lab c.args.outputs
     → HasStopped input name files (g.S.Shelf.files c.begin.new.shelf) taken (g.K.Sink.taken c.begin.new.out))
     c.from_residual.result
-    (λ input name is. (HasStopped-first input name stops c.args.lab c.args.outputs files taken is (g.S.Shelf.files c.begin.new.shelf) (g.K.Sink.taken c.begin.new.out)
-    c.in_err-begin.ensures.changes c.in_err-begin.ensures.text).stopped)
-
-pub returns-in_err-begin-clause-mix : goal.returns-in_err-begin-clause-mix
-returns-in_err-begin-clause-mix g c =
-    let stops : Stops = stops_by g.G.Gate.stops c.args.gates.now in
-    let files : Option Files = g.S.Shelf.files c.args.shelf.now in
-    let taken : Option (List ℕ) = g.K.Sink.taken c.args.out.now in
-    IfErr-passed
-    (λ e. e ≡ stop.Write → (input : RunInput) (name : List ℕ) → IsNewRun input name c.args.lab c.args.outputs
-    → HasStoppedWithMix input name files (g.S.Shelf.files c.begin.new.shelf) taken (g.K.Sink.taken c.begin.new.out))
-    c.from_residual.result c.in_err-begin.field-0.0 c.from_residual.ensures.1
-    (λ same input name is. HasStopped-first input name stops c.args.lab c.args.outputs files taken is (g.S.Shelf.files c.begin.new.shelf) (g.K.Sink.taken c.begin.new.out)
+    (λ input name is. HasStopped-first input name stops c.args.lab c.args.outputs files taken is (g.S.Shelf.files c.begin.new.shelf) (g.K.Sink.taken c.begin.new.out)
     c.in_err-begin.ensures.changes c.in_err-begin.ensures.text)
 
 pub do_items-requires-clause-playing : goal.do_items-requires-clause-playing
@@ -51,37 +39,28 @@ do_items-requires-clause-playing g c κs within =
           c.in_ok-begin.ensures.going_on c.in_ok-begin.ensures.taken;
     }
 
-pub stop_lab-requires : goal.stop_lab-requires
-stop_lab-requires g c same =
+pub stop-requires : goal.stop-requires
+stop-requires g c =
     let stops : Stops = stops_by g.G.Gate.stops c.args.gates.now in
     let files : Option Files = g.S.Shelf.files c.args.shelf.now in
     let taken : Option (List ℕ) = g.K.Sink.taken c.args.out.now in
     let new = c.requires.new in
-    let stopped = c.in-Err.ensures.at same (start-of new.input new.out stops c.args.lab c.args.outputs files taken new.is)
+    let stopped = c.in-Err.ensures.part (start-of new.input new.out stops c.args.lab c.args.outputs files taken new.is)
     (IsPlaying-first new.input new.out stops c.args.lab c.args.outputs files taken new.is (g.S.Shelf.files c.begin.new.shelf) (g.K.Sink.taken c.begin.new.out) c.in_ok-begin.ensures.going_on
     c.in_ok-begin.ensures.taken) in
-    record { stage = stopped.stopped.stage; at = stopped.at }
+    record { at = record { stage = stopped.stage; at = stopped.lab_is.stage_is } }
 
 pub returns-clause-part : goal.returns-clause-part
 returns-clause-part g c input name is =
     let stops : Stops = stops_by g.G.Gate.stops c.args.gates.now in
     let files : Option Files = g.S.Shelf.files c.args.shelf.now in
     let taken : Option (List ℕ) = g.K.Sink.taken c.args.out.now in
-    c.in-Err.ensures.part (start-of input name stops c.args.lab c.args.outputs files taken is)
-    (IsPlaying-first input name stops c.args.lab c.args.outputs files taken is (g.S.Shelf.files c.begin.new.shelf) (g.K.Sink.taken c.begin.new.out) c.in_ok-begin.ensures.going_on
-    c.in_ok-begin.ensures.taken)
-
-pub returns-clause-mix : goal.returns-clause-mix
-returns-clause-mix g c same input name is =
-    let stops : Stops = stops_by g.G.Gate.stops c.args.gates.now in
-    let files : Option Files = g.S.Shelf.files c.args.shelf.now in
-    let taken : Option (List ℕ) = g.K.Sink.taken c.args.out.now in
     let start : Start = start-of input name stops c.args.lab c.args.outputs files taken is in
-    HasStoppedWithMix-at start c.do_items.new.lab (g.S.Shelf.files c.do_items.new.shelf) (g.K.Sink.taken c.do_items.new.out)
-    (c.in-Err.ensures.at same start
+    HasStopped-closed start c.do_items.new.lab (g.S.Shelf.files c.do_items.new.shelf) (g.K.Sink.taken c.do_items.new.out)
+    (c.in-Err.ensures.part start
     (IsPlaying-first input name stops c.args.lab c.args.outputs files taken is (g.S.Shelf.files c.begin.new.shelf) (g.K.Sink.taken c.begin.new.out) c.in_ok-begin.ensures.going_on
     c.in_ok-begin.ensures.taken))
-    (c.stop_lab.ensures same)
+    c.stop.ensures.mix
 
 pub returns-clause-never : goal.returns-clause-never
 returns-clause-never g c shelf out known failed =
@@ -145,23 +124,6 @@ returns-in-Ok-clause-part g c =
     (IsPlaying-first input name stops c.args.lab c.args.outputs files taken is (g.S.Shelf.files c.begin.new.shelf) (g.K.Sink.taken c.begin.new.out) c.in_ok-begin.ensures.going_on
     c.in_ok-begin.ensures.taken)))
     c.end.ensures.part
-
-pub returns-in-Ok-clause-mix : goal.returns-in-Ok-clause-mix
-returns-in-Ok-clause-mix g c =
-    let stops : Stops = stops_by g.G.Gate.stops c.args.gates.now in
-    let after : Stops = stops_by g.G.Gate.stops c.do_items.new.gates in
-    let files : Option Files = g.S.Shelf.files c.args.shelf.now in
-    let taken : Option (List ℕ) = g.K.Sink.taken c.args.out.now in
-    let at : Scene = scene c.do_items.new.lab c.do_items.new.outputs (g.S.Shelf.files c.do_items.new.shelf) (g.K.Sink.taken c.do_items.new.out) in
-    IfErr-weaker (λ e. e ≡ stop.Write → StopsAtEndWithMix at (g.S.Shelf.files c.end.new.shelf) (g.K.Sink.taken c.end.new.out))
-    (λ e. e ≡ stop.Write → (input : RunInput) (name : List ℕ) → IsNewRun input name c.args.lab c.args.outputs
-    → HasStoppedWithMix input name files (g.S.Shelf.files c.end.new.shelf) taken (g.K.Sink.taken c.end.new.out))
-    c.end.result
-    (λ e ends same input name is. ends same (start-of input name stops c.args.lab c.args.outputs files taken is) after
-    (c.in-Ok.ensures.done (start-of input name stops c.args.lab c.args.outputs files taken is)
-    (IsPlaying-first input name stops c.args.lab c.args.outputs files taken is (g.S.Shelf.files c.begin.new.shelf) (g.K.Sink.taken c.begin.new.out) c.in_ok-begin.ensures.going_on
-    c.in_ok-begin.ensures.taken)))
-    c.end.ensures.mix
 
 pub returns-in-Ok-clause-never : goal.returns-in-Ok-clause-never
 returns-in-Ok-clause-never g c shelf out known failed =

@@ -1,45 +1,74 @@
-use Rattle.std.proofs.Common.{Err, List, Ok, ℕ, ap, refl, sym, subst, ◌∙◌}
-use Rattle.std.specs.Vec.{with_item}
-use Rattle.sum_table.specs.Players.{position_of_player}
-use Rattle.lab_script.specs.declared.line.Actor.TheVariants as actor
-use Rattle.lab_report.specs.declared.row.Row.{Row}
+use Rattle.std.proofs.Common.{sym, subst}
+use Rattle.std.specs.Prelude.{ℕ, ◌<◌}
+use Rattle.sum_table.specs.declared.view.Key.{Key}
+use Rattle.sum_table.specs.Joins.{OneRing}
+use Rattle.sum_table.specs.Players.{player_geometry, player_key, player_ring, position_of_player}
+use Rattle.sum_table.specs.declared.seats.player.PlayerSeat.{PlayerSeat}
+use Rattle.dmix_client.specs.declared.stream.PlaybackStream.{PlaybackStream}
 use Rattle.lab_run.specs.Items.{held_of}
-use Rattle.lab_run.specs.Stage.{Setup, after_open}
-use Rattle.lab_places.specs.Held.{Opens, share_of}
-use Rattle.lab_client.specs.Openings.{HasOpened}
-use Rattle.lab_clients.specs.declared.clients.LabClients.{LabClients}
-use Rattle.lab_clients.specs.AtStage.{AreAfter, clients_of}
-use Rattle.lab_clients.proofs.OpenAt.{open_at-read}
-use Rattle.lab_clients.proofs.OpeningLaws.{AreAfter-opened, AreAfter-refused}
+use Rattle.lab_setup.specs.Usable.{IsUsable}
+use Rattle.lab_places.specs.Held.{IsSameCard, key_of_places, next_place, ring_of_places}
+use Rattle.lab_clients.specs.AtStage.{clients_of, places_of}
+use Rattle.lab_clients.specs.Opening.{IsMadeFor}
+use Rattle.lab_clients.specs.Same.{AreAt-same}
+use Rattle.lab_clients.specs.Steps.{IsSameWithRows}
+use Rattle.lab_actors.specs.Walks.{AreEach-length}
+use Rattle.lab_clients.proofs.OpenAt.{OnErr-always}
 use Rattle.lab_clients.proofs.clients.LabClients.open_with.Goals as goal
 
-pub returns-in-Err-clause-after : goal.returns-in-Err-clause-after
-returns-in-Err-clause-after c session stage before =
-    let setup = c.args.opening.now in
-    let at = position_of_player c.args.player.now in
-    let ds : LabClients = record { places = c.open.new.self; clients = c.args.self.now.clients } in
-    let d = c.index-client.result.now in
-    let closed = sym (open_at-read (clients_of c.args.self.now) c.args.number d c.requires.number c.index-client.ensures) ∙ c.requires.closed in
-    let opens = c.in-Err.ensures.opens c.args.number (held_of stage) before.at.are.held_by in
-    subst (λ (row : Row). AreAfter session stage (after_open session stage (actor.Client c.args.number)) row ds) (sym c.row.ensures)
-    (AreAfter-refused session stage c.args.number setup at c.args.phase c.args.self.now ds d before c.requires.number c.index-client.ensures closed c.in-Err.e
-    (subst (λ (bound : List ℕ). Opens (share_of c.args.self.now.places) c.args.number bound at (held_of stage) (Err c.in-Err.e) c.open.new.self) (ap (λ (s : Setup). s.bindings) c.opening.view_is) opens)
-    c.open.ensures.card refl c.in-Err.ensures.laid)
+pub make_stream-requires-clause-usable : goal.make_stream-requires-clause-usable
+make_stream-requires-clause-usable c =
+    subst (λ g. IsUsable g.channels g.frames c.args.opening.now) (sym c.geometry.ensures)
+    (subst (λ (k : Key). IsUsable k.geometry.channels k.geometry.frames c.args.opening.now) (sym c.requires.one_ring.1) c.requires.usable)
 
-pub open-requires-2-clause-closed : goal.open-requires-2-clause-closed
-open-requires-2-clause-closed c =
-    sym (open_at-read (clients_of c.args.self.now) c.args.number c.index_mut-client.result.now c.requires.number c.index_mut-client.ensures.value) ∙ c.requires.closed
+pub returns-in_err-stream-clause-same : goal.returns-in_err-stream-clause-same
+returns-in_err-stream-clause-same c = OnErr-always _ c.make_stream.ensures.same
+
+pub returns-in_err-stream-clause-places : goal.returns-in_err-stream-clause-places
+returns-in_err-stream-clause-places c = OnErr-always _ c.make_stream.ensures.places
+
+pub open_made-requires-clause-run : goal.open_made-requires-clause-run
+open_made-requires-clause-run c =
+    let run = c.requires.run in
+    record {
+      session = run.session;
+      held = run.held;
+      xs = run.xs;
+      are = AreAt-same run.session run.held run.xs c.args.self.now c.make_stream.new.self c.make_stream.ensures.same c.make_stream.ensures.places run.are;
+    }
+
+pub open_made-requires-clause-number : goal.open_made-requires-clause-number
+open_made-requires-clause-number c =
+    subst (λ (n : ℕ). c.args.number < n) (sym (AreEach-length IsSameWithRows 0 (clients_of c.args.self.now) (clients_of c.make_stream.new.self) c.make_stream.ensures.same))
+    c.requires.number
+
+pub open_made-requires-clause-stream : goal.open_made-requires-clause-stream
+open_made-requires-clause-stream c =
+    let player : PlayerSeat = c.args.player.now in
+    let made : PlaybackStream = c.in_ok-stream.stream.stream in
+    subst (λ p. IsMadeFor (player_geometry player) (next_place (position_of_player player) p) c.args.opening.now made) (sym c.make_stream.ensures.places)
+    (subst (λ n. IsMadeFor (player_geometry player) (next_place n (places_of c.args.self.now)) c.args.opening.now made) c.position-position.ensures.value
+    (subst (λ g. IsMadeFor g (next_place c.position-position.result (places_of c.args.self.now)) c.args.opening.now made) c.geometry.ensures c.in_ok-stream.ensures.stream))
+
+pub open_made-requires-clause-one_ring : goal.open_made-requires-clause-one_ring
+open_made-requires-clause-one_ring c =
+    subst (λ p. OneRing (player_ring c.args.player.now) (player_key c.args.player.now) (ring_of_places p) (key_of_places p)) (sym c.make_stream.ensures.places) c.requires.one_ring
+
+pub open_made-requires-clause-usable : goal.open_made-requires-clause-usable
+open_made-requires-clause-usable c =
+    subst (λ p. IsUsable (key_of_places p).geometry.channels (key_of_places p).geometry.frames c.args.opening.now) (sym c.make_stream.ensures.places) c.requires.usable
 
 pub returns-clause-after : goal.returns-clause-after
 returns-clause-after c session stage before =
-    let setup = c.args.opening.now in
-    let at = position_of_player c.args.player.now in
-    let ds : LabClients = record { places = c.open.new.self; clients = with_item c.args.self.now.clients c.args.number c.open-2.new.self } in
-    let d = c.index_mut-client.result.now in
-    let closed = sym (open_at-read (clients_of c.args.self.now) c.args.number d c.requires.number c.index_mut-client.ensures.value) ∙ c.requires.closed in
-    let opens = c.in-Ok.ensures.opens c.args.number (held_of stage) before.at.are.held_by in
-    let opened = subst (λ n. HasOpened c.in-Ok.seat setup n d c.open-2.new.self) c.position-position.ensures.value c.in_ok-open.ensures.ok in
-    subst (λ (row : Row). AreAfter session stage (after_open session stage (actor.Client c.args.number)) row ds) (sym c.row-2.ensures)
-    (AreAfter-opened session stage c.args.number setup at c.args.phase c.args.self.now ds d c.open-2.new.self c.in-Ok.seat before c.requires.number c.index_mut-client.ensures.value closed
-    (subst (λ (bound : List ℕ). Opens (share_of c.args.self.now.places) c.args.number bound at (held_of stage) (Ok c.in-Ok.seat) c.open.new.self) (ap (λ (s : Setup). s.bindings) c.opening.view_is) opens)
-    c.in-Ok.ensures.given opened c.open.ensures.card refl c.in-Ok.ensures.laid)
+    c.open_made.ensures.after session stage (record {
+      at = record {
+        are = AreAt-same session (held_of stage) stage.clients c.args.self.now c.make_stream.new.self c.make_stream.ensures.same c.make_stream.ensures.places before.at.are;
+        phase_is = before.at.phase_is;
+      };
+      setup_is = before.setup_is;
+      position_is = before.position_is;
+    })
+
+pub returns-clause-card : goal.returns-clause-card
+returns-clause-card c =
+    subst (λ p. IsSameCard p (places_of c.open_made.new.self)) c.make_stream.ensures.places c.open_made.ensures.card

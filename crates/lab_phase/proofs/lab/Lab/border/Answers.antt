@@ -1,27 +1,40 @@
-use Rattle.std.proofs.Common.{sym, subst, ◌<◌, length, ℕ}
-use Rattle.lab_report.specs.declared.row.Row.{Row}
+use Rattle.std.proofs.Common.{◌∙◌, ◌≡◌}
 use Rattle.lab_script.specs.declared.line.Item.{Item}
-use Rattle.lab_script.specs.declared.script.Script.{Script}
 use Rattle.lab_phase.specs.declared.lab.Lab.{Lab}
-use Rattle.lab_phase.specs.AtStage.{AddsRow, DoesItem, border_after, session_of}
-use Rattle.lab_phase.specs.BorderLaws.{DoesItem-row, ItemMay-border, OnOk-more, next-inside}
+use Rattle.lab_phase.specs.AtStage.{DoesItem, played_of}
+use Rattle.lab_phase.specs.BorderLaws.{OnErr-always, OnErr-both, OnOk-more}
+use Rattle.lab_phase.specs.PhaseRuns.{StaysAtStage}
+use Rattle.lab_phase.specs.Same.{DoesItem-stays, IsNextItem-stays, StaysAtStage-joined}
 use Rattle.lab_phase.proofs.lab.Lab.border.Goals as goal
 
-pub add_row-requires : goal.add_row-requires
-add_row-requires c =
-    let lab : Lab = c.args.self.now in
-    let mid : Lab = c.do_item.new.self in
-    let does = c.in_ok-row.ensures.does in
-    subst (λ (n : ℕ). n < length mid.script.now.body) (sym does.count.next)
-    (subst (λ (s : Script). lab.next < length s.body) (sym does.same.script) (next-inside lab c.args.item.now c.requires.next))
+pub returns-in_err-take_row_room-clause-kept : goal.returns-in_err-take_row_room-clause-kept
+returns-in_err-take_row_room-clause-kept c = OnErr-always _ c.take_row_room.ensures.kept
+
+pub do_border-requires-clause-at : goal.do_border-requires-clause-at
+do_border-requires-clause-at c = record { stage = c.requires.at.stage; at = c.take_row_room.ensures.kept.at c.requires.at.stage c.requires.at.at }
+
+pub do_border-requires-clause-next : goal.do_border-requires-clause-next
+do_border-requires-clause-next c = IsNextItem-stays c.args.self.now c.take_row_room.new.self c.args.item.now c.take_row_room.ensures.kept c.requires.next
 
 pub returns-clause-does : goal.returns-clause-does
 returns-clause-does c =
     let lab : Lab = c.args.self.now in
-    let mid : Lab = c.do_item.new.self in
+    let mid : Lab = c.take_row_room.new.self in
+    let after : Lab = c.do_border.new.self in
     let one : Item = c.args.item.now in
-    let row : Row = c.in_ok-row.row in
-    OnOk-more (AddsRow row mid c.add_row.new.self) (DoesItem lab one c.add_row.new.self) c.add_row.result
-    (λ adds. DoesItem-row lab mid c.add_row.new.self one row (λ stage. border_after (session_of lab) stage one) c.in_ok-row.ensures.does adds c.requires.next
-    (λ stage. ItemMay-border (session_of lab) stage one c.requires.border))
-    c.add_row.ensures.adds
+    OnOk-more (DoesItem mid one after) (DoesItem lab one after) c.do_border.result (DoesItem-stays lab mid after one c.take_row_room.ensures.kept) c.do_border.ensures.does
+
+pub returns-clause-played : goal.returns-clause-played
+returns-clause-played c =
+    let lab : Lab = c.args.self.now in
+    let mid : Lab = c.take_row_room.new.self in
+    let after : Lab = c.do_border.new.self in
+    OnOk-more (played_of after ≡ played_of mid) (played_of after ≡ played_of lab) c.do_border.result (λ played. played ∙ c.take_row_room.ensures.kept.played) c.do_border.ensures.played
+
+pub returns-clause-kept : goal.returns-clause-kept
+returns-clause-kept c =
+    let lab : Lab = c.args.self.now in
+    let mid : Lab = c.take_row_room.new.self in
+    let after : Lab = c.do_border.new.self in
+    OnErr-both (StaysAtStage mid after) (StaysAtStage mid after) (StaysAtStage lab after) c.do_border.result
+    (λ stays same. StaysAtStage-joined lab mid after c.take_row_room.ensures.kept stays) c.do_border.ensures.kept c.do_border.ensures.kept

@@ -5,12 +5,16 @@ use Rattle.lab_script.specs.declared.line.Actor.TheVariants as whose
 use Rattle.lab_run.specs.Stage.{Session, Stage, after_open}
 use Rattle.lab_card.specs.declared.card.CardActor.{CardActor}
 use Rattle.lab_card.specs.Moves.{frame_of_card}
-use Rattle.lab_clients.specs.AtStage.{AreAfter}
+use Rattle.lab_actors.specs.Walks.{AreEach}
+use Rattle.lab_clients.specs.AtStage.{AreAfter, clients_of, places_of}
 use Rattle.lab_clients.specs.Opening.{AreBeforeOpening}
+use Rattle.lab_clients.specs.Steps.{IsSameWithRows}
 use Rattle.lab_phase.specs.declared.lab.Lab.{Lab}
 use Rattle.lab_phase.specs.AtStage.{DoesRow, IsCardOf, capture_of, session_of}
 use Rattle.lab_phase.specs.Borders.{after_open-keeps_readers}
-use Rattle.lab_phase.specs.BorderLaws.{DoesRow-client, IfOk-more}
+use Rattle.lab_phase.specs.BorderLaws.{DoesRow-client, IfOk-more, OnErr-both}
+use Rattle.lab_phase.specs.PhaseRuns.{StaysAtStage}
+use Rattle.lab_phase.specs.Same.{StaysAtStage-client}
 use Rattle.lab_phase.proofs.Numbers.{client_count, client_opening-any, client_openings, client_usable}
 use Rattle.lab_phase.proofs.lab.Lab.open_client.Goals as goal
 
@@ -55,3 +59,16 @@ returns-clause-does c =
       position_is = (subst (λ (card : Option CardActor). IsSomeAnd card (IsCardOf (session_of lab) (capture_of lab) stage lab.clients lab.readers)) first at.actors.card_is).is.at.frame;
     })))
     c.open_beside-actor.ensures.after
+
+pub returns-clause-kept : goal.returns-clause-kept
+returns-clause-kept c =
+    let lab : Lab = c.args.self.now in
+    let a : CardActor = c.unwrap-actor.result in
+    let b : CardActor = c.open_beside-actor.result.0 in
+    let first : lab.card ≡ Some a = sym c.take.ensures.value ∙ c.unwrap-actor.ensures in
+    let after : Lab = record lab { card = c.put_card.new.place; clients = c.open_beside-actor.new.clients } in
+    OnErr-both (AreEach IsSameWithRows 0 (clients_of lab.clients) (clients_of after.clients)) (places_of after.clients ≡ places_of lab.clients) (StaysAtStage lab after)
+    c.open_beside-actor.result.1
+    (λ each places. StaysAtStage-client lab after (record { script = refl; wavs = refl; capture = refl; openings = refl }) (record { rows = refl; phases = refl; next = refl }) a b first
+    c.put_card.ensures refl c.open_beside-actor.ensures.card (ap (λ v. v.items) c.open_beside-actor.ensures.rows) each places)
+    c.open_beside-actor.ensures.same c.open_beside-actor.ensures.same_places

@@ -1,15 +1,19 @@
-use Rattle.std.specs.Prelude.{None, Option}
+use Rattle.std.specs.Prelude.{List, None, Option}
 use Rattle.std.proofs.Common.{rules, arith, refl, ◌≡◌, ℕ, slice_index_or}
 use Rattle.std.specs.Option.{option_copied}
 use Rattle.wav_io.specs.Sound.{Sound}
 use Rattle.lab_script.specs.declared.line.Actor.TheVariants as whose
+use Rattle.lab_run.specs.Reader.{Reader}
+use Rattle.lab_run.specs.Rules.{AtPort}
 use Rattle.lab_run.specs.Stage.{Session, Stage, after_open}
-use Rattle.lab_readers.specs.AtStage.{AreAfter}
+use Rattle.lab_readers.specs.AtStage.{AreAfter, AreAt}
 use Rattle.lab_readers.specs.Opening.{IsItemAt}
 use Rattle.lab_phase.specs.declared.lab.Lab.{Lab}
 use Rattle.lab_phase.specs.AtStage.{DoesRow, capture_of, session_of}
 use Rattle.lab_phase.specs.Borders.{after_open-keeps_clients}
-use Rattle.lab_phase.specs.BorderLaws.{DoesRow-reader, IfOk-more}
+use Rattle.lab_phase.specs.BorderLaws.{DoesRow-reader, IfOk-more, OnErr-both}
+use Rattle.lab_phase.specs.PhaseRuns.{StaysAtStage}
+use Rattle.lab_phase.specs.Same.{StaysAtStage-reader}
 use Rattle.lab_phase.proofs.Numbers.{reader_count, reader_opening-any, reader_openings, reader_usable}
 use Rattle.lab_phase.proofs.lab.Lab.open_reader.Goals as goal
 
@@ -48,3 +52,14 @@ returns-clause-does c =
     (λ stage at. done (session_of lab) (capture_of lab) stage (record { are = at.actors.readers_are; phases = at.phases })
     (reader_opening-any lab stage at number (option_copied c.as_ref-opening.result) c.index.result.now c.requires.number c.index.ensures c.as_ref-opening.ensures.value)))
     c.open.ensures.opened
+
+pub returns-clause-kept : goal.returns-clause-kept
+returns-clause-kept c =
+    let lab : Lab = c.args.self.now in
+    let after : Lab = record lab { readers = c.open.new.self } in
+    let Kept : Type 0 =
+    (session : Session) (capture : Option Sound) (xs : List (AtPort × Reader)) → AreAt session capture xs lab.readers → AreAt session capture xs after.readers in
+    OnErr-both Kept Kept (StaysAtStage lab after) c.open.result
+    (λ kept same. StaysAtStage-reader lab after (record { script = refl; wavs = refl; capture = refl; openings = refl }) (record { rows = refl; phases = refl; next = refl }) refl refl
+    (record { ring = c.open.ensures.card.0; geometry = c.open.ensures.card.1 }) kept)
+    c.open.ensures.err c.open.ensures.err

@@ -1,9 +1,9 @@
-use Rattle.std.proofs.Common.{Err, Ok, refl}
+use Rattle.std.proofs.Common.{Err, Ok, Some, ap, refl, sym, ◌∙◌}
 use Rattle.sum_table.specs.Players.{position_of_player}
 use Rattle.lobby.specs.Lobbies.{free_seats}
 use Rattle.lobby.specs.Loads.{HasLoadedBeside}
 use Rattle.lab_places.specs.Held.{lobby_of}
-use Rattle.lab_places.proofs.Attached.{attaches-met, attaches-refused, free-given, given-is}
+use Rattle.lab_places.proofs.Attached.{attaches-met, attaches-refused, free-given, given-is, place-given}
 use Rattle.lab_places.proofs.Attaching.{lobby-attaches}
 use Rattle.lab_places.proofs.Laying.{laid-attached, laid-met}
 use Rattle.lab_places.proofs.places.Places.attach.Goals as goal
@@ -21,6 +21,13 @@ returns-in-Ok-clause-given c =
     c.in-Ok.seat c.meet_player.new.seat refl c.in-Ok.ensures.player.position c.in-Ok.ensures.silent
     (c.in-Ok.ensures.published_last (free-given (lobby_of c.args.self.now) c.attach_beside.new.self c.in-Ok.seat (Ok c.in-Ok.seat) refl (λ none. let came = c.in-Ok.ensures.none_free none in (came.0, came.1))))
     c.meet_player.ensures
+
+pub returns-in-Ok-clause-place : goal.returns-in-Ok-clause-place
+returns-in-Ok-clause-place c =
+    let some_free = free-given (lobby_of c.args.self.now) c.attach_beside.new.self c.in-Ok.seat (Ok c.in-Ok.seat) refl (λ none. let came = c.in-Ok.ensures.none_free none in (came.0, came.1)) in
+    place-given (λ x s t. HasLoadedBeside c.args.player.now s c.attach_beside.new.player t x) (lobby_of c.args.self.now) c.attach_beside.new.self (position_of_player c.args.player.now)
+    c.in-Ok.seat some_free c.in-Ok.ensures.free (c.in-Ok.ensures.published_last some_free)
+    ∙ ap Some (sym c.meet_player.ensures.member)
 
 pub returns-in-Err-clause-attaches : goal.returns-in-Err-clause-attaches
 returns-in-Err-clause-attaches c number lobby is =

@@ -1,0 +1,43 @@
+use Rattle.std.specs.Prelude.{◌≡◌, ℕ, Option, slice_set, unwrap_or}
+use Rattle.std.proofs.Common.{sym, ap, subst, ◌∙◌}
+use Rattle.std.proofs.lemmas.List.{get_or-set_same}
+use Rattle.std.proofs.lemmas.Result.{IfOk-weaker}
+use Rattle.lab_run.specs.Stage.{opened_client}
+use Rattle.lab_client.specs.declared.client.LabClient.{LabClient}
+use Rattle.lab_client.specs.Openings.{HasKeptLast}
+use Rattle.lab_places.specs.Held.{next_place}
+use Rattle.lab_clients.specs.AtStage.{clients_of, places_of}
+use Rattle.lab_clients.specs.Opening.{HasKeptLastAt, IsMadeFor}
+use Rattle.lab_clients.specs.Steps.{IsSameWithRows, IsSameWithRows-none}
+use Rattle.lab_clients.proofs.OpenAt.{AreEach-set, OnOk-more, open_at-read, open_at-set_same}
+use Rattle.lab_clients.proofs.clients.LabClients.make_stream.Goals as goal
+
+pub make_stream-requires-clause-closed : goal.make_stream-requires-clause-closed
+make_stream-requires-clause-closed c =
+    sym (open_at-read (clients_of c.args.self.now) c.args.number c.index_mut.result.now c.requires.number c.index_mut.ensures.value) ∙ c.requires.closed
+
+pub returns-clause-stream : goal.returns-clause-stream
+returns-clause-stream c =
+    let setup = c.args.opening.now in
+    let next : Option ℕ = next_place c.args.position (places_of c.args.self.now) in
+    IfOk-weaker c.make_stream.result (λ client. client.stream ≡ opened_client c.args.ring c.unwrap_or-place.result setup) (λ client. IsMadeFor c.args.ring next setup client.stream)
+    (λ client is place given. is ∙ ap (λ n. opened_client c.args.ring n setup)
+    (c.unwrap_or-place.ensures ∙ ap (λ (o : Option ℕ). unwrap_or o 0) (c.next_place.ensures ∙ given)))
+    c.make_stream.ensures.stream
+
+pub returns-clause-kept : goal.returns-clause-kept
+returns-clause-kept c =
+    let ds = clients_of c.args.self.now in
+    let e : LabClient = c.make_stream.new.self in
+    OnOk-more (HasKeptLast e) (HasKeptLastAt c.args.number (slice_set ds c.args.number e)) c.make_stream.result
+    (λ kept d. subst HasKeptLast (sym (get_or-set_same ds c.args.number e d c.requires.number)) kept) c.make_stream.ensures.kept
+
+pub returns-clause-closed : goal.returns-clause-closed
+returns-clause-closed c =
+    open_at-set_same (clients_of c.args.self.now) c.args.number c.make_stream.new.self c.requires.number
+    ∙ c.make_stream.ensures.closed
+
+pub returns-clause-same : goal.returns-clause-same
+returns-clause-same c =
+    AreEach-set IsSameWithRows IsSameWithRows-none 0 (clients_of c.args.self.now) c.args.number c.index_mut.result.now c.make_stream.new.self c.requires.number c.index_mut.ensures.value
+    (record { same = c.make_stream.ensures.same; rows = c.make_stream.ensures.same_rows })
