@@ -2,7 +2,7 @@
 """prove.py ROOT LOG: for the first build, proves the crates below the program side by side, and names each as it is proved.
 
 `rt run` proves one crate after the other, and most processors are idle while a crate starts. Here each lane has a copy of the sources and
-proves one crate at a time by `rt lib`. rt keeps what it proved beside its kit, for all copies on the machine, so the other lanes and ROOT take it
+proves one crate at a time by `rt lib` (rt_once.py). rt keeps what it proved beside its kit, for all copies on the machine, so the other lanes and ROOT take it
 from there; where it can't keep anything, this does nothing. What fails here is left to `rt run` in ROOT, which says what is wrong."""
 import os
 import re
@@ -14,6 +14,7 @@ import threading
 from concurrent.futures import FIRST_COMPLETED, ThreadPoolExecutor, wait
 
 PROGRAM = "dmixlab"
+RT = [sys.executable, os.path.join(os.path.dirname(os.path.abspath(__file__)), "rt_once.py")]
 MEMORY_OF_A_LANE = 2_000_000_000
 # a chain is long that has so much of the longest one's work
 LONG = 0.8
@@ -94,7 +95,7 @@ class Proving:
         """Proves a crate in a free lane, and returns whether that went well."""
         with self.turn:
             lane = self.free.pop()
-        ran = subprocess.run(["rt", "lib", "--jobs", str(jobs)], cwd=f"{lane}/crates/{name}", stdout=subprocess.PIPE, stderr=subprocess.STDOUT, errors="replace", check=False)
+        ran = subprocess.run([*RT, "lib", "--jobs", str(jobs)], cwd=f"{lane}/crates/{name}", stdout=subprocess.PIPE, stderr=subprocess.STDOUT, errors="replace", check=False)
         with self.turn:
             self.free.append(lane)
             self.log.write(f"== {name}\n{ran.stdout}")
@@ -146,7 +147,7 @@ def main(root, log):
         prove_all(Proving(copies, wanted, file), uses, length, lanes)
         # the copies go at the end, so ROOT takes what they have before
         for it in uses[PROGRAM]:
-            subprocess.run(["rt", "lib"], cwd=f"{root}/crates/{it}", stdout=file, stderr=subprocess.STDOUT, check=False)
+            subprocess.run([*RT, "lib"], cwd=f"{root}/crates/{it}", stdout=file, stderr=subprocess.STDOUT, check=False)
 
 
 if __name__ == "__main__":
