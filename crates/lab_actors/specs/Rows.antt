@@ -1,5 +1,5 @@
 -- The rows of actors: one for each of their lines, and so no more than a phase has lines; and the room that they want in a list of rows.
-use Rattle.std.specs.Prelude.{◌≡◌, ℕ, zero, suc, ◌+◌, ◌<◌, ◌≤◌, nat_eq, Bool, true, false, cond, if◌then◌else◌, List, [], ◌∷◌, ◌++◌, drop, length, slice_index_or, take, vec_capacity, vec_len}
+use Rattle.std.specs.Prelude.{◌≡◌, ℕ, zero, suc, ◌+◌, ◌<◌, ◌≤◌, nat_eq, Bool, true, false, cond, if◌then◌else◌, List, [], ◌∷◌, ◌++◌, drop, length, slice_index_or, take, vec_capacity, vec_len, ⊤}
 use Rattle.std.specs.Global.{Vec}
 use Rattle.std.specs.List.{flat_map}
 use Rattle.std.proofs.Common.{refl, sym, ◌∙◌, ap, arith}
@@ -116,15 +116,15 @@ lines-most (line ∷ lines) clients readers =
     (lines-most lines clients readers) in
     omega (arith, most, of_clients, of_readers)
 
--- ---- the rows of one actor after the other, moved to the end of a list
+-- ---- the rows of one actor after the other, moved to the end of a list; or what else each has a list of
 
-module _ {X : Type 0} (rows_of : X → List Row) (R : ℕ → X → X → Type 0) where
+module _ {X Y : Type 0} (rows_of : X → List Y) (R : ℕ → X → X → Type 0) where
   -- the rows so far, with those of the next actor
-  pub rows-next : (before rows : List Row) (old new : List X) (to : ℕ) (x : X) → to < length old → HasWalked R old new to → rows ≡ before ++ flat_map rows_of (take to old)
+  pub rows-next : (before rows : List Y) (old new : List X) (to : ℕ) (x : X) → to < length old → HasWalked R old new to → rows ≡ before ++ flat_map rows_of (take to old)
       → rows ++ rows_of (slice_index_or new to x) ≡ before ++ flat_map rows_of (take (to + 1) old)
   rows-next before rows old new to x inside so_far are =
-      ap (λ (y : X). rows ++ rows_of y) (so_far.others to x (omega arith))
-      ∙ (ap (λ (rs : List Row). rs ++ rows_of (slice_index_or old to x)) are
+      ap (λ (x : X). rows ++ rows_of x) (so_far.others to x (omega arith))
+      ∙ (ap (λ (rs : List Y). rs ++ rows_of (slice_index_or old to x)) are
       ∙ (flat_map_more rows_of before (take to old) (slice_index_or old to x)
       ∙ ap (λ (xs : List X). before ++ flat_map rows_of xs) (sym (take_more old to x inside))))
 
@@ -135,7 +135,7 @@ module _ {X : Type 0} (rows_of : X → List Row) (R : ℕ → X → X → Type 0
       omega (arith, parts)
 
   -- where there was room for all rows there is room for those of the next actor
-  pub rows-room : (before rows : Vec Row) (old new : List X) (to : ℕ) (x : X) → to < length old → HasWalked R old new to → rows.items ≡ before.items ++ flat_map rows_of (take to old)
+  pub rows-room : (before rows : Vec Y) (old new : List X) (to : ℕ) (x : X) → to < length old → HasWalked R old new to → rows.items ≡ before.items ++ flat_map rows_of (take to old)
       → vec_len before + length (flat_map rows_of old) ≤ vec_capacity before → vec_capacity before ≤ vec_capacity rows
       → vec_len rows + length (rows_of (slice_index_or new to x)) ≤ vec_capacity rows
   rows-room before rows old new to x inside so_far are space room =
@@ -146,3 +146,17 @@ module _ {X : Type 0} (rows_of : X → List Row) (R : ℕ → X → X → Type 0
       let before_len = before.ok.0 in
       let rows_len = rows.ok.0 in
       omega (arith, next, own, all, part, before_len, rows_len, space, room)
+
+-- the same of a list whose members stay as they are
+module _ {X Y : Type 0} (list_of : X → List Y) where
+  stays : (xs : List X) (to : ℕ) → HasWalked (λ n x y. ⊤) xs xs to
+  stays xs to = record { len = refl; each = λ i d below inside. tt; others = λ i d from. refl }
+
+  pub lists-next : (before all : List Y) (xs : List X) (to : ℕ) (x : X) → to < length xs → all ≡ before ++ flat_map list_of (take to xs)
+      → all ++ list_of (slice_index_or xs to x) ≡ before ++ flat_map list_of (take (to + 1) xs)
+  lists-next before all xs to x inside are = rows-next list_of (λ n x y. ⊤) before all xs xs to x inside (stays xs to) are
+
+  pub lists-room : (before all : Vec Y) (xs : List X) (to : ℕ) (x : X) → to < length xs → all.items ≡ before.items ++ flat_map list_of (take to xs)
+      → vec_len before + length (flat_map list_of xs) ≤ vec_capacity before → vec_capacity before ≤ vec_capacity all
+      → vec_len all + length (list_of (slice_index_or xs to x)) ≤ vec_capacity all
+  lists-room before all xs to x inside are space room = rows-room list_of (λ n x y. ⊤) before all xs xs to x inside (stays xs to) are space room

@@ -36,7 +36,7 @@ pub struct LabClient<'r> {
 }
 
 impl<'r> LabClient<'r> {
-    ghost use Rattle.std.specs.Prelude.{◌≡◌, ◌↔◌, ◌++◌, ◌+◌, ◌<◌, ◌≤◌, [], All, IfErr, IfOk, IfSome, IsSome, IsTrue, OnOk, length, map, vec_capacity, vec_len};
+    ghost use Rattle.std.specs.Prelude.{◌≡◌, ◌↔◌, ◌++◌, ◌+◌, ◌^◌, ◌<◌, ◌≤◌, [], All, IfErr, IfOk, IfSome, IsSome, IsTrue, OnOk, length, map, vec_capacity, vec_len};
     ghost use Rattle.sum_table.specs.Seats.{geometry_of, member_of};
     ghost use Rattle.std.specs.Option.{option_to_list};
     ghost use Rattle.lab_setup.specs.Usable.{IsUsable};
@@ -46,6 +46,7 @@ impl<'r> LabClient<'r> {
     ghost use Rattle.lab_run.specs.Phases.{is_client, ops_by};
     ghost use Rattle.lab_run.specs.Stage.{opened_client};
     ghost use Rattle.lab_actor.specs.ClientLines.{IsFew};
+    ghost use Rattle.lab_actor.specs.Room.{HasSpace};
     ghost use Rattle.lab_card.specs.Meets.{IsSameCard};
     ghost use Rattle.lab_client.specs.Clients.{CanRun, HasRoom, IsClientHeard, IsClientInformed, IsOfCard, IsSameBut, RunsLines, client_in, ended_segments, ended_of, is_open, last_by, number_of, open_of, rows_of, seen_by};
     ghost use Rattle.lab_client.specs.declared.open_client.OpenClient.{OpenClient};
@@ -232,15 +233,39 @@ impl<'r> LabClient<'r> {
         }
     }
 
-    /// Appends all its segments with its number: those of the stretches that ended, and then that of the present one. It refuses, with
-    /// `Memory`, only where no memory is left.
-    pub fn segments_into(&self, all: &mut Vec<(u32, Segment)>) -> Result<(), PcmError>
-        ensures ok { OnOk result (all.new.items ≡ all.old.items
-            ++ map (λ s. (number_of self.now, s)) (segments_of (client_in self.now))) }
-        ensures only { IfErr result (λ e. e ≡ PcmError.Memory) }
+    // How many stretches ended, but that of its last closing.
+    fn ended_count(&self) -> usize
+        ensures count { result ≡ length (ended_segments self.now (open_of self.now)) }
+        ensures few { result < 2 ^ 63 }
     {
-        push_segments(all, self.number, self.ended())?;
-        push_segment(all, self.number, self.last_segment())
+        match &self.own {
+            Some(own) => own.actor.ended.len(),
+            None => self.ended.len(),
+        }
+    }
+
+    /// How many segments it has.
+    pub fn segment_count(&self) -> usize
+        ensures { result ≡ length (segments_of (client_in self.now)) }
+    {
+        let ended = self.ended_count();
+        match self.last_segment() {
+            Some(_) => ended + 1,
+            None => ended,
+        }
+    }
+
+    /// Appends all its segments with its number: those of the stretches that ended, and then that of the present one. It takes no memory.
+    ///
+    /// The caller has room for them (`segment_count`).
+    pub fn segments_into(&self, all: &mut Vec<(u32, Segment)>)
+        requires { HasSpace (length (segments_of (client_in self.now))) all.old }
+        ensures segments { all.new.items ≡ all.old.items
+            ++ map (λ s. (number_of self.now, s)) (segments_of (client_in self.now)) }
+        ensures room { vec_capacity all.old ≤ vec_capacity all.new }
+    {
+        push_segments(all, self.number, self.ended());
+        push_segment(all, self.number, self.last_segment());
     }
 
     // Puts the segment that its last closing ended to the others.

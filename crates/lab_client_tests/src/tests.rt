@@ -254,7 +254,8 @@ fn a_closed_client_keeps_its_segments(rt: HostRuntime) -> Result<(), Fail> {
         part: 0,
     };
     let mut segments = Vec::new(rt.alloc());
-    client.segments_into(&mut segments)?;
+    segments.reserve(client.segment_count())?;
+    client.segments_into(&mut segments);
     assert_eq!(rt; segments.as_slice(), [(0, placed)].as_slice());
     let refused = Answer::Failed(PcmError::BadState);
     let rows = [

@@ -35,7 +35,7 @@ use Rattle.lab_places.specs.Laid.{IsUnlaid, laid_list, laid_lists}
 use Rattle.lab_actors.specs.Walks.{AreEach}
 use Rattle.lab_client.specs.declared.client.LabClient.{LabClient}
 use Rattle.lab_client.specs.declared.open_client.OpenClient.{OpenClient}
-use Rattle.lab_client.specs.Clients.{IsAt, client_by, client_in, ended_of, open_of}
+use Rattle.lab_client.specs.Clients.{IsAt, client_by, client_in, ended_of, number_of, open_of}
 use Rattle.lab_client.specs.OpeningLaws.{IsAt-closed}
 use Rattle.lab_clients.specs.declared.clients.LabClients.{LabClients}
 use Rattle.lab_clients.specs.AtStage.{AreAt, IsClientAt, IsNewCardOf, IsSetUp, clients_of, holding_by, places_of}
@@ -165,31 +165,11 @@ AreAt-new session seat sharing count cs card setups held_by key_is share_is chan
 
 -- ---- the segments
 
--- those of the clients are those of the run
-flat_map-segments : (session : Session) (ring : TableId) (key : Key) (holdings : Holdings) (number : ℕ) (ds : List LabClient) (xs : List (AtPort × Client))
-    → AreEach (IsClientAt session ring key holdings) number ds xs → flat_map segments_by ds ≡ with_numbers (λ (client : AtPort × Client). segments_of client.1) number xs
-flat_map-segments session ring key holdings number [] [] are = refl
-flat_map-segments session ring key holdings number [] (x ∷ xs) are = absurd are
-flat_map-segments session ring key holdings number (d ∷ ds) [] are = absurd are
-flat_map-segments session ring key holdings number (d ∷ ds) (x ∷ xs) are =
-    ap (λ n. map (λ segment. (n, segment)) (segments_of (client_in d)) ++ flat_map segments_by ds) are.0.is.numbered
-    ∙ (ap (λ (c : Client). map (λ segment. (number, segment)) (segments_of c) ++ flat_map segments_by ds) are.0.is.client
-    ∙ ap (λ more. map (λ segment. (number, segment)) (segments_of x.1) ++ more) (flat_map-segments session ring key holdings (number + 1) ds xs are.1))
+-- how many they are
+pub length-segments_by : (d : LabClient) → length (segments_by d) ≡ length (segments_of (client_in d))
+length-segments_by d = length-map (segments_of (client_in d)) (λ segment. (number_of d, segment))
 
-pub all_segments-listed : (session : Session) (held : Held) (xs : List (AtPort × Client)) (cs : LabClients) → AreAt session held xs cs
-    → flat_map segments_by (clients_of cs) ≡ all_segments xs
-all_segments-listed session held xs cs are =
-    flat_map-segments session (ring_of_places (places_of cs)) (key_of_places (places_of cs)) are.holdings 0 (clients_of cs) xs are.each
-
--- those of one client more, and of all
-pub segments-more : (ds : List LabClient) (i : ℕ) (d : LabClient) → i < length ds → d ≡ slice_index_or ds i d
-    → flat_map segments_by (take (i + 1) ds) ≡ flat_map segments_by (take i ds) ++ segments_by d
-segments-more ds i d inside is =
-    ap (flat_map segments_by) (take_more ds i d inside)
-    ∙ (flat_map-append segments_by (take i ds) (slice_index_or ds i d ∷ [])
-    ∙ (ap (λ (e : LabClient). flat_map segments_by (take i ds) ++ flat_map segments_by (e ∷ [])) (sym is)
-    ∙ ap (λ more. flat_map segments_by (take i ds) ++ more) (append-nil (segments_by d))))
-
+-- all items of a list
 pub take-past : (ds : List LabClient) (n : ℕ) → length ds ≤ n → take n ds ≡ ds
 take-past [] zero past = refl
 take-past [] (suc n) past = refl

@@ -1,18 +1,24 @@
 -- The clients of the lab at the beginning of a run, and at its end.
-use Rattle.std.specs.Prelude.{◌≡◌, ℕ, ◌+◌, ◌<◌, ℤ, List, [], ◌∷◌, length, map, None, slice_index_or, ⊤}
+use Rattle.std.specs.Prelude.{◌≡◌, ℕ, ◌+◌, ◌<◌, ℤ, List, [], ◌∷◌, ◌++◌, length, map, None, slice_index_or, ⊤}
 use Rattle.std.specs.List.{flat_map}
+use Rattle.std.proofs.Common.{refl, ◌∙◌, ap}
 use Rattle.snd_base.specs.declared.places.Segment.{Segment}
 use Rattle.mix_core.specs.declared.port.Entry.{Entry}
 use Rattle.mix_core.specs.Laid.{standing, total}
+use Rattle.sum_table.specs.declared.view.Key.{Key}
+use Rattle.sum_table.specs.Seats.{TableId}
 use Rattle.lab_run.specs.Client.{Client, segments_of}
 use Rattle.lab_run.specs.Items.{Held}
-use Rattle.lab_run.specs.LabRun.{all_segments, entries_of}
+use Rattle.lab_run.specs.LabRun.{all_segments, entries_of, with_numbers}
 use Rattle.lab_run.specs.Rules.{AtPort}
 use Rattle.lab_run.specs.Stage.{Session}
+use Rattle.lab_places.specs.Held.{key_of_places, ring_of_places}
+use Rattle.lab_places.specs.Holdings.{Holdings}
+use Rattle.lab_actors.specs.Walks.{AreEach}
 use Rattle.lab_client.specs.declared.client.LabClient.{LabClient}
 use Rattle.lab_client.specs.Clients.{client_in, number_of, rows_of}
 use Rattle.lab_clients.specs.declared.clients.LabClients.{LabClients}
-use Rattle.lab_clients.specs.AtStage.{AreAt}
+use Rattle.lab_clients.specs.AtStage.{AreAt, IsClientAt, clients_of, places_of}
 use Rattle.lab_clients.specs.Placed.{IsPlacedBy, SeatSegment, client_segments, place_segments, worth_of}
 
 -- a client that was never open
@@ -29,6 +35,22 @@ AreNewClients number (d ∷ ds) = IsNewClient number d × AreNewClients (number 
 -- the segments of a client, with its number
 abbrev pub segments_by : LabClient → List (ℕ × Segment)
 segments_by d = map (λ segment. (number_of d, segment)) (segments_of (client_in d))
+
+-- the segments of the clients are those of the run
+flat_map-segments : (session : Session) (ring : TableId) (key : Key) (holdings : Holdings) (number : ℕ) (ds : List LabClient) (xs : List (AtPort × Client))
+    → AreEach (IsClientAt session ring key holdings) number ds xs → flat_map segments_by ds ≡ with_numbers (λ (client : AtPort × Client). segments_of client.1) number xs
+flat_map-segments session ring key holdings number [] [] are = refl
+flat_map-segments session ring key holdings number [] (x ∷ xs) are = absurd are
+flat_map-segments session ring key holdings number (d ∷ ds) [] are = absurd are
+flat_map-segments session ring key holdings number (d ∷ ds) (x ∷ xs) are =
+    ap (λ n. map (λ segment. (n, segment)) (segments_of (client_in d)) ++ flat_map segments_by ds) are.0.is.numbered
+    ∙ (ap (λ (c : Client). map (λ segment. (number, segment)) (segments_of c) ++ flat_map segments_by ds) are.0.is.client
+    ∙ ap (λ more. map (λ segment. (number, segment)) (segments_of x.1) ++ more) (flat_map-segments session ring key holdings (number + 1) ds xs are.1))
+
+pub all_segments-listed : (session : Session) (held : Held) (xs : List (AtPort × Client)) (cs : LabClients) → AreAt session held xs cs
+    → flat_map segments_by (clients_of cs) ≡ all_segments xs
+all_segments-listed session held xs cs are =
+    flat_map-segments session (ring_of_places (places_of cs)) (key_of_places (places_of cs)) are.holdings 0 (clients_of cs) xs are.each
 
 -- The clients of a run, of which some were closed since: they have the segments that they had, at as many places.
 pub record HasEnded (session : Session) (held : Held) (xs : List (AtPort × Client))

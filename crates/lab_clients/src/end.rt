@@ -11,7 +11,8 @@ use std::alloc::Global;
 use sum_table::MixSeat;
 
 impl<'r> LabClients<'r> {
-    ghost use Rattle.std.specs.Prelude.{◌≡◌, IfErr, IfOk, List, None, [], length, ℕ};
+    ghost use Rattle.std.specs.Prelude.{◌≡◌, ◌++◌, IfErr, IfOk, List, None, [], length, ℕ};
+    ghost use Rattle.std.specs.List.{flat_map};
     ghost use Rattle.sum_table.specs.Joins.{OneRing};
     ghost use Rattle.sum_table.specs.Seats.{key_of, places_of_seat, ring_of, view_of};
     ghost use Rattle.lab_run.specs.Client.{Client};
@@ -19,9 +20,10 @@ impl<'r> LabClients<'r> {
     ghost use Rattle.lab_run.specs.LabRun.{all_segments};
     ghost use Rattle.lab_run.specs.Rules.{AtPort};
     ghost use Rattle.lab_run.specs.Stage.{Session, first_stage};
+    ghost use Rattle.lab_actor.specs.Room.{HasSpace};
     ghost use Rattle.lab_places.specs.Held.{IsSameCard, key_of_places, ring_of_places};
     ghost use Rattle.lab_clients.specs.AtStage.{AreAt, IsNewCardOf, clients_of, places_of};
-    ghost use Rattle.lab_clients.specs.End.{HasEnded, IsPlacedAll};
+    ghost use Rattle.lab_clients.specs.End.{HasEnded, IsPlacedAll, segments_by};
     ghost use Rattle.lab_clients.specs.Opening.{AreOfRun, open_at};
 
     /// So many clients, none of which is open, with the places of a new ring, by the seat that has all of them. The caller shows that
@@ -57,19 +59,17 @@ impl<'r> LabClients<'r> {
         self.clients.len()
     }
 
-    /// The segments of all clients, each with its client's number, by client and then by time. It refuses, with `Memory`, only where no
-    /// memory is left.
-    pub fn segments(&self, alloc: Global) -> Result<Vec<(u32, Segment)>, PcmError>
-        ensures all { IfOk result (λ all. (session : Session) (held : Held)
-            (xs : List (AtPort × Client)) → AreAt session held xs self.now
-            → all.items ≡ all_segments xs) }
-        ensures only { IfErr result (λ e. e ≡ PcmError.Memory) }
+    /// Appends the segments of all clients, each with its client's number, by client and then by time. It takes no memory.
+    ///
+    /// The caller has room for them.
+    pub fn segments_into(&self, all: &mut Vec<(u32, Segment)>)
+        requires { HasSpace (length (flat_map segments_by (clients_of self.now))) all.old }
+        ensures { (session : Session) (held : Held) (xs : List (AtPort × Client))
+            → AreAt session held xs self.now → all.new.items ≡ all.old.items ++ all_segments xs }
     {
-        let mut all = Vec::new(alloc);
         for client in &self.clients {
-            client.segments_into(&mut all)?;
+            client.segments_into(all);
         }
-        Ok(all)
     }
 
     /// At the end of a run: closes the clients that are still open, and joins the seats of all places. The one seat has all that was placed

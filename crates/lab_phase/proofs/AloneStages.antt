@@ -157,11 +157,13 @@ module _ (lab after : Lab) (lines : List Line) (is : IsNextItem lab (item.Phase 
             ∙ (plays.samples_are ∙ (plays.part.did.played ∙ ap (λ (xs : List ℤ). xs ++ samples) (plays.same_samples ∙ sym (ap played_by card_is))));
       }
 
-  pub RunsPhase-alone : IsSameScript lab after → after.phases ≡ lab.phases → after.next ≡ lab.next → (stops : Stops) → RunsPhase stops stops lab lines after
-  RunsPhase-alone same phases next stops = record {
+  pub RunsPhase-alone : IsSameScript lab after → after.phases ≡ lab.phases → after.next ≡ lab.next → after.room ≡ lab.room → (stops : Stops) → RunsPhase stops stops lab lines after
+  RunsPhase-alone same phases next room stops = record {
     same = same;
     phases = phases;
     next = next;
+    room = room;
+    few = plays.few;
     played = played-alone;
     does = λ stage base at counted. has-run-alone stage at base stops counted;
   }

@@ -1,5 +1,6 @@
 -- A phase of a lab: what its script says of it, and that the stage after it is one of a run.
 use Rattle.std.specs.Prelude.{◌≡◌, ◌≢◌, ℕ, ◌+◌, ◌≤◌, ◌<◌, ℤ, List, [], ◌∷◌, ◌++◌, length, map, slice_get, Option, Some, take, drop, Bool, true, false}
+use Rattle.std.specs.Global.{Vec}
 use Rattle.std.specs.List.{flat_map}
 use Rattle.std.proofs.Common.{sym, ap, subst, ◌∙◌, arith, append_assoc}
 use Rattle.snd_base.specs.declared.geometry.Geometry.{Geometry}
@@ -34,16 +35,19 @@ use Rattle.lab_reader.specs.Readers as reader
 use Rattle.lab_readers.specs.AtStage as readers
 use Rattle.lab_readers.specs.declared.readers.LabReaders.{LabReaders}
 use Rattle.lab_phase.specs.declared.lab.Lab.{Lab}
+use Rattle.lab_phase.specs.declared.report_room.ReportRoom.{ReportRoom}
 use Rattle.lab_phase.specs.declared.steps.Asked.{Asked}
 use Rattle.lab_phase.specs.Alone.{unplugs_by-others}
 use Rattle.lab_phase.specs.Asked.{CanMeet}
-use Rattle.lab_phase.specs.AtStage.{AreActorsOf, AreOfRings, IsAtStage, IsCardOf, IsNextItem, capture_of, played_by, played_of, session_of}
-use Rattle.lab_phase.specs.BorderLaws.{HasDone-next, AreSetUp-same, session_of-same}
+use Rattle.lab_phase.specs.AtStage.{AreActorsOf, AreOfRings, HasEndRoom, IsAtStage, IsCardOf, IsNextItem, capture_of, played_by, played_of, session_of}
+use Rattle.lab_phase.specs.BorderLaws.{HasDone-next, HasEndRoom-next, AreSetUp-same, session_of-same}
 use Rattle.lab_phase.specs.Counts.{AreAll-reached}
 use Rattle.lab_phase.specs.PhaseLaws.{ActorLaws, HaveDone, asks_at, few-rows, have-done}
 use Rattle.lab_phase.specs.PhaseRuns.{AreStopsOf, CountsPhase, DoesPhase, HasRunLines, HasRunPhase, IsLonger, Reaps, RunsPhase, Stops, asks_of_lab, stops_by}
 use Rattle.lab_phase.specs.PhaseSteps.{GiveFewRows, HaveMet, HaveRoom}
 use Rattle.lab_phase.specs.Reached.{IsFirstOf, IsFirstOf-next}
+use Rattle.lab_phase.specs.ReportRoom.{KeepsRoom}
+use Rattle.lab_phase.specs.Same.{IsAtStage-room}
 use Rattle.lab_phase.specs.Scripts.{IsPhase-next}
 use Rattle.lab_phase.proofs.StageLaws.{CanMeet-at, FitsRing-reached, IsAskedAt-reached, files-reached}
 
@@ -278,6 +282,11 @@ RunsPhase-reaped stops gates gates_after lab mid after lines laws is others run 
   };
   phases = reaps.phases ∙ run.phases;
   next = reaps.next ∙ run.next;
+  room = reaps.room ∙ run.room;
+  few =
+      let same = ap (λ v. length v.items) reaps.rows in
+      let few : length mid.rows.items ≤ length lab.rows.items + length lines = run.run.few in
+      omega (arith, same, few);
   played = played-longer stops gates gates_after lab mid after lines run reaps;
   does = λ stage base at counted. run-phase stops gates gates_after lab mid lines laws is others run stage base at counted after reaps;
 }
@@ -285,7 +294,7 @@ RunsPhase-reaped stops gates gates_after lab mid after lines laws is others run 
 -- ---- a phase that is counted
 
 module _ (stops stops_after : Stops) (lab mid after : Lab) (lines : List Line) (is : IsNextItem lab (item.Phase lines)) (runs : RunsPhase stops stops_after lab lines mid)
-    (counts : CountsPhase mid after) where
+    (has_room : HasEndRoom (length lines) lab) (counts : CountsPhase mid after) where
   same-then : Rattle.lab_phase.specs.AtStage.IsSameScript lab after
   same-then = record {
     script = counts.same.script ∙ runs.same.script;
@@ -293,6 +302,12 @@ module _ (stops stops_after : Stops) (lab mid after : Lab) (lines : List Line) (
     capture = counts.same.capture ∙ runs.same.capture;
     openings = counts.same.openings ∙ runs.same.openings;
   }
+
+  room-then : HasEndRoom 0 after
+  room-then =
+      let same = ap length counts.rows in
+      let few = runs.few in
+      HasEndRoom-next lab after (length lines) same-then (counts.room ∙ runs.room) (omega (arith, same, few)) has_room
 
   pub DoesPhase-counted : DoesPhase stops stops_after lab lines after
   DoesPhase-counted = record {
@@ -313,7 +328,23 @@ module _ (stops stops_after : Stops) (lab mid after : Lab) (lines : List Line) (
         phases = counts.phases ∙ (ap (λ (n : ℕ). n + 1) (runs.phases ∙ at.phases) ∙ ap (λ (s : Stage). s.phases) (sym has.may.is));
         has_done = HasDone-next lab after stage has.next (item.Phase lines) same-then is has.may (counts.next ∙ ap (λ (n : ℕ). n + 1) runs.next) at.has_done;
         set_up = AreSetUp-same lab after same-then at.set_up;
+        room = room-then;
       };
       counted = has.counted;
     };
   }
+
+-- of a lab whose rows, and what the end of its run leaves, got other room before it
+pub DoesPhase-room : (stops stops_after : Stops) (lab after : Lab) (rows : Vec Row) (room : ReportRoom) (lines : List Line) → rows.items ≡ lab.rows.items → KeepsRoom lab.room room
+    → DoesPhase stops stops_after (record lab { rows = rows; room = room }) lines after → DoesPhase stops stops_after lab lines after
+DoesPhase-room stops stops_after lab after rows room lines same kept does = record {
+  same = record { script = does.same.script; wavs = does.same.wavs; capture = does.same.capture; openings = does.same.openings };
+  next = does.next;
+  played = record { more = does.played.more; is = does.played.is };
+  does = λ stage base at counted. let done = does.does stage base (IsAtStage-room lab rows room same kept stage at) counted in record {
+    next = done.next;
+    may = done.may;
+    is = done.is;
+    counted = done.counted;
+  };
+}

@@ -25,6 +25,7 @@ use Rattle.lab_readers.specs.AtStage as readers
 use Rattle.lab_readers.specs.declared.readers.LabReaders.{LabReaders}
 use Rattle.lab_phase.specs.declared.lab.Lab.{Lab}
 use Rattle.lab_phase.specs.CardStage.{IsCardIn}
+use Rattle.lab_phase.specs.ReportRoom.{HasReportRoom}
 
 -- the script that a lab runs, and how many items of its body are done
 abbrev pub script_of : Lab → Script
@@ -86,12 +87,18 @@ abbrev pub AreActorsAt : Lab → Stage → Type 0
 AreActorsAt lab stage =
     AreActorsOf (session_of lab) (capture_of lab) stage lab.card lab.clients lab.readers
 
+-- it has the room that the end of its run wants where its report has so many rows more
+abbrev pub HasEndRoom : ℕ → Lab → Type 0
+HasEndRoom more lab =
+    HasReportRoom (length lab.rows.items + more) (length lab.script.now.readers) lab.room
+
 pub record IsAtStage (lab : Lab) (stage : Stage) : Type 0 where
   pub actors : AreActorsAt lab stage
   pub rows : lab.rows.items ≡ stage.rows
   pub phases : lab.phases ≡ stage.phases
   pub has_done : HasDone lab stage
   pub set_up : AreSetUp lab
+  pub room : HasEndRoom 0 lab
 
 -- it runs the same script over the same files
 pub record IsSameScript (lab after : Lab) : Type 0 where
@@ -157,12 +164,14 @@ pub record AddsRow (row : Row) (lab after : Lab) : Type 0 where
   pub clients : after.clients ≡ lab.clients
   pub readers : after.readers ≡ lab.readers
   pub rows : after.rows.items ≡ lab.rows.items ++ row ∷ []
+  pub room : after.room ≡ lab.room
   pub phases : after.phases ≡ lab.phases
   pub next : after.next ≡ lab.next + 1
 
--- the lab's rows, and how many phases and items it did, are as before
+-- the lab's rows, its room, and how many phases and items it did, are as before
 pub record IsSameCount (lab after : Lab) : Type 0 where
   pub rows : after.rows ≡ lab.rows
+  pub room : after.room ≡ lab.room
   pub phases : after.phases ≡ lab.phases
   pub next : after.next ≡ lab.next
 

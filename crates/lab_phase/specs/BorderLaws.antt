@@ -1,7 +1,8 @@
 -- What an opening and a closing make of a lab.
-use Rattle.std.specs.Prelude.{◌≡◌, ℕ, zero, suc, ◌+◌, ◌<◌, List, [], ◌∷◌, ◌++◌, length, slice_get, Option, Some, None, Result, Ok, Err, IfOk, OnErr, OnOk}
+use Rattle.std.specs.Prelude.{◌≡◌, ℕ, zero, suc, ◌+◌, ◌<◌, ◌≤◌, List, [], ◌∷◌, ◌++◌, length, slice_get, Option, Some, None, Result, Ok, Err, IfOk, OnErr, OnOk}
 use Rattle.std.specs.Global.{Vec}
 use Rattle.std.proofs.Common.{refl, sym, ap, subst, ◌∙◌, arith}
+use Rattle.std.proofs.lemmas.List.{length-append}
 use Rattle.std.proofs.lemmas.Option.{none-some}
 use Rattle.sum_table.specs.declared.view.Key.{Key}
 use Rattle.wav_io.specs.Sound.{Sound}
@@ -21,7 +22,9 @@ use Rattle.lab_clients.specs.declared.clients.LabClients.{LabClients}
 use Rattle.lab_readers.specs.AtStage as readers
 use Rattle.lab_readers.specs.declared.readers.LabReaders.{LabReaders}
 use Rattle.lab_phase.specs.declared.lab.Lab.{Lab}
-use Rattle.lab_phase.specs.AtStage.{AddsRow, AreActorsAt, AreActorsOf, DoesItem, DoesRow, HasDone, AreSetUp, IsBorderItem, IsAtStage, IsNextItem, IsSameCount, IsSameRing, IsSameScript, border_after, capture_of, session_of}
+use Rattle.lab_phase.specs.declared.report_room.ReportRoom.{ReportRoom}
+use Rattle.lab_phase.specs.ReportRoom.{HasReportRoom, HasReportRoom-fewer}
+use Rattle.lab_phase.specs.AtStage.{AddsRow, AreActorsAt, AreActorsOf, DoesItem, DoesRow, HasDone, HasEndRoom, AreSetUp, IsBorderItem, IsAtStage, IsNextItem, IsSameCount, IsSameRing, IsSameScript, border_after, capture_of, session_of}
 use Rattle.lab_phase.specs.Borders.{KeepsClients, KeepsReaders}
 use Rattle.lab_phase.specs.CardStage.{IsCardIn-same, IsSameActor, IsSameActor-none}
 use Rattle.lab_phase.specs.Reached.{IsFirstOf-next, IsReached-next, length-next}
@@ -103,9 +106,17 @@ HasDone-next lab after stage next one same is may count has =
           (subst (λ (items : List Item). IsReached lab.script.now lab.wavs.now (session_of lab) has.done items stage) first.is has.reached) may)));
     }
 
+-- where there was room for so many rows more, there is room for a report once the lab has some of them
+pub HasEndRoom-next : (lab after : Lab) (more : ℕ) → IsSameScript lab after → after.room ≡ lab.room → length after.rows.items ≤ length lab.rows.items + more → HasEndRoom more lab
+    → HasEndRoom 0 after
+HasEndRoom-next lab after more same room few has =
+    subst (λ (s : Script). HasReportRoom (length after.rows.items + 0) (length s.readers) after.room) (sym same.script)
+    (subst (λ (r : ReportRoom). HasReportRoom (length after.rows.items + 0) (length lab.script.now.readers) r) (sym room)
+    (HasReportRoom-fewer (length lab.rows.items + more) (length after.rows.items + 0) (length lab.script.now.readers) lab.room (omega (arith, few)) has))
+
 -- an item of one row
 module _ (lab mid after : Lab) (one : Item) (row : Row) (step : Stage → Stage) (does : DoesRow step lab row mid) (adds : AddsRow row mid after) (is : IsNextItem lab one)
-    (may : (stage : Stage) → ItemMay (session_of lab) stage one (step stage)) where
+    (has_room : HasEndRoom 1 lab) (may : (stage : Stage) → ItemMay (session_of lab) stage one (step stage)) where
   same-after : IsSameScript lab after
   same-after = record {
     script = adds.same.script ∙ does.same.script;
@@ -125,6 +136,14 @@ module _ (lab mid after : Lab) (one : Item) (row : Row) (step : Stage → Stage)
   set-up-after : AreSetUp lab → AreSetUp after
   set-up-after set_up = AreSetUp-same lab after same-after set_up
 
+  rows-after : after.rows.items ≡ lab.rows.items ++ row ∷ []
+  rows-after = adds.rows ∙ ap (λ (v : Vec Row). v.items ++ row ∷ []) does.count.rows
+
+  room-after : HasEndRoom 0 after
+  room-after =
+      let count = ap length rows-after ∙ length-append lab.rows.items (row ∷ []) in
+      HasEndRoom-next lab after 1 same-after (adds.room ∙ does.count.room) (omega (arith, count)) has_room
+
   pub DoesItem-row : DoesItem lab one after
   DoesItem-row = record {
     same = same-after;
@@ -134,10 +153,11 @@ module _ (lab mid after : Lab) (one : Item) (row : Row) (step : Stage → Stage)
       may = may stage;
       is = record {
         actors = actors-after stage at;
-        rows = adds.rows ∙ (ap (λ (v : Vec Row). v.items ++ row ∷ []) does.count.rows ∙ (ap (λ (rows : List Row). rows ++ row ∷ []) at.rows ∙ sym (does.does stage at).rows));
+        rows = rows-after ∙ (ap (λ (rows : List Row). rows ++ row ∷ []) at.rows ∙ sym (does.does stage at).rows);
         phases = adds.phases ∙ (does.count.phases ∙ (at.phases ∙ sym (does.does stage at).phases));
         has_done = HasDone-next lab after stage (step stage) one same-after is (may stage) (adds.next ∙ ap (λ (n : ℕ). n + 1) does.count.next) at.has_done;
         set_up = set-up-after at.set_up;
+        room = room-after;
       };
     };
   }

@@ -12,6 +12,7 @@ pub mod PhaseSteps
 pub mod Places
 pub mod Played
 pub mod Reached
+pub mod ReportRoom
 pub mod Same
 pub mod Scripts
 pub mod StopLaws

@@ -1,5 +1,5 @@
 -- A phase of a lab: what its steps make of its actors, and what it makes of a stage of a run.
-use Rattle.std.specs.Prelude.{◌≡◌, ℕ, ◌+◌, ◌++◌, ℤ, List, [], Option, Some, drop, map, take}
+use Rattle.std.specs.Prelude.{◌≡◌, ℕ, ◌+◌, ◌≤◌, ◌++◌, ℤ, List, [], length, Option, Some, drop, map, take}
 use Rattle.lab_script.specs.declared.line.Item.TheVariants as item
 use Rattle.lab_script.specs.declared.line.Line.{Line}
 use Rattle.lab_report.specs.declared.row.Row.{Row}
@@ -18,6 +18,7 @@ use Rattle.lab_readers.specs.AtStage as readers
 use Rattle.lab_readers.specs.declared.readers.LabReaders.{LabReaders}
 use Rattle.lab_phase.specs.declared.lab.Lab.{Lab}
 use Rattle.lab_phase.specs.AtStage.{AreActorsOf, IsAtStage, IsSameRing, IsSameScript, capture_of, items_done, played_of, session_of}
+use Rattle.lab_phase.specs.ReportRoom.{KeepsRoom}
 use Rattle.lab_phase.specs.PhaseSteps.{AreSameButRoom, Asks, CardHasRun, HaveGivenRows, HaveMet, HaveRoom}
 
 -- ---- the gates
@@ -84,6 +85,8 @@ pub record RunsPhase (stops stops_after : Stops) (lab : Lab) (lines : List Line)
   pub same : IsSameScript lab after
   pub phases : after.phases ≡ lab.phases
   pub next : after.next ≡ lab.next
+  pub room : after.room ≡ lab.room
+  pub few : length after.rows.items ≤ length lab.rows.items + length lines
   pub played : IsLonger (played_of lab) (played_of after)
   pub does : (stage : Stage) (base : Stops) → IsAtStage lab stage
       → AreStopsOf base stops stage → HasRunPhase base stops_after lab stage lines after
@@ -95,6 +98,7 @@ pub record CountsPhase (lab after : Lab) : Type 0 where
   pub clients : after.clients ≡ lab.clients
   pub readers : after.readers ≡ lab.readers
   pub rows : after.rows.items ≡ lab.rows.items
+  pub room : after.room ≡ lab.room
   pub phases : after.phases ≡ lab.phases + 1
   pub next : after.next ≡ lab.next + 1
 
@@ -104,6 +108,7 @@ pub record CountsPhase (lab after : Lab) : Type 0 where
 pub record IsSameLab (lab after : Lab) : Type 0 where
   pub same : IsSameScript lab after
   pub rows : after.rows.items ≡ lab.rows.items
+  pub room : KeepsRoom lab.room after.room
   pub phases : after.phases ≡ lab.phases
   pub next : after.next ≡ lab.next
   pub card : CardActor
@@ -131,6 +136,7 @@ pub record PlaysAlone (asked : Asks) (rows after : List Row) (a b : CardActor) :
   pub samples_are : b.played.items ≡ played.played.items
   pub none : b.rows.items ≡ []
   pub all : after ≡ rows ++ played.rows.items
+  pub few : length after ≤ length rows + length asked.lines
 
 -- the card, the clients and the readers took the room of their lines, met, did the lines, met again, and gave their rows to the lab
 pub record HaveRunLines {G : Type 0} (stops : G → ℕ) (gates gates_after : List G) (asked : Asks)
@@ -147,6 +153,7 @@ pub record HaveRunLines {G : Type 0} (stops : G → ℕ) (gates gates_after : Li
       (drop 64 gates_after) asked roomy_card roomy_clients roomy_readers met_card
       met_clients met_readers
   pub given : HaveGivenRows rows after met_card b met_clients ds met_readers ss
+  pub few : length after ≤ length rows + length asked.lines
 
 -- what a lab asks of its actors in its next phase
 abbrev pub asks_of_lab : Lab → List Line → Asks
@@ -162,6 +169,7 @@ asks_of_lab lab lines =
 pub record HasRunLines {G : Type 0} (stops : G → ℕ) (gates gates_after : List G)
     (lab : Lab) (lines : List Line) (after : Lab) : Type 0 where
   pub same : IsSameScript lab after
+  pub room : after.room ≡ lab.room
   pub phases : after.phases ≡ lab.phases
   pub next : after.next ≡ lab.next
   pub card : CardActor
@@ -176,6 +184,7 @@ pub record Reaps (lab after : Lab) : Type 0 where
   pub same : IsSameScript lab after
   pub card : after.card ≡ lab.card
   pub rows : after.rows ≡ lab.rows
+  pub room : after.room ≡ lab.room
   pub phases : after.phases ≡ lab.phases
   pub next : after.next ≡ lab.next
   pub places : IsSameCard (clients.places_of lab.clients) (clients.places_of after.clients)

@@ -1,7 +1,8 @@
 -- What the steps of a phase make of the card, the clients and the readers of a lab.
-use Rattle.std.specs.Prelude.{◌≡◌, ℕ, ◌≤◌, List, [], ◌++◌, Option, drop, length, take}
+use Rattle.std.specs.Prelude.{◌≡◌, ℕ, ◌+◌, ◌≤◌, List, [], ◌++◌, Option, drop, length, take}
 use Rattle.std.specs.List.{flat_map}
-use Rattle.std.proofs.Common.{refl}
+use Rattle.std.proofs.Common.{ap, arith, refl}
+use Rattle.std.proofs.lemmas.List.{length-append}
 use Rattle.wav_io.specs.Sound.{Sound}
 use Rattle.card_sim.specs.declared.card.Card.{Card}
 use Rattle.lab_script.specs.declared.line.Line.{Line}
@@ -149,3 +150,18 @@ pub record HaveGivenRows (rows after : List Row) (a b : CardActor) (cs ds : LabC
   pub clients : AreEach clients.HasClientRows 0 (clients_of cs) (clients_of ds)
   pub places : places_of ds ≡ places_of cs
   pub readers : EachReader readers.HasRowsTaken rs ss
+
+-- so many they are then
+pub length-given : (rows after : List Row) (a b : CardActor) (cs ds : LabClients) (rs ss : LabReaders) → HaveGivenRows rows after a b cs ds rs ss
+    → length after ≡ length rows + length (rows_by a cs rs)
+length-given rows after a b cs ds rs ss given =
+    let own : List Row = a.rows.items in
+    let others : List Row = flat_map client.rows_of (clients_of cs) in
+    let more : List Row = flat_map reader.rows_of (readers_of rs) in
+    let all = ap length given.all in
+    let all_of = length-append (rows ++ own ++ others) more in
+    let two_of = length-append (rows ++ own) others in
+    let one_of = length-append rows own in
+    let by = length-append (own ++ others) more in
+    let by_two = length-append own others in
+    omega (arith, all, all_of, two_of, one_of, by, by_two)

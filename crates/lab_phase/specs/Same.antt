@@ -1,5 +1,5 @@
 -- A lab that is as it was, but for its room, stays at its stage; so does one that refused an opening.
-use Rattle.std.specs.Prelude.{◌≡◌, ℕ, ◌+◌, List, Option, Some}
+use Rattle.std.specs.Prelude.{◌≡◌, ℕ, ◌+◌, IsSomeAnd, List, length, Option, None, Some}
 use Rattle.std.specs.Global.{Vec}
 use Rattle.std.proofs.Common.{refl, sym, ap, subst, ◌∙◌}
 use Rattle.sum_table.specs.Players.{player_key, player_ring}
@@ -30,12 +30,14 @@ use Rattle.lab_readers.specs.AtStage as readers
 use Rattle.lab_readers.specs.Kept.{AreAt-kept}
 use Rattle.lab_readers.specs.declared.readers.LabReaders.{LabReaders}
 use Rattle.lab_phase.specs.declared.lab.Lab.{Lab}
-use Rattle.lab_phase.specs.AtStage.{AreActorsOf, DoesItem, HasDone, IsAtStage, IsNextItem, IsNextItem-at, IsSameCount, IsSameRing, IsSameScript, capture_of, played_by, session_of}
+use Rattle.lab_phase.specs.declared.report_room.ReportRoom.{ReportRoom}
+use Rattle.lab_phase.specs.ReportRoom.{HasReportRoom, KeepsRoom}
+use Rattle.lab_phase.specs.AtStage.{AreActorsOf, DoesItem, HasDone, HasEndRoom, IsAtStage, IsCardOf, IsNextItem, IsNextItem-at, IsSameCount, IsSameRing, IsSameScript, capture_of, played_by, session_of}
 use Rattle.lab_phase.specs.BorderLaws.{AreActorsOf-client, AreActorsOf-reader, AreSetUp-same, session_of-same}
 use Rattle.lab_phase.specs.Borders.{IsSameAtCard}
 use Rattle.lab_phase.specs.CardStage.{IsCardIn-same, IsSameActor}
 use Rattle.lab_phase.specs.PhaseRuns.{IsSameLab, StaysAtStage}
-use Rattle.lab_phase.specs.PhaseSteps.{AreSameButRoom}
+use Rattle.lab_phase.specs.PhaseSteps.{AreSameButRoom, AreSameButRoom-card}
 
 AreActorsOf-same : (session : Session) (capture : Option Sound) (stage : Stage) (a b : CardActor) (cs ds : LabClients) (rs ss : LabReaders) → AreSameButRoom a b cs ds rs ss
     → AreActorsOf session capture stage (Some a) cs rs → AreActorsOf session capture stage (Some b) ds ss
@@ -69,16 +71,28 @@ HasDone-same lab after stage same next has = record {
       (subst (λ (wavs : List Sound). IsReached lab.script.now wavs (session_of lab) has.done has.others stage) (sym same.wavs) has.reached));
 }
 
+KeepsRoom-same : (room after : ReportRoom) → after ≡ room → KeepsRoom room after
+KeepsRoom-same room after same rows readers has = subst (HasReportRoom rows readers) (sym same) has
+
+-- its script has as many readers, and it has as many rows
+HasEndRoom-same : (lab after : Lab) (more : ℕ) → IsSameScript lab after → after.rows.items ≡ lab.rows.items
+    → HasReportRoom (length lab.rows.items + more) (length lab.script.now.readers) after.room → HasEndRoom more after
+HasEndRoom-same lab after more same rows has =
+    subst (λ (s : Script). HasReportRoom (length after.rows.items + more) (length s.readers) after.room) (sym same.script)
+    (subst (λ (rs : List Row). HasReportRoom (length rs + more) (length lab.script.now.readers) after.room) (sym rows) has)
+
 -- its actors are those of the stage
-IsAtStage-actors : (lab after : Lab) (stage : Stage) → IsSameScript lab after → after.rows.items ≡ lab.rows.items → after.phases ≡ lab.phases → after.next ≡ lab.next
+IsAtStage-actors : (lab after : Lab) (stage : Stage) → IsSameScript lab after → after.rows.items ≡ lab.rows.items → KeepsRoom lab.room after.room → after.phases ≡ lab.phases
+    → after.next ≡ lab.next
     → AreActorsOf (session_of lab) (capture_of lab) stage after.card after.clients after.readers → IsAtStage lab stage → IsAtStage after stage
-IsAtStage-actors lab after stage same rows phases next actors at = record {
+IsAtStage-actors lab after stage same rows room phases next actors at = record {
   actors = subst (λ (s : Session). AreActorsOf s (capture_of after) stage after.card after.clients after.readers) (sym (session_of-same lab after same))
       (subst (λ (capture : Option Sound). AreActorsOf (session_of lab) capture stage after.card after.clients after.readers) (sym same.capture) actors);
   rows = rows ∙ at.rows;
   phases = phases ∙ at.phases;
   has_done = HasDone-same lab after stage same next at.has_done;
   set_up = AreSetUp-same lab after same at.set_up;
+  room = HasEndRoom-same lab after 0 same rows (room (length lab.rows.items + 0) (length lab.script.now.readers) at.room);
 }
 
 pub StaysAtStage-same : (lab after : Lab) → IsSameLab lab after → StaysAtStage lab after
@@ -88,7 +102,7 @@ StaysAtStage-same lab after is = record {
   played = ap played_by is.card_then ∙ (is.actors.card.played ∙ sym (ap played_by is.card_is));
   at = λ stage at.
       let before = subst (λ (card : Option CardActor). AreActorsOf (session_of lab) (capture_of lab) stage card lab.clients lab.readers) is.card_is at.actors in
-      IsAtStage-actors lab after stage is.same is.rows is.phases is.next
+      IsAtStage-actors lab after stage is.same is.rows is.room is.phases is.next
       (subst (λ (card : Option CardActor). AreActorsOf (session_of lab) (capture_of lab) stage card after.clients after.readers) (sym is.card_then)
       (AreActorsOf-same (session_of lab) (capture_of lab) stage is.card is.card_after lab.clients after.clients lab.readers after.readers is.actors before))
       at;
@@ -109,7 +123,7 @@ module _ (lab after : Lab) (same : IsSameScript lab after) (count : IsSameCount 
     played = ap played_by then_is ∙ (actor.played ∙ sym (ap played_by first));
     at = λ stage at.
         let before = subst (λ (card : Option CardActor). AreActorsOf (session_of lab) (capture_of lab) stage card lab.clients lab.readers) first at.actors in
-        IsAtStage-actors lab after stage same (ap (λ (v : Vec Row). v.items) count.rows) count.phases count.next
+        IsAtStage-actors lab after stage same (ap (λ (v : Vec Row). v.items) count.rows) (KeepsRoom-same lab.room after.room count.room) count.phases count.next
         (subst (λ (card : Option CardActor). AreActorsOf (session_of lab) (capture_of lab) stage card after.clients after.readers) (sym then_is)
         (subst (λ (rs : LabReaders). AreActorsOf (session_of lab) (capture_of lab) stage (Some b) after.clients rs) (sym others)
         (AreActorsOf-client (session_of lab) (capture_of lab) stage stage a b lab.clients after.clients lab.readers actor rows
@@ -133,7 +147,7 @@ module _ (lab after : Lab) (same : IsSameScript lab after) (count : IsSameCount 
     next = count.next;
     played = ap played_by card;
     at = λ stage at.
-        IsAtStage-actors lab after stage same (ap (λ (v : Vec Row). v.items) count.rows) count.phases count.next
+        IsAtStage-actors lab after stage same (ap (λ (v : Vec Row). v.items) count.rows) (KeepsRoom-same lab.room after.room count.room) count.phases count.next
         (subst (λ (own : Option CardActor). AreActorsOf (session_of lab) (capture_of lab) stage own after.clients after.readers) (sym card)
         (subst (λ (cs : LabClients). AreActorsOf (session_of lab) (capture_of lab) stage lab.card cs after.readers) (sym others)
         (AreActorsOf-reader (session_of lab) (capture_of lab) stage stage lab.card lab.clients lab.readers after.readers ring
@@ -142,14 +156,15 @@ module _ (lab after : Lab) (same : IsSameScript lab after) (count : IsSameCount 
         at;
   }
 
--- its rows have other room
-pub StaysAtStage-room : (lab : Lab) (rows : Vec Row) → rows.items ≡ lab.rows.items → StaysAtStage lab (record lab { rows = rows })
-StaysAtStage-room lab rows is = record {
+-- its rows, and what the end of its run leaves, have other room
+pub StaysAtStage-room : (lab : Lab) (rows : Vec Row) (room : ReportRoom) → rows.items ≡ lab.rows.items → KeepsRoom lab.room room
+    → StaysAtStage lab (record lab { rows = rows; room = room })
+StaysAtStage-room lab rows room is kept = record {
   same = record { script = refl; wavs = refl; capture = refl; openings = refl };
   next = refl;
   played = refl;
   at = λ stage at.
-      IsAtStage-actors lab (record lab { rows = rows }) stage (record { script = refl; wavs = refl; capture = refl; openings = refl }) is refl refl at.actors at;
+      IsAtStage-actors lab (record lab { rows = rows; room = room }) stage (record { script = refl; wavs = refl; capture = refl; openings = refl }) is kept refl refl at.actors at;
 }
 
 -- ---- a lab that stays at its stage, and then does an item or not
@@ -183,3 +198,44 @@ DoesItem-stays lab mid after one stays does = record {
       let done = does.does stage (stays.at stage at) in
       record { next = done.next; may = subst (λ (s : Session). ItemMay s stage one done.next) (session_of-same lab mid stays.same) done.may; is = done.is };
 }
+
+-- ---- a lab whose rows, and what the end of its run leaves, have other room
+
+module _ (lab : Lab) (rows : Vec Row) (room : ReportRoom) (same : rows.items ≡ lab.rows.items) (kept : KeepsRoom lab.room room) where
+  pub IsAtStage-room : (stage : Stage) → IsAtStage lab stage → IsAtStage (record lab { rows = rows; room = room }) stage
+  IsAtStage-room stage at = (StaysAtStage-room lab rows room same kept).at stage at
+
+  -- it is as it was
+  pub IsSameLab-room : (stage : Stage) → IsAtStage lab stage → IsSameLab lab (record lab { rows = rows; room = room })
+  IsSameLab-room stage at = by_card lab.card refl at.actors.card_is
+    where
+      by_card : (card : Option CardActor) → lab.card ≡ card → IsSomeAnd card (IsCardOf (session_of lab) (capture_of lab) stage lab.clients lab.readers)
+          → IsSameLab lab (record lab { rows = rows; room = room })
+      by_card None is some = absurd some
+      by_card (Some a) is some = record {
+        same = record { script = refl; wavs = refl; capture = refl; openings = refl };
+        rows = same;
+        room = kept;
+        phases = refl;
+        next = refl;
+        card = a;
+        card_after = a;
+        card_is = is;
+        card_then = is;
+        actors = AreSameButRoom-card a a lab.clients lab.readers (record { card = refl; played = refl; rows = refl });
+      }
+
+  -- what is as that lab is, is as it was
+  pub IsSameLab-after : (after : Lab) → IsSameLab (record lab { rows = rows; room = room }) after → IsSameLab lab after
+  IsSameLab-after after is = record {
+    same = record { script = is.same.script; wavs = is.same.wavs; capture = is.same.capture; openings = is.same.openings };
+    rows = is.rows ∙ same;
+    room = λ count readers has. is.room count readers (kept count readers has);
+    phases = is.phases;
+    next = is.next;
+    card = is.card;
+    card_after = is.card_after;
+    card_is = is.card_is;
+    card_then = is.card_then;
+    actors = is.actors;
+  }

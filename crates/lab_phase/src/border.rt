@@ -11,10 +11,10 @@ impl<'r> Lab<'r, '_> {
     ghost use Rattle.lab_script.specs.Limits.{IsBorder};
     ghost use Rattle.lab_run.specs.Stage.{after_close, after_open};
     ghost use Rattle.lab_actor.specs.Room.{HasSpace};
-    ghost use Rattle.lab_phase.specs.AtStage.{AddsRow, DoesItem, DoesRow, IsNextItem, IsBorderItem, IsLab, border_after, played_of, session_of};
+    ghost use Rattle.lab_phase.specs.AtStage.{AddsRow, DoesItem, DoesRow, HasEndRoom, IsNextItem, IsBorderItem, IsLab, border_after, played_of, session_of};
     ghost use Rattle.lab_phase.specs.PhaseRuns.{StaysAtStage};
 
-    /// Does an `open` or a `close` of the script's body, which has one row. The room for the row is taken first. It refuses, with `Memory`,
+    /// Does an `open` or a `close` of the script's body, which has one row. The room for the row, and for a report with it, is taken first. It refuses, with `Memory`,
     /// only where no memory is left; then nothing was opened, and the lab is at its stage.
     ///
     /// The caller has the script's next item, which is no phase.
@@ -31,19 +31,23 @@ impl<'r> Lab<'r, '_> {
         self.do_border(item)
     }
 
-    // Takes the room of a row.
+    // Takes the room of a row, and of a report with it.
     fn take_row_room(&mut self) -> Result<(), PcmError>
+        requires at { IsLab self.old }
         ensures room { OnOk result (HasSpace 1 self.new.rows) }
+        ensures report { OnOk result (HasEndRoom 1 self.new) }
         ensures kept { StaysAtStage self.old self.new }
         ensures only { IfErr result (λ e. e ≡ PcmError.Memory) }
     {
         self.rows.reserve(1)?;
+        self.room.reserve(self.rows.capacity())?;
         Ok(())
     }
 
     // Does an `open` or a `close` for whose row there is room.
     fn do_border(&mut self, item: &Item) -> Result<(), PcmError>
         requires room { HasSpace 1 self.old.rows }
+        requires report { HasEndRoom 1 self.old }
         requires at { IsLab self.old }
         requires next { IsNextItem self.old item.now }
         requires border { IsBorderItem item.now }

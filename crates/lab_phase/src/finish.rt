@@ -9,11 +9,13 @@ ghost use Rattle.lab_clients.specs.AtStage.{places_of};
 ghost use Rattle.lab_phase.specs.Ended.{HaveAllPlaces, IsMixBy};
 
 use crate::lab::Lab;
+use crate::report_room::ReportRoom;
 use card_sim::Card;
 use lab_card::CardActor;
 use lab_clients::LabClients;
 use lab_report::{Report, Row, Rows, Runs, Segments};
-use snd_base::{PcmError, Segment};
+use lab_run::reports_are_within_rows;
+use snd_base::Segment;
 
 /// What a run leaves: its report, the samples that the card played, and each reader's samples, all interleaved.
 #[derive(Drop)]
@@ -69,29 +71,27 @@ fn close_rings<'r>(clients: LabClients<'r>, card: Card<'r, 'r>)
 }
 
 impl<'r> Lab<'r, '_> {
-    ghost use Rattle.std.specs.Prelude.{◌≡◌, IfErr, IfOk};
+    ghost use Rattle.std.specs.Prelude.{◌≡◌};
     ghost use Rattle.lab_phase.specs.AtStage.{IsLab, played_of};
     ghost use Rattle.lab_phase.specs.Ended.{HasPlayedMix, IsAtEnd, IsMixAtStage, LeavesRun, LeavesStage};
 
     /// Ends the run: closes what is still open and both rings, and gives the report with all segments and runs, what the card played and
     /// what each reader recorded. The card played the mix of all that the clients' seats placed, which is seat by seat what the segments
-    /// say. It refuses, with `Memory`, only where no memory is left; the rings are closed then too.
+    /// say. It takes no memory.
     ///
     /// The caller has done all items of the script's body.
-    pub fn finish(self) -> Result<Outcome, PcmError>
+    pub fn finish(self) -> Outcome
         requires at { IsLab self }
         requires end { IsAtEnd self }
-        ensures stage { IfOk result (λ outcome. LeavesStage self.entry outcome) }
-        ensures run { IfOk result (λ outcome. LeavesRun self.entry outcome) }
-        ensures placed { IfOk result (λ outcome. IsMixAtStage self.entry) }
-        ensures played { IfOk result (λ outcome. outcome.played.items ≡ played_of self.entry) }
+        ensures stage { LeavesStage self.entry result }
+        ensures run { LeavesRun self.entry result }
+        ensures placed { IsMixAtStage self.entry }
+        ensures played { result.played.items ≡ played_of self.entry }
         ensures mix { HasPlayedMix self.entry }
-        ensures only { IfErr result (λ e. e ≡ PcmError.Memory) }
     {
-        let segments = self.clients.segments(self.alloc);
-        let runs = self.readers.runs(self.alloc);
+        reports_are_within_rows();
         let Lab {
-            alloc,
+            alloc: _,
             script: _,
             wavs: _,
             capture: _,
@@ -100,10 +100,18 @@ impl<'r> Lab<'r, '_> {
             clients,
             readers,
             rows,
+            room,
             phases: _,
             next: _,
         } = self;
-        let recorded = readers.into_recorded(alloc);
+        let ReportRoom {
+            mut segments,
+            mut runs,
+            mut recorded,
+        } = room;
+        clients.segments_into(&mut segments);
+        readers.runs_into(&mut runs);
+        readers.recorded_into(&mut recorded);
         let CardActor {
             card,
             played,
@@ -112,15 +120,12 @@ impl<'r> Lab<'r, '_> {
         } = card.unwrap();
         let (first, frames) = frames_of(&card);
         close_rings(clients, card);
-        let segments = segments?;
-        let runs = runs?;
-        let recorded = recorded?;
         let report = report_of(rows, segments, runs, first, frames);
-        Ok(Outcome {
+        Outcome {
             report,
             played,
             recorded,
-        })
+        }
     }
 
     /// Ends the run before its script's end: closes what is still open and both rings. Only closed rings tell that the card played the
@@ -139,6 +144,7 @@ impl<'r> Lab<'r, '_> {
             clients,
             readers: _,
             rows: _,
+            room: _,
             phases: _,
             next: _,
         } = self;

@@ -1,4 +1,5 @@
 //! The lab at its beginning, and what it holds so far.
+use crate::report_room::ReportRoom;
 use card_player::CardPlayer;
 use card_sim::Card;
 use lab_card::CardActor;
@@ -29,6 +30,7 @@ pub struct Lab<'r, 's> {
     pub(crate) clients: LabClients<'r>,
     pub(crate) readers: LabReaders<'r>,
     pub(crate) rows: Vec<Row>,
+    pub(crate) room: ReportRoom,
     pub(crate) phases: u32,
     pub(crate) next: usize,
 }
@@ -87,6 +89,7 @@ impl<'r, 's> Lab<'r, 's> {
         )?;
         let count = script.readers.as_slice().len();
         let readers = LabReaders::new(alloc, count as u32, reader)?;
+        let room = ReportRoom::new(alloc, count)?;
         let period = script.card.period;
         let player = CardPlayer::new(player, period);
         // Where there is no reader nobody sees the snoop ring, and the card stores nothing in it.
@@ -101,6 +104,7 @@ impl<'r, 's> Lab<'r, 's> {
             clients,
             readers,
             rows: Vec::new(alloc),
+            room,
             phases: 0,
             next: 0,
         })

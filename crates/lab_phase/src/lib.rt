@@ -6,6 +6,7 @@ mod border;
 mod finish;
 mod lab;
 mod phase;
+mod report_room;
 mod seats;
 mod steps;
 

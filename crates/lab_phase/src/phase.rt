@@ -111,6 +111,8 @@ impl<'r> Lab<'r, '_> {
         ensures only { IfErr result (λ e. e ≡ PcmError.Memory) }
     {
         runs_are_of_scripts();
+        self.rows.reserve(lines.len())?;
+        self.room.reserve(self.rows.capacity())?;
         self.do_lines(rt, lines, gates)?;
         self.count_phase();
         Ok(())

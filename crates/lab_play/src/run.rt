@@ -227,10 +227,7 @@ fn end<S: Shelf, K: Sink>(
 {
     outcomes_are_of_scripts();
     runs_keep_headline();
-    let outcome = match lab.finish() {
-        Ok(outcome) => outcome,
-        Err(_) => return Err(Stop::Memory),
-    };
+    let outcome = lab.finish();
     outputs.finish(shelf)?;
     outputs.put_tail(out, alloc, script, &outcome.report)?;
     Ok(outcome)

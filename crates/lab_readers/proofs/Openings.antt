@@ -75,21 +75,6 @@ closed-after rs ss number phase r s row at inside exchanged has session capture 
     AreAfter-closing session capture stage number phase rs ss at_item r s row inside exchanged
     (subst (λ (t : LabReader). HasClosing phase t s row (reader_in t).own) at has)
 
--- ---- the end
-
-pub runs-ok : (rs : LabReaders) (list : List LabReader) (result : Result (Vec (ℕ × ℕ × ℕ)) PcmError) → list ≡ readers_of rs
-    → IfOk result (λ runs. runs.items ≡ flat_map runs_by list)
-    → IfOk result (λ runs. (session : Session) (capture : Option Sound) (xs : List (AtPort × Reader)) → AreAt session capture xs rs → runs.items ≡ all_runs xs)
-runs-ok rs list (Err e) same is = tt
-runs-ok rs list (Ok runs) same is = λ session capture xs are. is ∙ (ap (flat_map runs_by) same ∙ all_runs-at session capture xs rs are)
-
-pub recorded-ok : (rs : LabReaders) (result : Result (Vec (Vec ℤ)) PcmError)
-    → IfOk result (λ all. map (λ (samples : Vec ℤ). samples.items) all.items ≡ map read_samples (readers_of rs))
-    → IfOk result (λ all. (session : Session) (capture : Option Sound) (xs : List (AtPort × Reader)) → AreAt session capture xs rs
-    → map (λ (samples : Vec ℤ). samples.items) all.items ≡ recorded_from session capture 0 xs)
-recorded-ok rs (Err e) is = tt
-recorded-ok rs (Ok all) is = λ session capture xs are. is ∙ recorded_from-at session capture xs rs are
-
 -- ---- lines
 
 -- the test whether some of a phase's lines are a reader's

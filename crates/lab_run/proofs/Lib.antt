@@ -27,6 +27,7 @@ pub mod ReaderLeads
 pub mod ReaderLines
 pub mod ReaderRows
 pub mod ReadsAlike
+pub mod ReportSizes
 pub mod ReportedWords
 pub mod RewindLeads
 pub mod RewindRows

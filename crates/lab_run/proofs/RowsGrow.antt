@@ -63,12 +63,12 @@ close_reader-more : (session : Session) (stage : Stage) (n : ℕ) (x : AtPort ×
 close_reader-more session stage n x None = one stage _ _ refl
 close_reader-more session stage n x (Some r) = one stage _ _ refl
 
-open-more : (session : Session) (stage : Stage) (who : Actor) → HasMore stage (after_open session stage who)
+pub open-more : (session : Session) (stage : Stage) (who : Actor) → HasMore stage (after_open session stage who)
 open-more session stage actor.Card = none stage
 open-more session stage (actor.Client n) = open_client-more session stage n (client_at session stage n) (client_at session stage n).1.own
 open-more session stage (actor.Reader n) = open_reader-more session stage n (reader_at session stage n) (reader_at session stage n).1.own
 
-close-more : (session : Session) (stage : Stage) (who : Actor) → HasMore stage (after_close session stage who)
+pub close-more : (session : Session) (stage : Stage) (who : Actor) → HasMore stage (after_close session stage who)
 close-more session stage actor.Card = none stage
 close-more session stage (actor.Client n) = close_client-more session stage n (client_at session stage n) (client_at session stage n).1.own
 close-more session stage (actor.Reader n) = close_reader-more session stage n (reader_at session stage n) (reader_at session stage n).1.own

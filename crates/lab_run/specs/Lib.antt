@@ -16,6 +16,7 @@ pub mod Places
 pub mod PortSteps
 pub mod Reader
 pub mod ReaderAtPort
+pub mod ReportSize
 pub mod Rules
 pub mod ScriptWords
 pub mod Slices

@@ -24,6 +24,7 @@ ghost use Rattle.lab_run.specs.OwnRows.{AreAlone, HaveLines};
 ghost use Rattle.lab_run.specs.LateRows.{LateRewindsNameLast, LateRowsNameNext};
 ghost use Rattle.lab_run.specs.Reader.{reader_kind};
 ghost use Rattle.lab_run.specs.ReaderAtPort.{ReaderLinesAreParts, ReaderLinesWithoutCall};
+ghost use Rattle.lab_run.specs.ReportSize.{StagesAreWithinRows};
 ghost use Rattle.lab_run.specs.Rules.{Rules};
 ghost use Rattle.lab_run.specs.ScriptWords.{PhasesAreOfScripts, StagesAreOfScripts};
 ghost use Rattle.lab_run.specs.Slices.{LinesGetSlices, ReadersReadOn};
@@ -190,4 +191,13 @@ pub fn runs_are_of_scripts()
     ensures phases { PhasesAreOfScripts }
     ensures lines { (script : Script) (is_theirs : Actor → Bool) →
         IsScript script → HaveLines is_theirs script.body }
+{}
+
+/// A report has no more segments than rows, and no more runs than rows: each line has a row, and
+/// its actor has at most one segment or one run more after it. What opens, closes or stops an actor
+/// makes none.
+///
+/// It does nothing.
+pub fn reports_are_within_rows()
+    ensures { StagesAreWithinRows }
 {}

@@ -47,4 +47,10 @@ returns-clause-plays c =
       all = c.append.ensures.items
           ∙ (ap (λ (ok : Bool). if ok then c.reserve.new.self.items ++ c.run_lines.new.self.rows.items else c.reserve.new.self.items) moved
           ∙ ap (λ (rs : List Row). rs ++ c.run_lines.new.self.rows.items) c.reserve.ensures.items);
+      few =
+          let len = c.append.ensures.len ∙ ap (λ (ok : Bool). if ok then vec_len c.reserve.new.self + vec_len c.run_lines.new.self.rows else vec_len c.reserve.new.self) moved in
+          let after = c.append.new.self.ok.0 in
+          let before = c.args.rows.now.ok.0 in
+          let same = c.reserve.ensures.len in
+          omega (arith, most, len, after, before, same);
     }

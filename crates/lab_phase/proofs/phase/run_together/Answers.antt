@@ -1,6 +1,6 @@
-use Rattle.std.proofs.Common.{List, arith, subst}
+use Rattle.std.proofs.Common.{List, ap, arith, length, subst}
 use Rattle.lab_report.specs.declared.row.Row.{Row}
-use Rattle.lab_phase.specs.PhaseSteps.{HaveGivenRows}
+use Rattle.lab_phase.specs.PhaseSteps.{HaveGivenRows, length-given}
 use Rattle.lab_phase.proofs.phase.run_together.Goals as goal
 
 pub take_rows-requires : goal.take_rows-requires
@@ -24,4 +24,11 @@ returns-clause-run g c = record {
       (λ (rows : List Row). HaveGivenRows rows c.take_rows.new.rows.items c.run_lines.new.card c.take_rows.new.card c.run_lines.new.clients c.take_rows.new.clients c.run_lines.new.readers
       c.take_rows.new.readers)
       c.take_room.ensures.rows c.take_rows.ensures;
+  few =
+      let few = c.requires.few_rows c.run_lines.new.gates c.take_room.new.card c.run_lines.new.card c.take_room.new.clients c.run_lines.new.clients c.take_room.new.readers
+      c.run_lines.new.readers c.in_ok-take_room.ensures.room c.run_lines.ensures in
+      let given = length-given c.take_room.new.rows.items c.take_rows.new.rows.items c.run_lines.new.card c.take_rows.new.card c.run_lines.new.clients c.take_rows.new.clients
+      c.run_lines.new.readers c.take_rows.new.readers c.take_rows.ensures in
+      let same = ap length c.take_room.ensures.rows in
+      omega (arith, few, given, same);
 }

@@ -11,52 +11,46 @@ use Rattle.lab_play.specs.Ends.{StopsAtEnd}
 use Rattle.lab_play.specs.Playing.{Scene, scene, sounds_at}
 use Rattle.lab_play.proofs.Ending.{HasPlayed-end, HasStopped-finish, HasStopped-tail, report-at_end, rows-few, same-script, stop-passed}
 use Rattle.lab_play.proofs.ItemsResults.{OnErr-all}
-use Rattle.lab_play.proofs.ItemsStopped.{HasStopped-closed, IsStoppedAt-playing}
 use Rattle.lab_play.proofs.run.end.Goals as goal
-
-pub returns-in-Err-clause-part : goal.returns-in-Err-clause-part
-returns-in-Err-clause-part g c start stops is =
-    let at : Scene = scene c.args.lab c.args.outputs.now (g.S.Shelf.files c.args.shelf.now) (g.K.Sink.taken c.args.out.now) in
-    HasStopped-closed start at.lab at.files at.taken (IsStoppedAt-playing start stops at is) c.finish.ensures.mix
 
 pub returns-in_err-finish-clause-part : goal.returns-in_err-finish-clause-part
 returns-in_err-finish-clause-part g c =
     let at : Scene = scene c.args.lab c.args.outputs.now (g.S.Shelf.files c.args.shelf.now) (g.K.Sink.taken c.args.out.now) in
     let script : Script = c.args.script.now in
     let own = c.requires.playing in
-    OnErr-all (StopsAtEnd at (g.S.Shelf.files c.finish-2.new.shelf) (g.K.Sink.taken c.args.out.now)) c.from_residual.result
+    OnErr-all (StopsAtEnd at (g.S.Shelf.files c.finish.new.shelf) (g.K.Sink.taken c.args.out.now)) c.from_residual.result
     (λ start stops is. HasStopped-finish start stops c.args.lab c.args.outputs.now (g.S.Shelf.files c.args.shelf.now) (g.K.Sink.taken c.args.out.now) is
-    (subst (λ (s : Script). items_done c.args.lab ≡ length s.body) (same-script script own.start start own.stops stops at own.script_is own.is is) c.requires.all) c.in-Ok.outcome
-    c.in-Ok.ensures.stage c.in-Ok.ensures.run c.in-Ok.ensures.played (g.S.Shelf.files c.finish-2.new.shelf)
-    (c.finish-2.ensures.changes start.files (sounds_at c.args.lab is.stage) is.written.going_on)
-    (c.finish-2.ensures.kept start.files (sounds_at c.args.lab is.stage) is.written.going_on))
+    (subst (λ (s : Script). items_done c.args.lab ≡ length s.body) (same-script script own.start start own.stops stops at own.script_is own.is is) c.requires.all) c.finish-outcome.result
+    c.finish-outcome.ensures.stage c.finish-outcome.ensures.run c.finish-outcome.ensures.played (g.S.Shelf.files c.finish.new.shelf)
+    (c.finish.ensures.changes start.files (sounds_at c.args.lab is.stage) is.written.going_on)
+    (c.finish.ensures.kept start.files (sounds_at c.args.lab is.stage) is.written.going_on))
 
 pub returns-in_err-finish-clause-never : goal.returns-in_err-finish-clause-never
 returns-in_err-finish-clause-never g c shelf out known failed =
-    c.finish-2.ensures.never known.start.files (sounds_at c.args.lab known.is.stage) known.is.written.going_on known.known shelf
+    c.finish.ensures.never known.start.files (sounds_at c.args.lab known.is.stage) known.is.written.going_on known.known shelf
     (c.in_err-finish.was ∙ ap Err (stop-passed c.from_residual.result c.in_err-finish.field-0.0 stop.Write c.from_residual.ensures.1 failed))
 
 pub put_tail-requires-clause-rows : goal.put_tail-requires-clause-rows
 put_tail-requires-clause-rows g c =
     let own = c.requires.playing in
-    (subst (λ (s : Script). IsReportOf s c.in-Ok.outcome.report) own.script_is
+    (subst (λ (s : Script). IsReportOf s c.finish-outcome.result.report) own.script_is
     (report-at_end own.start own.stops c.args.lab c.args.outputs.now (g.S.Shelf.files c.args.shelf.now) (g.K.Sink.taken c.args.out.now) own.is
-    (subst (λ (s : Script). items_done c.args.lab ≡ length s.body) (sym own.script_is) c.requires.all) c.in-Ok.outcome c.in-Ok.ensures.stage c.in-Ok.ensures.run c.in-Ok.ensures.played
+    (subst (λ (s : Script). items_done c.args.lab ≡ length s.body) (sym own.script_is) c.requires.all) c.finish-outcome.result c.finish-outcome.ensures.stage c.finish-outcome.ensures.run c.finish-outcome.ensures.played
     c.outcomes_are_of_scripts.ensures)).rows
 
 pub put_tail-requires-clause-tail : goal.put_tail-requires-clause-tail
 put_tail-requires-clause-tail g c =
     let own = c.requires.playing in
-    (subst (λ (s : Script). IsReportOf s c.in-Ok.outcome.report) own.script_is
+    (subst (λ (s : Script). IsReportOf s c.finish-outcome.result.report) own.script_is
     (report-at_end own.start own.stops c.args.lab c.args.outputs.now (g.S.Shelf.files c.args.shelf.now) (g.K.Sink.taken c.args.out.now) own.is
-    (subst (λ (s : Script). items_done c.args.lab ≡ length s.body) (sym own.script_is) c.requires.all) c.in-Ok.outcome c.in-Ok.ensures.stage c.in-Ok.ensures.run c.in-Ok.ensures.played
+    (subst (λ (s : Script). items_done c.args.lab ≡ length s.body) (sym own.script_is) c.requires.all) c.finish-outcome.result c.finish-outcome.ensures.stage c.finish-outcome.ensures.run c.finish-outcome.ensures.played
     c.outcomes_are_of_scripts.ensures)).tail
 
 pub put_tail-requires-clause-more : goal.put_tail-requires-clause-more
 put_tail-requires-clause-more g c =
     let own = c.requires.playing in
     rows-few own.start own.stops c.args.lab c.args.outputs.now (g.S.Shelf.files c.args.shelf.now) (g.K.Sink.taken c.args.out.now) own.is
-    (subst (λ (s : Script). items_done c.args.lab ≡ length s.body) (sym own.script_is) c.requires.all) c.in-Ok.outcome c.in-Ok.ensures.stage c.in-Ok.ensures.run c.in-Ok.ensures.played
+    (subst (λ (s : Script). items_done c.args.lab ≡ length s.body) (sym own.script_is) c.requires.all) c.finish-outcome.result c.finish-outcome.ensures.stage c.finish-outcome.ensures.run c.finish-outcome.ensures.played
 
 pub returns-in_err-put_tail-clause-part : goal.returns-in_err-put_tail-clause-part
 returns-in_err-put_tail-clause-part g c =
@@ -65,13 +59,13 @@ returns-in_err-put_tail-clause-part g c =
     let own = c.requires.playing in
     let taken : Option (List ℕ) = g.K.Sink.taken c.args.out.now in
     let taken_after : Option (List ℕ) = g.K.Sink.taken c.put_tail.new.out in
-    OnErr-all (StopsAtEnd at (g.S.Shelf.files c.finish-2.new.shelf) taken_after) c.from_residual-in_err-put_tail.result
+    OnErr-all (StopsAtEnd at (g.S.Shelf.files c.finish.new.shelf) taken_after) c.from_residual-in_err-put_tail.result
     (λ start stops is. let same = same-script script own.start start own.stops stops at own.script_is own.is is in
     HasStopped-tail start stops c.args.lab c.args.outputs.now (g.S.Shelf.files c.args.shelf.now) taken is
-    (subst (λ (s : Script). items_done c.args.lab ≡ length s.body) same c.requires.all) c.in-Ok.outcome c.in-Ok.ensures.stage c.in-Ok.ensures.run c.in-Ok.ensures.played
-    (g.S.Shelf.files c.finish-2.new.shelf) taken_after (c.finish-2.ensures.changes start.files (sounds_at c.args.lab is.stage) is.written.going_on)
+    (subst (λ (s : Script). items_done c.args.lab ≡ length s.body) same c.requires.all) c.finish-outcome.result c.finish-outcome.ensures.stage c.finish-outcome.ensures.run c.finish-outcome.ensures.played
+    (g.S.Shelf.files c.finish.new.shelf) taken_after (c.finish.ensures.changes start.files (sounds_at c.args.lab is.stage) is.written.going_on)
     (c.in_ok-finish.ensures.stored start.files (sounds_at c.args.lab is.stage) is.written.going_on)
-    (subst (λ (s : Script). TookPart taken taken_after (tail_from s c.args.outputs.now.rows c.in-Ok.outcome.report)) same c.in_err-put_tail.ensures.text))
+    (subst (λ (s : Script). TookPart taken taken_after (tail_from s c.args.outputs.now.rows c.finish-outcome.result.report)) same c.in_err-put_tail.ensures.text))
 
 pub returns-in_err-put_tail-clause-never : goal.returns-in_err-put_tail-clause-never
 returns-in_err-put_tail-clause-never g c shelf out known failed =
@@ -87,7 +81,7 @@ returns-clause-done g c start stops is =
     let taken_after : Option (List ℕ) = g.K.Sink.taken c.put_tail.new.out in
     let same = same-script script own.start start own.stops stops at own.script_is own.is is in
     HasPlayed-end start stops c.args.lab c.args.outputs.now (g.S.Shelf.files c.args.shelf.now) taken is
-    (subst (λ (s : Script). items_done c.args.lab ≡ length s.body) same c.requires.all) c.in-Ok.outcome c.in-Ok.ensures.stage c.in-Ok.ensures.run c.in-Ok.ensures.played
-    c.runs_keep_headline.ensures (g.S.Shelf.files c.finish-2.new.shelf) taken_after
+    (subst (λ (s : Script). items_done c.args.lab ≡ length s.body) same c.requires.all) c.finish-outcome.result c.finish-outcome.ensures.stage c.finish-outcome.ensures.run c.finish-outcome.ensures.played
+    c.runs_keep_headline.ensures (g.S.Shelf.files c.finish.new.shelf) taken_after
     (c.in_ok-finish.ensures.stored start.files (sounds_at c.args.lab is.stage) is.written.going_on)
-    (subst (λ (s : Script). taken_after ≡ option_map (λ t. t ++ tail_from s c.args.outputs.now.rows c.in-Ok.outcome.report) taken) same c.in_ok-put_tail.ensures.taken)
+    (subst (λ (s : Script). taken_after ≡ option_map (λ t. t ++ tail_from s c.args.outputs.now.rows c.finish-outcome.result.report) taken) same c.in_ok-put_tail.ensures.taken)

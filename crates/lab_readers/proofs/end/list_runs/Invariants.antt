@@ -1,7 +1,10 @@
-use Rattle.std.proofs.Common.{◌≡◌, take}
+use Rattle.std.proofs.Common.{◌≡◌, ◌≤◌, ◌++◌, take, vec_capacity}
 use Rattle.std.specs.List.{flat_map}
 use Rattle.lab_readers.specs.End.{runs_by}
 use Rattle.lab_readers.proofs.end.list_runs.Given as goal
 
 abbrev pub invariant-loop-index : goal.invariant-loop-index
-invariant-loop-index l = l.all.items ≡ flat_map runs_by (take l.index l.fn.readers)
+invariant-loop-index l = record {
+  runs : l.all.items ≡ l.fn.all.items ++ flat_map runs_by (take l.index l.fn.readers);
+  room : vec_capacity l.fn.all ≤ vec_capacity l.all;
+}

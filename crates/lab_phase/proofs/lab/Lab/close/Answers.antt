@@ -35,7 +35,7 @@ returns-in-Client c =
     record {
       does = subst (λ (who : Actor). DoesRow (λ stage. after_close (session_of lab) stage who) lab c.close.result after) (sym c.in-Client.is)
           (DoesRow-clients lab after (λ stage. after_close (session_of lab) stage (whose.Client number)) c.close.result
-          (record { script = refl; wavs = refl; capture = refl; openings = refl }) (record { rows = refl; phases = refl; next = refl }) refl refl c.close.ensures.card
+          (record { script = refl; wavs = refl; capture = refl; openings = refl }) (record { rows = refl; room = refl; phases = refl; next = refl }) refl refl c.close.ensures.card
           (λ stage. after_close-keeps_readers (session_of lab) stage number)
           (λ stage at. c.close.ensures.after (session_of lab) stage (record { are = at.actors.clients_are; phase_is = at.phases })));
       played = refl;
@@ -49,7 +49,7 @@ returns-in-Reader c =
     record {
       does = subst (λ (who : Actor). DoesRow (λ stage. after_close (session_of lab) stage who) lab c.close-in-Reader.result after) (sym c.in-Reader.is)
           (DoesRow-reader lab after (λ stage. after_close (session_of lab) stage (whose.Reader number)) c.close-in-Reader.result
-          (record { script = refl; wavs = refl; capture = refl; openings = refl }) (record { rows = refl; phases = refl; next = refl }) refl refl
+          (record { script = refl; wavs = refl; capture = refl; openings = refl }) (record { rows = refl; room = refl; phases = refl; next = refl }) refl refl
           (record { ring = ap (λ s. seats.ring_of s) c.close-in-Reader.ensures.spare; geometry = ap (λ s. seats.geometry_of s) c.close-in-Reader.ensures.spare })
           (λ stage. after_close-keeps_clients (session_of lab) stage number)
           (λ stage at. c.close-in-Reader.ensures.closed (session_of lab) (capture_of lab) stage (record { are = at.actors.readers_are; phases = at.phases })));

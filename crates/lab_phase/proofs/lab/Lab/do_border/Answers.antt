@@ -27,7 +27,7 @@ pub returns-clause-does : goal.returns-clause-does
 returns-clause-does c =
     let lab : Lab = c.args.self.now in
     let one : Item = c.args.item.now in
-    DoesItem-row lab c.do_item.new.self c.add_row.new.self one c.in_ok-row.row (λ stage. border_after (session_of lab) stage one) c.in_ok-row.ensures.does c.add_row.ensures c.requires.next
+    DoesItem-row lab c.do_item.new.self c.add_row.new.self one c.in_ok-row.row (λ stage. border_after (session_of lab) stage one) c.in_ok-row.ensures.does c.add_row.ensures c.requires.next c.requires.report
     (λ stage. ItemMay-border (session_of lab) stage one c.requires.border)
 
 pub returns-clause-played : goal.returns-clause-played

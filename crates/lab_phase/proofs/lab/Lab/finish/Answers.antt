@@ -1,15 +1,49 @@
-use Rattle.std.specs.Prelude.{IsSomeAnd, Option, map, ℤ}
+use Rattle.std.specs.Prelude.{IsSomeAnd, List, Option, length, map, vec_capacity, vec_len, ◌+◌, ◌++◌, ◌≡◌, ◌≤◌, ℕ, ℤ}
 use Rattle.std.specs.Global.{Vec}
-use Rattle.std.proofs.Common.{◌∙◌, subst, sym}
-use Rattle.std.proofs.lemmas.Result.{IfOk-at_ok}
+use Rattle.std.specs.List.{flat_map}
+use Rattle.std.proofs.Common.{ap, arith, ◌∙◌, subst, sym}
+use Rattle.snd_base.specs.declared.places.Segment.{Segment}
 use Rattle.lab_run.specs.Items.{held_of}
-use Rattle.lab_run.specs.Stage.{Session}
+use Rattle.lab_run.specs.LabRun.{all_runs, all_segments, recorded_from}
+use Rattle.lab_run.specs.ReportSize.{IsWithinRows, StagesAreWithinRows}
+use Rattle.lab_run.specs.Stage.{Session, Stage}
 use Rattle.lab_card.specs.declared.card.CardActor.{CardActor}
+use Rattle.lab_clients.specs.End.{all_segments-listed}
+use Rattle.lab_readers.specs.End.{all_runs-at}
 use Rattle.lab_phase.specs.declared.lab.Lab.{Lab}
 use Rattle.lab_phase.specs.AtStage.{capture_of, session_of}
 use Rattle.lab_phase.specs.Ended.{IsMixOf}
 use Rattle.lab_phase.proofs.Ending.{HaveAllPlaces-at, may-end, outcome-at, played-mixed}
+use Rattle.lab_phase.proofs.Numbers.{reader_count}
 use Rattle.lab_phase.proofs.lab.Lab.finish.Goals as goal
+
+pub segments_into-requires : goal.segments_into-requires
+segments_into-requires c =
+    let lab : Lab = c.args.self in
+    let stage : Stage = c.requires.at.stage in
+    let at = c.requires.at.at in
+    let within = (c.reports_are_within_rows.ensures (session_of lab) at.has_done.done stage at.has_done.reached.may).segments in
+    let all = ap length (all_segments-listed (session_of lab) (held_of stage) stage.clients lab.clients at.actors.clients_are) in
+    let rows = ap length at.rows in
+    let room = at.room.segments in
+    omega (arith, within, all, rows, room)
+
+pub runs_into-requires : goal.runs_into-requires
+runs_into-requires c =
+    let lab : Lab = c.args.self in
+    let stage : Stage = c.requires.at.stage in
+    let at = c.requires.at.at in
+    let within = (c.reports_are_within_rows.ensures (session_of lab) at.has_done.done stage at.has_done.reached.may).runs in
+    let all = ap length (all_runs-at (session_of lab) (capture_of lab) stage.readers lab.readers at.actors.readers_are) in
+    let rows = ap length at.rows in
+    let room = at.room.runs in
+    omega (arith, within, all, rows, room)
+
+pub recorded_into-requires : goal.recorded_into-requires
+recorded_into-requires c =
+    let count = reader_count c.args.self c.requires.at.stage c.requires.at.at in
+    let room = c.requires.at.at.room.recorded in
+    omega (arith, count, room)
 
 pub close_rings-requires-clause-places : goal.close_rings-requires-clause-places
 close_rings-requires-clause-places c = HaveAllPlaces-at c.args.self c.requires.at.stage c.requires.at.at c.unwrap-card.result c.unwrap-card.ensures
@@ -18,12 +52,16 @@ pub returns-clause-stage : goal.returns-clause-stage
 returns-clause-stage c stage at =
     let lab : Lab = c.args.self in
     let session : Session = session_of lab in
-    outcome-at lab stage at c.unwrap-card.result c.unwrap-card.ensures c.report_of-report.result (map (λ (samples : Vec ℤ). samples.items) c.in_ok-recorded.recorded.items) c.report_of-report.ensures.rows
-    (c.report_of-report.ensures.segments ∙ IfOk-at_ok _ c.in_ok-segments.was c.segments-segments.ensures.all session (held_of stage) stage.clients at.actors.clients_are)
-    (c.report_of-report.ensures.runs ∙ IfOk-at_ok _ c.in_ok-runs.was c.runs-runs.ensures.report session (capture_of lab) stage.readers at.actors.readers_are)
+    let room = c.requires.at.at.room in
+    outcome-at lab stage at c.unwrap-card.result c.unwrap-card.ensures c.report_of-report.result (map (λ (samples : Vec ℤ). samples.items) c.recorded_into.new.all.items) c.report_of-report.ensures.rows
+    (c.report_of-report.ensures.segments
+    ∙ (c.segments_into.ensures session (held_of stage) stage.clients at.actors.clients_are ∙ ap (λ (none : List (ℕ × Segment)). none ++ all_segments stage.clients) room.no_segments))
+    (c.report_of-report.ensures.runs
+    ∙ (c.runs_into.ensures.report session (capture_of lab) stage.readers at.actors.readers_are ∙ ap (λ (none : List (ℕ × ℕ × ℕ)). none ++ all_runs stage.readers) room.no_runs))
     (c.report_of-report.ensures.first ∙ c.frames_of-first.ensures.first) (c.report_of-report.ensures.frames ∙ c.frames_of-first.ensures.frames)
     (c.close_rings.ensures.mix session (held_of stage) stage.clients at.actors.clients_are)
-    (IfOk-at_ok _ c.in_ok-recorded.was c.into_recorded-recorded.ensures.recorded session (capture_of lab) stage.readers at.actors.readers_are)
+    (c.recorded_into.ensures session (capture_of lab) stage.readers at.actors.readers_are
+    ∙ ap (λ (none : List (Vec ℤ)). map (λ (samples : Vec ℤ). samples.items) none ++ recorded_from session (capture_of lab) 0 stage.readers) room.no_recorded)
 
 pub returns-clause-run : goal.returns-clause-run
 returns-clause-run c stage client_stops reader_stops at clients readers = record {
@@ -38,15 +76,6 @@ pub returns-clause-placed : goal.returns-clause-placed
 returns-clause-placed c stage at =
     subst (λ (card : Option CardActor). IsSomeAnd card (λ (a : CardActor). IsMixOf (session_of c.args.self) stage.clients a.card)) (sym c.unwrap-card.ensures)
     (c.close_rings.ensures.mix (session_of c.args.self) (held_of stage) stage.clients at.actors.clients_are)
-
-pub returns-in_err-segments-clause-mix : goal.returns-in_err-segments-clause-mix
-returns-in_err-segments-clause-mix c = played-mixed c.args.self c.unwrap-card.result c.unwrap-card.ensures c.close_rings.ensures.mix
-
-pub returns-in_err-runs-clause-mix : goal.returns-in_err-runs-clause-mix
-returns-in_err-runs-clause-mix c = played-mixed c.args.self c.unwrap-card.result c.unwrap-card.ensures c.close_rings.ensures.mix
-
-pub returns-in_err-recorded-clause-mix : goal.returns-in_err-recorded-clause-mix
-returns-in_err-recorded-clause-mix c = played-mixed c.args.self c.unwrap-card.result c.unwrap-card.ensures c.close_rings.ensures.mix
 
 pub returns-clause-mix : goal.returns-clause-mix
 returns-clause-mix c = played-mixed c.args.self c.unwrap-card.result c.unwrap-card.ensures c.close_rings.ensures.mix

@@ -1,6 +1,6 @@
 use Rattle.std.specs.Prelude.{ℕ, nat_lt, [], Option}
 use Rattle.std.specs.Option.{option_copied}
-use Rattle.std.proofs.Common.{refl, sym, ap, ◌∙◌, ◌≡◌, length}
+use Rattle.std.proofs.Common.{arith, refl, subst, sym, ap, ◌+◌, ◌∙◌, ◌≡◌, length}
 use Rattle.sum_table.specs.declared.view.Key.{Key}
 use Rattle.sum_table.specs.Players.{player_key, player_ring}
 use Rattle.sum_table.specs.Seats.{key_of}
@@ -17,6 +17,7 @@ use Rattle.lab_card.specs.declared.card.CardActor.{CardActor}
 use Rattle.lab_card.specs.Moves.{seat_of_card}
 use Rattle.lab_setup.specs.Sessions.{session_with}
 use Rattle.lab_phase.specs.CardStage.{has_readers}
+use Rattle.lab_phase.specs.ReportRoom.{HasReportRoom, HasReportRoom-fewer}
 use Rattle.lab_phase.proofs.Beginning.{IsCardIn-new}
 use Rattle.lab_phase.proofs.FirstSetups.{AllFitCard-session, AreUsable-ring, first_frame-ring}
 use Rattle.lab_phase.proofs.Numbers.{AreClientOpenings-length, AreReaderOpenings-length}
@@ -31,23 +32,23 @@ returns-clause-first c =
     let is = c.in_ok-openings.ensures.session in
     let shape : (key_of c.args.mix).geometry ≡ session.ring = IsRingOf-unique script.card (key_of c.args.mix).geometry session.ring c.requires.ring is.ring in
     let first = first_frame-ring session.card session.ring is.ring in
-    let a : CardActor = c.new-3.result in
+    let a : CardActor = c.new-4.result in
     let seat : seat_of_card a.card ≡ c.args.player =
-    ap (λ (d : Card). seat_of_card d) c.new-3.ensures.card ∙ (ap (λ (p : CardPlayer). seat_of p) c.with_records-card.ensures.player ∙ c.new-player.ensures.seat) in
-    let writer : writer_of a.card ≡ c.args.writer = ap (λ (d : Card). writer_of d) c.new-3.ensures.card ∙ c.with_records-card.ensures.writer in
-    let period : period_of a.card ≡ session.card.period = ap (λ (d : Card). period_of d) c.new-3.ensures.card ∙ c.with_records-card.ensures.period in
+    ap (λ (d : Card). seat_of_card d) c.new-4.ensures.card ∙ (ap (λ (p : CardPlayer). seat_of p) c.with_records-card.ensures.player ∙ c.new-player.ensures.seat) in
+    let writer : writer_of a.card ≡ c.args.writer = ap (λ (d : Card). writer_of d) c.new-4.ensures.card ∙ c.with_records-card.ensures.writer in
+    let period : period_of a.card ≡ session.card.period = ap (λ (d : Card). period_of d) c.new-4.ensures.card ∙ c.with_records-card.ensures.period in
     let count : length session.readers ≡ length c.as_slice-count.result.now =
     AreReaderOpenings-length script.card script.readers session.readers is.readers ∙ ap length (sym c.as_slice-count.ensures) in
     let records : records_of a.card ≡ has_readers session =
-    ap (λ (d : Card). records_of d) c.new-3.ensures.card ∙ (c.with_records-card.ensures.records ∙ ap (λ (n : ℕ). nat_lt 0 n) (sym count)) in
+    ap (λ (d : Card). records_of d) c.new-4.ensures.card ∙ (c.with_records-card.ensures.records ∙ ap (λ (n : ℕ). nat_lt 0 n) (sym count)) in
     let usable_clients = AreUsable-ring script.card session.ring session.clients is.ring c.in_ok-openings.ensures.clients in
     let usable_readers = AreUsable-ring script.card session.ring session.readers is.ring c.in_ok-openings.ensures.readers in
     record {
       actors = record {
         card_is = record {
           is = IsCardIn-new session capture a (key_of c.args.mix) c.args.player c.args.mix (seats.geometry_of c.args.reader) c.args.writer c.args.reader c.requires.sum_ring
-              c.requires.snoop_ring seat writer period records shape first (ap (λ v. v) c.new-3.ensures.played);
-          rows = c.new-3.ensures.rows;
+              c.requires.snoop_ring seat writer period records shape first (ap (λ v. v) c.new-4.ensures.played);
+          rows = c.new-4.ensures.rows;
           rings = record {
             sum_ring = c.in_ok-clients.ensures.ring ∙ (sym c.requires.sum_ring.one_ring ∙ ap player_ring (sym seat));
             sum_key = c.in_ok-clients.ensures.key ∙ (sym c.requires.sum_ring.player_key ∙ ap player_key (sym seat));
@@ -73,7 +74,7 @@ returns-clause-first c =
               count_is = count;
             });
       };
-      rows = c.new-4.ensures.items;
+      rows = c.new-5.ensures.items;
       phases = refl;
       has_done = record {
         done = [];
@@ -82,4 +83,8 @@ returns-clause-first c =
         reached = record { script_is = c.requires.script; session_is = is; body = refl; may = refl };
       };
       set_up = record { clients = c.in_ok-openings.ensures.clients; readers = c.in_ok-openings.ensures.readers };
+      room =
+          let none = ap length c.new-5.ensures.items in
+          subst (λ (n : ℕ). HasReportRoom (length c.new-5.result.items + 0) n c.in_ok-room.room) (ap length c.as_slice-count.ensures)
+          (HasReportRoom-fewer 0 (length c.new-5.result.items + 0) (length c.as_slice-count.result.now) c.in_ok-room.room (omega (arith, none)) c.in_ok-room.ensures);
     }

@@ -50,7 +50,7 @@ returns-clause-does c =
     (λ row. (session : Session) (stage : Stage) → AreBeforeOpening session stage number (option_copied c.as_ref-opening.result) (frame_of_card a.card) lab.phases lab.clients
     → AreAfter session stage (after_open session stage (whose.Client number)) row after.clients)
     (λ row. DoesRow step lab row after) c.open_beside-actor.result.1
-    (λ row done. DoesRow-client lab after step row (record { script = refl; wavs = refl; capture = refl; openings = refl }) (record { rows = refl; phases = refl; next = refl }) a b first
+    (λ row done. DoesRow-client lab after step row (record { script = refl; wavs = refl; capture = refl; openings = refl }) (record { rows = refl; room = refl; phases = refl; next = refl }) a b first
     c.put_card.ensures refl c.open_beside-actor.ensures.card (ap (λ v. v.items) c.open_beside-actor.ensures.rows) c.open_beside-actor.ensures.places
     (λ stage. after_open-keeps_readers (session_of lab) stage number)
     (λ stage at. done (session_of lab) stage (record {
@@ -69,6 +69,6 @@ returns-clause-kept c =
     let after : Lab = record lab { card = c.put_card.new.place; clients = c.open_beside-actor.new.clients } in
     OnErr-both (AreEach IsSameWithRows 0 (clients_of lab.clients) (clients_of after.clients)) (places_of after.clients ≡ places_of lab.clients) (StaysAtStage lab after)
     c.open_beside-actor.result.1
-    (λ each places. StaysAtStage-client lab after (record { script = refl; wavs = refl; capture = refl; openings = refl }) (record { rows = refl; phases = refl; next = refl }) a b first
+    (λ each places. StaysAtStage-client lab after (record { script = refl; wavs = refl; capture = refl; openings = refl }) (record { rows = refl; room = refl; phases = refl; next = refl }) a b first
     c.put_card.ensures refl c.open_beside-actor.ensures.card (ap (λ v. v.items) c.open_beside-actor.ensures.rows) each places)
     c.open_beside-actor.ensures.same c.open_beside-actor.ensures.same_places

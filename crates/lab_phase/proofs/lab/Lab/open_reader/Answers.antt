@@ -47,7 +47,7 @@ returns-clause-does c =
     → slice_index_or session.readers number None ≡ option_copied c.as_ref-opening.result
     → AreAfter session capture stage (after_open session stage (whose.Reader number)) row after.readers)
     (λ row. DoesRow step lab row after) c.open.result
-    (λ row done. DoesRow-reader lab after step row (record { script = refl; wavs = refl; capture = refl; openings = refl }) (record { rows = refl; phases = refl; next = refl }) refl refl
+    (λ row done. DoesRow-reader lab after step row (record { script = refl; wavs = refl; capture = refl; openings = refl }) (record { rows = refl; room = refl; phases = refl; next = refl }) refl refl
     (record { ring = c.open.ensures.card.0; geometry = c.open.ensures.card.1 }) (λ stage. after_open-keeps_clients (session_of lab) stage number)
     (λ stage at. done (session_of lab) (capture_of lab) stage (record { are = at.actors.readers_are; phases = at.phases })
     (reader_opening-any lab stage at number (option_copied c.as_ref-opening.result) c.index.result.now c.requires.number c.index.ensures c.as_ref-opening.ensures.value)))
@@ -60,6 +60,6 @@ returns-clause-kept c =
     let Kept : Type 0 =
     (session : Session) (capture : Option Sound) (xs : List (AtPort × Reader)) → AreAt session capture xs lab.readers → AreAt session capture xs after.readers in
     OnErr-both Kept Kept (StaysAtStage lab after) c.open.result
-    (λ kept same. StaysAtStage-reader lab after (record { script = refl; wavs = refl; capture = refl; openings = refl }) (record { rows = refl; phases = refl; next = refl }) refl refl
+    (λ kept same. StaysAtStage-reader lab after (record { script = refl; wavs = refl; capture = refl; openings = refl }) (record { rows = refl; room = refl; phases = refl; next = refl }) refl refl
     (record { ring = c.open.ensures.card.0; geometry = c.open.ensures.card.1 }) kept)
     c.open.ensures.err c.open.ensures.err

@@ -33,6 +33,7 @@ returns-clause-kept c =
     (λ same rows. record {
       same = record { script = refl; wavs = refl; capture = refl; openings = refl };
       rows = rows;
+      room = λ count readers has. has;
       phases = refl;
       next = refl;
       card = c.in-Some.card;
@@ -51,5 +52,5 @@ returns-clause-runs c =
     OnOk-more (PlaysAlone (asks_of asked) lab.rows.items c.play_alone.new.rows.items c.in-Some.card c.play_alone.new.card)
     ((stops : Stops) → RunsPhase stops stops lab c.args.lines.now after) c.play_alone.result
     (λ plays. RunsPhase-alone lab after c.args.lines.now c.requires.next c.requires.alone c.in-Some.card c.play_alone.new.card c.in-Some.is refl refl refl plays
-    (record { script = refl; wavs = refl; capture = refl; openings = refl }) refl refl)
+    (record { script = refl; wavs = refl; capture = refl; openings = refl }) refl refl refl)
     c.play_alone.ensures.plays

@@ -1,10 +1,16 @@
-use Rattle.std.proofs.Common.{arith, subst, sym, ◌<◌, length, ℕ}
+use Rattle.std.proofs.Common.{arith, subst, sym, ◌+◌, ◌<◌, length, ℕ}
+use Rattle.std.specs.Global.{Vec}
 use Rattle.lab_script.specs.declared.line.Item.TheVariants as item
 use Rattle.lab_script.specs.declared.script.Script.{Script}
+use Rattle.lab_report.specs.declared.row.Row.{Row}
 use Rattle.lab_phase.specs.declared.lab.Lab.{Lab}
-use Rattle.lab_phase.specs.BorderLaws.{next-inside}
-use Rattle.lab_phase.specs.PhaseRuns.{stops_by}
-use Rattle.lab_phase.proofs.PhaseStages.{DoesPhase-counted, phases-few}
+use Rattle.lab_phase.specs.AtStage.{HasEndRoom}
+use Rattle.lab_phase.specs.BorderLaws.{OnErr-always, next-inside}
+use Rattle.lab_phase.specs.declared.report_room.ReportRoom.{ReportRoom}
+use Rattle.lab_phase.specs.PhaseRuns.{Stops, stops_by}
+use Rattle.lab_phase.specs.ReportRoom.{HasReportRoom-fewer}
+use Rattle.lab_phase.specs.Same.{IsAtStage-room, IsSameLab-after, IsSameLab-room}
+use Rattle.lab_phase.proofs.PhaseStages.{DoesPhase-counted, DoesPhase-room, phases-few}
 use Rattle.lab_phase.proofs.lab.Lab.run_phase.Goals as goal
 
 pub count_phase-requires-clause-few : goal.count_phase-requires-clause-few
@@ -21,7 +27,44 @@ count_phase-requires-clause-next g c =
     subst (λ (n : ℕ). n < length mid.script.now.body) (sym runs.next)
     (subst (λ (s : Script). lab.next < length s.body) (sym runs.same.script) (next-inside lab (item.Phase c.args.lines.now) c.requires.next))
 
+pub do_lines-requires-clause-at : goal.do_lines-requires-clause-at
+do_lines-requires-clause-at g c κs within = record {
+  stage = c.requires.at.stage;
+  at = IsAtStage-room c.args.self.now c.reserve.new.self c.reserve-2.new.self c.reserve.ensures.items c.reserve-2.ensures.kept c.requires.at.stage c.requires.at.at;
+  base = c.requires.at.base;
+  counted = c.requires.at.counted;
+}
+
+pub do_lines-requires-clause-next : goal.do_lines-requires-clause-next
+do_lines-requires-clause-next g c κs within = c.requires.next
+
+pub returns-in_err-reserve-clause-kept : goal.returns-in_err-reserve-clause-kept
+returns-in_err-reserve-clause-kept g c =
+    OnErr-always _ (IsSameLab-room c.args.self.now c.reserve.new.self c.args.self.now.room c.reserve.ensures.items (λ rows readers has. has) c.requires.at.stage c.requires.at.at)
+
+pub returns-in_err-reserve-2-clause-kept : goal.returns-in_err-reserve-2-clause-kept
+returns-in_err-reserve-2-clause-kept g c =
+    OnErr-always _ (IsSameLab-room c.args.self.now c.reserve.new.self c.reserve-2.new.self c.reserve.ensures.items c.reserve-2.ensures.kept c.requires.at.stage c.requires.at.at)
+
+pub returns-in_err-do_lines-clause-kept : goal.returns-in_err-do_lines-clause-kept
+returns-in_err-do_lines-clause-kept g c =
+    OnErr-always _ (IsSameLab-after c.args.self.now c.reserve.new.self c.reserve-2.new.self c.reserve.ensures.items c.reserve-2.ensures.kept c.do_lines.new.self c.in_err-do_lines.ensures.kept)
+
 pub returns-clause-does : goal.returns-clause-does
 returns-clause-does g c =
-    DoesPhase-counted (stops_by g.G.Gate.stops c.args.gates.now) (stops_by g.G.Gate.stops c.do_lines.new.gates) c.args.self.now c.do_lines.new.self c.count_phase.new.self c.args.lines.now
-    c.requires.next c.in_ok-do_lines.ensures.runs c.count_phase.ensures
+    let lab : Lab = c.args.self.now in
+    let rows : Vec Row = c.reserve.new.self in
+    let room : ReportRoom = c.reserve-2.new.self in
+    let before : Stops = stops_by g.G.Gate.stops c.args.gates.now in
+    let after : Stops = stops_by g.G.Gate.stops c.do_lines.new.gates in
+    let lines = length c.args.lines.now in
+    let readers = length lab.script.now.readers in
+    let space = c.in_ok-reserve.ensures.ok in
+    let capacity = c.capacity.ensures in
+    let len = rows.ok.0 in
+    let has_room : HasEndRoom lines (record lab { rows = rows; room = room }) =
+    HasReportRoom-fewer c.capacity.result (length rows.items + lines) readers room (omega (arith, space, capacity, len))
+    (c.in_ok-reserve-2.ensures.room (length lab.rows.items + 0) readers c.requires.at.at.room) in
+    DoesPhase-room before after lab c.count_phase.new.self rows room c.args.lines.now c.reserve.ensures.items c.reserve-2.ensures.kept
+    (DoesPhase-counted before after (record lab { rows = rows; room = room }) c.do_lines.new.self c.count_phase.new.self c.args.lines.now c.requires.next c.in_ok-do_lines.ensures.runs
+    has_room c.count_phase.ensures)

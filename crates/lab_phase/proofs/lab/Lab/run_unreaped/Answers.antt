@@ -49,6 +49,7 @@ returns-clause-kept g c =
     (λ same rows. record {
       same = record { script = refl; wavs = refl; capture = refl; openings = refl };
       rows = rows;
+      room = λ count readers has. has;
       phases = refl;
       next = refl;
       card = c.in-Some.card;
@@ -75,6 +76,7 @@ returns-clause-runs g c =
     (HasRunLines g.G.Gate.stops c.args.gates.now c.run_together.new.gates lab c.args.lines.now after) c.run_together.result
     (λ run. record {
       same = record { script = refl; wavs = refl; capture = refl; openings = refl };
+      room = refl;
       phases = refl;
       next = refl;
       card = c.in-Some.card;

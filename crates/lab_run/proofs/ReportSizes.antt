@@ -1,0 +1,429 @@
+-- A report has no more segments than rows, and no more runs than rows.
+use Rattle.std.proofs.Common.{◌≡◌, ℕ, zero, suc, ◌+◌, ◌-◌, ◌≤◌, refl, sym, ◌∙◌, ap, subst, arith, Option, Some, None, List, [], ◌∷◌, ◌++◌, length, map}
+use Rattle.std.proofs.lemmas.Bool.{eq-eqb}
+use Rattle.std.proofs.lemmas.List.{append-nil, length-append, length-map}
+use Rattle.std.specs.Prelude.{Bool, true, false, not, ◌&&◌, nat_eq, if◌then◌else◌, Result, Ok, Err, slice_index_or, slice_set}
+use Rattle.std.specs.List.{range_with_len}
+use Rattle.snd_base.specs.declared.errors.PcmError.{PcmError}
+use Rattle.snd_base.specs.declared.errors.PcmError.TheVariants.{BadState, Stopped}
+use Rattle.snd_base.specs.declared.geometry.Geometry.{Geometry}
+use Rattle.snd_base.specs.declared.places.Segment.{Segment}
+use Rattle.mix_core.specs.declared.marks.Marks.{Marks}
+use Rattle.wav_io.specs.Sound.{Sound}
+use Rattle.course.specs.Course.{◌>>=◌, ends}
+use Rattle.dmix_client.specs.declared.stream.PlaybackStream.{PlaybackStream}
+use Rattle.dmix_client.specs.Calls.{is_paused}
+use Rattle.dsnoop_client.specs.declared.stream.CaptureStream.{CaptureStream}
+use Rattle.lab_script.specs.declared.line.Actor.{Actor}
+use Rattle.lab_script.specs.declared.line.Actor.TheVariants as actor
+use Rattle.lab_script.specs.declared.line.Item.{Item}
+use Rattle.lab_script.specs.declared.line.Item.TheVariants as item
+use Rattle.lab_script.specs.declared.line.Line.{Line}
+use Rattle.lab_script.specs.declared.line.Op.{Op}
+use Rattle.lab_script.specs.declared.line.Op.TheVariants as op
+use Rattle.lab_script.specs.Script.{is_of_card}
+use Rattle.lab_report.specs.declared.row.Answer.{Answer}
+use Rattle.lab_report.specs.declared.row.Answer.TheVariants.{Count, Done, Failed}
+use Rattle.lab_report.specs.declared.row.Row.{Row}
+use Rattle.lab_run.specs.Claims.{claim_refusal}
+use Rattle.lab_run.specs.Client.{Client, ended_by, present_of, segments_of, stretch_of}
+use Rattle.lab_run.specs.Client as clients
+use Rattle.lab_run.specs.Items.{ItemMay, ItemsMay, client_kinds, is_reader_stopped, is_stopped, no_sound, reader_kinds, reaped_client, reaped_client_if, reaped_reader, reaped_reader_if, rules_of}
+use Rattle.lab_run.specs.LabRun.{all_runs, all_segments, joined_runs, runs_of, with_numbers}
+use Rattle.lab_run.specs.Lines.{EachMay, Kind, LineMay, LinesMay}
+use Rattle.lab_run.specs.Phases.{card_rows, is_client, is_reader, ops_by}
+use Rattle.lab_run.specs.Places.{Lobby, after_attach}
+use Rattle.lab_run.specs.Reader.{Reader, frames_by}
+use Rattle.lab_run.specs.Reader as readers
+use Rattle.lab_run.specs.ReportSize.{IsWithinRows}
+use Rattle.lab_run.specs.Rules.{AtPort, MayGet, MayLay, MayLoad, Rules}
+use Rattle.lab_run.specs.Stage.{Session, Setup, Stage, after_close, after_open, attached_client, claimed_client, client_at, close_client, close_reader, first_stage, no_client, no_reader, open_client, open_client_with, open_reader, open_reader_with, reader_at}
+use Rattle.lab_run.proofs.Results.{All, All-any, All-then, Takes-all}
+use Rattle.lab_run.proofs.RowsGrow.{HasMore, close-more, open-more}
+
+-- ---- a part of a report that each actor has a list of
+
+module _ {S Y : Type 0} (of : AtPort × S → List Y) where
+  -- how many all actors have
+  all-of : List (AtPort × S) → ℕ
+  all-of [] = 0
+  all-of (x ∷ xs) = length (of x) + all-of xs
+
+  numbered-all : (number : ℕ) (xs : List (AtPort × S)) → length (with_numbers of number xs) ≡ all-of xs
+  unfolding all-of
+  numbered-all number [] = refl
+  numbered-all number (x ∷ xs) =
+      length-append (map (λ y. (number, y)) (of x)) (with_numbers of (number + 1) xs)
+      ∙ ap (λ n. n + length (with_numbers of (number + 1) xs)) (length-map (of x) (λ y. (number, y)))
+      ∙ ap (λ n. length (of x) + n) (numbered-all (number + 1) xs)
+
+  -- one actor became another
+  all-set : (xs : List (AtPort × S)) (n : ℕ) (d y : AtPort × S) → length (of y) ≤ length (of (slice_index_or xs n d)) → all-of (slice_set xs n y) ≤ all-of xs
+  unfolding all-of
+  all-set [] n d y few = omega arith
+  all-set (x ∷ xs) zero d y few = omega (arith, few)
+  all-set (x ∷ xs) (suc n) d y few = let more = all-set xs n d y few in omega (arith, more)
+
+  -- each actor became another
+  all-map : (f : AtPort × S → AtPort × S) (xs : List (AtPort × S)) → ((x : AtPort × S) → length (of (f x)) ≤ length (of x)) → all-of (map f xs) ≤ all-of xs
+  unfolding all-of
+  all-map f [] few = omega arith
+  all-map f (x ∷ xs) few = let own = few x in let more = all-map f xs few in omega (arith, own, more)
+
+  -- actors that have none
+  all-none : {X : Type 0} (y : AtPort × S) (xs : List X) → length (of y) ≡ 0 → all-of (map (λ x. y) xs) ≡ 0
+  unfolding all-of
+  all-none y [] none = refl
+  all-none y (x ∷ xs) none = let more = all-none y xs none in omega (arith, none, more)
+
+  -- a line makes one more at most
+  abbrev LinesAdd : Kind S → Rules → Type 0
+  LinesAdd kind rules =
+      (x y : AtPort × S) (asked : Op) (answer : Answer) → LineMay kind rules x asked y answer → length (of y) ≤ length (of x) + 1
+
+  lines-add : (kind : Kind S) (rules : Rules) → LinesAdd kind rules → (x y : AtPort × S) (ops : List Op) (rows : List Row) → LinesMay kind rules x ops y rows
+      → length (of y) ≤ length (of x) + length rows
+  lines-add kind rules add x y [] rows (same, none) = rw same (omega arith)
+  lines-add kind rules add x y (asked ∷ ops) rows (between, answer, others, may, rest, are) =
+      let own = add x between asked answer may in
+      let more = lines-add kind rules add between y ops others rest in
+      rw are (omega (arith, own, more))
+
+  each-add : (kind : ℕ → Kind S) (rules : Rules) → ((n : ℕ) → LinesAdd (kind n) rules) → (ops : ℕ → List Op) (number : ℕ) (xs ys : List (AtPort × S)) (rows : List Row)
+      → EachMay kind rules ops number xs ys rows → all-of ys ≤ all-of xs + length rows
+  unfolding all-of
+  each-add kind rules add ops number [] ys rows (same, none) = rw same (omega arith)
+  each-add kind rules add ops number (x ∷ xs) ys rows (own, others, own_rows, other_rows, may, rest, same, are) =
+      let first = lines-add (kind number) rules (add number) x own (ops number) own_rows may in
+      let more = each-add kind rules add ops (number + 1) xs others other_rows rest in
+      let count = length-append own_rows other_rows in
+      rw same (rw are (omega (arith, first, more, count)))
+
+-- ---- the segments of a client
+
+abbrev segments-at : AtPort × Client → List Segment
+segments-at x = segments_of x.1
+
+stretch-one : (c : PlaybackStream) → length (stretch_of c) ≤ 1
+stretch-one c = by_test (nat_eq c.stretch.committed 0 && nat_eq c.stretch.part 0)
+  where
+    by_test : (b : Bool) → length (if b then [] else Rattle.dmix_client.specs.Calls.segment_of c ∷ []) ≤ 1
+    by_test true = omega arith
+    by_test false = omega arith
+
+-- what a call ends is no more than the stretch before it
+ended-few : (asked : Op) (answer : Answer) (c d : PlaybackStream) → length (ended_by asked answer c d) ≤ length (stretch_of c)
+ended-few op.Prepare Done c d = omega arith
+ended-few op.Resume answer c d = by_test (is_paused c.status.state && not (is_paused d.status.state))
+  where
+    by_test : (b : Bool) → length (if b then stretch_of c else []) ≤ length (stretch_of c)
+    by_test true = omega arith
+    by_test false = omega arith
+ended-few asked answer c d = omega arith
+
+-- a call makes one segment more at most
+call-few : (ended : List Segment) (c d : PlaybackStream) (asked : Op) (answer : Answer)
+    → length ((ended ++ ended_by asked answer c d) ++ stretch_of d) ≤ length (ended ++ stretch_of c) + 1
+call-few ended c d asked answer =
+    let few = ended-few asked answer c d in
+    let one = stretch-one d in
+    let all = length-append (ended ++ ended_by asked answer c d) (stretch_of d) in
+    let first = length-append ended (ended_by asked answer c d) in
+    let before = length-append ended (stretch_of c) in
+    omega (arith, few, one, all, first, before)
+
+abbrev FewSegments : Client → Client × Answer → Type 0
+FewSegments before (client, answer) = length (segments_of client) ≤ length (segments_of before) + 1
+
+line-segments : (phase : ℕ) (wav : Sound) (number : ℕ) (rules : Rules) → LinesAdd segments-at (clients.client_kind phase wav number) rules
+line-segments phase wav number rules (a, client) (b, after) asked answer may =
+    Takes-all (MayLoad rules) (MayLay rules) (MayGet rules) (FewSegments client) (clients.begins client.own asked a) b
+    (clients.line_by wav (clients.begins client.own asked a).marks client client.own asked) (after, answer) (by_own client.own refl) may
+  where
+    same : (given : Answer) → FewSegments client (client, given)
+    same given = omega arith
+
+    by_call : (c : PlaybackStream) (o : Op) → client.own ≡ Some c → All (FewSegments client) (clients.call_of wav (clients.begins client.own asked a).marks c o >>= λ done. ends (clients.after_call client c o done))
+    by_call c o is = All-then (λ done. FewSegments client (clients.after_call client c o done)) (FewSegments client) (clients.call_of wav (clients.begins client.own asked a).marks c o) (λ done. ends (clients.after_call client c o done))
+        (All-any _ (clients.call_of wav (clients.begins client.own asked a).marks c o)
+        (λ done. subst (λ (own : Option PlaybackStream). length ((client.ended ++ ended_by o done.1 c done.0) ++ stretch_of done.0) ≤ length (client.ended ++ present_of own) + 1) (sym is)
+        (call-few client.ended c done.0 o done.1)))
+        (λ done few. few)
+
+    by_op : (c : PlaybackStream) (o : Op) → client.own ≡ Some c → All (FewSegments client) (clients.line_if false wav (clients.begins client.own asked a).marks client c o)
+    by_op c (op.Die k) is = same Done
+    by_op c other is = by_call c other is
+
+    by_stop : (c : PlaybackStream) (stopped : Bool) → client.own ≡ Some c → All (FewSegments client) (clients.line_if stopped wav (clients.begins client.own asked a).marks client c asked)
+    by_stop c true is = same (Failed Stopped)
+    by_stop c false is = by_op c asked is
+
+    by_own : (own : Option PlaybackStream) → client.own ≡ own → All (FewSegments client) (clients.line_by wav (clients.begins client.own asked a).marks client own asked)
+    by_own None is = same (Failed BadState)
+    by_own (Some c) is = by_stop c c.status.stopped is
+
+-- the segments of a client that ends
+ended-segments : (client : Client) → length (segments_of client ++ []) ≤ length (segments_of client)
+ended-segments client = let all = length-append (segments_of client) [] in omega (arith, all)
+
+reaped-segments : (ring : Geometry) (x : AtPort × Client) → length (segments-at (reaped_client ring x)) ≤ length (segments-at x)
+reaped-segments ring (a, client) = by_test (is_stopped client.own)
+  where
+    by_test : (b : Bool) → length (segments-at (reaped_client_if b ring (a, client))) ≤ length (segments_of client)
+    by_test true = ended-segments client
+    by_test false = omega arith
+
+-- ---- the runs of a reader
+
+abbrev runs-at : AtPort × Reader → List (ℕ × ℕ)
+runs-at x = runs_of x.1.frames
+
+-- a run begins at a frame that isn't the one after the last
+abbrev break-by : Bool → ℕ
+break-by true = 0
+break-by false = 1
+
+breaks : ℕ → List ℕ → ℕ
+breaks frame [] = 0
+breaks frame (next ∷ frames) = break-by (nat_eq (frame + 1) next) + breaks next frames
+
+joined-length : (frame next : ℕ) (runs : List (ℕ × ℕ))
+    → length (joined_runs frame (joined_runs next runs)) ≡ break-by (nat_eq (frame + 1) next) + length (joined_runs next runs)
+joined-length frame next [] = by_test (nat_eq (frame + 1) next)
+  where
+    by_test : (b : Bool) → length {A = ℕ × ℕ} (if b then (frame, 1 + 1) ∷ [] else (frame, 1) ∷ (next, 1) ∷ []) ≡ break-by b + 1
+    by_test true = refl
+    by_test false = refl
+joined-length frame next ((first, count) ∷ runs) = by_tests (nat_eq (next + 1) first)
+  where
+    by_first : (at : ℕ × ℕ) (others : List (ℕ × ℕ)) (b : Bool)
+        → length {A = ℕ × ℕ} (if b then (frame, at.1 + 1) ∷ others else (frame, 1) ∷ (next, at.1) ∷ others) ≡ break-by b + suc (length others)
+    by_first at others true = omega arith
+    by_first at others false = omega arith
+
+    by_tests : (b : Bool) → length (joined_runs frame (if b then (next, count + 1) ∷ runs else (next, 1) ∷ (first, count) ∷ runs))
+        ≡ break-by (nat_eq (frame + 1) next) + length {A = ℕ × ℕ} (if b then (next, count + 1) ∷ runs else (next, 1) ∷ (first, count) ∷ runs)
+    by_tests true = by_first (next, count + 1) runs (nat_eq (frame + 1) next)
+    by_tests false = by_first (next, 1) ((first, count) ∷ runs) (nat_eq (frame + 1) next)
+
+runs-length : (frame : ℕ) (frames : List ℕ) → length (runs_of (frame ∷ frames)) ≡ 1 + breaks frame frames
+unfolding breaks
+runs-length frame [] = refl
+runs-length frame (next ∷ frames) =
+    let one = joined-length frame next (runs_of frames) in
+    let more = runs-length next frames in
+    omega (arith, one, more)
+
+-- frames that are one after the other are one run
+breaks-range : (frame count : ℕ) → breaks frame (range_with_len (frame + 1) count) ≡ 0
+unfolding breaks
+breaks-range frame zero = refl
+breaks-range frame (suc count) =
+    let none = ap (λ b. break-by b) (eq-eqb (frame + 1) (frame + 1) refl) in
+    let more = breaks-range (frame + 1) count in
+    omega (arith, none, more)
+
+break-one : (b : Bool) → break-by b ≤ 1
+break-one true = omega arith
+break-one false = omega arith
+
+breaks-append : (frame : ℕ) (frames : List ℕ) (first count : ℕ) → breaks frame (frames ++ range_with_len first count) ≤ breaks frame frames + 1
+unfolding breaks
+breaks-append frame [] first zero = omega arith
+breaks-append frame [] first (suc count) =
+    let one = break-one (nat_eq (frame + 1) first) in
+    let none = breaks-range first count in
+    omega (arith, one, none)
+breaks-append frame (next ∷ frames) first count = let more = breaks-append next frames first count in omega (arith, more)
+
+-- one slice more is one run more at most
+runs-append : (frames : List ℕ) (first count : ℕ) → length (runs_of (frames ++ range_with_len first count)) ≤ length (runs_of frames) + 1
+runs-append [] first zero = omega arith
+runs-append [] first (suc count) =
+    let all = runs-length first (range_with_len (first + 1) count) in
+    let none = breaks-range first count in
+    omega (arith, all, none)
+runs-append (frame ∷ frames) first count =
+    let before = runs-length frame frames in
+    let after = runs-length frame (frames ++ range_with_len first count) in
+    let few = breaks-append frame frames first count in
+    omega (arith, before, after, few)
+
+call-runs : (frames : List ℕ) (asked : Op) (answer : Answer) (r : CaptureStream) → length (runs_of (frames ++ frames_by asked answer r)) ≤ length (runs_of frames) + 1
+call-runs frames (op.Read n) (Count count) r = runs-append frames (r.next - count) count
+call-runs frames asked answer r = let same = ap (λ (fs : List ℕ). length (runs_of fs)) (append-nil frames) in omega (arith, same)
+
+abbrev FewRuns : Reader → Reader × Answer → Type 0
+FewRuns before (reader, answer) = length (runs_of reader.frames) ≤ length (runs_of before.frames) + 1
+
+line-runs : (phase number : ℕ) (rules : Rules) → LinesAdd runs-at (readers.reader_kind phase number) rules
+line-runs phase number rules (a, reader) (b, after) asked answer may =
+    Takes-all (MayLoad rules) (MayLay rules) (MayGet rules) (FewRuns reader) (readers.begins reader.own asked a) b
+    (readers.line_by reader reader.own asked) (after, answer) (by_own reader.own) may
+  where
+    same : (given : Answer) → FewRuns reader (reader, given)
+    same given = omega arith
+
+    by_call : (r : CaptureStream) (o : Op) → All (FewRuns reader) (readers.call_of r o >>= λ done. ends (readers.after_call reader o done))
+    by_call r o = All-then (λ done. FewRuns reader (readers.after_call reader o done)) (FewRuns reader) (readers.call_of r o) (λ done. ends (readers.after_call reader o done))
+        (All-any _ (readers.call_of r o) (λ done. call-runs reader.frames o done.1 done.0)) (λ done few. few)
+
+    by_op : (r : CaptureStream) (o : Op) → All (FewRuns reader) (readers.line_if false reader r o)
+    by_op r (op.Die k) = same Done
+    by_op r other = by_call r other
+
+    by_stop : (r : CaptureStream) (stopped : Bool) → All (FewRuns reader) (readers.line_if stopped reader r asked)
+    by_stop r true = same (Failed Stopped)
+    by_stop r false = by_op r asked
+
+    by_own : (own : Option CaptureStream) → All (FewRuns reader) (readers.line_by reader own asked)
+    by_own None = same (Failed BadState)
+    by_own (Some r) = by_stop r r.status.stopped
+
+reaped-runs : (ring : Geometry) (x : AtPort × Reader) → length (runs-at (reaped_reader ring x)) ≤ length (runs-at x)
+reaped-runs ring (a, reader) = by_test (is_reader_stopped reader.own)
+  where
+    by_test : (b : Bool) → length (runs-at (reaped_reader_if b ring (a, reader))) ≤ length (runs_of reader.frames)
+    by_test true = omega arith
+    by_test false = omega arith
+
+-- ---- the items
+
+abbrev segment-count : Stage → ℕ
+segment-count stage = all-of segments-at stage.clients
+
+abbrev run-count : Stage → ℕ
+run-count stage = all-of runs-at stage.readers
+
+-- no segment and no run more
+record AddsNone (stage after : Stage) : Type 0 where
+  segments : segment-count after ≤ segment-count stage
+  runs : run-count after ≤ run-count stage
+
+none : (stage after : Stage) → after.clients ≡ stage.clients → after.readers ≡ stage.readers → AddsNone stage after
+none stage after own others = record {
+  segments = rw own (omega arith);
+  runs = rw others (omega arith);
+}
+
+one-client : (stage after : Stage) (number : ℕ) (d x : AtPort × Client) → after.clients ≡ slice_set stage.clients number x → after.readers ≡ stage.readers
+    → length (segments-at x) ≤ length (segments-at (slice_index_or stage.clients number d)) → AddsNone stage after
+one-client stage after number d x own others few = record {
+  segments = rw own (all-set segments-at stage.clients number d x few);
+  runs = rw others (omega arith);
+}
+
+one-reader : (stage after : Stage) (number : ℕ) (d x : AtPort × Reader) → after.clients ≡ stage.clients → after.readers ≡ slice_set stage.readers number x
+    → length (runs-at x) ≤ length (runs-at (slice_index_or stage.readers number d)) → AddsNone stage after
+one-reader stage after number d x own others few = record {
+  segments = rw own (omega arith);
+  runs = rw others (all-set runs-at stage.readers number d x few);
+}
+
+open_client-none : (session : Session) (stage : Stage) (n : ℕ) (x : AtPort × Client) (own : Option PlaybackStream) → client_at session stage n ≡ x → AddsNone stage (open_client session stage n x own)
+open_client-none session stage n x (Some c) is = none stage _ refl refl
+open_client-none session stage n (a, client) None is = by_setup (slice_index_or session.clients n None)
+  where
+    -- a client that was opened has no sample of a stretch
+    few : length (client.ended ++ []) ≤ length (segments-at (client_at session stage n))
+    few =
+        let all = length-append client.ended [] in
+        let before = length-append client.ended (present_of client.own) in
+        let same = ap (λ (x : AtPort × Client). length (segments-at x)) is in
+        omega (arith, all, before, same)
+
+    by_answer : (setup : Setup) (at : Lobby × Result (Unit {0}) PcmError) → AddsNone stage (attached_client session stage n setup (a, client) at)
+    by_answer setup (lobby, Ok done) = one-client stage _ n (no_client session.ring) _ refl refl few
+    by_answer setup (lobby, Err e) = none stage _ refl refl
+
+    by_claim : (setup : Setup) (refusal : Option PcmError) → AddsNone stage (claimed_client session stage n setup (a, client) refusal)
+    by_claim setup (Some e) = none stage _ refl refl
+    by_claim setup None = by_answer setup (after_attach n stage.position stage.lobby)
+
+    by_setup : (setup : Option Setup) → AddsNone stage (open_client_with session stage n setup (a, client))
+    by_setup None = none stage _ refl refl
+    by_setup (Some setup) = by_claim setup (claim_refusal session.card.share stage.claims setup.bindings stage.position)
+
+open_reader-none : (session : Session) (stage : Stage) (n : ℕ) (x : AtPort × Reader) (own : Option CaptureStream) → reader_at session stage n ≡ x → AddsNone stage (open_reader session stage n x own)
+open_reader-none session stage n x (Some r) is = none stage _ refl refl
+open_reader-none session stage n (a, reader) None is = by_setup (slice_index_or session.readers n None)
+  where
+    by_setup : (setup : Option Setup) → AddsNone stage (open_reader_with session stage n setup (a, reader))
+    by_setup None = none stage _ refl refl
+    by_setup (Some setup) = one-reader stage _ n (no_reader session.ring) _ refl refl
+        (let same = ap (λ (x : AtPort × Reader). length (runs-at x)) is in omega (arith, same))
+
+close_client-none : (session : Session) (stage : Stage) (n : ℕ) (x : AtPort × Client) (own : Option PlaybackStream) → client_at session stage n ≡ x → AddsNone stage (close_client session stage n x own)
+close_client-none session stage n x None is = none stage _ refl refl
+close_client-none session stage n (a, client) (Some c) is = one-client stage _ n (no_client session.ring) _ refl refl
+    (let few = ended-segments client in let same = ap (λ (x : AtPort × Client). length (segments-at x)) is in omega (arith, few, same))
+
+close_reader-none : (session : Session) (stage : Stage) (n : ℕ) (x : AtPort × Reader) (own : Option CaptureStream) → reader_at session stage n ≡ x → AddsNone stage (close_reader session stage n x own)
+close_reader-none session stage n x None is = none stage _ refl refl
+close_reader-none session stage n (a, reader) (Some r) is = one-reader stage _ n (no_reader session.ring) _ refl refl
+    (let same = ap (λ (x : AtPort × Reader). length (runs-at x)) is in omega (arith, same))
+
+open-none : (session : Session) (stage : Stage) (who : Actor) → AddsNone stage (after_open session stage who)
+open-none session stage actor.Card = none stage stage refl refl
+open-none session stage (actor.Client n) = open_client-none session stage n (client_at session stage n) (client_at session stage n).1.own refl
+open-none session stage (actor.Reader n) = open_reader-none session stage n (reader_at session stage n) (reader_at session stage n).1.own refl
+
+close-none : (session : Session) (stage : Stage) (who : Actor) → AddsNone stage (after_close session stage who)
+close-none session stage actor.Card = none stage stage refl refl
+close-none session stage (actor.Client n) = close_client-none session stage n (client_at session stage n) (client_at session stage n).1.own refl
+close-none session stage (actor.Reader n) = close_reader-none session stage n (reader_at session stage n) (reader_at session stage n).1.own refl
+
+-- no more segments and no more runs than rows more
+record AddsFew (stage after : Stage) : Type 0 where
+  segments : segment-count after + length stage.rows ≤ segment-count stage + length after.rows
+  runs : run-count after + length stage.rows ≤ run-count stage + length after.rows
+
+few-none : (stage after : Stage) → HasMore stage after → AddsNone stage after → AddsFew stage after
+few-none stage after more adds =
+    let segments = adds.segments in
+    let runs = adds.runs in
+    let rows = ap length more.rows ∙ length-append stage.rows more.more in
+    record { segments = omega (arith, segments, rows); runs = omega (arith, runs, rows) }
+
+item-few : (session : Session) (stage after : Stage) (any : Item) → ItemMay session stage any after → AddsFew stage after
+item-few session stage after (item.Opens number who) is = rw is (few-none stage _ (open-more session stage who) (open-none session stage who))
+item-few session stage after (item.Closes number who) is = rw is (few-none stage _ (close-more session stage who) (close-none session stage who))
+item-few session stage after (item.Phase lines) may =
+    let rules : Rules = rules_of session stage lines in
+    let cards : List Row = card_rows (stage.phases + 1) stage.position (ops_by is_of_card lines) in
+    let rows = ap (λ (s : Stage). length s.rows) may.is
+    ∙ (length-append (stage.rows ++ cards ++ may.client_rows) may.reader_rows
+    ∙ (ap (λ n. n + length may.reader_rows) (length-append (stage.rows ++ cards) may.client_rows)
+    ∙ ap (λ n. n + length may.client_rows + length may.reader_rows) (length-append stage.rows cards))) in
+    let own = each-add segments-at (client_kinds session stage) rules (λ n. line-segments (stage.phases + 1) (slice_index_or session.sounds n no_sound) n rules) (λ n. ops_by (is_client n) lines) 0 stage.clients may.clients may.client_rows may.clients_may in
+    let others = each-add runs-at (reader_kinds stage) rules (λ n. line-runs (stage.phases + 1) n rules) (λ n. ops_by (is_reader n) lines) 0 stage.readers may.readers may.reader_rows may.readers_may in
+    let own_reaped = all-map segments-at (reaped_client session.ring) may.clients (reaped-segments session.ring) in
+    let others_reaped = all-map runs-at (reaped_reader session.ring) may.readers (reaped-runs session.ring) in
+    let segments = ap segment-count may.is in
+    let runs = ap run-count may.is in
+    record {
+      segments = omega (arith, rows, own, own_reaped, segments);
+      runs = omega (arith, rows, others, others_reaped, runs);
+    }
+
+items-few : (session : Session) (stage after : Stage) (items : List Item) → ItemsMay session stage items after → AddsFew stage after
+items-few session stage after [] is = rw is (record { segments = omega arith; runs = omega arith })
+items-few session stage after (first ∷ items) (between, may, rest) =
+    let here = item-few session stage between first may in
+    let there = items-few session between after items rest in
+    let segments = here.segments in
+    let more_segments = there.segments in
+    let runs = here.runs in
+    let more_runs = there.runs in
+    record { segments = omega (arith, segments, more_segments); runs = omega (arith, runs, more_runs) }
+
+pub stages-within : (session : Session) (done : List Item) (stage : Stage) → ItemsMay session (first_stage session) done stage → IsWithinRows stage
+stages-within session done stage may =
+    let few = items-few session (first_stage session) stage done may in
+    let segments = few.segments in
+    let runs = few.runs in
+    let no_segments = all-none segments-at (no_client session.ring) session.clients refl in
+    let no_runs = all-none runs-at (no_reader session.ring) session.readers refl in
+    let own = numbered-all segments-at 0 stage.clients in
+    let others = length-map {B = ℕ × ℕ × ℕ} (with_numbers runs-at 0 stage.readers) (λ (run : ℕ × (ℕ × ℕ)). (run.0, run.1.0, run.1.1)) ∙ numbered-all runs-at 0 stage.readers in
+    record { segments = omega (arith, segments, no_segments, own); runs = omega (arith, runs, no_runs, others) }
