@@ -20,7 +20,7 @@ use Rattle.lab_run.specs.Stage.{Session, Stage, first_stage}
 use Rattle.lab_card.specs.declared.card.CardActor.{CardActor}
 use Rattle.lab_card.specs.Moves.{frames_since_first, geometry_of_card}
 use Rattle.lab_phase.specs.declared.lab.Lab.{Lab}
-use Rattle.lab_phase.specs.AtStage.{IsAtStage, IsCardOf, capture_of, played_by, played_of, session_of}
+use Rattle.lab_phase.specs.AtStage.{IsAtStage, IsCardOf, capture_of, played_by, session_of}
 use Rattle.lab_phase.specs.CardStage.{first_word}
 use Rattle.lab_phase.specs.Ended.{HasPlayedMix, HaveAllPlaces, IsAtEnd, IsMixBy, IsMixOf}
 use Rattle.lab_phase.specs.Places.{place_count-reached}

@@ -39,7 +39,7 @@ use Rattle.lab_phase.specs.declared.report_room.ReportRoom.{ReportRoom}
 use Rattle.lab_phase.specs.declared.steps.Asked.{Asked}
 use Rattle.lab_phase.specs.Alone.{unplugs_by-others}
 use Rattle.lab_phase.specs.Asked.{CanMeet}
-use Rattle.lab_phase.specs.AtStage.{AreActorsOf, AreOfRings, HasEndRoom, IsAtStage, IsCardOf, IsNextItem, capture_of, played_by, played_of, session_of}
+use Rattle.lab_phase.specs.AtStage.{AreActorsOf, AreOfRings, HasEndRoom, IsAtStage, IsNextItem, capture_of, played_by, played_of, session_of}
 use Rattle.lab_phase.specs.BorderLaws.{HasDone-next, HasEndRoom-next, AreSetUp-same, session_of-same}
 use Rattle.lab_phase.specs.Counts.{AreAll-reached}
 use Rattle.lab_phase.specs.PhaseLaws.{ActorLaws, HaveDone, asks_at, few-rows, have-done}

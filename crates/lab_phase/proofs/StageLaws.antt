@@ -38,7 +38,7 @@ use Rattle.lab_clients.specs.Steps.{AreOfCard, AreReady}
 use Rattle.lab_reader.specs.OfCards.{IsOver}
 use Rattle.lab_reader.specs.Readers.{IsOf}
 use Rattle.lab_readers.specs.declared.readers.LabReaders.{LabReaders}
-use Rattle.lab_readers.specs.AtStage.{IsReaderAt, readers_of, ring_of}
+use Rattle.lab_readers.specs.AtStage.{IsReaderAt, readers_of, ring_of, spare_of}
 use Rattle.lab_readers.specs.Ready.{AreOf-at, AreOf-room, AreReady-informed}
 use Rattle.lab_readers.specs.Steps as readers
 use Rattle.lab_phase.specs.declared.steps.Asked.{Asked}
@@ -91,7 +91,7 @@ module _ (session : Session) (capture : Option Sound) (stage : Stage) (gates cli
   reader-count : length (readers_of rs) ≡ length stage.readers
   reader-count =
       let taken = AreEach-length (readers.HasTakenRoom asked.lines.now) 0 (readers_of rs0) (readers_of rs) room.readers.each in
-      let at = AreEach-length (IsReaderAt session capture (ring_of rs0) session.ring) 0 (readers_of rs0) stage.readers are.readers_are.each in
+      let at = AreEach-length (IsReaderAt session capture (spare_of rs0) session.ring) 0 (readers_of rs0) stage.readers are.readers_are.each in
       omega (arith, taken, at)
 
   pub CanMeet-at : CanMeet gates asked a cs rs

@@ -84,6 +84,7 @@ impl<'r> Lab<'r, '_> {
     ghost use Rattle.lab_script.specs.Script.{is_of_card};
     ghost use Rattle.lab_run.specs.Phases.{ops_by};
     ghost use Rattle.lab_clients.specs.Reaped.{AreDoneInRun};
+    ghost use Rattle.lab_readers.specs.AtStage.{AreOfRing};
     ghost use Rattle.lab_phase.specs.AtStage.{IsLab, IsNextItem};
     ghost use Rattle.lab_phase.specs.PhaseRuns.{CountsPhase, DoesPhase, HasRunLines, IsLabWith, IsSameLab, Reaps, RunsPhase, Stops, stops_by};
 
@@ -234,7 +235,8 @@ impl<'r> Lab<'r, '_> {
 
     // Closes the clients and readers that their gates stopped.
     fn reap(&mut self)
-        requires { AreDoneInRun self.old.clients }
+        requires clients { AreDoneInRun self.old.clients }
+        requires readers { AreOfRing self.old.readers }
         ensures { Reaps self.old self.new }
     {
         self.clients.reap();

@@ -1,12 +1,15 @@
 -- A new reader, one that is opened or closed, and one whose rows are taken: what each is in a run, and at its port.
-use Rattle.std.specs.Prelude.{◌≡◌, ℕ, ◌<◌, List, [], length, All, Option, Some, None}
+use Rattle.std.specs.Prelude.{◌≡◌, ℕ, ◌<◌, ◌++◌, List, [], length, map, All, Contains, Option, Some, None, slice_index_or}
 use Rattle.std.proofs.Common.{refl, sym, ap, subst, ◌∙◌, append-nil, arith}
+use Rattle.std.proofs.lemmas.List.Elements.{All-append, All-contains, All-contains_itself}
 use Rattle.atomic_table.specs.Seated.{TableId}
 use Rattle.snd_base.specs.declared.geometry.Geometry.{Geometry}
 use Rattle.snd_base.specs.Places.{first_frame}
+use Rattle.snoop_core.specs.declared.port.Frame.{Frame}
 use Rattle.snoop_table.specs.declared.seats.reader.ReaderSeat.{ReaderSeat}
-use Rattle.snoop_table.specs.Readers.{geometry_of, ring_of, seat_view}
+use Rattle.snoop_table.specs.Readers.{geometry_of, ring_of, seat_view, view_of}
 use Rattle.dsnoop_client.specs.declared.stream.CaptureStream.{CaptureStream}
+use Rattle.dsnoop_client.specs.Reads.{through_all}
 use Rattle.dsnoop_client.specs.View.{CanUse}
 use Rattle.wav_io.specs.Sound.{Sound}
 use Rattle.card_sim.specs.declared.card.Card.{Card}
@@ -20,8 +23,8 @@ use Rattle.lab_actor.specs.ReaderPart.{HasRoomFor}
 use Rattle.lab_card.specs.Meets.{IsInformedReader}
 use Rattle.lab_reader.specs.declared.reader.LabReader.{LabReader}
 use Rattle.lab_reader.specs.Readers.{HasRoom, HasRoomAt, IsAt, IsOpenAt, IsSeatedAt, OnSeat, OnSeats, ops_of, reader_in_run, reader_in, stream_at}
-use Rattle.lab_reader.specs.Recorded.{HasGotSince, IsRecorded, recorded_samples}
-use Rattle.lab_reader.specs.Runs.{HasClosed, HasOpened, IsInformed, IsNeverOpen, IsSameButRows}
+use Rattle.lab_reader.specs.Recorded.{HasGotFrames, IsRecorded, got_at, recorded_samples}
+use Rattle.lab_reader.specs.Runs.{HasClosed, HasOpened, HasSameFile, IsInformed, IsNeverOpen, IsSameButRows}
 
 -- ---- a new one
 
@@ -33,13 +36,59 @@ reader_in-new number r new =
 pub IsAt-new : (ring : TableId) (geometry : Geometry) (number k : ℕ) (r : LabReader) → IsNeverOpen number r → IsAt ring geometry r (new_port geometry k)
 IsAt-new ring geometry number k r new = subst (λ (seat : Option ReaderSeat). IsSeatedAt ring geometry r.actor seat (new_port geometry k)) (sym new.closed) refl
 
-pub IsRecorded-new : (capture : Option Sound) (geometry : Geometry) (bindings : List ℕ) (number : ℕ) (r : LabReader) → All (λ channel. channel < geometry.channels) bindings → IsNeverOpen number r
-    → IsRecorded capture geometry bindings r
-IsRecorded-new capture geometry bindings number r on_card new = record {
+pub IsRecorded-new : (capture : Option Sound) (geometry : Geometry) (bindings : List ℕ) (ended_got : List Frame) (number : ℕ) (r : LabReader) → All (λ channel. channel < geometry.channels) bindings
+    → IsNeverOpen number r → IsRecorded capture geometry bindings ended_got r
+IsRecorded-new capture geometry bindings ended_got number r on_card new = record {
   on_card = on_card;
   bound = subst (λ (seat : Option ReaderSeat). OnSeat seat (λ at. r.actor.reader.setup.bindings ≡ bindings)) (sym new.closed) tt;
-  got = subst (λ (seat : Option ReaderSeat). OnSeat seat (HasGotSince bindings r.read_before r.actor)) (sym new.closed) tt;
+  got = subst (HasGotFrames bindings ended_got r.read_before r.actor) (sym new.closed) (record {
+    ended = [];
+    got_before = λ k d inside. absurd (omega (arith, inside));
+    read_count = tt;
+    frames = [];
+    got_since = λ k d inside. absurd (omega (arith, inside));
+    numbers = ap frames_of_runs new.frames;
+    samples = new.samples;
+  });
   samples = new.samples ∙ ap (λ (runs : List (ℕ × ℕ)). recorded_samples capture (first_frame geometry) bindings (frames_of_runs runs)) (sym new.frames);
+}
+
+-- ---- what its seats got
+
+-- the frames of its present opening are those of one that ended, where no seat is left or a new one
+HasGotFrames-ended : (bindings : List ℕ) (ended_got more : List Frame) (before after : ℕ) (x y : ReaderActor) (p q : Option ReaderSeat) → HasSameFile x y → All (Contains more) ended_got
+    → All (Contains more) (got_at p) → (has : HasGotFrames bindings ended_got before x p) → OnSeat q (λ at. length (through_all bindings (has.ended ++ has.frames)) ≡ after)
+    → HasGotFrames bindings more after y q
+HasGotFrames-ended bindings ended_got more before after x y p q file kept joined has count =
+    let all : List Frame = has.ended ++ has.frames in
+    record {
+      ended = all;
+      got_before = All-append (Contains more) has.ended has.frames
+          (λ k d inside. All-contains (Contains more) ended_got (slice_index_or has.ended k d) kept (has.got_before k d inside))
+          (λ k d inside. All-contains (Contains more) (got_at p) (slice_index_or has.frames k d) joined (has.got_since k d inside));
+      read_count = count;
+      frames = [];
+      got_since = λ k d inside. absurd (omega (arith, inside));
+      numbers = ap frames_of_runs file.frames ∙ (has.numbers ∙ ap (map (λ (frame : Frame). frame.number)) (sym (append-nil all)));
+      samples = file.samples ∙ (has.samples ∙ ap (through_all bindings) (sym (append-nil all)));
+    }
+
+-- what a reader recorded, where ended seats got more
+pub IsRecorded-more : (capture : Option Sound) (geometry : Geometry) (bindings : List ℕ) (ended_got more : List Frame) (r : LabReader) → All (Contains more) ended_got
+    → IsRecorded capture geometry bindings ended_got r → IsRecorded capture geometry bindings more r
+IsRecorded-more capture geometry bindings ended_got more r kept is = record {
+  on_card = is.on_card;
+  bound = is.bound;
+  got = record {
+    ended = is.got.ended;
+    got_before = λ k d inside. All-contains (Contains more) ended_got (slice_index_or is.got.ended k d) kept (is.got.got_before k d inside);
+    read_count = is.got.read_count;
+    frames = is.got.frames;
+    got_since = is.got.got_since;
+    numbers = is.got.numbers;
+    samples = is.got.samples;
+  };
+  samples = is.samples;
 }
 
 -- ---- opened
@@ -66,22 +115,18 @@ IsAt-opened ring geometry k seat setup r s of_ring of_geometry opened =
     } in
     subst (λ (at : Option ReaderSeat). IsSeatedAt ring geometry s.actor at (new_port geometry k)) (sym opened.seat_is) is
 
-pub IsRecorded-opened : (capture : Option Sound) (geometry : Geometry) (bindings : List ℕ) (seat : ReaderSeat) (setup : Setup) (r s : LabReader) → setup.bindings ≡ bindings
-    → HasOpened seat setup r s → IsRecorded capture geometry bindings r → IsRecorded capture geometry bindings s
-IsRecorded-opened capture geometry bindings seat setup r s bound opened is =
+pub IsRecorded-opened : (capture : Option Sound) (geometry : Geometry) (bindings : List ℕ) (ended_got : List Frame) (seat : ReaderSeat) (setup : Setup) (r s : LabReader)
+    → setup.bindings ≡ bindings → HasOpened seat setup r s → IsRecorded capture geometry bindings ended_got r → IsRecorded capture geometry bindings ended_got s
+IsRecorded-opened capture geometry bindings ended_got seat setup r s bound opened is =
     let stream : s.actor.reader.setup.bindings ≡ bindings = ap (λ (stream : CaptureStream). stream.setup.bindings) opened.stream ∙ bound in
+    let none : All (Contains ended_got) (got_at r.seat) =
+    subst (λ (at : Option ReaderSeat). All (Contains ended_got) (got_at at)) (sym opened.seat_was) (λ k d inside. absurd (omega (arith, inside))) in
     record {
       on_card = is.on_card;
       bound = subst (λ (at : Option ReaderSeat). OnSeat at (λ now. s.actor.reader.setup.bindings ≡ bindings)) (sym opened.seat_is) stream;
-      got = subst (λ (at : Option ReaderSeat). OnSeat at (HasGotSince bindings s.read_before s.actor)) (sym opened.seat_is) (record {
-        frames = [];
-        got = λ k d inside. absurd (omega (arith, inside));
-        earlier = frames_of_runs s.actor.frames.runs;
-        numbers = sym (append-nil (frames_of_runs s.actor.frames.runs));
-        read = s.actor.samples.items;
-        read_count = ap length opened.file.samples ∙ sym opened.read_before;
-        samples = sym (append-nil s.actor.samples.items);
-      });
+      got = subst (HasGotFrames bindings ended_got s.read_before s.actor) (sym opened.seat_is)
+          (HasGotFrames-ended bindings ended_got ended_got r.read_before s.read_before r.actor s.actor r.seat (Some seat) opened.file (All-contains_itself ended_got) none is.got
+          (ap length (sym is.got.samples) ∙ sym opened.read_before));
       samples = opened.file.samples ∙ (is.samples ∙ ap (λ (runs : List (ℕ × ℕ)). recorded_samples capture (first_frame geometry) bindings (frames_of_runs runs)) (sym opened.file.frames));
     }
 
@@ -95,12 +140,19 @@ reader_in-closed seat r s closed =
 pub IsAt-closed : (ring : TableId) (geometry : Geometry) (k : ℕ) (seat : ReaderSeat) (r s : LabReader) → HasClosed seat r s → IsAt ring geometry s (new_port geometry k)
 IsAt-closed ring geometry k seat r s closed = subst (λ (at : Option ReaderSeat). IsSeatedAt ring geometry s.actor at (new_port geometry k)) (sym closed.seat_is) refl
 
-pub IsRecorded-closed : (capture : Option Sound) (geometry : Geometry) (bindings : List ℕ) (seat : ReaderSeat) (r s : LabReader) → HasClosed seat r s → IsRecorded capture geometry bindings r
-    → IsRecorded capture geometry bindings s
-IsRecorded-closed capture geometry bindings seat r s closed is = record {
+-- its seat's frames are among those that ended seats got then
+pub IsRecorded-closed : (capture : Option Sound) (geometry : Geometry) (bindings : List ℕ) (ended_got more : List Frame) (seat : ReaderSeat) (r s : LabReader) → HasClosed seat r s
+    → All (Contains more) ended_got → All (Contains more) (view_of seat).got → IsRecorded capture geometry bindings ended_got r → IsRecorded capture geometry bindings more s
+IsRecorded-closed capture geometry bindings ended_got more seat r s closed kept joined is = record {
   on_card = is.on_card;
   bound = subst (λ (at : Option ReaderSeat). OnSeat at (λ now. s.actor.reader.setup.bindings ≡ bindings)) (sym closed.seat_is) tt;
-  got = subst (λ (at : Option ReaderSeat). OnSeat at (HasGotSince bindings s.read_before s.actor)) (sym closed.seat_is) tt;
+  got = subst (HasGotFrames bindings more s.read_before s.actor) (sym closed.seat_is)
+      (HasGotFrames-ended bindings ended_got more r.read_before s.read_before r.actor s.actor r.seat None
+      (record {
+        number = ap (λ (x : ReaderActor). x.number) closed.actor;
+        frames = ap (λ (x : ReaderActor). x.frames.runs) closed.actor;
+        samples = ap (λ (x : ReaderActor). x.samples.items) closed.actor;
+      }) kept (subst (λ (at : Option ReaderSeat). All (Contains more) (got_at at)) (sym closed.seat_was) joined) is.got tt);
   samples = subst (λ (x : ReaderActor). x.samples.items ≡ recorded_samples capture (first_frame geometry) bindings (frames_of_runs x.frames.runs)) (sym closed.actor) is.samples;
 }
 
@@ -146,12 +198,20 @@ IsAt-same ring geometry r s a same at =
       left = is.left ∙ sym same.left;
     }
 
-pub IsRecorded-same : (capture : Option Sound) (geometry : Geometry) (bindings : List ℕ) (r s : LabReader) → IsSameButRows r s → IsRecorded capture geometry bindings r
-    → IsRecorded capture geometry bindings s
-IsRecorded-same capture geometry bindings r s same is = record {
+pub IsRecorded-same : (capture : Option Sound) (geometry : Geometry) (bindings : List ℕ) (ended_got : List Frame) (r s : LabReader) → IsSameButRows r s
+    → IsRecorded capture geometry bindings ended_got r → IsRecorded capture geometry bindings ended_got s
+IsRecorded-same capture geometry bindings ended_got r s same is = record {
   on_card = is.on_card;
   bound = subst (λ (seat : Option ReaderSeat). OnSeat seat (λ at. s.actor.reader.setup.bindings ≡ bindings)) (sym same.seat) (by_seat r.seat is.bound);
-  got = subst (λ (seat : Option ReaderSeat). OnSeat seat (HasGotSince bindings s.read_before s.actor)) (sym same.seat) (got_by r.seat is.got);
+  got = subst (HasGotFrames bindings ended_got s.read_before s.actor) (sym same.seat) (record {
+    ended = is.got.ended;
+    got_before = is.got.got_before;
+    read_count = count_by r.seat is.got.read_count;
+    frames = is.got.frames;
+    got_since = is.got.got_since;
+    numbers = ap frames_of_runs same.file.frames ∙ is.got.numbers;
+    samples = same.file.samples ∙ is.got.samples;
+  });
   samples = same.file.samples ∙ (is.samples ∙ ap (λ (runs : List (ℕ × ℕ)). recorded_samples capture (first_frame geometry) bindings (frames_of_runs runs)) (sym same.file.frames));
 }
   where
@@ -159,14 +219,7 @@ IsRecorded-same capture geometry bindings r s same is = record {
     by_seat None bound = tt
     by_seat (Some at) bound = ap (λ (stream : CaptureStream). stream.setup.bindings) same.stream ∙ bound
 
-    got_by : (seat : Option ReaderSeat) → OnSeat seat (HasGotSince bindings r.read_before r.actor) → OnSeat seat (HasGotSince bindings s.read_before s.actor)
-    got_by None got = tt
-    got_by (Some at) got = record {
-      frames = got.frames;
-      got = got.got;
-      earlier = got.earlier;
-      numbers = ap frames_of_runs same.file.frames ∙ got.numbers;
-      read = got.read;
-      read_count = got.read_count ∙ sym same.read_before;
-      samples = same.file.samples ∙ got.samples;
-    }
+    count_by : (seat : Option ReaderSeat) → OnSeat seat (λ at. length (through_all bindings is.got.ended) ≡ r.read_before)
+        → OnSeat seat (λ at. length (through_all bindings is.got.ended) ≡ s.read_before)
+    count_by None count = tt
+    count_by (Some at) count = count ∙ sym same.read_before

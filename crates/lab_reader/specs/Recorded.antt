@@ -31,32 +31,39 @@ abbrev pub recorded_samples : Option Sound → ℕ → List ℕ → List ℕ →
 recorded_samples capture first bindings frames =
     flat_map (λ frame. map (captured_from capture first frame) bindings) frames
 
--- Since its opening, before which it had read so many samples, a reader read frames that its seat got: they are the last ones of its frames, and its
--- samples from there on are theirs, through bindings.
-pub record HasGotSince (bindings : List ℕ) (read_before : ℕ) (actor : ReaderActor)
-    (seat : ReaderSeat) : Type 0 where
+-- the frames that a reader's seat got, where it is open
+abbrev pub got_at : Option ReaderSeat → List Frame
+got_at None = []
+got_at (Some seat) = (view_of seat).got
+
+-- Each frame that a reader read is one that its seat got: first those of its openings that ended, which are among those that ended seats got, and
+-- then those of the opening in which it is, before which it had read so many samples. They are all frames of its runs, and its samples are theirs,
+-- through bindings.
+pub record HasGotFrames (bindings : List ℕ) (ended_got : List Frame) (read_before : ℕ)
+    (actor : ReaderActor) (seat : Option ReaderSeat) : Type 0 where
+  pub ended : List Frame
+  pub got_before : All (Contains ended_got) ended
+  pub read_count : OnSeat seat (λ at. length (through_all bindings ended) ≡ read_before)
   pub frames : List Frame
-  pub got : All (Contains (view_of seat).got) frames
-  pub earlier : List ℕ
+  pub got_since : All (Contains (got_at seat)) frames
   pub numbers : frames_of_runs actor.frames.runs
-      ≡ earlier ++ map (λ (frame : Frame). frame.number) frames
-  pub read : List ℤ
-  pub read_count : length read ≡ read_before
-  pub samples : actor.samples.items ≡ read ++ through_all bindings frames
+      ≡ map (λ (frame : Frame). frame.number) (ended ++ frames)
+  pub samples : actor.samples.items ≡ through_all bindings (ended ++ frames)
 
 -- A reader's samples are the captured ones of its frames, through bindings that each go to a channel of the card; where it is open, these are its
--- stream's, and each frame since its opening is one that its seat got.
+-- stream's. Each of its frames is one that its seat got.
 pub record IsRecordedAt (capture : Option Sound) (geometry : Geometry) (bindings : List ℕ)
-    (read_before : ℕ) (actor : ReaderActor) (seat : Option ReaderSeat) : Type 0 where
+    (ended_got : List Frame) (read_before : ℕ) (actor : ReaderActor) (seat : Option ReaderSeat)
+    : Type 0 where
   pub on_card : All (λ channel. channel < geometry.channels) bindings
   pub bound : OnSeat seat (λ at. actor.reader.setup.bindings ≡ bindings)
-  pub got : OnSeat seat (HasGotSince bindings read_before actor)
+  pub got : HasGotFrames bindings ended_got read_before actor seat
   pub samples : actor.samples.items
       ≡ recorded_samples capture (first_frame geometry) bindings (frames_of_runs actor.frames.runs)
 
-abbrev pub IsRecorded : Option Sound → Geometry → List ℕ → LabReader → Type 0
-IsRecorded capture geometry bindings r =
-    IsRecordedAt capture geometry bindings r.read_before r.actor r.seat
+abbrev pub IsRecorded : Option Sound → Geometry → List ℕ → List Frame → LabReader → Type 0
+IsRecorded capture geometry bindings ended_got r =
+    IsRecordedAt capture geometry bindings ended_got r.read_before r.actor r.seat
 
 -- all that a card stored in its snoop ring, where it stores there, is what the capture file has of its frames so far
 abbrev pub IsCapturedUpTo : Option Sound → Card → Type 0
@@ -81,9 +88,10 @@ flat_map-same f g [] same = refl
 flat_map-same f g (x ∷ xs) same = ap (λ ys. ys ++ flat_map f xs) (same x) ∙ ap (λ ys. g x ++ ys) (flat_map-same f g xs same)
 
 -- what a reader recorded is what a run of the script has it record
-pub recorded-by : (session : Session) (capture : Option Sound) (number : ℕ) (geometry : Geometry) (r : LabReader) → scripts.first_frame session.card ≡ first_frame geometry
-    → IsRecorded capture geometry (bindings_of (slice_index_or session.readers number None)) r → r.actor.samples.items ≡ recorded_by session capture number (reader_in r)
-recorded-by session capture number geometry r first is =
+pub recorded-by : (session : Session) (capture : Option Sound) (number : ℕ) (geometry : Geometry) (ended_got : List Frame) (r : LabReader)
+    → scripts.first_frame session.card ≡ first_frame geometry → IsRecorded capture geometry (bindings_of (slice_index_or session.readers number None)) ended_got r
+    → r.actor.samples.items ≡ recorded_by session capture number (reader_in r)
+recorded-by session capture number geometry ended_got r first is =
     let bindings = bindings_of (slice_index_or session.readers number None) in
     is.samples
     ∙ sym (flat_map-same (λ frame. map (captured_sample session capture frame) bindings) (λ frame. map (captured_from capture (first_frame geometry) frame) bindings) (frames_of_runs r.actor.frames.runs)

@@ -43,7 +43,7 @@ use Rattle.lab_reader.specs.declared.reader.LabReader.{LabReader}
 use Rattle.lab_reader.specs.OfCards.{IsOver}
 use Rattle.lab_reader.specs.Readers.{OnSeats, ops_of}
 use Rattle.lab_reader.specs.ReaderPhase.{Steps}
-use Rattle.lab_reader.specs.Recorded.{HasGotSince, IsCapturedUpTo, IsRecorded, IsRecordedAt, captured_from, recorded_samples}
+use Rattle.lab_reader.specs.Recorded.{HasGotFrames, IsCapturedUpTo, IsRecorded, IsRecordedAt, captured_from, recorded_samples}
 use Rattle.lab_reader.specs.Runs.{HasRefused, HasRunAt, HasRunOpen}
 
 -- ---- what the card stored
@@ -177,7 +177,7 @@ recorded-append capture first bindings xs ys = flat_map-append (λ frame. map (c
 -- ---- what a reader recorded in a phase
 
 module _ (capture : Option Sound) (ring : TableId) (geometry : Geometry) (d : Card) (over : IsOver ring geometry d) (records : records_of d ≡ true) (up_to : IsCapturedUpTo capture d)
-    (bindings : List ℕ) where
+    (bindings : List ℕ) (ended_got : List Frame) where
   geometry-card : geometry_of_card d ≡ geometry
   geometry-card = d.in_step.geometry ∙ over.of_geometry
 
@@ -190,42 +190,40 @@ module _ (capture : Option Sound) (ring : TableId) (geometry : Geometry) (d : Ca
 
   -- its seat got the frames that it read, and those that it had got
   got-open : (read_before : ℕ) (c : Card) (x y : ReaderActor) (s t u v : ReaderSeat) (phase stops after played : ℕ) (ops : List Op)
-      → IsRecordedAt capture geometry bindings read_before x (Some s) → IsInformedReader c s t → HasRunOpen phase stops after played ops x y t u → IsSameReader u v
-      → HasGotSince bindings read_before y v
+      → IsRecordedAt capture geometry bindings ended_got read_before x (Some s) → IsInformedReader c s t → HasRunOpen phase stops after played ops x y t u → IsSameReader u v
+      → HasGotFrames bindings ended_got read_before y (Some v)
   got-open read_before c x y s t u v phase stops after played ops before informed ran same =
       let appends = ran.part.appends in
       let read = appends.samples in
       let seats : (view_of v).got ≡ ((view_of s).got ++ (writer_view (writer_of c)).got) ++ read.got =
       ap (λ (w : View). w.got) same.view ∙ (read.got_them.got ∙ ap (λ (fs : List Frame). fs ++ read.got) informed.got) in
       let was = before.got in
+      let old : List Frame = was.ended ++ was.frames in
+      let join : old ++ read.frames ≡ was.ended ++ (was.frames ++ read.frames) = append_assoc was.ended was.frames read.frames in
       record {
+        ended = was.ended;
+        got_before = was.got_before;
+        read_count = was.read_count;
         frames = was.frames ++ read.frames;
-        got = subst (λ (fs : List Frame). All (Contains fs) (was.frames ++ read.frames)) (sym seats)
+        got_since = subst (λ (fs : List Frame). All (Contains fs) (was.frames ++ read.frames)) (sym seats)
             (All-append (Contains (((view_of s).got ++ (writer_view (writer_of c)).got) ++ read.got)) was.frames read.frames
             (λ k e inside.
             Contains-append_left ((view_of s).got ++ (writer_view (writer_of c)).got) read.got (slice_index_or was.frames k e)
-            (Contains-append_left (view_of s).got (writer_view (writer_of c)).got (slice_index_or was.frames k e) (was.got k e inside)))
+            (Contains-append_left (view_of s).got (writer_view (writer_of c)).got (slice_index_or was.frames k e) (was.got_since k e inside)))
             (λ k e inside. Contains-append_right ((view_of s).got ++ (writer_view (writer_of c)).got) read.got (slice_index_or read.frames k e) (read.among k e inside)));
-        earlier = was.earlier;
         numbers = appends.numbers_are
             ∙ (ap (λ (ns : List ℕ). ns ++ appends.numbers) was.numbers
-            ∙ (append_assoc was.earlier (map (λ (frame : Frame). frame.number) was.frames) appends.numbers
-            ∙ ap (λ (ns : List ℕ). was.earlier ++ ns)
-            (ap (λ (ns : List ℕ). map (λ (frame : Frame). frame.number) was.frames ++ ns) (sym read.numbers_are)
-            ∙ sym (map-append (λ (frame : Frame). frame.number) was.frames read.frames))));
-        read = was.read;
-        read_count = was.read_count;
+            ∙ (ap (λ (ns : List ℕ). map (λ (frame : Frame). frame.number) old ++ ns) (sym read.numbers_are)
+            ∙ (sym (map-append (λ (frame : Frame). frame.number) old read.frames) ∙ ap (map (λ (frame : Frame). frame.number)) join)));
         samples = appends.more_are
             ∙ (ap (λ (zs : List ℤ). zs ++ appends.more) was.samples
-            ∙ (append_assoc was.read (through_all bindings was.frames) appends.more
-            ∙ ap (λ (zs : List ℤ). was.read ++ zs)
-            (ap (λ (zs : List ℤ). through_all bindings was.frames ++ zs) (read.samples_are ∙ ap (λ (bound : List ℕ). through_all bound read.frames) before.bound)
-            ∙ sym (flat_map-append (λ (frame : Frame). bound_samples bindings frame.samples) was.frames read.frames))));
+            ∙ (ap (λ (zs : List ℤ). through_all bindings old ++ zs) (read.samples_are ∙ ap (λ (bound : List ℕ). through_all bound read.frames) before.bound)
+            ∙ (sym (flat_map-append (λ (frame : Frame). bound_samples bindings frame.samples) old read.frames) ∙ ap (through_all bindings) join)));
       }
 
   recorded-open : (read_before : ℕ) (c : Card) (x y : ReaderActor) (s t u v : ReaderSeat) (phase stops after played : ℕ) (ops : List Op)
-      → IsRecordedAt capture geometry bindings read_before x (Some s) → IsInformedReader c s t
-      → HasRunOpen phase stops after played ops x y t u → IsSameReader u v → KnowsReader d v → IsRecordedAt capture geometry bindings read_before y (Some v)
+      → IsRecordedAt capture geometry bindings ended_got read_before x (Some s) → IsInformedReader c s t
+      → HasRunOpen phase stops after played ops x y t u → IsSameReader u v → KnowsReader d v → IsRecordedAt capture geometry bindings ended_got read_before y (Some v)
   recorded-open read_before c x y s t u v phase stops after played ops before informed ran same knows =
       let appends = ran.part.appends in
       let read = appends.samples in
@@ -250,18 +248,26 @@ module _ (capture : Option Sound) (ring : TableId) (geometry : Geometry) (d : Ca
             ∙ (sym (recorded-append capture first bindings (frames_of_runs x.frames.runs) appends.numbers) ∙ ap (recorded_samples capture first bindings) (sym appends.numbers_are))));
       }
 
-  recorded-closed : (read_before : ℕ) (x y : ReaderActor) (phase stops after : ℕ) (ops : List Op) → IsRecordedAt capture geometry bindings read_before x None
-      → HasRefused phase stops after ops x y → IsRecordedAt capture geometry bindings read_before y None
+  recorded-closed : (read_before : ℕ) (x y : ReaderActor) (phase stops after : ℕ) (ops : List Op) → IsRecordedAt capture geometry bindings ended_got read_before x None
+      → HasRefused phase stops after ops x y → IsRecordedAt capture geometry bindings ended_got read_before y None
   recorded-closed read_before x y phase stops after ops before ran = record {
     on_card = before.on_card;
     bound = tt;
-    got = tt;
+    got = record {
+      ended = before.got.ended;
+      got_before = before.got.got_before;
+      read_count = tt;
+      frames = before.got.frames;
+      got_since = before.got.got_since;
+      numbers = ap frames_of_runs ran.file.frames ∙ before.got.numbers;
+      samples = ran.file.samples ∙ before.got.samples;
+    };
     samples = ran.file.samples ∙ (before.samples ∙ ap (λ (runs : List (ℕ × ℕ)). recorded_samples capture (first_frame geometry) bindings (frames_of_runs runs)) (sym ran.file.frames));
   }
 
-  recorded-seats : (read_before : ℕ) (c : Card) (x y : ReaderActor) (p q l m : Option ReaderSeat) (phase stops after played : ℕ) (ops : List Op) → IsRecordedAt capture geometry bindings read_before x p
+  recorded-seats : (read_before : ℕ) (c : Card) (x y : ReaderActor) (p q l m : Option ReaderSeat) (phase stops after played : ℕ) (ops : List Op) → IsRecordedAt capture geometry bindings ended_got read_before x p
       → OnSeats p q (IsInformedReader c) → HasRunAt phase stops after played ops x y q l → OnSeats l m IsSameReader → OnSeats l m (λ seat later. KnowsReader d later)
-      → IsRecordedAt capture geometry bindings read_before y m
+      → IsRecordedAt capture geometry bindings ended_got read_before y m
   recorded-seats read_before c x y None None None None phase stops after played ops before informed ran same knows = recorded-closed read_before x y phase stops after ops before ran
   recorded-seats read_before c x y (Some s) (Some t) (Some u) (Some v) phase stops after played ops before informed ran same knows =
       recorded-open read_before c x y s t u v phase stops after played ops before informed ran same knows
@@ -273,11 +279,11 @@ module _ (capture : Option Sound) (ring : TableId) (geometry : Geometry) (d : Ca
   recorded-seats read_before c x y (Some s) (Some t) (Some u) None phase stops after played ops before informed ran same knows = absurd same
 
   -- What a reader recorded is what the capture file has, also after a phase, of a card that stored nothing else.
-  pub IsRecorded-phase : (c : Card) (phase stops after : ℕ) (lines : List Line) (r s t u : LabReader) → IsRecorded capture geometry bindings r
-      → Steps c d phase stops after lines r s t u → IsRecorded capture geometry bindings u
+  pub IsRecorded-phase : (c : Card) (phase stops after : ℕ) (lines : List Line) (r s t u : LabReader) → IsRecorded capture geometry bindings ended_got r
+      → Steps c d phase stops after lines r s t u → IsRecorded capture geometry bindings ended_got u
   IsRecorded-phase c phase stops after lines r s t u before steps =
       let ran : HasRunAt phase stops after (played_in lines) (ops_of r lines) r.actor t.actor s.seat t.seat =
       subst (λ (x : ReaderActor). HasRunAt phase stops after (played_in lines) (ops_by (is_reader x.number) lines) x t.actor s.seat t.seat) steps.informed.actor steps.ran.ran in
-      subst (λ (n : ℕ). IsRecordedAt capture geometry bindings n u.actor u.seat) (sym (steps.heard.read_before ∙ (steps.ran.read_before ∙ steps.informed.read_before)))
-      (subst (λ (y : ReaderActor). IsRecordedAt capture geometry bindings r.read_before y u.seat) (sym steps.heard.actor)
+      subst (λ (n : ℕ). IsRecordedAt capture geometry bindings ended_got n u.actor u.seat) (sym (steps.heard.read_before ∙ (steps.ran.read_before ∙ steps.informed.read_before)))
+      (subst (λ (y : ReaderActor). IsRecordedAt capture geometry bindings ended_got r.read_before y u.seat) (sym steps.heard.actor)
       (recorded-seats r.read_before c r.actor t.actor r.seat s.seat t.seat u.seat phase stops after (played_in lines) (ops_of r lines) before steps.informed.seats ran steps.heard.seats steps.heard.knows))

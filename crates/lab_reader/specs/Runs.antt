@@ -81,8 +81,9 @@ pub record HasRun (phase stops after : ℕ) (lines : List Line) (r s : LabReader
       r.seat s.seat
   pub read_before : s.read_before ≡ r.read_before
 
--- it is open at a seat, with a stream that is set up so, and with what it read before
+-- it wasn't open, and is open at a seat, with a stream that is set up so, and with what it read before
 pub record HasOpened (seat : ReaderSeat) (setup : Setup) (r s : LabReader) : Type 0 where
+  pub seat_was : r.seat ≡ None
   pub seat_is : s.seat ≡ Some seat
   pub stream : s.actor.reader ≡ opened_reader (geometry_of seat) setup
   pub left : s.actor.left ≡ None

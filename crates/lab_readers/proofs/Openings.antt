@@ -1,10 +1,9 @@
 -- What an opening and a closing make of a reader, by whether it is open.
-use Rattle.std.proofs.Common.{◌≡◌, ◌≢◌, ◌↔◌, ◌<◌, ℕ, ℤ, Bool, true, false, List, [], ◌∷◌, length, map, Option, None, Some, Result, Ok, Err, IfOk, IsSome, IsTrue, get_or, refl, sym, ap, subst, ◌∙◌}
-use Rattle.std.specs.Global.{Vec}
-use Rattle.std.specs.List.{flat_map}
+use Rattle.std.proofs.Common.{◌≡◌, ◌≢◌, ◌↔◌, ◌<◌, ℕ, Bool, true, false, List, [], ◌∷◌, length, Option, None, Some, Result, Ok, Err, IfOk, IsSome, IsTrue, get_or, refl, sym, ap, subst, ◌∙◌}
 use Rattle.std.proofs.lemmas.Bool.{false≢true}
 use Rattle.snd_base.specs.declared.errors.PcmError.{PcmError}
 use Rattle.snoop_table.specs.declared.seats.reader.ReaderSeat.{ReaderSeat}
+use Rattle.snoop_table.specs.Joins.{HasJoined}
 use Rattle.snoop_table.specs.Readers.{SameReader}
 use Rattle.pcm_states.specs.declared.states.State.TheVariants as state
 use Rattle.dsnoop_client.specs.declared.stream.CaptureStream.{CaptureStream}
@@ -14,16 +13,14 @@ use Rattle.lab_script.specs.declared.line.Op.{Op}
 use Rattle.lab_script.specs.declared.line.Op.TheVariants as op
 use Rattle.lab_report.specs.declared.row.Answer.TheVariants.{Done}
 use Rattle.lab_report.specs.declared.row.Row.{Row}
-use Rattle.lab_run.specs.LabRun.{all_runs, recorded_from}
 use Rattle.lab_run.specs.Reader.{Reader, row_by}
-use Rattle.lab_run.specs.Rules.{AtPort}
 use Rattle.lab_run.specs.Stage.{Session, Setup, Stage, after_close, after_open}
 use Rattle.lab_reader.specs.declared.reader.LabReader.{LabReader}
-use Rattle.lab_reader.specs.Readers.{number_of, reader_in, stream_at}
+use Rattle.lab_reader.specs.Readers.{OnSeat, number_of, reader_in, stream_at}
 use Rattle.lab_reader.specs.Runs.{HasClosed, HasOpened}
 use Rattle.lab_readers.specs.declared.readers.LabReaders.{LabReaders}
-use Rattle.lab_readers.specs.AtStage.{AreAfter, AreAt, readers_of, spare_of}
-use Rattle.lab_readers.specs.End.{all_runs-at, recorded_from-at, runs_by, read_samples}
+use Rattle.lab_readers.specs.AtStage.{AreAfter, IsOfRing, readers_of, spare_of}
+use Rattle.lab_readers.specs.Kept.{HasGotAllOf-join}
 use Rattle.lab_readers.specs.Opening.{AreAfter-closing, AreAfter-opening, Exchanges, HasClosing, HasOpening, IsItemAt}
 use Rattle.lab_readers.specs.Steps.{is_some_op}
 
@@ -45,13 +42,19 @@ opening-done spare seat phase r s row setup own closed is of_ring opened row_is 
       row_is = row_is ∙ ap (λ (n : ℕ). row_by phase n op.Opens (reader_in s).own Done) opened.file.number;
     }))
 
--- an open one is closed
-pub closing-done : (phase : ℕ) (r s : LabReader) (seat : ReaderSeat) (row : Row) → HasClosed seat r s → row ≡ row_by phase (number_of r) op.Closes (reader_in r).own Done
-    → HasClosing phase r s (record row { state = state.Open }) (reader_in r).own
-closing-done phase r s seat row closed is =
+-- an open one is closed, and the spare seat takes its seat over
+pub closing-done : (phase : ℕ) (r s : LabReader) (spare later seat : ReaderSeat) (row : Row) → HasClosed seat r s → HasJoined spare later seat
+    → row ≡ row_by phase (number_of r) op.Closes (reader_in r).own Done → HasClosing later phase r s (record row { state = state.Open }) (reader_in r).own
+closing-done phase r s spare later seat row closed joined is =
     let own : (reader_in r).own ≡ Some r.actor.reader = ap (λ (p : Option ReaderSeat). stream_at p r.actor) closed.seat_was in
-    subst (λ (o : Option CaptureStream). HasClosing phase r s (record row { state = state.Open }) o) (sym own)
-    (seat, closed, ap (λ (w : Row). record w { state = state.Open }) (is ∙ ap (λ (o : Option CaptureStream). row_by phase (number_of r) op.Closes o Done) own))
+    subst (λ (o : Option CaptureStream). HasClosing later phase r s (record row { state = state.Open }) o) (sym own) (
+      record { seat = seat; closed = closed; got = HasGotAllOf-join spare later seat joined },
+      ap (λ (w : Row). record w { state = state.Open }) (is ∙ ap (λ (o : Option CaptureStream). row_by phase (number_of r) op.Closes o Done) own),
+    )
+
+-- its seat is of the spare seat's ring
+pub OneRing-closed : (spare seat : ReaderSeat) (r s : LabReader) → IsOfRing spare r → HasClosed seat r s → SameReader spare seat
+OneRing-closed spare seat r s of_ring closed = subst (λ (p : Option ReaderSeat). OnSeat p (SameReader spare)) closed.seat_was of_ring
 
 -- ---- one reader of a list
 
@@ -69,11 +72,11 @@ opened-ok rs ss number phase r s opening (Ok row) at inside exchanged has = λ s
 
 -- one that is closed is the one that a run closes
 pub closed-after : (rs ss : LabReaders) (number phase : ℕ) (r s : LabReader) (row : Row) → r ≡ get_or (readers_of rs) number r → number < length (readers_of rs)
-    → Exchanges rs ss number s → HasClosing phase r s row (reader_in r).own → (session : Session) (capture : Option Sound) (stage : Stage) → IsItemAt session capture stage phase rs
+    → Exchanges rs ss number s → HasClosing (spare_of ss) phase r s row (reader_in r).own → (session : Session) (capture : Option Sound) (stage : Stage) → IsItemAt session capture stage phase rs
     → AreAfter session capture stage (after_close session stage (actor.Reader number)) row ss
 closed-after rs ss number phase r s row at inside exchanged has session capture stage at_item =
     AreAfter-closing session capture stage number phase rs ss at_item r s row inside exchanged
-    (subst (λ (t : LabReader). HasClosing phase t s row (reader_in t).own) at has)
+    (subst (λ (t : LabReader). HasClosing (spare_of ss) phase t s row (reader_in t).own) at has)
 
 -- ---- lines
 

@@ -1,5 +1,5 @@
 -- The readers of the lab are the readers of a run at a stage of it, with what they recorded.
-use Rattle.std.specs.Prelude.{◌≡◌, ℕ, false, List, [], ◌∷◌, ◌++◌, length, Option, None, slice_index_or}
+use Rattle.std.specs.Prelude.{◌≡◌, ℕ, false, List, [], ◌∷◌, ◌++◌, length, All, Contains, Option, None, slice_index_or}
 use Rattle.atomic_table.specs.Seated.{TableId}
 use Rattle.snd_base.specs.declared.geometry.Geometry.{Geometry}
 use Rattle.snd_base.specs.Places as rings
@@ -17,7 +17,7 @@ use Rattle.lab_setup.specs.Sessions.{AreUsable}
 use Rattle.lab_actors.specs.Gates.{AreCounted}
 use Rattle.lab_actors.specs.Walks.{AreEach}
 use Rattle.lab_reader.specs.declared.reader.LabReader.{LabReader}
-use Rattle.lab_reader.specs.Readers.{IsAt, number_of, reader_in, rows_of}
+use Rattle.lab_reader.specs.Readers.{IsAt, OnSeat, number_of, reader_in, rows_of, seat_of}
 use Rattle.lab_reader.specs.Recorded.{IsRecorded}
 use Rattle.lab_readers.specs.declared.readers.LabReaders.{LabReaders}
 
@@ -35,25 +35,42 @@ ring_of rs = seats.ring_of rs.seat
 abbrev pub geometry_of : LabReaders → Geometry
 geometry_of rs = seats.geometry_of rs.seat
 
--- a reader of the lab is the reader of a number in a run, with what it recorded
-pub record IsReaderIn (session : Session) (capture : Option Sound) (ring : TableId)
+-- each frame that a seat got is one that another seat has got
+abbrev pub HasGotAllOf : ReaderSeat → ReaderSeat → Type 0
+HasGotAllOf seat other = All (Contains (seats.view_of other).got) (seats.view_of seat).got
+
+-- the spare seat later: it is of the same ring, and has got all that it had
+pub record IsLaterSpare (spare later : ReaderSeat) : Type 0 where
+  pub same_ring : seats.SameReader spare later
+  pub got : HasGotAllOf spare later
+
+-- a reader's seat is of the spare seat's ring, where it is open
+abbrev pub IsOfRing : ReaderSeat → LabReader → Type 0
+IsOfRing spare r = OnSeat (seat_of r) (seats.SameReader spare)
+
+abbrev pub AreOfRing : LabReaders → Type 0
+AreOfRing rs = All (IsOfRing rs.seat) rs.readers.items
+
+-- A reader of the lab is the reader of a number in a run, with what it recorded. The spare seat, which took over the seats of its openings that ended,
+-- has got each frame that it read in them.
+pub record IsReaderIn (session : Session) (capture : Option Sound) (spare : ReaderSeat)
     (geometry : Geometry) (number : ℕ) (r : LabReader) (x : AtPort × Reader) : Type 0 where
   pub numbered : number_of r ≡ number
   pub reader : reader_in r ≡ x.1
-  pub at : IsAt ring geometry r x.0
+  pub at : IsAt (seats.ring_of spare) geometry r x.0
   pub recorded : IsRecorded capture geometry
-      (bindings_of (slice_index_or session.readers number None)) r
+      (bindings_of (slice_index_or session.readers number None)) (seats.view_of spare).got r
 
 -- the same after the lines of a phase: its rows are the lab's
-pub record IsReaderDone (session : Session) (capture : Option Sound) (ring : TableId)
+pub record IsReaderDone (session : Session) (capture : Option Sound) (spare : ReaderSeat)
     (geometry : Geometry) (number : ℕ) (r : LabReader) (x : AtPort × Reader) : Type 0 where
-  pub is : IsReaderIn session capture ring geometry number r x
+  pub is : IsReaderIn session capture spare geometry number r x
   pub rows : rows_of r ≡ []
 
 -- the same between two phases: no gate stopped it
-pub record IsReaderAt (session : Session) (capture : Option Sound) (ring : TableId)
+pub record IsReaderAt (session : Session) (capture : Option Sound) (spare : ReaderSeat)
     (geometry : Geometry) (number : ℕ) (r : LabReader) (x : AtPort × Reader) : Type 0 where
-  pub is : IsReaderIn session capture ring geometry number r x
+  pub is : IsReaderIn session capture spare geometry number r x
   pub goes : is_reader_stopped x.1.own ≡ false
   pub rows : rows_of r ≡ []
 
@@ -64,11 +81,12 @@ pub record IsCardOf (session : Session) (seat : ReaderSeat) : Type 0 where
 
 -- each reader of the lab is one of a run
 pub record AreIn
-    (Is : Session → Option Sound → TableId → Geometry → ℕ → LabReader → AtPort × Reader → Type 0)
+    (Is : Session → Option Sound → ReaderSeat → Geometry → ℕ → LabReader → AtPort × Reader
+    → Type 0)
     (session : Session) (capture : Option Sound)
     (xs : List (AtPort × Reader)) (rs : LabReaders) : Type 0 where
   pub card : IsCardOf session (spare_of rs)
-  pub each : AreEach (Is session capture (ring_of rs) session.ring) 0 (readers_of rs) xs
+  pub each : AreEach (Is session capture (spare_of rs) session.ring) 0 (readers_of rs) xs
 
 -- the readers of the lab between two phases
 abbrev pub AreAt : Session → Option Sound → List (AtPort × Reader) → LabReaders → Type 0

@@ -2,7 +2,7 @@
 use Rattle.std.specs.Prelude.{◌≡◌, ℕ, ◌+◌, Bool, cond, List, [], ◌∷◌, map, count_by, Option}
 use Rattle.std.proofs.Common.{refl, sym, ap, subst, ◌∙◌, arith}
 use Rattle.std.proofs.lemmas.List.Sums.{sum_by-cons}
-use Rattle.atomic_table.specs.Seated.{TableId}
+use Rattle.snoop_table.specs.declared.seats.reader.ReaderSeat.{ReaderSeat}
 use Rattle.wav_io.specs.Sound.{Sound}
 use Rattle.lab_script.specs.declared.line.Line.{Line}
 use Rattle.lab_script.specs.declared.line.Op.{Op}
@@ -16,7 +16,7 @@ use Rattle.lab_actors.specs.Walks.{AreEach}
 use Rattle.lab_reader.specs.declared.reader.LabReader.{LabReader}
 use Rattle.lab_reader.specs.Readers.{ops_of}
 use Rattle.lab_readers.specs.declared.readers.LabReaders.{LabReaders}
-use Rattle.lab_readers.specs.AtStage.{AreAt, IsReaderAt, readers_of, ring_of}
+use Rattle.lab_readers.specs.AtStage.{AreAt, IsReaderAt, readers_of, spare_of}
 use Rattle.lab_readers.specs.Steps.{is_busy, is_some_op}
 
 -- readers do nothing in a phase, and none of them was stopped before it
@@ -46,36 +46,36 @@ lines-none : (session : Session) (stage : Stage) (lines : List Line) (number : �
 lines-none session stage lines number ops x none =
     subst (λ (more : List Op). LinesMay (reader_kinds stage number) (rules_of session stage lines) x more x []) (sym none) (refl, refl)
 
-may-still : (session : Session) (stage : Stage) (capture : Option Sound) (ring : TableId) (lines : List Line) (number : ℕ) (rs : List LabReader) (xs : List (AtPort × Reader))
-    → AreEach (IsReaderAt session capture ring session.ring) number rs xs → AreIdle lines rs
+may-still : (session : Session) (stage : Stage) (capture : Option Sound) (spare : ReaderSeat) (lines : List Line) (number : ℕ) (rs : List LabReader) (xs : List (AtPort × Reader))
+    → AreEach (IsReaderAt session capture spare session.ring) number rs xs → AreIdle lines rs
     → EachMay (reader_kinds stage) (rules_of session stage lines) (λ n. ops_by (is_reader n) lines) number xs xs []
-may-still session stage capture ring lines number [] [] are idle = (refl, refl)
-may-still session stage capture ring lines number (r ∷ rs) (x ∷ xs) are idle = (
+may-still session stage capture spare lines number [] [] are idle = (refl, refl)
+may-still session stage capture spare lines number (r ∷ rs) (x ∷ xs) are idle = (
   x,
   xs,
   [],
   [],
   lines-none session stage lines number (ops_by (is_reader number) lines) x (ap (λ n. ops_by (is_reader n) lines) (sym are.0.is.numbered) ∙ idle.0),
-  may-still session stage capture ring lines (number + 1) rs xs are.1 idle.1,
+  may-still session stage capture spare lines (number + 1) rs xs are.1 idle.1,
   refl,
   refl,
 )
-may-still session stage capture ring lines number [] (x ∷ xs) are idle = absurd are
-may-still session stage capture ring lines number (r ∷ rs) [] are idle = absurd are
+may-still session stage capture spare lines number [] (x ∷ xs) are idle = absurd are
+may-still session stage capture spare lines number (r ∷ rs) [] are idle = absurd are
 
-reaped-still : (session : Session) (capture : Option Sound) (ring : TableId) (number : ℕ) (rs : List LabReader) (xs : List (AtPort × Reader))
-    → AreEach (IsReaderAt session capture ring session.ring) number rs xs → map (reaped_reader session.ring) xs ≡ xs
-reaped-still session capture ring number [] [] are = refl
-reaped-still session capture ring number (r ∷ rs) (x ∷ xs) are =
+reaped-still : (session : Session) (capture : Option Sound) (spare : ReaderSeat) (number : ℕ) (rs : List LabReader) (xs : List (AtPort × Reader))
+    → AreEach (IsReaderAt session capture spare session.ring) number rs xs → map (reaped_reader session.ring) xs ≡ xs
+reaped-still session capture spare number [] [] are = refl
+reaped-still session capture spare number (r ∷ rs) (x ∷ xs) are =
     ap (λ (b : Bool). reaped_reader_if b session.ring x ∷ map (reaped_reader session.ring) xs) are.0.goes
-    ∙ ap (λ (ys : List (AtPort × Reader)). x ∷ ys) (reaped-still session capture ring (number + 1) rs xs are.1)
-reaped-still session capture ring number [] (x ∷ xs) are = absurd are
-reaped-still session capture ring number (r ∷ rs) [] are = absurd are
+    ∙ ap (λ (ys : List (AtPort × Reader)). x ∷ ys) (reaped-still session capture spare (number + 1) rs xs are.1)
+reaped-still session capture spare number [] (x ∷ xs) are = absurd are
+reaped-still session capture spare number (r ∷ rs) [] are = absurd are
 
 -- Where none of the readers has a line in a phase they may stay as they are, with no row, and none is reaped.
 pub readers-still : (session : Session) (stage : Stage) (capture : Option Sound) (lines : List Line) (xs : List (AtPort × Reader)) (rs : LabReaders) → AreAt session capture xs rs
     → count_by (is_busy lines) (readers_of rs) ≡ 0 → AreStill session stage lines xs
 readers-still session stage capture lines xs rs are none = record {
-  may = may-still session stage capture (ring_of rs) lines 0 (readers_of rs) xs are.each (AreIdle-none lines (readers_of rs) none);
-  reaped = reaped-still session capture (ring_of rs) 0 (readers_of rs) xs are.each;
+  may = may-still session stage capture (spare_of rs) lines 0 (readers_of rs) xs are.each (AreIdle-none lines (readers_of rs) none);
+  reaped = reaped-still session capture (spare_of rs) 0 (readers_of rs) xs are.each;
 }

@@ -2,7 +2,6 @@
 use Rattle.std.specs.Prelude.{◌≡◌, ℕ, zero, suc, ◌+◌, ◌<◌, List, [], ◌∷◌, ◌++◌, All, length, map, Option, Some, None, IfSome, slice_index_or, slice_set, ⊤}
 use Rattle.std.proofs.Common.{refl, sym, ap, subst, ◌∙◌, arith}
 use Rattle.std.proofs.lemmas.List.Elements.{All-head, All-tail}
-use Rattle.atomic_table.specs.Seated.{TableId}
 use Rattle.snd_base.specs.declared.errors.PcmError.TheVariants.{BadState, Invalid}
 use Rattle.snd_base.specs.declared.errors.Why.TheVariants as why
 use Rattle.snd_base.specs.declared.geometry.Geometry.{Geometry}
@@ -24,16 +23,18 @@ use Rattle.lab_run.specs.Rules.{AtPort}
 use Rattle.lab_run.specs.Stage.{Session, Setup, Stage, after_close, after_open, close_reader, ended_reader, first_stage, no_reader, open_reader, open_reader_with, opened_reader, reader_at, renewed_port, with_reader, with_row}
 use Rattle.lab_setup.specs.Sessions.{AreUsable}
 use Rattle.lab_setup.specs.Usable.{IsUsable}
-use Rattle.lab_actors.specs.Walks.{AreEach, AreEach-at}
+use Rattle.lab_actors.specs.Walks.{AreEach, AreEach-at, AreEach-map}
 use Rattle.lab_reader.specs.declared.reader.LabReader.{LabReader}
 use Rattle.lab_reader.specs.ReaderLaws.{IsAt-new, IsAt-opened, IsRecorded-new, IsRecorded-opened, reader_in-new, reader_in-opened}
 use Rattle.lab_reader.specs.Readers.{number_of, reader_in}
-use Rattle.lab_reader.specs.Runs.{HasClosed, HasOpened, IsNeverOpen}
+use Rattle.lab_reader.specs.Runs.{HasOpened, IsNeverOpen}
 use Rattle.lab_readers.specs.declared.readers.LabReaders.{LabReaders}
-use Rattle.lab_readers.specs.AtStage.{AreAfter, AreAt, IsNewCardOf, IsReaderAt, readers_of, ring_of, spare_of}
+use Rattle.lab_readers.specs.AtStage.{AreAfter, AreAt, IsLaterSpare, IsNewCardOf, IsReaderAt, readers_of, ring_of, spare_of}
 use Rattle.lab_readers.specs.Counted.{AreCounted-set}
 use Rattle.lab_readers.specs.Lists.{AreEach-set, AreEach-set_left}
+use Rattle.lab_readers.specs.Kept.{IsReaderAt-later}
 use Rattle.lab_readers.specs.Reaped.{IsReaderAt-closed}
+use Rattle.lab_readers.specs.Steps.{ClosesInto}
 
 -- ---- new ones
 
@@ -59,22 +60,22 @@ on_card channels ring (setup ∷ setups) usable zero =
 on_card channels ring (setup ∷ setups) usable (suc n) =
     on_card channels ring setups (All-tail (λ (own : Option Setup). IfSome own (IsUsable channels ring)) setup setups usable) n
 
-module _ (session : Session) (capture : Option Sound) (ring : TableId)
+module _ (session : Session) (capture : Option Sound) (spare : ReaderSeat)
     (on : (n : ℕ) → All (λ channel. channel < session.ring.channels) (bindings_of (slice_index_or session.readers n None))) where
-  IsReaderAt-new : (number : ℕ) (r : LabReader) → IsNeverOpen number r → IsReaderAt session capture ring session.ring number r (no_reader session.ring)
+  IsReaderAt-new : (number : ℕ) (r : LabReader) → IsNeverOpen number r → IsReaderAt session capture spare session.ring number r (no_reader session.ring)
   IsReaderAt-new number r new = record {
     is = record {
       numbered = new.number_is;
       reader = reader_in-new number r new;
-      at = IsAt-new ring session.ring number 0 r new;
-      recorded = IsRecorded-new capture session.ring (bindings_of (slice_index_or session.readers number None)) number r (on number) new;
+      at = IsAt-new (seats.ring_of spare) session.ring number 0 r new;
+      recorded = IsRecorded-new capture session.ring (bindings_of (slice_index_or session.readers number None)) (seats.view_of spare).got number r (on number) new;
     };
     goes = refl;
     rows = new.rows;
   }
 
   each-new : (number : ℕ) (rs : List LabReader) (setups : List (Option Setup)) → length setups ≡ length rs → AreNew number rs
-      → AreEach (IsReaderAt session capture ring session.ring) number rs (map (λ setup. no_reader session.ring) setups)
+      → AreEach (IsReaderAt session capture spare session.ring) number rs (map (λ setup. no_reader session.ring) setups)
   each-new number [] [] count new = tt
   each-new number (r ∷ rs) (setup ∷ setups) count new = (IsReaderAt-new number r new.0, each-new (number + 1) rs setups (omega (arith, count)) new.1)
   each-new number [] (setup ∷ setups) count new = absurd (omega (arith, count))
@@ -85,7 +86,7 @@ pub AreAt-new : (session : Session) (capture : Option Sound) (count : ℕ) (rs :
     → AreNew 0 (readers_of rs) → AreAt session capture (first_stage session).readers rs
 AreAt-new session capture count rs is len new = record {
   card = is.card;
-  each = each-new session capture (ring_of rs) (on_card session.ring.channels session.ring.frames session.readers is.usable) 0 (readers_of rs) session.readers (is.count_is ∙ sym len) new;
+  each = each-new session capture (spare_of rs) (on_card session.ring.channels session.ring.frames session.readers is.usable) 0 (readers_of rs) session.readers (is.count_is ∙ sym len) new;
 }
 
 -- ---- one item of a body
@@ -120,16 +121,17 @@ closed_row phase number seen =
       seen = seen;
     }
 
--- what a closing makes of a reader, likewise
-abbrev pub HasClosing : ℕ → LabReader → LabReader → Row → Option CaptureStream → Type 0
-HasClosing phase r s row None =
+-- what a closing makes of a reader, likewise, by the spare seat as it is then
+abbrev pub HasClosing : ReaderSeat → ℕ → LabReader → LabReader → Row → Option CaptureStream
+    → Type 0
+HasClosing spare phase r s row None =
     (s ≡ r) × (row ≡ row_by phase (number_of r) op.Closes None (Failed BadState))
-HasClosing phase r s row (Some stream) =
-    (seat : ReaderSeat) × HasClosed seat r s × (row ≡ closed_row phase (number_of r) stream.seen)
+HasClosing spare phase r s row (Some stream) =
+    ClosesInto spare r s × (row ≡ closed_row phase (number_of r) stream.seen)
 
--- one reader of the lab became another one; the spare seat is of the ring of which it was
+-- one reader of the lab became another one; the spare seat is of the ring of which it was, and has got all that it had
 pub record Exchanges (rs ss : LabReaders) (number : ℕ) (s : LabReader) : Type 0 where
-  pub card : SameReader (spare_of rs) (spare_of ss)
+  pub card : IsLaterSpare (spare_of rs) (spare_of ss)
   pub readers : readers_of ss ≡ slice_set (readers_of rs) number s
 
 -- the readers of the lab are at a stage before an item, with so many phases done
@@ -146,41 +148,46 @@ module _ (session : Session) (capture : Option Sound) (stage : Stage) (number ph
   abbrev actor-before : AtPort × Reader
   actor-before = reader_at session stage number
 
-  ring-same : ring_of ss ≡ ring_of rs
-  ring-same = exchanged.card.0
+  is-at : IsReaderAt session capture (spare_of rs) session.ring number before actor-before
+  is-at = subst (λ n. IsReaderAt session capture (spare_of rs) session.ring n (slice_index_or (readers_of rs) number d) (reader_at session stage number)) (omega arith)
+      (AreEach-at (IsReaderAt session capture (spare_of rs) session.ring) 0 (readers_of rs) stage.readers at_item.are.each number d (no_reader session.ring) inside)
 
-  is-at : IsReaderAt session capture (ring_of rs) session.ring number before actor-before
-  is-at = subst (λ n. IsReaderAt session capture (ring_of rs) session.ring n (slice_index_or (readers_of rs) number d) (reader_at session stage number)) (omega arith)
-      (AreEach-at (IsReaderAt session capture (ring_of rs) session.ring) 0 (readers_of rs) stage.readers at_item.are.each number d (no_reader session.ring) inside)
+  -- by the spare seat as it is after the item
+  is-later : IsReaderAt session capture (spare_of ss) session.ring number before actor-before
+  is-later = IsReaderAt-later session capture (spare_of rs) (spare_of ss) number before actor-before exchanged.card is-at
+
+  each-later : AreEach (IsReaderAt session capture (spare_of ss) session.ring) 0 (readers_of rs) stage.readers
+  each-later =
+      AreEach-map (IsReaderAt session capture (spare_of rs) session.ring) (IsReaderAt session capture (spare_of ss) session.ring) 0 (readers_of rs) stage.readers
+      (λ n r x is. IsReaderAt-later session capture (spare_of rs) (spare_of ss) n r x exchanged.card is) at_item.are.each
 
   own-is : (reader_in before).own ≡ actor-before.1.own
   own-is = ap (λ (x : Reader). x.own) is-at.is.reader
 
   -- the readers after it, where the one of the number is another one of a run
-  are-after : (xs : List (AtPort × Reader)) → AreEach (IsReaderAt session capture (ring_of rs) session.ring) 0 (slice_set (readers_of rs) number s) xs → AreAt session capture xs ss
+  are-after : (xs : List (AtPort × Reader)) → AreEach (IsReaderAt session capture (spare_of ss) session.ring) 0 (slice_set (readers_of rs) number s) xs → AreAt session capture xs ss
   are-after xs each = record {
-    card = record { ring = exchanged.card.1 ∙ at_item.are.card.ring; first = at_item.are.card.first };
-    each = subst (λ (ring : TableId). AreEach (IsReaderAt session capture ring session.ring) 0 (readers_of ss) xs) (sym ring-same)
-        (subst (λ (readers : List LabReader). AreEach (IsReaderAt session capture (ring_of rs) session.ring) 0 readers xs) (sym exchanged.readers) each);
+    card = record { ring = exchanged.card.same_ring.1 ∙ at_item.are.card.ring; first = at_item.are.card.first };
+    each = subst (λ (readers : List LabReader). AreEach (IsReaderAt session capture (spare_of ss) session.ring) 0 readers xs) (sym exchanged.readers) each;
   }
 
   -- an item that was refused: there is a row more
   refused : (e : Row) → row ≡ e → s ≡ before → AreAfter session capture stage (with_row e stage) row ss
   refused e row_is same = record {
-    are = are-after stage.readers (AreEach-set_left (IsReaderAt session capture (ring_of rs) session.ring) 0 (readers_of rs) stage.readers number s (no_reader session.ring) inside
-        at_item.are.each (subst (λ (r : LabReader). IsReaderAt session capture (ring_of rs) session.ring (0 + number) r actor-before) (sym same)
-        (subst (λ n. IsReaderAt session capture (ring_of rs) session.ring n before actor-before) (omega arith) is-at)));
+    are = are-after stage.readers (AreEach-set_left (IsReaderAt session capture (spare_of ss) session.ring) 0 (readers_of rs) stage.readers number s (no_reader session.ring) inside
+        each-later (subst (λ (r : LabReader). IsReaderAt session capture (spare_of ss) session.ring (0 + number) r actor-before) (sym same)
+        (subst (λ n. IsReaderAt session capture (spare_of ss) session.ring n before actor-before) (omega arith) is-later)));
     rows = ap (λ (r : Row). stage.rows ++ r ∷ []) (sym row_is);
     others = record { phases = refl; position = refl; gone = refl; lobby = refl; claims = refl; clients = refl };
     counted = λ base stops counted. counted;
   }
 
   -- one that was done: the reader is another one, whose gate stopped it as often
-  exchange : (e : Row) (y : AtPort × Reader) → row ≡ e → y.0.by_gate ≡ actor-before.0.by_gate → IsReaderAt session capture (ring_of rs) session.ring number s y
+  exchange : (e : Row) (y : AtPort × Reader) → row ≡ e → y.0.by_gate ≡ actor-before.0.by_gate → IsReaderAt session capture (spare_of ss) session.ring number s y
       → AreAfter session capture stage (with_row e (with_reader number y stage)) row ss
   exchange e y row_is same is = record {
-    are = are-after (slice_set stage.readers number y) (AreEach-set (IsReaderAt session capture (ring_of rs) session.ring) 0 (readers_of rs) stage.readers number s y inside
-        at_item.are.each (subst (λ n. IsReaderAt session capture (ring_of rs) session.ring n s y) (omega arith) is));
+    are = are-after (slice_set stage.readers number y) (AreEach-set (IsReaderAt session capture (spare_of ss) session.ring) 0 (readers_of rs) stage.readers number s y inside
+        each-later (subst (λ n. IsReaderAt session capture (spare_of ss) session.ring n s y) (omega arith) is));
     rows = ap (λ (r : Row). stage.rows ++ r ∷ []) (sym row_is);
     others = record { phases = refl; position = refl; gone = refl; lobby = refl; claims = refl; clients = refl };
     counted = λ base stops counted. AreCounted-set base stops 0 stage.readers number (no_reader session.ring) y same counted;
@@ -189,7 +196,7 @@ module _ (session : Session) (capture : Option Sound) (stage : Stage) (number ph
   -- ---- opened
 
   opened-at : (setup : Setup) → slice_index_or session.readers number None ≡ Some setup → OpensAt (spare_of rs) setup phase before s row
-      → IsReaderAt session capture (ring_of rs) session.ring number s (renewed_port session.ring actor-before.0, record actor-before.1 { own = Some (opened_reader session.ring setup) })
+      → IsReaderAt session capture (spare_of ss) session.ring number s (renewed_port session.ring actor-before.0, record actor-before.1 { own = Some (opened_reader session.ring setup) })
   opened-at setup setup_is opens =
       let geometry : seats.geometry_of opens.seat ≡ session.ring = opens.of_ring.1 ∙ at_item.are.card.ring in
       record {
@@ -198,9 +205,9 @@ module _ (session : Session) (capture : Option Sound) (stage : Stage) (number ph
           reader = reader_in-opened opens.seat setup before s opens.opened
               ∙ (ap (λ (ring : Geometry). record (reader_in before) { own = Some (opened_reader ring setup) }) geometry
               ∙ ap (λ (x : Reader). record x { own = Some (opened_reader session.ring setup) }) is-at.is.reader);
-          at = IsAt-opened (ring_of rs) session.ring actor-before.0.by_gate opens.seat setup before s opens.of_ring.0 geometry opens.opened;
-          recorded = IsRecorded-opened capture session.ring (bindings_of (slice_index_or session.readers number None)) opens.seat setup before s
-              (sym (ap bindings_of setup_is)) opens.opened is-at.is.recorded;
+          at = IsAt-opened (ring_of ss) session.ring actor-before.0.by_gate opens.seat setup before s (opens.of_ring.0 ∙ sym exchanged.card.same_ring.0) geometry opens.opened;
+          recorded = IsRecorded-opened capture session.ring (bindings_of (slice_index_or session.readers number None)) (seats.view_of (spare_of ss)).got opens.seat setup
+              before s (sym (ap bindings_of setup_is)) opens.opened is-later.is.recorded;
         };
         goes = refl;
         rows = opens.opened.rows ∙ is-at.rows;
@@ -220,7 +227,7 @@ module _ (session : Session) (capture : Option Sound) (stage : Stage) (number ph
       (refused (row_by stage.phases number op.Opens None (Failed (Invalid why.Config))) (row-is op.Opens None (Failed (Invalid why.Config)) has.1) has.0)
   opening-by None (Some setup) setup_is has =
       let after : AtPort × Reader = (renewed_port session.ring actor-before.0, record actor-before.1 { own = Some (opened_reader session.ring setup) }) in
-      let is : IsReaderAt session capture (ring_of rs) session.ring number s after = opened-at setup setup_is has in
+      let is : IsReaderAt session capture (spare_of ss) session.ring number s after = opened-at setup setup_is has in
       subst (λ (own : Option Setup). AreAfter session capture stage (open_reader_with session stage number own actor-before) row ss) (sym setup_is)
       (exchange (row_by stage.phases number op.Opens (Some (opened_reader session.ring setup)) Done) after
       (row-is op.Opens (Some (opened_reader session.ring setup)) Done
@@ -235,24 +242,25 @@ module _ (session : Session) (capture : Option Sound) (stage : Stage) (number ph
 
   -- ---- closed
 
-  closing-by : (own : Option CaptureStream) → HasClosing phase before s row own → AreAfter session capture stage (close_reader session stage number actor-before own) row ss
+  closing-by : (own : Option CaptureStream) → HasClosing (spare_of ss) phase before s row own → AreAfter session capture stage (close_reader session stage number actor-before own) row ss
   closing-by None has =
       refused (row_by stage.phases number op.Closes None (Failed BadState)) (row-is op.Closes None (Failed BadState) has.1) has.0
   closing-by (Some stream) has =
       let row_is : row ≡ closed_row stage.phases number stream.seen =
-      has.2 ∙ (ap (λ n. closed_row n (number_of before) stream.seen) at_item.phases ∙ ap (λ n. closed_row stage.phases n stream.seen) is-at.is.numbered) in
+      has.1 ∙ (ap (λ n. closed_row n (number_of before) stream.seen) at_item.phases ∙ ap (λ n. closed_row stage.phases n stream.seen) is-at.is.numbered) in
       exchange (closed_row stage.phases number stream.seen) (ended_reader session.ring actor-before) row_is refl
-      (IsReaderAt-closed session capture (ring_of rs) number before s actor-before (record { is = is-at.is; rows = is-at.rows }) has.0 has.1)
+      (IsReaderAt-closed session capture (spare_of rs) (spare_of ss) exchanged.card number before s actor-before (record { is = is-at.is; rows = is-at.rows }) has.0)
 
   -- A reader that an item closes is the one that is closed in a run.
-  pub AreAfter-closing : HasClosing phase before s row (reader_in before).own → AreAfter session capture stage (after_close session stage (actor.Reader number)) row ss
-  AreAfter-closing has = closing-by actor-before.1.own (subst (λ (own : Option CaptureStream). HasClosing phase before s row own) own-is has)
+  pub AreAfter-closing : HasClosing (spare_of ss) phase before s row (reader_in before).own → AreAfter session capture stage (after_close session stage (actor.Reader number)) row ss
+  AreAfter-closing has = closing-by actor-before.1.own (subst (λ (own : Option CaptureStream). HasClosing (spare_of ss) phase before s row own) own-is has)
 
--- an item that failed for memory leaves the readers as they are, with the spare seat of the same ring
-pub AreAt-same : (session : Session) (capture : Option Sound) (xs : List (AtPort × Reader)) (rs ss : LabReaders) → SameReader (spare_of rs) (spare_of ss) → readers_of ss ≡ readers_of rs
+-- an item that failed for memory leaves the readers as they are, and so the spare seat
+pub AreAt-same : (session : Session) (capture : Option Sound) (xs : List (AtPort × Reader)) (rs ss : LabReaders) → IsLaterSpare (spare_of rs) (spare_of ss) → readers_of ss ≡ readers_of rs
     → AreAt session capture xs rs → AreAt session capture xs ss
-AreAt-same session capture xs rs ss card same are = record {
-  card = record { ring = card.1 ∙ are.card.ring; first = are.card.first };
-  each = subst (λ (ring : TableId). AreEach (IsReaderAt session capture ring session.ring) 0 (readers_of ss) xs) (sym card.0)
-      (subst (λ (readers : List LabReader). AreEach (IsReaderAt session capture (ring_of rs) session.ring) 0 readers xs) (sym same) are.each);
+AreAt-same session capture xs rs ss spare same are = record {
+  card = record { ring = spare.same_ring.1 ∙ are.card.ring; first = are.card.first };
+  each = subst (λ (readers : List LabReader). AreEach (IsReaderAt session capture (spare_of ss) session.ring) 0 readers xs) (sym same)
+      (AreEach-map (IsReaderAt session capture (spare_of rs) session.ring) (IsReaderAt session capture (spare_of ss) session.ring) 0 (readers_of rs) xs
+      (λ n r x is. IsReaderAt-later session capture (spare_of rs) (spare_of ss) n r x spare is) are.each);
 }

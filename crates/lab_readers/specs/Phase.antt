@@ -107,21 +107,21 @@ StepsOf c d phase stops after lines =
     AreJoined (AreJoined (AreJoined (HasTakenRoom lines) (IsInformedBy c))
     (RunsBehind stops after phase lines)) (IsHeardBy d)
 
-module _ (session : Session) (stage : Stage) (capture : Option Sound) (ring : TableId) (lines : List Line) (base stops after : ℕ → ℕ) (c : Card) (a b : CardActor) (d : Card)
-    (is : CardPhase capture (stage.phases + 1) c a b d lines) (card : IsCardAt session stage c) (over : IsOver ring session.ring c) (up_to : IsCapturedUpTo capture c)
+module _ (session : Session) (stage : Stage) (capture : Option Sound) (spare : ReaderSeat) (lines : List Line) (base stops after : ℕ → ℕ) (c : Card) (a b : CardActor) (d : Card)
+    (is : CardPhase capture (stage.phases + 1) c a b d lines) (card : IsCardAt session stage c) (over : IsOver (seats.ring_of spare) session.ring c) (up_to : IsCapturedUpTo capture c)
     (runs : ReaderPartsAreRuns) where
   -- a reader's part between its meets with the card, which stores what it captures
   module _ (records : records_of c ≡ true) (number : ℕ) (r s t u v : LabReader) (took : HasTakenRoom lines number r s) (informed : IsInformedBy c number s t)
       (ran : RunsBehind stops after (stage.phases + 1) lines number t u) (heard : IsHeardBy d number u v) (x : AtPort × Reader)
-      (at : IsReaderAt session capture ring session.ring number r x) (counted : IsCounted base stops number x) where
+      (at : IsReaderAt session capture spare session.ring number r x) (counted : IsCounted base stops number x) where
     own-phase : CardPhase capture (stage.phases + 1) informed.card a b heard.card lines
     own-phase = CardPhase-between capture (stage.phases + 1) c a b d informed.card heard.card lines informed.same heard.same is
 
-    own-over : IsOver ring session.ring informed.card
-    own-over = IsOver-same ring session.ring c informed.card informed.same over
+    own-over : IsOver (seats.ring_of spare) session.ring informed.card
+    own-over = IsOver-same (seats.ring_of spare) session.ring c informed.card informed.same over
 
-    over-after : IsOver ring session.ring heard.card
-    over-after = IsOver-phase ring session.ring capture (stage.phases + 1) informed.card a b heard.card lines own-phase own-over
+    over-after : IsOver (seats.ring_of spare) session.ring heard.card
+    over-after = IsOver-phase (seats.ring_of spare) session.ring capture (stage.phases + 1) informed.card a b heard.card lines own-phase own-over
 
     own-records : records_of informed.card ≡ true
     own-records = informed.same.records ∙ records
@@ -142,10 +142,10 @@ module _ (session : Session) (stage : Stage) (capture : Option Sound) (ring : Ta
     reader-is : reader_in s ≡ x.1
     reader-is = reader_in-same r s took.kept.same ∙ at.is.reader
 
-    own-may : ReaderMay ring session.ring (rules_between informed.card b.card lines) (stage.phases + 1) (base number) (after number) lines x.0 s v
+    own-may : ReaderMay (seats.ring_of spare) session.ring (rules_between informed.card b.card lines) (stage.phases + 1) (base number) (after number) lines x.0 s v
     own-may =
-        reader-may ring session.ring informed.card heard.card own-over (stage.phases + 1) (base number) (stops number) (after number) x.0 counted a b lines own-phase own-records s t u v
-        (runs (stage.phases + 1) (number_of s) (rules_between informed.card b.card lines)) (IsAt-same ring session.ring r s x.0 took.kept.same at.is.at) own-steps
+        reader-may (seats.ring_of spare) session.ring informed.card heard.card own-over (stage.phases + 1) (base number) (stops number) (after number) x.0 counted a b lines own-phase own-records s t u v
+        (runs (stage.phases + 1) (number_of s) (rules_between informed.card b.card lines)) (IsAt-same (seats.ring_of spare) session.ring r s x.0 took.kept.same at.is.at) own-steps
 
     rows-are : own-may.rows ≡ rows_of v
     rows-are = sym (own-may.rows_are ∙ ap (λ (rows : List Row). rows ++ own-may.rows) (took.kept.rows ∙ at.rows))
@@ -160,15 +160,15 @@ module _ (session : Session) (stage : Stage) (capture : Option Sound) (ring : Ta
         (subst (λ (y : Reader). LinesMay (reader_kind (stage.phases + 1) (number_of s)) (rules_between informed.card b.card lines) (x.0, y) (ops_of s lines) (own-may.end, reader_in v)
         own-may.rows) reader-is own-may.may)))
 
-    recorded : IsRecorded capture session.ring (bindings_of (slice_index_or session.readers number None)) v
+    recorded : IsRecorded capture session.ring (bindings_of (slice_index_or session.readers number None)) (seats.view_of spare).got v
     recorded =
         let bindings = bindings_of (slice_index_or session.readers number None) in
-        IsRecorded-phase capture ring session.ring heard.card over-after records-after
-        (IsCapturedUpTo-phase capture informed.card a b heard.card lines own-phase (IsCapturedUpTo-same capture c informed.card informed.same up_to)) bindings informed.card
-        (stage.phases + 1) (stops number) (after number) lines s t u v (IsRecorded-same capture session.ring bindings r s took.kept.same at.is.recorded) own-steps
+        IsRecorded-phase capture (seats.ring_of spare) session.ring heard.card over-after records-after
+        (IsCapturedUpTo-phase capture informed.card a b heard.card lines own-phase (IsCapturedUpTo-same capture c informed.card informed.same up_to)) bindings (seats.view_of spare).got informed.card
+        (stage.phases + 1) (stops number) (after number) lines s t u v (IsRecorded-same capture session.ring bindings (seats.view_of spare).got r s took.kept.same at.is.recorded) own-steps
 
     reader-after : ActorMay (reader_kinds stage) (rules_of session stage lines) (λ n. ops_by (is_reader n) lines)
-        (λ n w y. IsReaderIn session capture ring session.ring n w y × IsCounted base after n y) rows_of number x v
+        (λ n w y. IsReaderIn session capture spare session.ring n w y × IsCounted base after n y) rows_of number x v
     reader-after = record {
       next = (own-may.end, reader_in v);
       may = lines-may;
@@ -179,36 +179,36 @@ module _ (session : Session) (stage : Stage) (capture : Option Sound) (ring : Ta
     }
 
   -- the parts of all readers
-  parts-may : records_of c ≡ true → (xs : List (AtPort × Reader)) (rs ss : List LabReader) → AreEach (IsReaderAt session capture ring session.ring) 0 rs xs → AreCounted base stops 0 xs
+  parts-may : records_of c ≡ true → (xs : List (AtPort × Reader)) (rs ss : List LabReader) → AreEach (IsReaderAt session capture spare session.ring) 0 rs xs → AreCounted base stops 0 xs
       → AreEach (StepsOf c d (stage.phases + 1) stops after lines) 0 rs ss
       → ActorsMay (reader_kinds stage) (rules_of session stage lines) (λ n. ops_by (is_reader n) lines)
-      (λ n w y. IsReaderIn session capture ring session.ring n w y × IsCounted base after n y) rows_of 0 xs ss
+      (λ n w y. IsReaderIn session capture spare session.ring n w y × IsCounted base after n y) rows_of 0 xs ss
   parts-may records xs rs ss are counted steps =
       actors-may (reader_kinds stage) (rules_of session stage lines) (λ n. ops_by (is_reader n) lines)
-      (λ n r x. IsReaderAt session capture ring session.ring n r x × IsCounted base stops n x)
-      (λ n w y. IsReaderIn session capture ring session.ring n w y × IsCounted base after n y) rows_of 0 rs ss xs
-      (AreEach-counted (IsReaderAt session capture ring session.ring) base stops 0 rs xs are counted)
+      (λ n r x. IsReaderAt session capture spare session.ring n r x × IsCounted base stops n x)
+      (λ n w y. IsReaderIn session capture spare session.ring n w y × IsCounted base after n y) rows_of 0 rs ss xs
+      (AreEach-counted (IsReaderAt session capture spare session.ring) base stops 0 rs xs are counted)
       (AreEach-map (StepsOf c d (stage.phases + 1) stops after lines)
-      (λ n r v. (x : AtPort × Reader) → IsReaderAt session capture ring session.ring n r x × IsCounted base stops n x
+      (λ n r v. (x : AtPort × Reader) → IsReaderAt session capture spare session.ring n r x × IsCounted base stops n x
       → ActorMay (reader_kinds stage) (rules_of session stage lines) (λ m. ops_by (is_reader m) lines)
-      (λ m w y. IsReaderIn session capture ring session.ring m w y × IsCounted base after m y) rows_of n x v) 0 rs ss
+      (λ m w y. IsReaderIn session capture spare session.ring m w y × IsCounted base after m y) rows_of n x v) 0 rs ss
       (λ n r v all x now. reader-after records n r all.first.first.between all.first.between all.between v all.first.first.first all.first.first.then all.first.then all.then x now.0 now.1) steps)
 
   -- where there is a reader the card stores what it captures
-  parts-any : (xs : List (AtPort × Reader)) (rs ss : List LabReader) → (0 < length xs → records_of c ≡ true) → AreEach (IsReaderAt session capture ring session.ring) 0 rs xs
+  parts-any : (xs : List (AtPort × Reader)) (rs ss : List LabReader) → (0 < length xs → records_of c ≡ true) → AreEach (IsReaderAt session capture spare session.ring) 0 rs xs
       → AreCounted base stops 0 xs → AreEach (StepsOf c d (stage.phases + 1) stops after lines) 0 rs ss
       → ActorsMay (reader_kinds stage) (rules_of session stage lines) (λ n. ops_by (is_reader n) lines)
-      (λ n w y. IsReaderIn session capture ring session.ring n w y × IsCounted base after n y) rows_of 0 xs ss
+      (λ n w y. IsReaderIn session capture spare session.ring n w y × IsCounted base after n y) rows_of 0 xs ss
   parts-any [] [] [] records are counted steps = record { next = []; rows = []; may = (refl, refl); are = tt; rows_are = refl }
   parts-any (x ∷ xs) rs ss records are counted steps = parts-may (records (omega arith)) (x ∷ xs) rs ss are counted steps
   parts-any [] (r ∷ rs) ss records are counted steps = absurd are
   parts-any [] [] (s ∷ ss) records are counted steps = absurd steps
 
 -- rows that are taken leave a reader as it is
-IsReaderDone-taken : (session : Session) (capture : Option Sound) (ring : TableId) (number : ℕ) (r s : LabReader) (x : AtPort × Reader)
-    → IsReaderIn session capture ring session.ring number r x → HasRowsTaken number r s → IsReaderDone session capture ring session.ring number s x
-IsReaderDone-taken session capture ring number r s x is taken = record {
-  is = IsReaderIn-same session capture ring number r s x taken.same is;
+IsReaderDone-taken : (session : Session) (capture : Option Sound) (spare : ReaderSeat) (number : ℕ) (r s : LabReader) (x : AtPort × Reader)
+    → IsReaderIn session capture spare session.ring number r x → HasRowsTaken number r s → IsReaderDone session capture spare session.ring number s x
+IsReaderDone-taken session capture spare number r s x is taken = record {
+  is = IsReaderIn-same session capture spare number r s x taken.same is;
   rows = taken.rows;
 }
 
@@ -232,11 +232,11 @@ module _ (session : Session) (stage : Stage) (capture : Option Sound) (lines : L
     (xs : List (AtPort × Reader)) (rs heard : LabReaders) (records : 0 < length xs → records_of c ≡ true) (over : IsOver (ring_of rs) session.ring c)
     (are : AreAt session capture xs rs) (counted : AreCounted base stops 0 xs) (steps : ReadersSteps c d (stage.phases + 1) stops after lines rs heard) where
   abbrev IsNext : ℕ → LabReader → AtPort × Reader → Type 0
-  IsNext n w y = IsReaderIn session capture (ring_of rs) session.ring n w y × IsCounted base after n y
+  IsNext n w y = IsReaderIn session capture (spare_of rs) session.ring n w y × IsCounted base after n y
 
   parts : ActorsMay (reader_kinds stage) (rules_of session stage lines) (λ n. ops_by (is_reader n) lines) IsNext rows_of 0 xs (readers_of heard)
   parts =
-      parts-any session stage capture (ring_of rs) lines base stops after c a b d is card over up_to runs xs (readers_of rs) (readers_of heard) records are.each counted
+      parts-any session stage capture (spare_of rs) lines base stops after c a b d is card over up_to runs xs (readers_of rs) (readers_of heard) records are.each counted
       (steps-through c d (stage.phases + 1) stops after lines rs heard steps)
 
   rows-may : EachMay (reader_kinds stage) (rules_of session stage lines) (λ n. ops_by (is_reader n) lines) 0 xs parts.next (flat_map rows_of (readers_of heard))
@@ -254,15 +254,15 @@ module _ (session : Session) (stage : Stage) (capture : Option Sound) (lines : L
   readers-phase ss take_rows =
       let seat : spare_of ss ≡ spare_of rs =
       take_rows.spare ∙ (steps.hear.spare ∙ (steps.run_lines.spare ∙ (steps.inform.spare ∙ steps.take_room.spare))) in
-      let done : AreEach (IsReaderDone session capture (ring_of rs) session.ring) 0 (readers_of ss) parts.next =
-      AreEach-moved IsNext HasRowsTaken (IsReaderDone session capture (ring_of rs) session.ring) 0 (readers_of heard) (readers_of ss) parts.next
-      (λ n r s x now taken. IsReaderDone-taken session capture (ring_of rs) n r s x now.0 taken) parts.are take_rows.each in
+      let done : AreEach (IsReaderDone session capture (spare_of rs) session.ring) 0 (readers_of ss) parts.next =
+      AreEach-moved IsNext HasRowsTaken (IsReaderDone session capture (spare_of rs) session.ring) 0 (readers_of heard) (readers_of ss) parts.next
+      (λ n r s x now taken. IsReaderDone-taken session capture (spare_of rs) n r s x now.0 taken) parts.are take_rows.each in
       record {
         next = parts.next;
         may = rows-may;
         done = record {
           card = record { ring = ap seats.geometry_of seat ∙ are.card.ring; first = are.card.first };
-          each = subst (λ (own : ReaderSeat). AreEach (IsReaderDone session capture (seats.ring_of own) session.ring) 0 (readers_of ss) parts.next) (sym seat) done;
+          each = subst (λ (own : ReaderSeat). AreEach (IsReaderDone session capture own session.ring) 0 (readers_of ss) parts.next) (sym seat) done;
         };
         counted = AreCounted-each IsNext base after 0 (readers_of heard) parts.next (λ n w y now. now.1) parts.are;
       }

@@ -1,7 +1,9 @@
 -- What the steps of a phase ask of the readers of the lab.
-use Rattle.std.specs.Prelude.{ℕ, ◌+◌, List, [], ◌∷◌, All, Option, slice_index_or}
-use Rattle.std.proofs.Common.{arith}
+use Rattle.std.specs.Prelude.{◌≡◌, ℕ, ◌+◌, List, [], ◌∷◌, All, Option, Some, None, slice_index_or}
+use Rattle.std.proofs.Common.{sym, ◌∙◌, arith}
 use Rattle.std.proofs.lemmas.List.Elements.{All-cons, All-head, All-tail}
+use Rattle.snoop_table.specs.declared.seats.reader.ReaderSeat.{ReaderSeat}
+use Rattle.snoop_table.specs.Readers as seats
 use Rattle.wav_io.specs.Sound.{Sound}
 use Rattle.card_sim.specs.declared.card.Card.{Card}
 use Rattle.lab_script.specs.declared.line.Line.{Line}
@@ -14,9 +16,9 @@ use Rattle.lab_reader.specs.declared.reader.LabReader.{LabReader}
 use Rattle.lab_reader.specs.OfCards.{IsOf-at, IsOf-informed, IsOf-kept, IsOf-ran, IsOf-same, IsOver}
 use Rattle.lab_reader.specs.ReaderLaws.{HasRoom-informed, IsAt-same}
 use Rattle.lab_reader.specs.ReaderPhase.{CanRun-informed}
-use Rattle.lab_reader.specs.Readers.{IsOf}
+use Rattle.lab_reader.specs.Readers.{IsOf, IsSeatedAt, OnSeat}
 use Rattle.lab_readers.specs.declared.readers.LabReaders.{LabReaders}
-use Rattle.lab_readers.specs.AtStage.{AreAt, IsReaderAt, readers_of, ring_of}
+use Rattle.lab_readers.specs.AtStage.{AreAt, AreDone, AreOfRing, IsOfRing, IsReaderAt, IsReaderDone, IsReaderIn, readers_of, ring_of, spare_of}
 use Rattle.lab_readers.specs.Lists.{AreEach-moved}
 use Rattle.lab_readers.specs.Steps.{EachReader, HasTakenRoom, IsInformedBy, IsReady, RunsBehind}
 
@@ -43,7 +45,7 @@ All-moved R P Q number (x ∷ xs) [] then are all = absurd are
 pub AreOf-at : (session : Session) (capture : Option Sound) (xs : List (AtPort × Reader)) (rs : LabReaders) (c : Card) → AreAt session capture xs rs → IsOver (ring_of rs) session.ring c
     → All (IsOf c) (readers_of rs)
 AreOf-at session capture xs rs c are over =
-    All-each (IsReaderAt session capture (ring_of rs) session.ring) (IsOf c) 0 (readers_of rs) xs
+    All-each (IsReaderAt session capture (spare_of rs) session.ring) (IsOf c) 0 (readers_of rs) xs
     (λ n r x is. IsOf-at (ring_of rs) session.ring c r x.0 over is.is.at) are.each
 
 -- they stay so, whatever they do and whichever notes the card meets
@@ -63,6 +65,27 @@ AreOf-ran c stops after phase lines rs ss ran =
     All-moved (RunsBehind stops after phase lines) (IsOf c) (IsOf c) 0 (readers_of rs) (readers_of ss)
     (λ n r s has. IsOf-ran c phase (stops n) (after n) lines r s has) ran.each
 
+-- ---- readers of the spare seat's ring
+
+IsOfRing-in : (session : Session) (capture : Option Sound) (spare : ReaderSeat) (number : ℕ) (r : LabReader) (x : AtPort × Reader) → seats.geometry_of spare ≡ session.ring
+    → IsReaderIn session capture spare session.ring number r x → IsOfRing spare r
+IsOfRing-in session capture spare number r x shape is = by_seat r.seat is.at
+  where
+    by_seat : (p : Option ReaderSeat) → IsSeatedAt (seats.ring_of spare) session.ring r.actor p x.0 → OnSeat p (seats.SameReader spare)
+    by_seat None at = tt
+    by_seat (Some s) at = (at.of_ring, at.of_geometry ∙ sym shape)
+
+-- The seats of the readers of a run are of the spare seat's ring.
+pub AreOfRing-at : (session : Session) (capture : Option Sound) (xs : List (AtPort × Reader)) (rs : LabReaders) → AreAt session capture xs rs → AreOfRing rs
+AreOfRing-at session capture xs rs are =
+    All-each (IsReaderAt session capture (spare_of rs) session.ring) (IsOfRing (spare_of rs)) 0 (readers_of rs) xs
+    (λ n r x is. IsOfRing-in session capture (spare_of rs) n r x are.card.ring is.is) are.each
+
+pub AreOfRing-done : (session : Session) (capture : Option Sound) (xs : List (AtPort × Reader)) (rs : LabReaders) → AreDone session capture xs rs → AreOfRing rs
+AreOfRing-done session capture xs rs are =
+    All-each (IsReaderDone session capture (spare_of rs) session.ring) (IsOfRing (spare_of rs)) 0 (readers_of rs) xs
+    (λ n r x is. IsOfRing-in session capture (spare_of rs) n r x are.card.ring is.is) are.each
+
 -- ---- readers that can do their lines
 
 -- once they took the room of their lines, and met the card's notes
@@ -70,7 +93,7 @@ pub AreReady-informed : (session : Session) (capture : Option Sound) (xs : List 
     → EachReader (HasTakenRoom lines) rs ss → EachReader (IsInformedBy c) ss ts → All (IsReady lines) (readers_of ts)
 AreReady-informed session capture xs c lines rs ss ts are took informed =
     All-each (λ n t x. IsReady lines t) (IsReady lines) 0 (readers_of ts) xs (λ n t x is. is)
-    (AreEach-moved (IsReaderAt session capture (ring_of rs) session.ring) (AreJoined (HasTakenRoom lines) (IsInformedBy c)) (λ n t x. IsReady lines t) 0 (readers_of rs) (readers_of ts) xs
+    (AreEach-moved (IsReaderAt session capture (spare_of rs) session.ring) (AreJoined (HasTakenRoom lines) (IsInformedBy c)) (λ n t x. IsReady lines t) 0 (readers_of rs) (readers_of ts) xs
     (λ n r t x is both. record {
       usable = CanRun-informed (ring_of rs) session.ring both.then.card both.between t x.0 (IsAt-same (ring_of rs) session.ring r both.between x.0 both.first.kept.same is.is.at) both.then.informed;
       room = HasRoom-informed both.then.card both.between t lines both.then.informed both.first.room;

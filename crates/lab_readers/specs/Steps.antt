@@ -11,7 +11,7 @@ use Rattle.lab_card.specs.Meets.{IsSameCard}
 use Rattle.lab_reader.specs.declared.reader.LabReader.{LabReader}
 use Rattle.lab_reader.specs.Readers.{CanRun, HasRoom, ops_of, reader_in, rows_of}
 use Rattle.lab_reader.specs.Runs.{HasClosed, HasRun, IsHeard, IsInformed, IsSameButRows}
-use Rattle.lab_readers.specs.AtStage.{readers_of, spare_of}
+use Rattle.lab_readers.specs.AtStage.{HasGotAllOf, IsLaterSpare, readers_of, spare_of}
 use Rattle.lab_readers.specs.declared.readers.LabReaders.{LabReaders}
 
 -- each reader is in a relation, which knows its number, to what became of it, and the spare seat is as before
@@ -69,8 +69,18 @@ is_some_op (asked ∷ more) = true
 abbrev pub is_busy : List Line → LabReader → Bool
 is_busy lines r = is_some_op (ops_of r lines)
 
+-- a reader was closed, and the spare seat took its seat over: it has got all that its seat had got
+pub record ClosesInto (spare : ReaderSeat) (r s : LabReader) : Type 0 where
+  pub seat : ReaderSeat
+  pub closed : HasClosed seat r s
+  pub got : HasGotAllOf seat spare
+
 -- a reader was closed if it was stopped, and else it is as before
-pub record IsReaped (number : ℕ) (r s : LabReader) : Type 0 where
-  pub stopped : is_reader_stopped (reader_in r).own ≡ true
-      → (seat : ReaderSeat) × HasClosed seat r s
+pub record IsReaped (spare : ReaderSeat) (number : ℕ) (r s : LabReader) : Type 0 where
+  pub stopped : is_reader_stopped (reader_in r).own ≡ true → ClosesInto spare r s
   pub goes : is_reader_stopped (reader_in r).own ≡ false → s ≡ r
+
+-- each reader that was stopped was closed, and the spare seat took their seats over
+pub record AreReaped (before after : LabReaders) : Type 0 where
+  pub spare : IsLaterSpare (spare_of before) (spare_of after)
+  pub each : AreEach (IsReaped (spare_of after)) 0 (readers_of before) (readers_of after)

@@ -1,9 +1,11 @@
 //! The readers of the lab are new, and are opened and closed.
 ghost use Rattle.std.specs.Prelude.{◌≡◌, IfErr, IfOk, IfSome, OnErr, length};
 ghost use Rattle.std.specs.Option.{option_copied};
-ghost use Rattle.snoop_table.specs.Readers.{SameReader, geometry_of as geometry_of_seat};
+ghost use Rattle.snoop_table.specs.Readers.{geometry_of as geometry_of_seat};
+ghost use Rattle.lab_card.specs.Meets.{IsSameReader};
 ghost use Rattle.lab_setup.specs.Usable.{IsUsable};
 ghost use Rattle.lab_reader.specs.Readers.{reader_in};
+ghost use Rattle.lab_readers.specs.AtStage.{IsLaterSpare, IsOfRing};
 ghost use Rattle.lab_readers.specs.Opening.{AreNew, HasClosing, HasOpening};
 
 use crate::readers::LabReaders;
@@ -48,7 +50,7 @@ fn open_reader<'r>(
     ensures opening { IfOk result (λ row. HasOpening spare.old phase reader.old reader.new row
         (reader_in reader.old).own (option_copied opening.entry)) }
     ensures err { OnErr result (reader.new ≡ reader.old) }
-    ensures spare { SameReader spare.old spare.new }
+    ensures spare { IsSameReader spare.old spare.new }
     ensures only { IfErr result (λ e. e ≡ PcmError.Memory) }
 {
     if reader.is_open() {
@@ -62,15 +64,19 @@ fn open_reader<'r>(
     Ok(reader.row(phase, Op::Opens, Answer::Done))
 }
 
-/// Closes a reader, and gives its row; its seat is let go. One that isn't open is refused, with `BadState` (EBADFD).
-fn close_reader(reader: &mut LabReader<'_>, phase: u32) -> Row
-    ensures { HasClosing phase reader.old reader.new result (reader_in reader.old).own }
+/// Closes a reader, and gives its row; the spare seat takes its seat over. One that isn't open is refused, with `BadState` (EBADFD).
+fn close_reader(reader: &mut LabReader<'_>, spare: &mut ReaderSeat<'_>, phase: u32) -> Row
+    requires { IsOfRing spare.old reader.old }
+    ensures closing { HasClosing spare.new phase reader.old reader.new result
+        (reader_in reader.old).own }
+    ensures spare { IsLaterSpare spare.old spare.new }
 {
     if !reader.is_open() {
         return reader.row(phase, Op::Closes, Answer::Failed(PcmError::BadState));
     }
     let row = reader.row(phase, Op::Closes, Answer::Done);
-    let _seat = reader.close();
+    let seat = reader.close();
+    spare.join(seat);
     Row {
         state: State::Open,
         ..row
@@ -87,7 +93,7 @@ impl<'r> LabReaders<'r> {
     ghost use Rattle.lab_run.specs.Rules.{AtPort};
     ghost use Rattle.lab_run.specs.Stage.{Session, Stage, after_close, after_open, first_stage};
     ghost use Rattle.lab_setup.specs.Usable.{IsUsable};
-    ghost use Rattle.lab_readers.specs.AtStage.{AreAfter, AreAt, IsNewCardOf, geometry_of, readers_of, spare_of};
+    ghost use Rattle.lab_readers.specs.AtStage.{AreAfter, AreAt, AreOfRing, IsLaterSpare, IsNewCardOf, geometry_of, readers_of, spare_of};
     ghost use Rattle.lab_readers.specs.Opening.{IsItemAt};
 
     /// So many readers that were never open, by a seat of the snoop ring of a new card. It refuses, with `Memory`, only where no memory is left; the
@@ -142,19 +148,20 @@ impl<'r> LabReaders<'r> {
         )
     }
 
-    /// Does the item of a script that closes the reader of a number, after so many phases, and gives its row; its seat is let go, and what it
-    /// recorded stays. One that isn't open is refused, with `BadState` (EBADFD). It takes no memory.
+    /// Does the item of a script that closes the reader of a number, after so many phases, and gives its row; the spare seat takes over all that
+    /// its seat has got, and what it recorded stays. One that isn't open is refused, with `BadState` (EBADFD). It takes no memory.
     ///
-    /// The caller has a reader of the number (`len`).
+    /// The caller has a reader of the number (`len`), and readers of a run (`AreOfRing-at`).
     pub fn close(&mut self, number: u32, phase: u32) -> Row
-        requires { number < length (readers_of self.old) }
+        requires number { number < length (readers_of self.old) }
+        requires rings { AreOfRing self.old }
         ensures closed { (session : Session) (capture : Option Sound) (stage : Stage) →
             IsItemAt session capture stage phase self.old →
             AreAfter session capture stage (after_close session stage (actor.Reader number)) result
             self.new }
-        ensures spare { spare_of self.new ≡ spare_of self.old }
+        ensures spare { IsLaterSpare (spare_of self.old) (spare_of self.new) }
         ensures count { length (readers_of self.new) ≡ length (readers_of self.old) }
     {
-        close_reader(&mut self.readers[number as usize], phase)
+        close_reader(&mut self.readers[number as usize], &mut self.seat, phase)
     }
 }

@@ -27,8 +27,8 @@ impl LabReaders<'_> {
     ghost use Rattle.lab_actors.specs.Gates.{stops_at};
     ghost use Rattle.lab_card.specs.Meets.{IsSameCard};
     ghost use Rattle.lab_reader.specs.Readers.{IsOf, rows_of};
-    ghost use Rattle.lab_readers.specs.AtStage.{AreAt, AreDone, readers_of};
-    ghost use Rattle.lab_readers.specs.Steps.{EachReader, HasKept, HasRowsTaken, HasTakenRoom, IsHeardBy, IsInformedBy, IsReady, IsReaped, RunsBehind, is_busy};
+    ghost use Rattle.lab_readers.specs.AtStage.{AreAt, AreDone, AreOfRing, readers_of};
+    ghost use Rattle.lab_readers.specs.Steps.{AreReaped, EachReader, HasKept, HasRowsTaken, HasTakenRoom, IsHeardBy, IsInformedBy, IsReady, RunsBehind, is_busy};
 
     /// How many readers there are.
     pub fn len(&self) -> usize
@@ -122,11 +122,14 @@ impl LabReaders<'_> {
         take_reader_rows(rows, self.readers.as_mut_slice());
     }
 
-    /// Closes each that was stopped, by its gate or by a `die`, at the end of a phase; its seat is let go.
+    /// Closes each that was stopped, by its gate or by a `die`, at the end of a phase; the spare seat takes over all that its seat has got.
     ///
     /// After the lines of a phase they are then the readers of a run at the end of it.
+    ///
+    /// The caller has readers that did their lines of a run's phase (`AreOfRing-done`).
     pub fn reap(&mut self)
-        ensures each { EachReader IsReaped self.old self.new }
+        requires { AreOfRing self.old }
+        ensures each { AreReaped self.old self.new }
         ensures stage { (session : Session) (capture : Option Sound) (xs : List (AtPort × Reader)) →
             AreDone session capture xs self.old →
             AreAt session capture (map (reaped_reader session.ring) xs) self.new }
@@ -135,8 +138,9 @@ impl LabReaders<'_> {
     }
 
     fn close_stopped(&mut self)
-        ensures { EachReader IsReaped self.old self.new }
+        requires { AreOfRing self.old }
+        ensures { AreReaped self.old self.new }
     {
-        reap_readers(self.readers.as_mut_slice());
+        reap_readers(self.readers.as_mut_slice(), &mut self.seat);
     }
 }

@@ -8,6 +8,7 @@ ghost use Rattle.lab_actors.specs.Gates.{stops_at};
 ghost use Rattle.lab_actors.specs.Walks.{AreEach};
 ghost use Rattle.lab_card.specs.Meets.{IsSameCard};
 ghost use Rattle.lab_reader.specs.Readers.{IsOf, rows_of};
+ghost use Rattle.lab_readers.specs.AtStage.{IsLaterSpare, IsOfRing};
 ghost use Rattle.lab_readers.specs.Steps.{HasKept, HasRowsTaken, HasTakenRoom, IsHeardBy, IsInformedBy, IsReady, IsReaped, RunsBehind, is_busy};
 
 use card_sim::Card;
@@ -16,6 +17,7 @@ use lab_report::Row;
 use lab_script::Line;
 use mix_core::Gate;
 use snd_base::PcmError;
+use snoop_table::ReaderSeat;
 
 /// Takes the room of all readers' lines. It refuses, with `Memory`, only where no memory is left.
 pub(crate) fn take_reader_room(
@@ -98,20 +100,25 @@ pub(crate) fn count_busy(readers: &[LabReader<'_>], lines: &[Line]) -> usize
     count
 }
 
-/// Closes a reader if it was stopped; its seat is let go.
-fn reap_reader(reader: &mut LabReader<'_>)
-    ensures { IsReaped 0 reader.old reader.new }
+/// Closes a reader if it was stopped; the spare seat takes its seat over.
+fn reap_reader(reader: &mut LabReader<'_>, spare: &mut ReaderSeat<'_>)
+    requires { IsOfRing spare.old reader.old }
+    ensures reaped { IsReaped spare.new 0 reader.old reader.new }
+    ensures spare { IsLaterSpare spare.old spare.new }
 {
     if reader.is_stopped() {
-        let _seat = reader.close();
+        let seat = reader.close();
+        spare.join(seat);
     }
 }
 
-/// Closes each reader that was stopped; its seat is let go.
-pub(crate) fn reap_readers(readers: &mut [LabReader<'_>])
-    ensures { AreEach IsReaped 0 readers.old readers.new }
+/// Closes each reader that was stopped; the spare seat takes their seats over.
+pub(crate) fn reap_readers(readers: &mut [LabReader<'_>], spare: &mut ReaderSeat<'_>)
+    requires { All (IsOfRing spare.old) readers.old }
+    ensures reaped { AreEach (IsReaped spare.new) 0 readers.old readers.new }
+    ensures spare { IsLaterSpare spare.old spare.new }
 {
     for index in 0..readers.len() {
-        reap_reader(&mut readers[index]);
+        reap_reader(&mut readers[index], spare);
     }
 }

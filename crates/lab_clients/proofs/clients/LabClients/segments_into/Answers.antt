@@ -1,4 +1,4 @@
-use Rattle.std.proofs.Common.{◌≡◌, ◌++◌, ◌+◌, ◌<◌, ◌≤◌, List, ap, arith, length, slice_index_or, subst, sym, vec_capacity, vec_len, ◌∙◌}
+use Rattle.std.proofs.Common.{◌≡◌, ◌++◌, ◌+◌, ◌<◌, ◌≤◌, List, ap, arith, length, slice_index_or, subst, vec_capacity, vec_len, ◌∙◌}
 use Rattle.std.specs.List.{flat_map}
 use Rattle.lab_actors.specs.Rows.{lists-next, lists-room}
 use Rattle.lab_client.specs.declared.client.LabClient.{LabClient}

@@ -1,4 +1,4 @@
-use Rattle.std.proofs.Common.{arith, refl, sym, ap, subst, ◌<◌, length, ℕ}
+use Rattle.std.proofs.Common.{arith, refl, sym, subst, ◌<◌, length, ℕ}
 use Rattle.lab_script.specs.declared.line.Actor.{Actor}
 use Rattle.lab_script.specs.declared.line.Actor.TheVariants as whose
 use Rattle.lab_script.specs.Limits.{IsBorder}
@@ -7,7 +7,7 @@ use Rattle.lab_phase.specs.declared.lab.Lab.{Lab}
 use Rattle.lab_phase.specs.AtStage.{DoesRow, capture_of, session_of}
 use Rattle.lab_phase.specs.Borders.{after_close-keeps_clients, after_close-keeps_readers}
 use Rattle.lab_phase.specs.BorderLaws.{DoesRow-clients, DoesRow-reader}
-use Rattle.snoop_table.specs.Readers as seats
+use Rattle.lab_readers.specs.Ready.{AreOfRing-at}
 use Rattle.lab_phase.proofs.Numbers.{client_count, reader_count}
 use Rattle.lab_phase.proofs.lab.Lab.close.Goals as goal
 
@@ -19,13 +19,19 @@ close-requires-clause-number c =
     let count = client_count lab c.requires.at.stage c.requires.at.at in
     omega (arith, low, count)
 
-pub close-requires-in-Reader : goal.close-requires-in-Reader
-close-requires-in-Reader c =
+pub close-requires-in-Reader-clause-number : goal.close-requires-in-Reader-clause-number
+close-requires-in-Reader-clause-number c =
     let lab : Lab = c.args.self.now in
     let low : c.in-Reader.number < length lab.script.now.readers =
     subst (IsBorder (length lab.script.now.clients) (length lab.script.now.readers)) c.in-Reader.is c.requires.actor in
     let count = reader_count lab c.requires.at.stage c.requires.at.at in
     omega (arith, low, count)
+
+pub close-requires-in-Reader-clause-rings : goal.close-requires-in-Reader-clause-rings
+close-requires-in-Reader-clause-rings c =
+    let lab : Lab = c.args.self.now in
+    let stage = c.requires.at.stage in
+    AreOfRing-at (session_of lab) (capture_of lab) stage.readers lab.readers c.requires.at.at.actors.readers_are
 
 pub returns-in-Client : goal.returns-in-Client
 returns-in-Client c =
@@ -50,7 +56,7 @@ returns-in-Reader c =
       does = subst (λ (who : Actor). DoesRow (λ stage. after_close (session_of lab) stage who) lab c.close-in-Reader.result after) (sym c.in-Reader.is)
           (DoesRow-reader lab after (λ stage. after_close (session_of lab) stage (whose.Reader number)) c.close-in-Reader.result
           (record { script = refl; wavs = refl; capture = refl; openings = refl }) (record { rows = refl; room = refl; phases = refl; next = refl }) refl refl
-          (record { ring = ap (λ s. seats.ring_of s) c.close-in-Reader.ensures.spare; geometry = ap (λ s. seats.geometry_of s) c.close-in-Reader.ensures.spare })
+          (record { ring = c.close-in-Reader.ensures.spare.same_ring.0; geometry = c.close-in-Reader.ensures.spare.same_ring.1 })
           (λ stage. after_close-keeps_clients (session_of lab) stage number)
           (λ stage at. c.close-in-Reader.ensures.closed (session_of lab) (capture_of lab) stage (record { are = at.actors.readers_are; phases = at.phases })));
       played = refl;

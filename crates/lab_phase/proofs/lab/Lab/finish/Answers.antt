@@ -1,11 +1,9 @@
-use Rattle.std.specs.Prelude.{IsSomeAnd, List, Option, length, map, vec_capacity, vec_len, ◌+◌, ◌++◌, ◌≡◌, ◌≤◌, ℕ, ℤ}
+use Rattle.std.specs.Prelude.{IsSomeAnd, List, Option, length, map, ◌+◌, ◌++◌, ℕ, ℤ}
 use Rattle.std.specs.Global.{Vec}
-use Rattle.std.specs.List.{flat_map}
 use Rattle.std.proofs.Common.{ap, arith, ◌∙◌, subst, sym}
 use Rattle.snd_base.specs.declared.places.Segment.{Segment}
 use Rattle.lab_run.specs.Items.{held_of}
 use Rattle.lab_run.specs.LabRun.{all_runs, all_segments, recorded_from}
-use Rattle.lab_run.specs.ReportSize.{IsWithinRows, StagesAreWithinRows}
 use Rattle.lab_run.specs.Stage.{Session, Stage}
 use Rattle.lab_card.specs.declared.card.CardActor.{CardActor}
 use Rattle.lab_clients.specs.End.{all_segments-listed}

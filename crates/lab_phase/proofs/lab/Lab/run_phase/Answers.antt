@@ -40,7 +40,8 @@ do_lines-requires-clause-next g c κs within = c.requires.next
 
 pub returns-in_err-reserve-clause-kept : goal.returns-in_err-reserve-clause-kept
 returns-in_err-reserve-clause-kept g c =
-    OnErr-always _ (IsSameLab-room c.args.self.now c.reserve.new.self c.args.self.now.room c.reserve.ensures.items (λ rows readers has. has) c.requires.at.stage c.requires.at.at)
+    OnErr-always _
+    (IsSameLab-room c.args.self.now c.reserve.new.self c.args.self.now.room c.reserve.ensures.items (λ rows readers has. has) c.requires.at.stage c.requires.at.at)
 
 pub returns-in_err-reserve-2-clause-kept : goal.returns-in_err-reserve-2-clause-kept
 returns-in_err-reserve-2-clause-kept g c =
@@ -48,7 +49,8 @@ returns-in_err-reserve-2-clause-kept g c =
 
 pub returns-in_err-do_lines-clause-kept : goal.returns-in_err-do_lines-clause-kept
 returns-in_err-do_lines-clause-kept g c =
-    OnErr-always _ (IsSameLab-after c.args.self.now c.reserve.new.self c.reserve-2.new.self c.reserve.ensures.items c.reserve-2.ensures.kept c.do_lines.new.self c.in_err-do_lines.ensures.kept)
+    OnErr-always _
+    (IsSameLab-after c.args.self.now c.reserve.new.self c.reserve-2.new.self c.reserve.ensures.items c.reserve-2.ensures.kept c.do_lines.new.self c.in_err-do_lines.ensures.kept)
 
 pub returns-clause-does : goal.returns-clause-does
 returns-clause-does g c =

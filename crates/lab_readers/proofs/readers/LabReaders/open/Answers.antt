@@ -1,7 +1,12 @@
-use Rattle.std.proofs.Common.{refl}
+use Rattle.std.proofs.Common.{◌≡◌, ◌∙◌, ap, refl, slice_set}
+use Rattle.std.proofs.lemmas.List.{set-get_or}
+use Rattle.std.proofs.lemmas.Result.{on_err_weaker}
 use Rattle.std.specs.Option.{option_copied}
 use Rattle.std.specs.Vec.{with_item}
 use Rattle.lab_readers.specs.declared.readers.LabReaders.{LabReaders}
+use Rattle.lab_readers.specs.AtStage.{readers_of}
+use Rattle.lab_readers.specs.Kept.{IsLaterSpare-same}
+use Rattle.lab_readers.specs.Opening.{AreAt-same}
 use Rattle.lab_readers.proofs.Openings.{opened-ok}
 use Rattle.lab_readers.proofs.readers.LabReaders.open.Goals as goal
 
@@ -10,4 +15,14 @@ returns-clause-opened c =
     let before : LabReaders = c.args.self.now in let reader = c.open_reader.new.reader in
     let after : LabReaders = record { seat = c.open_reader.new.spare; readers = with_item before.readers c.args.number reader } in
     opened-ok before after c.args.number c.args.phase c.index_mut.result.now reader (option_copied c.args.opening) c.open_reader.result c.index_mut.ensures.value c.requires.number
-    (record { card = c.open_reader.ensures.spare; readers = refl }) c.open_reader.ensures.opening
+    (record { card = IsLaterSpare-same before.seat c.open_reader.new.spare c.open_reader.ensures.spare; readers = refl }) c.open_reader.ensures.opening
+
+pub returns-clause-err : goal.returns-clause-err
+returns-clause-err c =
+    let before : LabReaders = c.args.self.now in let reader = c.open_reader.new.reader in
+    let after : LabReaders = record { seat = c.open_reader.new.spare; readers = with_item before.readers c.args.number reader } in
+    on_err_weaker c.open_reader.result
+    (λ (same : reader ≡ c.index_mut.result.now). λ session capture xs are.
+    AreAt-same session capture xs before after (IsLaterSpare-same before.seat c.open_reader.new.spare c.open_reader.ensures.spare)
+    (ap (slice_set (readers_of before) c.args.number) (same ∙ c.index_mut.ensures.value) ∙ set-get_or (readers_of before) c.args.number c.index_mut.result.now) are)
+    c.open_reader.ensures.err
