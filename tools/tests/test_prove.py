@@ -1,4 +1,5 @@
-"""In what order the crates of a first build are proved, and where they are not, with a stand-in for rt."""
+"""In what order the crates of a build are proved, what is taken from an earlier one, and what is said, with a stand-in for rt."""
+import fcntl
 import os
 import subprocess
 import sys
@@ -18,14 +19,100 @@ dmixlab: top
 beside: top
 """
 
-# it says where its kit is, and notes each crate that it is called for; the one that FAILS names fails
-RT = """#!/bin/sh
-[ "$1" != doc ] || { echo "$KIT/START-HERE.md"; exit; }
-name=$(basename "$PWD")
-case $PWD in *lanes-*) echo "$name" >>"$CALLS" ;; *) echo "at the root: $name" >>"$CALLS" ;; esac
-echo "$name was checked"
-[ "$name" != "$FAILS" ]
-"""
+# it notes each crate that is proved and by how many jobs; the crate that FAILS names isn't
+RT = '''import os
+import shutil
+import types
+
+KIT = "/kit"
+
+
+class Crate:
+    def __init__(self, root, name, deps):
+        self.name, self.folder, self.deps = name, f"{root}/crates/{name}", deps
+        self.rlib, self.is_program = f"{self.folder}/out/rlib/{name}.rlib", name == "dmixlab"
+
+    def below(self):
+        return list(dict.fromkeys(one for it in self.deps for one in [*it.below(), it]))
+
+    def words(self, flags, keeps):
+        return [f"keeps={keeps}", *flags]
+
+    def call(self, *words):
+        with open(os.environ["CALLS"], "a") as file:
+            file.write(f"{self.name} {' '.join(words[:5])}\\n")
+        print(f"{self.name} was checked", file=self.out)
+        if self.name == os.environ["FAILS"]:
+            return 1
+        with open(f"{self.folder}/{words[-1]}" if self.is_program else words[-1], "w") as file:
+            file.write(self.name)
+        return 0
+
+    def link(self, made, program):
+        shutil.copy(f"{self.folder}/{made}", f"{self.folder}/{program}")
+        return 0
+
+
+class Kept:
+    def __init__(self, crates):
+        self.at, self.rlibs, self.marks, self.used = os.environ["GATE"], {}, {}, set()
+        self.is_full = os.environ["FULL"] == "yes"
+
+    def key(self, crate):
+        with open(f"{crate.folder}/src/lib.rt") as file:
+            return "-".join([file.read().strip(), *[self.rlibs[it.name] for it in crate.below()]])
+
+    def give(self, crate, tests, key):
+        at = f"{self.at}/{crate.name}-{key}"
+        if not os.path.exists(at):
+            return False
+        self.used.add(at)
+        os.makedirs(os.path.dirname(crate.rlib), exist_ok=True)
+        shutil.copy(at, crate.rlib)
+        return True
+
+    def is_built(self, crate):
+        self.rlibs[crate.name] = crate.name
+
+    def keep(self, crate, tests, key):
+        self.used.add(f"{self.at}/{crate.name}-{key}")
+        shutil.copy(crate.rlib, f"{self.at}/{crate.name}-{key}")
+
+
+def crates_of(root):
+    made = {}
+    with open(f"{root}/crates.txt") as file:
+        lines = dict((it.split()[0].rstrip(":"), it.partition(":")[2].split()) for it in file)
+
+    def crate(name):
+        if name not in made:
+            made[name] = Crate(root, name, [crate(it) for it in lines[name] if it in lines])
+        return made[name]
+
+    return [crate(it) for it in lines]
+
+
+def handles_of(root):
+    return ()
+
+
+def need(crate):
+    return int(os.environ["NEED"])
+
+
+def free():
+    return 1000
+
+
+def processors():
+    return 4
+
+
+clear = os.remove
+rtlib = types.SimpleNamespace(Crate=Crate, RATTLE="rattle", guarded=lambda: ())
+'''
+
+SHELL_RT = "#!/bin/sh\nexit 4\n"
 
 
 class Prove(unittest.TestCase):
@@ -33,60 +120,102 @@ class Prove(unittest.TestCase):
         self.room = tempfile.TemporaryDirectory()
         self.addCleanup(self.room.cleanup)
         self.at = os.path.realpath(self.room.name)
-        os.makedirs(f"{self.at}/bin")
-        os.makedirs(f"{self.at}/kits/kit")
         for name in ("low", "wide", "middle", "top", "dmixlab", "beside"):
-            os.makedirs(f"{self.at}/repo/crates/{name}/src")
             self.write(f"repo/crates/{name}/src/lib.rt", "fn f() {}\n")
         self.write("repo/crates.txt", CRATES)
         self.write("repo/HANDLES", "Handles allowed: none.\n")
         self.write("bin/rt", RT)
         os.chmod(f"{self.at}/bin/rt", 0o755)
+        os.makedirs(f"{self.at}/gate")
+        self.out = f"{self.at}/repo/crates/dmixlab/out"
 
     def write(self, name, text):
+        os.makedirs(os.path.dirname(f"{self.at}/{name}"), exist_ok=True)
         with open(f"{self.at}/{name}", "w", encoding="utf-8") as file:
             file.write(text)
 
-    def run_it(self, **variables):
+    def read(self, name):
+        with open(f"{self.at}/{name}", encoding="utf-8") as file:
+            return file.read()
+
+    def start(self, **variables):
         words = [sys.executable, f"{ROOT}/tools/prove.py", f"{self.at}/repo", f"{self.at}/log"]
         path = f"{self.at}/bin:{os.environ['PATH']}"
-        variables = {"PATH": path, "CALLS": f"{self.at}/calls", "KIT": f"{self.at}/kits/kit", "FAILS": "", **variables}
-        return subprocess.run(words, env=variables, capture_output=True, text=True, check=True)
+        self.write("calls", "")
+        variables = {"PATH": path, "CALLS": f"{self.at}/calls", "GATE": f"{self.at}/gate", "NEED": "1", "FULL": "", "FAILS": "", **variables}
+        return subprocess.Popen(words, env=variables, stdout=subprocess.PIPE, stderr=subprocess.PIPE, text=True)
 
-    def calls(self):
-        if not os.path.exists(f"{self.at}/calls"):
-            return []
-        with open(f"{self.at}/calls", encoding="utf-8") as file:
-            return file.read().splitlines()
+    def run_it(self, **variables):
+        """Builds, and returns what is said and the crates that were proved, each with its first words."""
+        ran = self.start(**variables)
+        _, ran.said = ran.communicate()
+        return ran, self.read("calls").splitlines()
 
     def test_a_line_gives_the_crates_of_the_repository_that_a_crate_uses(self):
         uses = prove.uses_of(prove.lines_of(f"{self.at}/repo"))
         self.assertEqual(uses["middle"], ["low"])
         self.assertEqual(prove.below(uses, "dmixlab"), {"low", "wide", "middle", "top"})
 
-    @unittest.skipIf(prove.number_of_lanes() < 2, "one lane alone")
     def test_each_crate_is_proved_once_and_after_those_that_it_uses(self):
-        said = self.run_it().stderr.splitlines()
-        calls = self.calls()
-        self.assertEqual(sorted(calls[:4]), ["low", "middle", "top", "wide"])
-        self.assertLess(calls.index("low"), calls.index("middle"))
-        self.assertEqual(calls[3:], ["top", "at the root: top"])
-        self.assertEqual(said[3], "dmixlab: top: proved, 4 of 4")
-        with open(f"{self.at}/log", encoding="utf-8") as file:
-            self.assertIn("== middle\nmiddle was checked\n", file.read())
-        self.assertEqual(os.listdir(f"{self.at}/repo/crates/dmixlab/out"), [])
+        ran, calls = self.run_it()
+        names = [it.split()[0] for it in calls]
+        self.assertEqual((ran.returncode, sorted(names[:3]), names[3:]), (0, ["low", "middle", "wide"], ["top", "dmixlab"]))
+        self.assertLess(names.index("low"), names.index("middle"))
+        self.assertEqual(ran.said.splitlines()[4], "dmixlab: dmixlab: proved, 5 of 5")
+        self.assertIn("== middle\nmiddle was checked\n", self.read("log"))
 
-    @unittest.skipIf(prove.number_of_lanes() < 2, "one lane alone")
-    def test_what_is_above_a_crate_that_fails_is_left(self):
-        ran = self.run_it(FAILS="middle")
-        self.assertNotIn("top", self.calls())
-        self.assertNotIn("middle: proved", ran.stderr)
-
-    @unittest.skipIf(os.geteuid() == 0, "root may write everywhere")
-    def test_nothing_is_done_where_nothing_can_be_kept(self):
-        os.chmod(f"{self.at}/kits", 0o555)
+    def test_the_program_is_beside_its_libraries_and_nothing_else(self):
+        self.write("repo/crates/dmixlab/out/build-of-a-killed-one/crates.txt", CRATES)
         self.run_it()
-        self.assertEqual(self.calls(), [])
+        self.assertEqual(self.read("repo/crates/dmixlab/out/dmixlab"), "dmixlab")
+        self.assertEqual(sorted(os.listdir(self.out)), ["dmixlab", "libraries"])
+
+    def test_a_later_build_proves_what_changed_and_the_program(self):
+        self.run_it()
+        self.write("repo/crates/middle/src/lib.rt", "fn g() {}\n")
+        ran, calls = self.run_it()
+        self.assertEqual([it.split()[0] for it in calls], ["middle", "dmixlab"])
+        self.assertEqual(ran.said.splitlines()[4], "dmixlab: dmixlab: proved, 5 of 5")
+        kept = os.listdir(f"{self.out}/libraries")
+        self.assertEqual(sorted(it.split("-")[0] for it in kept), ["low", "middle", "top", "wide"])
+
+    def test_what_the_gate_kept_is_taken(self):
+        self.write("gate/low-fn f() {}", "low")
+        self.assertEqual(sorted(it.split()[0] for it in self.run_it()[1]), ["dmixlab", "middle", "top", "wide"])
+        self.assertEqual(len(os.listdir(f"{self.out}/libraries")), 4)
+
+    def test_one_crate_alone_has_all_processors_where_memory_allows(self):
+        self.assertIn("top rattle build keeps=False --jobs 4", self.run_it()[1])
+
+    def test_one_crate_is_proved_at_a_time_by_one_job_where_memory_is_short(self):
+        calls = self.run_it(NEED="800")[1]
+        self.assertEqual([it.split()[-1] for it in calls], ["1"] * 5)
+
+    def test_what_was_said_of_a_crate_that_is_not_proved_ends_the_log(self):
+        ran, calls = self.run_it(FAILS="middle")
+        self.assertEqual(ran.returncode, prove.NOT_PROVED)
+        self.assertNotIn("top", [it.split()[0] for it in calls])
+        self.assertNotIn("middle: proved", ran.said)
+        self.assertTrue(self.read("log").endswith("== middle\nmiddle was checked\n"))
+        self.assertEqual(os.listdir(self.out), ["libraries"])
+
+    def test_a_disk_that_is_almost_full_is_said(self):
+        self.assertIn("the disk is almost full", self.run_it(FULL="yes")[0].said)
+        self.assertNotIn("the disk is almost full", self.run_it()[0].said)
+
+    def test_a_second_build_waits_for_the_first(self):
+        os.makedirs(self.out)
+        held = os.open(self.out, os.O_RDONLY)
+        fcntl.flock(held, fcntl.LOCK_EX)
+        second = self.start()
+        self.assertEqual(second.stderr.readline(), "dmixlab: waiting for another build of the program to end\n")
+        os.close(held)
+        self.assertIn("dmixlab: dmixlab: proved, 5 of 5", second.communicate()[1])
+
+    def test_an_rt_of_another_kind_is_said(self):
+        self.write("bin/rt", SHELL_RT)
+        ran, calls = self.run_it()
+        self.assertEqual((ran.returncode, calls, ran.said), (prove.UNKNOWN_RT, [], ""))
 
 
 if __name__ == "__main__":
