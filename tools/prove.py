@@ -22,6 +22,7 @@ from concurrent.futures import FIRST_COMPLETED, Future, wait
 
 PROGRAM, ROOM = "dmixlab", "build-"
 NOT_PROVED, UNKNOWN_RT = 1, 3
+USED_OF_RT = ("KIT", "Kept", "clear", "crates_of", "free", "handles_of", "need", "processors", "rtlib")
 # what a crate states that another uses is read in the time in which so many bytes of functions are proved
 LIBRARY_SIZE = 1000
 # a chain of crates is long that has so much of the longest one's work
@@ -268,11 +269,12 @@ def main(root, log):
     path = shutil.which("rt")
     try:
         rt = load(os.path.realpath(path))
-        needed = (rt.Kept, rt.crates_of, rt.handles_of, rt.need, rt.free, rt.processors, rt.rtlib.guarded)
     except (AttributeError, ImportError, OSError, SyntaxError, TypeError, ValueError):
         return UNKNOWN_RT
+    if not all(hasattr(rt, it) for it in USED_OF_RT):
+        return UNKNOWN_RT
     with open(log, "a", encoding="utf-8") as file:
-        return 0 if all(map(callable, needed)) and build_program(rt, root, file) else NOT_PROVED
+        return 0 if build_program(rt, root, file) else NOT_PROVED
 
 
 if __name__ == "__main__":
