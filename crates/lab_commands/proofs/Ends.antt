@@ -1,6 +1,6 @@
 -- Exit statuses 2 and 3 come exactly where their causes do, and how a call ends where nothing fails.
-use Rattle.std.proofs.Common.{◌≡◌, ◌⊎◌, ℕ, ap, refl, subst, inl, inr, List, arith}
-use Rattle.std.specs.Prelude.{Option, Some, None, IsSome, Result, Ok, Err}
+use Rattle.std.proofs.Common.{◌≡◌, ◌≢◌, ◌⊎◌, ℕ, ap, refl, subst, inl, inr, List, arith}
+use Rattle.std.specs.Prelude.{Option, Some, None, IsSome, Result, Ok, Err, IfErr}
 use Rattle.wav_io.specs.declared.error.WavError.{WavError}
 use Rattle.lab_shelf.specs.Files.{Files}
 use Rattle.lab_shelf.specs.Counts.{Rose}
@@ -8,7 +8,7 @@ use Rattle.lab_stop.specs.declared.stop.Stop.{Stop}
 use Rattle.lab_stop.specs.declared.stop.Stop.TheVariants.{Words, Script, Conf, Wav, Read, Write, Memory}
 use Rattle.lab_commands.specs.Words.{Form, form_of}
 use Rattle.lab_stop.specs.Causes.{Cause, wav_refused}
-use Rattle.lab_stop.specs.Stops.{status_of, EndsOf, EndsReliably, Refuses, InputFaults}
+use Rattle.lab_stop.specs.Stops.{status_of, EndsOf, EndsReliably, IsWriteStop, Refuses, InputFaults, OutputFaults, WriteFaults}
 use Rattle.lab_commands.specs.Top.{cause_in, ComesExactly, EndsWell, IsConfRefused, IsScriptRefused}
 
 -- words without a form have no cause
@@ -86,3 +86,59 @@ status_of-reliable (Err (Read name)) words files ends refuses reliable =
 status_of-reliable (Err Write) words files ends refuses reliable = absurd reliable
 status_of-reliable (Err Memory) words files ends refuses reliable =
     record { reads = λ is. absurd (omega arith); writes = λ is. omega arith; valid = λ given. inr refl }
+
+-- how a command ends that read all and then writes
+pub EndsOf-written : {X : Type 0} (r : Result X Stop) (first : Option Cause) → IfErr r IsWriteStop → first ≡ None → EndsOf r first
+EndsOf-written (Ok x) first only none = none
+EndsOf-written (Err Words) first only none = absurd only
+EndsOf-written (Err (Script error)) first only none = absurd only
+EndsOf-written (Err (Conf error)) first only none = absurd only
+EndsOf-written (Err (Wav name why)) first only none = absurd only
+EndsOf-written (Err (Read name)) first only none = absurd only
+EndsOf-written (Err Write) first only none = none
+EndsOf-written (Err Memory) first only none = tt
+
+-- how it ends over reliable files and a reliable output
+pub EndsReliably-written : {X : Type 0} (r : Result X Stop) (first : Option Cause) → IfErr r IsWriteStop → r ≢ Err Write → EndsReliably r first
+EndsReliably-written (Ok x) first only never = tt
+EndsReliably-written (Err Words) first only never = absurd only
+EndsReliably-written (Err (Script error)) first only never = absurd only
+EndsReliably-written (Err (Conf error)) first only never = absurd only
+EndsReliably-written (Err (Wav name why)) first only never = absurd only
+EndsReliably-written (Err (Read name)) first only never = absurd only
+EndsReliably-written (Err Write) first only never = never refl
+EndsReliably-written (Err Memory) first only never = tt
+
+-- it refuses no words
+pub Refuses-written : {X Y : Type 0} (r : Result X Stop) (form : Y) → IfErr r IsWriteStop → Refuses r (Some form)
+Refuses-written (Ok x) form only = refl
+Refuses-written (Err Words) form only = absurd only
+Refuses-written (Err (Script error)) form only = absurd only
+Refuses-written (Err (Conf error)) form only = absurd only
+Refuses-written (Err (Wav name why)) form only = absurd only
+Refuses-written (Err (Read name)) form only = absurd only
+Refuses-written (Err Write) form only = refl
+Refuses-written (Err Memory) form only = refl
+
+-- it stops at no fetch
+pub InputFaults-written : {X : Type 0} (r : Result X Stop) (before now : ℕ) → IfErr r IsWriteStop → InputFaults r before now
+InputFaults-written (Ok x) before now only = tt
+InputFaults-written (Err Words) before now only = absurd only
+InputFaults-written (Err (Script error)) before now only = absurd only
+InputFaults-written (Err (Conf error)) before now only = absurd only
+InputFaults-written (Err (Wav name why)) before now only = absurd only
+InputFaults-written (Err (Read name)) before now only = absurd only
+InputFaults-written (Err Write) before now only = tt
+InputFaults-written (Err Memory) before now only = tt
+
+-- it stops at a write only where the output failed
+pub OutputFaults-written : {X : Type 0} (r : Result X Stop) (writes writes_now before now : ℕ) → IfErr r IsWriteStop → WriteFaults r before now
+    → OutputFaults r writes writes_now before now
+OutputFaults-written (Ok x) writes writes_now before now only faults = tt
+OutputFaults-written (Err Words) writes writes_now before now only faults = absurd only
+OutputFaults-written (Err (Script error)) writes writes_now before now only faults = absurd only
+OutputFaults-written (Err (Conf error)) writes writes_now before now only faults = absurd only
+OutputFaults-written (Err (Wav name why)) writes writes_now before now only faults = absurd only
+OutputFaults-written (Err (Read name)) writes writes_now before now only faults = absurd only
+OutputFaults-written (Err Write) writes writes_now before now only faults = inr faults.1
+OutputFaults-written (Err Memory) writes writes_now before now only faults = tt

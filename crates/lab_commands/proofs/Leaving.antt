@@ -1,5 +1,5 @@
 -- How a command ends whose parts read, run and write.
-use Rattle.std.proofs.Common.{◌≡◌, ◌∙◌, ◌⊎◌, ℕ, List, ap, subst, inl, inr}
+use Rattle.std.proofs.Common.{◌≡◌, ◌∙◌, ◌⊎◌, ◌++◌, ℕ, List, ap, subst, inl, inr}
 use Rattle.std.specs.Prelude.{Option, Some, Result, Ok, Err, IfErr, OnOk, OnErr}
 use Rattle.std.specs.Option.{ForSome, option_map}
 use Rattle.wav_io.specs.Sound.{Sound}
@@ -8,19 +8,20 @@ use Rattle.lab_input.specs.Input.{RunInput, input_in}
 use Rattle.lab_phase.specs.PhaseRuns.{Stops}
 use Rattle.lab_play.specs.Played.{HasPlayed, HasPlayedPart, IsUntouched}
 use Rattle.lab_play.specs.Playing.{HasStopped}
+use Rattle.lab_refine.specs.Answered.{IsAnswerTo}
 use Rattle.lab_run.specs.LabRun.{Outcome}
 use Rattle.lab_run.specs.Openings.{IsSessionOf}
 use Rattle.lab_run.specs.Stage.{Session}
 use Rattle.lab_script.specs.declared.line.Item.{Item}
 use Rattle.lab_script.specs.declared.script.Script.{Script as ScriptOf}
 use Rattle.lab_script.specs.Limits.{IsScript}
-use Rattle.lab_shelf.specs.Files.{Files}
+use Rattle.lab_shelf.specs.Files.{Files, TookPart}
 use Rattle.lab_stop.specs.declared.stop.Stop.{Stop}
 use Rattle.lab_stop.specs.declared.stop.Stop.TheVariants.{Words, Script, Conf, Wav, Read, Write, Memory}
 use Rattle.lab_stop.specs.Stops.{IsWriteStop}
 use Rattle.lab_make.specs.declared.workload.Workload.{Workload}
 use Rattle.lab_workload.specs.Made.{IsMade, IsMadePart}
-use Rattle.lab_commands.specs.Words.{make, run}
+use Rattle.lab_commands.specs.Words.{make, refine, run}
 use Rattle.lab_commands.specs.Run.{HasFinished, IsUnfinished}
 use Rattle.lab_commands.specs.Top.{CommandLeaves}
 
@@ -78,3 +79,19 @@ CommandLeaves-made w gates before after taken taken_after (Err (Wav name why)) o
 CommandLeaves-made w gates before after taken taken_after (Err (Read name)) only done part = absurd only
 CommandLeaves-made w gates before after taken taken_after (Err Write) only done part = part
 CommandLeaves-made w gates before after taken taken_after (Err Memory) only done part = part
+
+-- what a call leaves that puts answers
+pub CommandLeaves-answered : (name text : List ℕ) (gates : Stops) (before after : Option Files) (taken taken_after : Option (List ℕ)) (r : Result (Unit {0}) Stop)
+    → IfErr r IsWriteStop → IsAnswerTo before name text → after ≡ before → OnOk r (taken_after ≡ option_map (λ t. t ++ text) taken)
+    → OnErr r (TookPart taken taken_after text)
+    → CommandLeaves r (Some (refine name)) gates before after taken taken_after
+CommandLeaves-answered name text gates before after taken taken_after (Ok x) only answers files put part = record { text = text; answers = answers; files = files; put = put }
+CommandLeaves-answered name text gates before after taken taken_after (Err Words) only answers files put part = absurd only
+CommandLeaves-answered name text gates before after taken taken_after (Err (Script error)) only answers files put part = absurd only
+CommandLeaves-answered name text gates before after taken taken_after (Err (Conf error)) only answers files put part = absurd only
+CommandLeaves-answered name text gates before after taken taken_after (Err (Wav file why)) only answers files put part = absurd only
+CommandLeaves-answered name text gates before after taken taken_after (Err (Read file)) only answers files put part = absurd only
+CommandLeaves-answered name text gates before after taken taken_after (Err Write) only answers files put part =
+    inr (record { text = text; answers = answers; files = files; put = part })
+CommandLeaves-answered name text gates before after taken taken_after (Err Memory) only answers files put part =
+    inr (record { text = text; answers = answers; files = files; put = part })

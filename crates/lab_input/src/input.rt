@@ -18,11 +18,21 @@ const SCRIPT_MOST: u64 = 1_048_577;
 
 /// What a run reads: its script, the sound of the WAV file that its card captures, where the script
 /// names one, and its clients' sounds in the order of their lines.
-#[derive(Drop)]
 pub struct Input {
     pub script: Script,
     pub capture: Option<Wav>,
     pub wavs: Vec<Wav>,
+}
+
+// One call wherever an input is let go. A derive drops each part in turn there, and the proof goes through all of them.
+impl Drop for Input {
+    fn drop(self) {
+        let Input {
+            script: _,
+            capture: _,
+            wavs: _,
+        } = self;
+    }
 }
 
 /// Reads what a run of the script in the file `name` needs, and writes nothing: the script, then the

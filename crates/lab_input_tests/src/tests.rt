@@ -81,7 +81,7 @@ fn the_capture_file_is_read_and_then_each_client_s(rt: HostRuntime) -> Result<()
             (b"c.wav", &c),
         ],
     )?;
-    let capture = read.capture.ok_or("the card captures a file")?;
+    let capture = read.capture.as_ref().ok_or("the card captures a file")?;
     assert_eq!(rt; capture.samples.as_slice(), [30i16, 30, 30].as_slice());
     assert_eq!(rt; read.wavs.len(), 2);
     assert_eq!(rt; read.wavs[0].samples.as_slice(), [10i16].as_slice());

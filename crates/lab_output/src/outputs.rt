@@ -27,7 +27,7 @@ use std::alloc::Global;
 /// The calls come in this order: `begin` and `put_head` once all input is read; at the end of each phase
 /// `append` for each file, in their order, and then `put_rows`; and at the end `finish`, and then
 /// `put_tail`. A call that has no byte to append or to put asks nothing of the shelf or the sink.
-#[derive(Debug, Drop)]
+#[derive(Debug)]
 pub struct Outputs {
     /// The files, in the order in which they are written.
     pub files: Vec<OutputFile>,
@@ -35,6 +35,17 @@ pub struct Outputs {
     pub samples: Vec<usize>,
     /// How many rows of the report were put.
     pub rows: usize,
+}
+
+// One call wherever it is let go. A derive drops each part in turn there, and the proof goes through all of them.
+impl Drop for Outputs {
+    fn drop(self) {
+        let Outputs {
+            files: _,
+            samples: _,
+            rows: _,
+        } = self;
+    }
 }
 
 /// What a run of a script writes, before anything of it is written. The only error is `Stop::Memory`.

@@ -18,11 +18,21 @@ use lab_run::reports_are_within_rows;
 use snd_base::Segment;
 
 /// What a run leaves: its report, the samples that the card played, and each reader's samples, all interleaved.
-#[derive(Drop)]
 pub struct Outcome {
     pub report: Report,
     pub played: Vec<i16>,
     pub recorded: Vec<Vec<i16>>,
+}
+
+// One call wherever an outcome is let go. A derive drops each part in turn there, and the proof goes through all of them.
+impl Drop for Outcome {
+    fn drop(self) {
+        let Outcome {
+            report: _,
+            played: _,
+            recorded: _,
+        } = self;
+    }
 }
 
 /// The first frame of a card, and how many frames it played since.

@@ -84,11 +84,10 @@ pub fn play<R: Threads + Sync, S: Shelf, K: Sink, G: Gate + Send>(
         → result ≢ Err stops.Write }
 {
     let script = &input.script;
-    let geometry = ring_of(&script.card);
-    let mut sum = sum_ring(alloc, geometry, script.card.places)?;
-    let mut snoop = snoop_ring(alloc, geometry)?;
-    let (player, mix) = sum.seats();
-    let (writer, reader) = snoop.seats();
+    let outputs = outputs_of(alloc, script, name)?;
+    let mut rings = rings_of(alloc, ring_of(&script.card), script.card.places)?;
+    let (player, mix) = rings.sum.seats();
+    let (writer, reader) = rings.snoop.seats();
     let lab = match Lab::new(
         alloc,
         script,
@@ -102,8 +101,35 @@ pub fn play<R: Threads + Sync, S: Shelf, K: Sink, G: Gate + Send>(
         Ok(lab) => lab,
         Err(_) => return Err(Stop::Memory),
     };
-    let outputs = outputs_of(alloc, script, name)?;
     play_all(rt, alloc, script, lab, outputs, shelf, out, gates)
+}
+
+/// The rings of a card.
+struct Rings {
+    /// What clients place.
+    sum: SumRing,
+    /// What the card captures.
+    snoop: SnoopRing,
+}
+
+// One call wherever it is let go. A derive drops each part in turn there, and the proof goes through all of them.
+impl Drop for Rings {
+    fn drop(self) {
+        let Rings { sum: _, snoop: _ } = self;
+    }
+}
+
+/// The rings of a card, with nothing placed and nothing captured.
+fn rings_of(alloc: Global, geometry: Geometry, places: u32) -> Result<Rings, Stop>
+    requires least { 1 ≤ places }
+    requires most { places ≤ 64 }
+    ensures sum { IfOk result (λ rings. sum.IsNewRing rings.sum geometry places) }
+    ensures snoop { IfOk result (λ rings. snoop.IsNewRing rings.snoop geometry) }
+    ensures only { IfErr result (λ stop. stop ≡ stops.Memory) }
+{
+    let sum = sum_ring(alloc, geometry, places)?;
+    let snoop = snoop_ring(alloc, geometry)?;
+    Ok(Rings { sum, snoop })
 }
 
 /// The sum ring of a card, with nothing placed.

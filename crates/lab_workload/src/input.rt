@@ -15,12 +15,18 @@ use lab_stop::Stop;
 use std::alloc::Global;
 
 /// What a run of a workload reads, and the text of its script.
-#[derive(Drop)]
 pub(crate) struct MadeInput {
     /// The script and the clients' sounds.
     pub(crate) input: Input,
     /// The script's text.
     pub(crate) text: Vec<u8>,
+}
+
+// One call wherever it is let go. A derive drops each part in turn there, and the proof goes through all of them.
+impl Drop for MadeInput {
+    fn drop(self) {
+        let MadeInput { input: _, text: _ } = self;
+    }
 }
 
 /// What a run of a workload reads, made in memory. The only error is `Stop::Memory`.

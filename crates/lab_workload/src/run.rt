@@ -22,12 +22,21 @@ use std::marker::{Send, Sync};
 use std::thread::Threads;
 
 /// What a run of a workload leaves, and the text of its report.
-#[derive(Drop)]
 pub(crate) struct MadeRun {
     /// The report, and what the card played.
     pub(crate) outcome: Outcome,
     /// The text of the report.
     pub(crate) report: Vec<u8>,
+}
+
+// One call wherever it is let go. A derive drops each part in turn there, and the proof goes through all of them.
+impl Drop for MadeRun {
+    fn drop(self) {
+        let MadeRun {
+            outcome: _,
+            report: _,
+        } = self;
+    }
 }
 
 /// Runs an input, writes the run's files, of which `made.wav` is the first, and keeps the text of the

@@ -1,0 +1,33 @@
+use Rattle.std.specs.Prelude.{◌≡◌, ◌++◌, ℕ, List, Option, OnErr, OnOk, string_bytes}
+use Rattle.std.specs.Option.{option_map}
+use Rattle.std.proofs.Common.{subst}
+use Rattle.lab_shelf.specs.Files.{Files, TookPart}
+use Rattle.lab_commands.proofs.Ends.{EndsOf-written, EndsReliably-written, InputFaults-written, OutputFaults-written, Refuses-written}
+use Rattle.lab_commands.proofs.Leaving.{CommandLeaves-answered}
+use Rattle.lab_commands.proofs.commands.refine_command.Goals as goal
+
+pub returns-clause-leaves : goal.returns-clause-leaves
+returns-clause-leaves g c gates =
+    let before : Option Files = g.S.Shelf.files c.args.shelf.now in
+    let after : Option Files = g.S.Shelf.files c.refine_file.new.shelf in
+    let taken : Option (List ℕ) = g.K.Sink.taken c.args.out.now in
+    let taken_after : Option (List ℕ) = g.K.Sink.taken c.put.new.out in
+    CommandLeaves-answered c.args.name.now (string_bytes c.in_ok-text.text) gates before after taken taken_after c.put.result c.put.ensures.only c.in_ok-text.ensures.answers
+    c.refine_file.ensures.files
+    (subst (λ (bytes : List ℕ). OnOk c.put.result (taken_after ≡ option_map (λ t. t ++ bytes) taken)) c.as_bytes.ensures.value c.put.ensures.taken)
+    (subst (λ (bytes : List ℕ). OnErr c.put.result (TookPart taken taken_after bytes)) c.as_bytes.ensures.value c.put.ensures.text)
+
+pub returns-clause-cause : goal.returns-clause-cause
+returns-clause-cause g c files told = EndsOf-written c.put.result _ c.put.ensures.only (c.in_ok-text.ensures.cause files told)
+
+pub returns-clause-reliable : goal.returns-clause-reliable
+returns-clause-reliable g c shelf out files told = EndsReliably-written c.put.result _ c.put.ensures.only (c.put.ensures.reliable out)
+
+pub returns-clause-words : goal.returns-clause-words
+returns-clause-words g c = Refuses-written c.put.result _ c.put.ensures.only
+
+pub returns-clause-reads : goal.returns-clause-reads
+returns-clause-reads g c = InputFaults-written c.put.result _ _ c.put.ensures.only
+
+pub returns-clause-writes : goal.returns-clause-writes
+returns-clause-writes g c = OutputFaults-written c.put.result _ _ _ _ c.put.ensures.only c.put.ensures.faults

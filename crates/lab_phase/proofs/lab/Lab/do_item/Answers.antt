@@ -1,0 +1,29 @@
+use Rattle.std.proofs.Common.{sym, subst}
+use Rattle.std.specs.Prelude.{IfOk}
+use Rattle.lab_script.specs.declared.line.Item.{Item}
+use Rattle.lab_phase.specs.declared.lab.Lab.{Lab}
+use Rattle.lab_phase.specs.AtStage.{DoesRow, border_after, session_of}
+use Rattle.lab_phase.proofs.lab.Lab.do_item.Goals as goal
+
+pub returns-in-Opens-clause-does : goal.returns-in-Opens-clause-does
+returns-in-Opens-clause-does c =
+    let lab : Lab = c.args.self.now in
+    subst (λ (one : Item). IfOk c.open.result (λ row. DoesRow (λ stage. border_after (session_of lab) stage one) lab row c.open.new.self)) (sym c.in-Opens.is)
+    c.open.ensures.does
+
+pub returns-in-Opens-clause-played : goal.returns-in-Opens-clause-played
+returns-in-Opens-clause-played c = c.open.ensures.played
+
+pub returns-in-Opens-clause-kept : goal.returns-in-Opens-clause-kept
+returns-in-Opens-clause-kept c = c.open.ensures.kept
+
+pub returns-in-Opens-clause-only : goal.returns-in-Opens-clause-only
+returns-in-Opens-clause-only c = c.open.ensures.only
+
+pub returns-in-Closes-clause-does : goal.returns-in-Closes-clause-does
+returns-in-Closes-clause-does c =
+    let lab : Lab = c.args.self.now in
+    subst (λ (one : Item). DoesRow (λ stage. border_after (session_of lab) stage one) lab c.close.result c.close.new.self) (sym c.in-Closes.is) c.close.ensures.does
+
+pub returns-in-Closes-clause-played : goal.returns-in-Closes-clause-played
+returns-in-Closes-clause-played c = c.close.ensures.played
