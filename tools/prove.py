@@ -22,14 +22,14 @@ from concurrent.futures import FIRST_COMPLETED, Future, wait
 
 PROGRAM, ROOM = "dmixlab", "build-"
 NOT_PROVED, UNKNOWN_RT = 1, 3
-USED_OF_RT = ("KIT", "Kept", "clear", "crates_of", "free", "handles_of", "need", "processors", "rtlib")
+USED_OF_RT = ("KIT", "Kept", "clear", "crates_of", "free", "handles_of", "processors", "rtlib")
 # what a crate states that another uses is read in the time in which so many bytes of functions are proved
 LIBRARY_SIZE = 1000
-# a chain of crates is long that has so much of the longest one's work
-LONG = 0.8
-# a further job of a crate takes so much of what its first one takes of memory
-FURTHER_JOB = 0.6
-# some proofs take a fifth more memory than rt reckons
+# a chain of crates is long that has so much of the longest one's work; the crate that begins it is proved by so many jobs
+LONG, JOBS_OF_LONG = 0.8, 2
+# the bytes that a crate's proof holds at once, which are much the same for all crates, and those of each further job, which shares most of them
+A_PROOF, A_FURTHER_JOB = 2_000_000_000, 250_000_000
+# the rest of the memory is left to others
 PART_OF_MEMORY = 0.85
 
 
@@ -124,10 +124,6 @@ class Build:
         self.of_gate, self.own = rt.Kept(crates), rt.Kept(crates)
         self.own.at, self.own.rlibs, self.own.marks = kept_at, self.of_gate.rlibs, self.of_gate.marks
 
-    def memory(self, name, jobs):
-        """What rt reckons that the proof of a crate takes."""
-        return self.rt.need(self.crates[name]) * (1 + FURTHER_JOB * (jobs - 1))
-
     def prove(self, name, jobs, niceness):
         """Proves a crate beside others that may be more urgent, and returns whether it could."""
         os.setpriority(os.PRIO_PROCESS, threading.get_native_id(), niceness)
@@ -183,6 +179,11 @@ class Build:
         return crate.call(self.rt.rtlib.RATTLE, "build", *words, "--backend", "llvm", "-o", f"{made}.o") or crate.link(f"{made}.o", made)
 
 
+def memory_of(jobs):
+    """What the proof of a crate by so many jobs takes."""
+    return A_PROOF + A_FURTHER_JOB * (jobs - 1)
+
+
 def in_thread(call, *given):
     """Starts a call in a thread of its own, whose priority it may lower."""
     future = Future()
@@ -200,8 +201,8 @@ def in_thread(call, *given):
 def prove_all(build, uses, length, lanes, memory):
     """Proves the crates, each after those that it uses, as many at once as there are lanes and memory holds, and returns whether it could.
 
-    One that begins a long chain is proved by as many jobs as there are lanes, as others wait for it. Each of the others is proved by the
-    lanes that no other crate needs. What has less work above it gives way."""
+    Each is proved by the lanes that no other crate needs, as a further job costs more than it saves where all lanes are busy. One that begins a
+    long chain has two jobs at least, as others wait for it. What has less work above it gives way."""
     left, done, running = sorted(length, key=lambda it: -length[it]), set(), {}
     while left or running:
         ready = [it for it in left if done.issuperset(uses[it])]
@@ -209,11 +210,11 @@ def prove_all(build, uses, length, lanes, memory):
         for number, name in enumerate(ready):
             idle, room = lanes - len(running), memory - sum(it for _, it in running.values())
             part, share = length[name] / longest, max(1, idle // (len(ready) - number))
-            jobs = lanes if part >= LONG else share
-            jobs = next((it for it in range(jobs, 1, -1) if build.memory(name, it) <= room), 1)
-            if idle > 0 and (not running or build.memory(name, jobs) <= room):
+            jobs = max(share, JOBS_OF_LONG) if part >= LONG else share
+            jobs = next((it for it in range(jobs, 1, -1) if memory_of(it) <= room), 1)
+            if idle > 0 and (not running or memory_of(jobs) <= room):
                 niceness = min(19, int(40 * (1 - part)))
-                running[in_thread(build.prove, name, jobs, niceness)] = name, build.memory(name, jobs)
+                running[in_thread(build.prove, name, jobs, niceness)] = name, memory_of(jobs)
                 left.remove(name)
         if not running:
             return False

@@ -96,12 +96,8 @@ def handles_of(root):
     return ()
 
 
-def need(crate):
-    return int(os.environ["NEED"])
-
-
 def free():
-    return 1000
+    return int(os.environ["FREE"])
 
 
 def processors():
@@ -142,7 +138,7 @@ class Prove(unittest.TestCase):
         words = [sys.executable, f"{ROOT}/tools/prove.py", f"{self.at}/repo", f"{self.at}/log"]
         path = f"{self.at}/bin:{os.environ['PATH']}"
         self.write("calls", "")
-        variables = {"PATH": path, "CALLS": f"{self.at}/calls", "GATE": f"{self.at}/gate", "NEED": "1", "FULL": "", "FAILS": "", **variables}
+        variables = {"PATH": path, "CALLS": f"{self.at}/calls", "GATE": f"{self.at}/gate", "FREE": "20000000000", "FULL": "", "FAILS": "", **variables}
         return subprocess.Popen(words, env=variables, stdout=subprocess.PIPE, stderr=subprocess.PIPE, text=True)
 
     def run_it(self, **variables):
@@ -188,7 +184,7 @@ class Prove(unittest.TestCase):
         self.assertIn("top rattle build keeps=False --jobs 4", self.run_it()[1])
 
     def test_one_crate_is_proved_at_a_time_by_one_job_where_memory_is_short(self):
-        calls = self.run_it(NEED="800")[1]
+        calls = self.run_it(FREE="2000000000")[1]
         self.assertEqual([it.split()[-1] for it in calls], ["1"] * 5)
 
     def test_what_was_said_of_a_crate_that_is_not_proved_ends_the_log(self):
