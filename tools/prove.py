@@ -27,8 +27,8 @@ USED_OF_RT = ("KIT", "Kept", "clear", "crates_of", "free", "handles_of", "proces
 LIBRARY_SIZE = 1000
 # a chain of crates is long that has so much of the longest one's work; the crate that begins it is proved by so many jobs
 LONG, JOBS_OF_LONG = 0.8, 2
-# the bytes that a crate's proof holds at once, which are much the same for all crates, and those of each further job, which shares most of them
-A_PROOF, A_FURTHER_JOB = 2_000_000_000, 250_000_000
+# the most bytes that the proof of a crate holds at once, small or large, and those of each further job, which shares most of them
+A_PROOF, A_FURTHER_JOB = 2_500_000_000, 250_000_000
 # the rest of the memory is left to others
 PART_OF_MEMORY = 0.85
 
