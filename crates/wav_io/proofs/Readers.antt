@@ -13,13 +13,14 @@ use Rattle.wav_io.specs.declared.format.Depths.TheVariants.{Sixteen}
 use Rattle.wav_io.specs.declared.format.Format.{Format}
 use Rattle.wav_io.specs.declared.place.Place.{Place}
 use Rattle.wav_io.specs.declared.place.Place.TheVariants.{Opening, Head, FormatBody, DataBody, Refused}
+use Rattle.wav_io.specs.declared.scan.Part.{Part}
 use Rattle.wav_io.specs.declared.scan.Scan.{Scan}
 use Rattle.wav_io.specs.Fields.{whole, samples_of_bytes}
 use Rattle.wav_io.specs.Frames.{IsCut}
 use Rattle.wav_io.specs.Pieces.{with_front, found_from}
 use Rattle.wav_io.specs.Reading.{Contents, contents, within_limit, most_bytes, sound_of, sounds, wav_file, IsRefusal}
 use Rattle.wav_io.specs.Readers.{Reader, IsPart, error_of, rest_of, sound_to_come, wav_frame, with_samples}
-use Rattle.wav_io.specs.Scans.{to_come, refusal_of, IsScan}
+use Rattle.wav_io.specs.Scans.{to_come, refusal_of, FollowsData, IsScan}
 use Rattle.wav_io.specs.Sound.{Sound}
 use Rattle.wav_io.proofs.Bodies.{whole_frames-whole}
 use Rattle.wav_io.proofs.Limits.{limited-short, limited-long}
@@ -166,6 +167,20 @@ error_comes depths r e is more =
           let place = place_refused r.scan.place e (sym (cond-false r.starved (Some Memory) (refusal_of r.scan.place) fed) ∙ is) in
           refused_rest depths r more e fed (refused_comes depths r.scan e place more)
     ]
+
+-- a scan that goes on was at no refusal
+refusal_of-followed : (place : Place) (part : Option Part) → FollowsData place (Ok part) → refusal_of place ≡ None
+refusal_of-followed Opening part follows = refl
+refusal_of-followed (Head format skip) part follows = refl
+refusal_of-followed (FormatBody missing pad) part follows = refl
+refusal_of-followed (DataBody format missing) part follows = refl
+refusal_of-followed (Refused e) part follows = absurd follows
+
+-- whatever a reader's error implies holds where its scan goes on, since there is none
+pub error_of-followed : (P : WavError → Type 0) (r now : Reader) (part : Option Part) → r ≡ now → r.starved ≡ false → FollowsData r.scan.place (Ok part) → IfSome (error_of now) P
+error_of-followed P r now part same fed follows =
+    let none : error_of r ≡ None = cond-false r.starved (Some Memory) (refusal_of r.scan.place) fed ∙ refusal_of-followed r.scan.place part follows in
+    subst (λ (r : Reader). IfSome (error_of r) P) same (subst (λ (o : Option WavError). IfSome o P) (sym none) tt)
 
 -- ---- a file in one piece
 

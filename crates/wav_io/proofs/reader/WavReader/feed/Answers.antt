@@ -9,7 +9,7 @@ use Rattle.wav_io.specs.Pieces.{IsSoundPlace, with_front}
 use Rattle.wav_io.specs.Reading.{sounds}
 use Rattle.wav_io.specs.Readers.{Reader, sound_to_come, wav_frame, with_samples}
 use Rattle.wav_io.specs.Scans.{to_come, part_bytes, IsAfterData}
-use Rattle.wav_io.proofs.Readers.{starved_comes, refused_rest, no_data, some_data, not_refused}
+use Rattle.wav_io.proofs.Readers.{starved_comes, refused_rest, no_data, some_data, not_refused, error_of-followed}
 use Rattle.wav_io.proofs.Scans.{refused_comes}
 use Rattle.wav_io.proofs.reader.WavReader.feed.Goals as goal
 
@@ -67,3 +67,18 @@ returns-in-Err-push_part-clause-memory c _ _ =
 
 pub returns-in-Err-push_part-clause-after : goal.returns-in-Err-push_part-clause-after
 returns-in-Err-push_part-clause-after c more = ap sounds (starved_comes Sixteen _ more refl)
+
+pub returns-in-Ok-push_part-clause-again : goal.returns-in-Ok-push_part-clause-again
+returns-in-Ok-push_part-clause-again c =
+    let old : Reader = record { scan = c.self.inside.scan; part = c.self.inside.part; starved = c.self.inside.is_starved } in
+    error_of-followed _ old c.args.self.now c.in-Ok.data c.self.view_is c.if-self.false c.in-Ok.ensures.follows
+
+pub returns-in-None-clause-again : goal.returns-in-None-clause-again
+returns-in-None-clause-again c =
+    let old : Reader = record { scan = c.self.inside.scan; part = c.self.inside.part; starved = c.self.inside.is_starved } in
+    error_of-followed _ old c.args.self.now c.in-Ok.data c.self.view_is c.if-self.false c.in-Ok.ensures.follows
+
+pub returns-in-Err-push_part-clause-again : goal.returns-in-Err-push_part-clause-again
+returns-in-Err-push_part-clause-again c =
+    let old : Reader = record { scan = c.self.inside.scan; part = c.self.inside.part; starved = c.self.inside.is_starved } in
+    error_of-followed _ old c.args.self.now c.in-Ok.data c.self.view_is c.if-self.false c.in-Ok.ensures.follows
