@@ -1,5 +1,5 @@
 -- Laws of steps: they compose, and each refinement that no settled box and no configuration can miss is one.
-use Rattle.std.specs.Prelude.{◌≡◌, ◌≢◌, ◌<◌, Bool, true, false, ◌||◌, refl}
+use Rattle.std.specs.Prelude.{◌≡◌, ◌≢◌, ◌<◌, Bool, IsTrue, true, false, ◌||◌, refl}
 use Rattle.std.proofs.Common.{arith, sym, subst, ap, ◌∙◌}
 use Rattle.pcm_interval.specs.declared.interval.Interval.{Interval}
 use Rattle.pcm_interval.specs.declared.mask.Mask.{Mask}
@@ -12,7 +12,7 @@ use Rattle.hw_space.specs.declared.quantity.Quantity.{Quantity}
 use Rattle.hw_space.specs.declared.quantity.Quantity.TheVariants.{SampleBits, FrameBits, Channels, Rate, PeriodTime, PeriodSize, PeriodBytes, Periods, BufferTime, BufferSize, BufferBytes}
 use Rattle.hw_space.specs.Boxes.{part, with_part, IsBoxWithin, size_of_box}
 use Rattle.hw_space.specs.BoxLaws.{with_part-each, access-with_part, format-with_part, with_part-same, size_of_box-with_part, IsBoxWithin-refl, IsBoxWithin-trans, IsBoxWithin-with_part, with_part-IsBoxWithin}
-use Rattle.hw_space.specs.Settled.{IsSettled, Configuration, IsExact, LiesInBox, IsVoid}
+use Rattle.hw_space.specs.Settled.{IsSettled, Configuration, IsExact, LiesInBox, IsLeft, IsVoid}
 use Rattle.hw_space.specs.SettledLaws.{IsSettled-IsNormal}
 use Rattle.hw_space.specs.Proper.{IsProper}
 use Rattle.hw_space.specs.Steps.{IsBoxStep}
@@ -206,3 +206,12 @@ or_true false = refl
 pub IsBoxStep-moved : (a b d : ParamBox) (c e : Bool) → IsBoxStep a b c → IsBoxStep b d e → e ≡ true → IsBoxStep a d true
 IsBoxStep-moved a b d c true h g some = subst (IsBoxStep a d) (or_true c) (IsBoxStep-trans a b d c true h g)
 IsBoxStep-moved a b d c false h g some = absurd (cc)
+
+-- a step to a settled box leaves the greatest one
+pub IsLeft-step : (a b : ParamBox) (changed : Bool) → IsBoxStep a b changed → IsSettled b → IsLeft a b
+IsLeft-step a b changed step settled = record { greatest = record { settled = settled; within = step.within; greatest = step.settled }; configurations = step.configurations }
+
+-- a step changes the box exactly where it says so
+pub changed-IsBoxStep : (a b : ParamBox) (changed : Bool) → IsBoxStep a b changed → (IsTrue changed → b ≡ a → ⊥) × ((b ≡ a → ⊥) → IsTrue changed)
+changed-IsBoxStep a b true step = (λ is same. omega (arith, ap size_of_box same, step.moved refl), λ differs. refl)
+changed-IsBoxStep a b false step = (λ is same. absurd (cc), λ differs. absurd (differs (step.still refl)))

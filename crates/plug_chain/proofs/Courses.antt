@@ -1,5 +1,5 @@
 -- How output frames are appended.
-use Rattle.std.proofs.Common.{◌≡◌, ℕ, suc, ◌+◌, ◌-◌, ◌*◌, ◌<◌, ◌≤◌, List, [], ◌∷◌, ◌++◌, length, refl, sym, ap, ◌∙◌, arith, ℤ, append_assoc, length-append}
+use Rattle.std.proofs.Common.{◌≡◌, ℕ, zero, suc, ◌+◌, ◌-◌, ◌*◌, ◌<◌, ◌≤◌, List, [], ◌∷◌, ◌++◌, length, take, get_or, pos, refl, sym, ap, ◌∙◌, arith, ℤ, append_assoc, length-append}
 use Rattle.std.proofs.Math.Seq.{get_or-append_seam}
 use Rattle.std.proofs.lemmas.List.{append-nil}
 use Rattle.std.specs.Prelude.{slice_index_or}
@@ -126,3 +126,24 @@ IsAdvance-trans r channels a b c start course old mid new first second = record 
   at = second.at;
   appends = Appends-trans (known_samples r a) (known_samples r b) (known_samples r c) old mid new first.appends second.appends;
 }
+
+-- what is taken of a list that grew, as much as it had, is the list
+take-front : (old more : List ℤ) → take (length old) (old ++ more) ≡ old
+take-front [] more = refl
+take-front (x ∷ old) more = ap (λ (xs : List ℤ). x ∷ xs) (take-front old more)
+
+pub Extends-cut : (old mid new : List ℤ) (n : ℕ) → Extends old mid → n ≡ length old → new ≡ take n mid → new ≡ old
+Extends-cut old mid new n grows is cut =
+    cut ∙ (ap (λ (k : ℕ). take k mid) is ∙ (ap (λ (xs : List ℤ). take (length old) xs) grows.new_is ∙ take-front old grows.more))
+
+-- one sample more is taken
+take-next : (xs : List ℤ) (i : ℕ) → i < length xs → take i xs ++ get_or xs i (pos 0) ∷ [] ≡ take (suc i) xs
+take-next [] i within = absurd (omega (arith, within))
+take-next (x ∷ xs) zero within = refl
+take-next (x ∷ xs) (suc i) within = ap (λ (ys : List ℤ). x ∷ ys) (take-next xs i (omega (arith, within)))
+
+pub taken-next : (old mid new xs : List ℤ) (i : ℕ) (z : ℤ) → i < length xs → mid ≡ old ++ take i xs → new ≡ mid ++ z ∷ [] → z ≡ get_or xs i (pos 0) → new ≡ old ++ take (i + 1) xs
+taken-next old mid new xs i z within so_far grown is =
+    let next : suc i ≡ i + 1 = omega arith in
+    grown ∙ (ap (λ (ys : List ℤ). ys ++ z ∷ []) so_far ∙ (ap (λ (y : ℤ). (old ++ take i xs) ++ y ∷ []) is
+    ∙ (append_assoc old (take i xs) (get_or xs i (pos 0) ∷ []) ∙ (ap (λ (ys : List ℤ). old ++ ys) (take-next xs i within) ∙ ap (λ (k : ℕ). old ++ take k xs) next))))

@@ -2,14 +2,15 @@
 use Rattle.std.proofs.Common.{◌≡◌, ℕ, zero, suc, ◌+◌, ◌*◌, ◌-◌, ◌/◌, ◌%◌, ◌<◌, ◌≤◌, List, [], ◌∷◌, ◌++◌, length, drop, get_or, append_assoc, refl, sym, ap, subst, ◌∙◌, arith, ℤ, pos, negsuc, inl, inr}
 use Rattle.std.specs.Prelude.{◌+ℤ◌, ◌-ℤ◌, ◌*ℤ◌, ◌≤ℤ◌, ◌<ℤ◌, FitsSigned}
 use lib.IntN.{neg_ℤ}
-use Rattle.std.proofs.Math.Nat.{div-le_self, mul-le-mul_left}
+use mir.Val.{to_z}
+use Rattle.std.proofs.Math.Nat.{div-le_self, mul-le-mul, mul-le-mul_left}
 use Rattle.std.proofs.lemmas.Bool.{cases_lt}
 use Rattle.std.specs.Int.RustNames.{unsigned_abs}
 use Rattle.std.proofs.Math.Seq.{drop-cons}
-use Rattle.std.proofs.lemmas.Int.{by_lt_z, ints}
+use Rattle.std.proofs.lemmas.Int.{by_lt_z, ints, to_z-of_z}
 use Rattle.std.proofs.lemmas.Nat.{div-add-mod', div-mul-add, div_below, mod-mul-add, mod_below}
-use Rattle.std.specs.Int.{w16, div_ceil, int_div_euclid}
-use Rattle.plug_chain.specs.Rates.{on_line, frame_between}
+use Rattle.std.specs.Int.{w16, w64, div_ceil, int_div_euclid}
+use Rattle.plug_chain.specs.Rates.{IsRise, on_line, frame_between}
 
 -- a part of a number is at most the number
 part_of-le : (n part parts : ℕ) → 1 ≤ parts → part ≤ parts → n * part / parts ≤ n
@@ -162,3 +163,16 @@ div_euclid-fall (negsuc n) part parts q falls some is =
 -- its size is small
 pub div_ceil-le : (m parts : ℕ) → div_ceil m parts ≤ m + 1
 div_ceil-le m parts = omega (arith, div-le_self m parts)
+
+rise-most : (rise : ℤ) → IsRise rise → unsigned_abs rise ≤ 65535
+rise-most (pos n) is = let high = is.high in omega (arith, ints, high)
+rise-most (negsuc n) is = let low = is.low in omega (arith, ints, low)
+
+-- the size of a part of a rise, before it is divided
+pub size-most : (rise : ℤ) (a b part : ℕ) → IsRise rise → a ≡ unsigned_abs rise → b ≡ part → part ≤ 4294967296 → a * b ≤ 65535 * 4294967296
+size-most rise a b part is first second within = mul-le-mul (subst (λ (n : ℕ). n ≤ 65535) (sym first) (rise-most rise is)) (subst (λ (n : ℕ). n ≤ 4294967296) (sym second) within)
+
+-- a rise that isn't negative is divided by its size
+pub div_euclid-rise : (rise : ℤ) (part parts q : ℕ) → pos 0 ≤ℤ rise → q < 9223372036854775808 → q ≡ unsigned_abs rise * part / parts → to_z w64 q ≡ int_div_euclid (rise *ℤ pos part) (pos parts)
+div_euclid-rise (pos n) part parts q rises low is = to_z-of_z w64 (pos q) (record { sfits = low }) ∙ ap pos is
+div_euclid-rise (negsuc n) part parts q rises low is = absurd (omega (arith, ints))

@@ -4,18 +4,18 @@ use Rattle.std.proofs.Math.Nat.{mul-le-mul}
 use Rattle.std.proofs.Math.Seq.{drop-length, take-length}
 use Rattle.std.proofs.lemmas.List.{append-nil}
 use Rattle.std.proofs.lemmas.List.FromFn.{length-map-range_with_len}
-use Rattle.std.specs.Prelude.{OnOk}
+use Rattle.std.specs.Prelude.{IsErrAnd, OnOk}
 use Rattle.plug_chain.specs.declared.converter.Converter.{Converter}
 use Rattle.plug_chain.specs.declared.converter.Progress.{Progress}
 use Rattle.plug_chain.specs.declared.interpolation.Course.{Course}
 use Rattle.plug_chain.specs.declared.wide.Wide.{Wide}
 use Rattle.plug_chain.specs.declared.wide.Wide.TheVariants.{S8, U8, S16Le, S16Be, S24Packed, S32Le}
-use Rattle.plug_chain.specs.Courses.{Advances, IsAdvance}
+use Rattle.plug_chain.specs.Courses.{Advances, Ends, IsAdvance}
 use Rattle.plug_chain.specs.Frames.{Conversion, frame_bytes, frame_from_bytes, frames_of_bytes, rest_of, samples_in}
 use Rattle.plug_chain.specs.Growth.{Appends}
 use Rattle.plug_chain.specs.Held.{part_bytes, samples_of}
-use Rattle.plug_chain.specs.Plugs.{Continues, HasTakenBytes}
-use Rattle.plug_chain.specs.Rates.{IsRateAt, RatePair, known_samples}
+use Rattle.plug_chain.specs.Plugs.{Completes, Continues, HasTakenBytes, IsStage}
+use Rattle.plug_chain.specs.Rates.{IsCourse, IsRateAt, RatePair, known_samples}
 use Rattle.plug_chain.specs.Samples.{bytes_of}
 use Rattle.plug_chain.specs.Tables.{ChannelTable, IsTable, output_channel, output_samples}
 use Rattle.plug_chain.specs.Views.{conversion_of, stage_of}
@@ -26,6 +26,11 @@ use Rattle.plug_chain.proofs.Cuts.{frames_of_bytes-append, frames_of_bytes-front
 pub on_ok_both : {T E P Q R : Type 0} (r : Result T E) → (P → Q → R) → OnOk r P → OnOk r Q → OnOk r R
 on_ok_both (Ok x) f p q = f p q
 on_ok_both (Err e) f p q = p
+
+-- what was refused
+pub OnOk-err : {T E : Type 0} (P : Type 0) (Q : E → Type 0) (r : Result T E) → IsErrAnd r Q → OnOk r P
+OnOk-err P Q (Ok x) is = absurd is
+OnOk-err P Q (Err e) is = tt
 
 -- ---- sizes
 
@@ -146,3 +151,33 @@ HasTakenBytes-none v p table none at =
       part = none ∙ sym (rest_of-short (conversion_of v) [] short);
       course = subst (λ (xs : List (List ℤ)). IsRateAt v.rates v.table.outputs xs (samples_of p.course.last) p.course.place) (sym (frames_of_bytes-short (conversion_of v) [] short)) at;
     }
+
+-- ---- the end
+
+-- a stage whose course lies where one can lie
+pub IsStage-course : (v : Converter) (p : Progress) → IsStage (stage_of v p) → IsCourse v.rates (length (samples_of p.course.last)) (samples_of p.course.last) p.course.place
+IsStage-course v p stage = record { same_channels = refl; begun = stage.course.begun; near = stage.course.near }
+
+-- what is left of a course is what is left of the conversion
+pub Completes-ends : (v : Converter) (p : Progress) (old new : List ℤ) → IsStage (stage_of v p) → Ends v.rates (length (samples_of p.course.last)) p.course old new → Completes (stage_of v p) old new
+Completes-ends v p old new stage ends fed taken =
+    ends (frames_of_bytes (conversion_of v) fed)
+    (subst (λ (n : ℕ). IsRateAt v.rates n (frames_of_bytes (conversion_of v) fed) (samples_of p.course.last) p.course.place) (sym stage.course.same_channels) taken.course)
+
+-- a stage at the beginning of a frame, on a course that goes on
+pub IsStage-empty : (v : Converter) (p q : Progress) → IsStage (stage_of v p) → part_bytes q.part ≡ [] → IsCourse v.rates v.table.outputs (samples_of q.course.last) q.course.place → IsStage (stage_of v q)
+IsStage-empty v p q stage none course = record {
+  table = stage.table;
+  rates = stage.rates;
+  part = omega (arith, ap length none, frame_bytes-some (conversion_of v) stage.table);
+  course = course;
+}
+
+-- a stage with more of a frame begun, and the same course
+pub IsStage-part : (v : Converter) (p q : Progress) → IsStage (stage_of v p) → length (part_bytes q.part) < frame_bytes (conversion_of v) → q.course ≡ p.course → IsStage (stage_of v q)
+IsStage-part v p q stage short same = record {
+  table = stage.table;
+  rates = stage.rates;
+  part = short;
+  course = subst (λ (course : Course). IsCourse v.rates v.table.outputs (samples_of course.last) course.place) (sym same) stage.course;
+}

@@ -2,9 +2,10 @@
 use Rattle.std.proofs.Common.{◌≡◌, ℕ, suc, ◌+◌, ◌*◌, ◌<◌, ◌≤◌, List, ◌∷◌, length, drop, get_or, sym, ap, ◌∙◌, arith, ℤ, pos, negsuc}
 use Rattle.std.proofs.Math.Nat.{mul-le-mul}
 use Rattle.std.proofs.Math.Seq.{drop-cons}
-use Rattle.std.proofs.lemmas.Int.{clamps, ints}
+use Rattle.std.proofs.lemmas.Int.{clamps, ints, to_z-of_z}
 use Rattle.std.specs.Prelude.{◌+ℤ◌, ◌*ℤ◌, FitsSigned}
 use Rattle.std.specs.Int.{w16, w64, int_max, int_min, saturate_signed}
+use mir.Val.{to_z, of_z}
 use Rattle.plug_chain.specs.Tables.{IsSumOf, IsWeight, weighted_sum}
 
 pub IsSumOf-product : (w x : ℤ) → IsWeight w → FitsSigned w16 x → IsSumOf 1 (w *ℤ x)
@@ -18,6 +19,23 @@ IsSumOf-more n z p sum product = record { low = omega (arith, ints); high = omeg
 
 pub FitsSigned-sum : (n : ℕ) (z : ℤ) → n ≤ 8 → IsSumOf n z → FitsSigned w64 z
 FitsSigned-sum n z few sum = omega (arith, ints)
+
+FitsSigned-weight : (w : ℤ) → IsWeight w → FitsSigned w64 w
+FitsSigned-weight w weight = omega (arith, ints)
+
+FitsSigned-sample : (x : ℤ) → FitsSigned w16 x → FitsSigned w64 x
+FitsSigned-sample x fits = omega (arith, ints)
+
+pub FitsSigned-product : (w x : ℤ) → IsWeight w → FitsSigned w16 x → FitsSigned w64 (w *ℤ x)
+FitsSigned-product w x weight fits = FitsSigned-sum 1 (w *ℤ x) (omega arith) (IsSumOf-product w x weight fits)
+
+-- a product, without the casts of its factors
+pub product-is : (w x a b : ℤ) → IsWeight w → FitsSigned w16 x → a ≡ w → b ≡ x → to_z w64 (of_z w64 a) *ℤ to_z w64 (of_z w64 b) ≡ w *ℤ x
+product-is w x a b weight fits first second =
+    ap (λ (z : ℤ). to_z w64 (of_z w64 z) *ℤ to_z w64 (of_z w64 b)) first
+    ∙ (ap (λ (z : ℤ). to_z w64 (of_z w64 w) *ℤ to_z w64 (of_z w64 z)) second
+    ∙ (ap (λ (z : ℤ). z *ℤ to_z w64 (of_z w64 x)) (to_z-of_z w64 w (FitsSigned-weight w weight))
+    ∙ ap (λ (z : ℤ). w *ℤ z) (to_z-of_z w64 x (FitsSigned-sample x fits))))
 
 -- one product more
 pub weighted_sum-step : (i : ℕ) (ws xs : List ℤ) (s p all : ℤ) → i < length ws → length xs ≡ length ws → p ≡ get_or ws i (pos 0) *ℤ get_or xs i (pos 0)

@@ -5,7 +5,8 @@ use Rattle.plug_chain.specs.Courses.{Advances}
 use Rattle.plug_chain.specs.Frames.{frame_bytes, frame_from_bytes}
 use Rattle.plug_chain.specs.Held.{part_bytes}
 use Rattle.plug_chain.specs.Views.{conversion_of}
-use Rattle.plug_chain.proofs.Stages.{Continues-full, Continues-short, Continues-whole, on_ok_both}
+use Rattle.plug_chain.proofs.Stages.{Continues-full, Continues-short, Continues-whole, on_ok_both, IsStage-empty, IsStage-part, OnOk-err}
+use Rattle.plug_chain.proofs.Courses.{Extends-refl, Extends-trans}
 use Rattle.plug_chain.proofs.converter.Converter.take.Goals as goal
 
 pub returns-then-is_empty-clause-ok : goal.returns-then-is_empty-clause-ok
@@ -34,3 +35,55 @@ returns-clause-ok c =
     (λ advances part. Continues-full c.args.self.now c.args.progress.now c.take_whole-2.new.progress (part_bytes c.fill-rest.new.part) c.fill-rest.result.now c.args.bytes.now c.take_frame.new.course
     c.args.out.now.items c.take_frame.new.out.items c.take_whole-2.new.out.items c.requires.table c.fill-rest.ensures.same whole first advances part)
     c.take_whole-2.ensures.ok c.take_whole-2.ensures.part
+
+pub take_whole-requires-clause-stage : goal.take_whole-requires-clause-stage
+take_whole-requires-clause-stage c = IsStage-part c.args.self.now c.args.progress.now (record { part = c.args.progress.now.part; course = c.args.progress.now.course }) c.requires c.requires.part refl
+
+pub take_whole-requires-clause-whole : goal.take_whole-requires-clause-whole
+take_whole-requires-clause-whole c =
+    let none : length c.as_slice.result.now ≡ 0 = grind (arith, nat_tests) in
+    sym c.as_slice.ensures ∙ nil_from_length c.as_slice.result.now none
+
+pub returns-then-is_empty-clause-stage : goal.returns-then-is_empty-clause-stage
+returns-then-is_empty-clause-stage c = c.take_whole.ensures.stage
+
+pub returns-then-is_empty-clause-grows : goal.returns-then-is_empty-clause-grows
+returns-then-is_empty-clause-grows c = c.take_whole.ensures.grows
+
+pub fill-rest-requires : goal.fill-rest-requires
+fill-rest-requires c = let part = c.requires.part in omega (arith, part)
+
+pub returns-then-as_slice-frame_bytes-clause-stage : goal.returns-then-as_slice-frame_bytes-clause-stage
+returns-then-as_slice-frame_bytes-clause-stage c =
+    let short : length (part_bytes c.fill-rest.new.part) < frame_bytes (conversion_of c.args.self.now) = omega (arith, ap length c.as_slice-2.ensures, c.frame_bytes.ensures.value) in
+    IsStage-part c.args.self.now c.args.progress.now (record { part = c.fill-rest.new.part; course = c.args.progress.now.course }) c.requires short refl
+
+pub returns-then-as_slice-frame_bytes-clause-grows : goal.returns-then-as_slice-frame_bytes-clause-grows
+returns-then-as_slice-frame_bytes-clause-grows c = Extends-refl c.args.out.now.items
+
+pub take_frame-requires-clause-bytes : goal.take_frame-requires-clause-bytes
+take_frame-requires-clause-bytes c = omega (arith, ap length c.as_slice-2.ensures, ap length c.as_slice-3.ensures, c.frame_bytes.ensures.value, c.fill-rest.ensures.most)
+
+pub take_frame-requires-clause-course : goal.take_frame-requires-clause-course
+take_frame-requires-clause-course c = c.requires.course
+
+pub returns-in_err-take_frame-clause-stage : goal.returns-in_err-take_frame-clause-stage
+returns-in_err-take_frame-clause-stage c = OnOk-err _ _ c.from_residual.result c.from_residual.ensures.1
+
+pub returns-in_err-take_frame-clause-ok : goal.returns-in_err-take_frame-clause-ok
+returns-in_err-take_frame-clause-ok c = OnOk-err _ _ c.from_residual.result c.from_residual.ensures.1
+
+pub returns-in_err-take_frame-clause-grows : goal.returns-in_err-take_frame-clause-grows
+returns-in_err-take_frame-clause-grows c = c.take_frame.ensures.grows
+
+pub take_whole-requires-2-clause-stage : goal.take_whole-requires-2-clause-stage
+take_whole-requires-2-clause-stage c = IsStage-empty c.args.self.now c.args.progress.now (record { part = c.empty-progress.result; course = c.take_frame.new.course }) c.requires c.empty-progress.ensures c.in_ok-take_frame.ensures.course
+
+pub take_whole-requires-2-clause-whole : goal.take_whole-requires-2-clause-whole
+take_whole-requires-2-clause-whole c = c.empty-progress.ensures
+
+pub returns-clause-stage : goal.returns-clause-stage
+returns-clause-stage c = c.take_whole-2.ensures.stage
+
+pub returns-clause-grows : goal.returns-clause-grows
+returns-clause-grows c = Extends-trans c.args.out.now.items c.take_frame.new.out.items c.take_whole-2.new.out.items c.take_frame.ensures.grows c.take_whole-2.ensures.grows

@@ -1,0 +1,14 @@
+use Rattle.std.proofs.Common.{◌+◌, ◌++◌, ◌∙◌, List, ℕ, ap, append_assoc, arith, length, take}
+use Rattle.std.proofs.lemmas.List.{take-append-drop}
+use Rattle.plug_chain.specs.Held.{part_bytes}
+use Rattle.plug_chain.proofs.converter.Converter.fill.Goals as goal
+
+pub overflow_sub-missing : goal.overflow_sub-missing
+overflow_sub-missing c = omega (arith, ap length c.as_slice.ensures, c.frame_bytes.ensures.value, c.requires)
+
+pub returns-clause-same : goal.returns-clause-same
+returns-clause-same c =
+    ap (λ (xs : List ℕ). xs ++ c.split_at.result.1.now) c.extend.ensures
+    ∙ (append_assoc (part_bytes c.args.part.now) c.split_at.result.0.now c.split_at.result.1.now
+    ∙ ap (λ (xs : List ℕ). part_bytes c.args.part.now ++ xs)
+    (ap (λ (xs : List ℕ). xs ++ c.split_at.result.1.now) c.split_at.ensures.front ∙ (ap (λ (xs : List ℕ). take c.min.result c.args.bytes.now ++ xs) c.split_at.ensures.back ∙ take-append-drop c.min.result c.args.bytes.now)))
