@@ -1,7 +1,6 @@
 -- How a frame is placed, channel by channel.
-use Rattle.std.proofs.Common.{◌≡◌, ◌∙◌, ℕ, ◌+◌, ◌*◌, ◌/◌, ◌%◌, ◌<◌, ◌≤◌, suc, zero, List, ap, arith, inl, inr, length, refl, sym}
-use Rattle.std.proofs.Math.Nat.{div-lt_iff_lt-mul, mod-add-mod, mod_self, mul-le-mul_right}
-use Rattle.std.proofs.lemmas.Bool.{cases_lt}
+use Rattle.std.proofs.Common.{◌≡◌, ◌∙◌, ℕ, ◌+◌, ◌*◌, ◌/◌, ◌%◌, ◌<◌, ◌≤◌, suc, zero, List, ap, arith, length, refl, sym}
+use Rattle.std.proofs.Math.Nat.{div-lt_iff_lt-mul}
 use Rattle.std.proofs.lemmas.Bool.Decides.{nat_tests}
 use Rattle.std.specs.Prelude.{ℤ, pos, slice_index, slice_index_or}
 use Rattle.snd_base.specs.declared.geometry.Geometry.{Geometry}

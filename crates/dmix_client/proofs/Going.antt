@@ -1,6 +1,6 @@
 -- What an answer says: that the client goes on, that the gate stopped it, or that a drain is to be made again.
-use Rattle.std.proofs.Common.{refl, subst, sym, ℕ, ◌+◌, ◌≡◌}
-use Rattle.std.specs.Prelude.{Bool, Err, None, Ok, OnOk, Option, Result, Some, false, if◌then◌else◌, true, ◌↔◌}
+use Rattle.std.proofs.Common.{ap, refl, subst, sym, ℕ, ◌+◌, ◌≡◌, ◌∙◌}
+use Rattle.std.specs.Prelude.{Bool, Err, IsErrAnd, None, Ok, OnOk, Option, Result, Some, false, if◌then◌else◌, true, ◌↔◌}
 use Rattle.course.specs.Stops.{CountsStop, pass_by}
 use Rattle.mix_core.specs.declared.gate.Pass.TheVariants.{Go}
 use Rattle.mix_core.specs.declared.port.Ended.TheVariants as ended
@@ -10,9 +10,9 @@ use Rattle.pcm_states.specs.Table.{next_of}
 use Rattle.pcm_states.specs.declared.calls.Call.TheVariants as call
 use Rattle.pcm_states.specs.declared.calls.Call.{Call}
 use Rattle.pcm_states.specs.declared.calls.Outcome.{Outcome}
-use Rattle.pcm_states.specs.declared.states.State.TheVariants.{Draining, Running}
+use Rattle.pcm_states.specs.declared.states.State.TheVariants.{Draining, Prepared, Running}
 use Rattle.pcm_states.specs.declared.states.State.{State}
-use Rattle.pcm_stream.specs.Status.{is_refusal, nothing_found, refusal_in, refusal_of, refused_by}
+use Rattle.pcm_stream.specs.Status.{is_moving, is_refusal, nothing_found, refusal_in, refusal_of, refused_by}
 use Rattle.pcm_stream.specs.declared.direction.Direction.TheVariants.{Playback}
 use Rattle.snd_base.specs.declared.errors.PcmError.TheVariants as error
 use Rattle.snd_base.specs.declared.errors.PcmError.TheVariants.{Again, Stopped}
@@ -105,3 +105,62 @@ unstopped-by false o is = refl
 
 pub refusal_of-unstopped : (c : PlaybackStream) → refusal_of Playback c.status call.Drain ≡ None → c.status.stopped ≡ false
 refusal_of-unstopped c admitted = unstopped-by c.status.stopped (refusal_in (next_of c.status.state call.Drain (nothing_found Playback)).answer) admitted
+
+-- the test of a call answers its refusal, and an admission where there is none
+tested-err : (o : Option PcmError) (e f : PcmError) → refused_by o ≡ Err e → o ≡ Some f → f ≡ e
+tested-err None e f is some = absurd (cc)
+tested-err (Some x) e f is some = cc
+
+untested : (o : Option PcmError) (e : PcmError) → refused_by o ≡ Err e → o ≡ None → ⊥
+untested None e is none = cc
+untested (Some f) e is none = cc
+
+tested-ok : (o : Option PcmError) (e : PcmError) → refused_by o ≡ Ok tt → o ≡ Some e → ⊥
+tested-ok None e is some = cc
+tested-ok (Some f) e is some = cc
+
+pub not-admitted : (c : PlaybackStream) (call : Call) (r : Result (Unit {0}) PcmError) (e : PcmError) → r ≡ refused_by (refusal_of Playback c.status call) → r ≡ Err e → refusal_of Playback c.status call ≡ None → ⊥
+not-admitted c call r e is err none = untested (refusal_of Playback c.status call) e (sym is ∙ err) none
+
+pub not-refused : (c : PlaybackStream) (call : Call) (r : Result (Unit {0}) PcmError) (e : PcmError) → r ≡ refused_by (refusal_of Playback c.status call) → r ≡ Ok tt → refusal_of Playback c.status call ≡ Some e → ⊥
+not-refused c call r e is ok some = tested-ok (refusal_of Playback c.status call) e (sym is ∙ ok) some
+
+none-of : (o : Option PcmError) → refused_by o ≡ Ok tt → o ≡ None
+none-of None is = refl
+none-of (Some e) is = absurd (cc)
+
+-- a call whose test was passed isn't refused
+pub none-refused : (c : PlaybackStream) (call : Call) (r : Result (Unit {0}) PcmError) → r ≡ refused_by (refusal_of Playback c.status call) → r ≡ Ok tt → refusal_of Playback c.status call ≡ None
+none-refused c call r is ok = none-of (refusal_of Playback c.status call) (sym is ∙ ok)
+
+-- a stream that moves frames takes a step of them at a sync
+pub IsFrameStep-moving : (s : State) → is_moving s ≡ true → IsFrameStep s call.Sync
+IsFrameStep-moving Running moves = tt
+IsFrameStep-moving Draining moves = tt
+IsFrameStep-moving other moves = absurd (cc)
+
+-- it doesn't move frames and rest
+pub not-resting : (s : State) → is_moving s ≡ true → is_moving s ≡ false → ⊥
+not-resting s moves rests = cc
+
+err-of : {X : Type 0} (r : Result X PcmError) (e f : PcmError) → IsErrAnd r (λ x. x ≡ e) → f ≡ e → r ≡ Err f
+err-of (Ok n) e f is same = absurd is
+err-of (Err x) e f is same = ap Err (is ∙ sym same)
+
+-- the refusal is the call's answer
+pub refused-answer : {X : Type 0} (c : PlaybackStream) (call : Call) (r : Result (Unit {0}) PcmError) (e f : PcmError) (answer : Result X PcmError) → r ≡ refused_by (refusal_of Playback c.status call) → r ≡ Err e
+    → IsErrAnd answer (λ x. x ≡ e) → refusal_of Playback c.status call ≡ Some f → answer ≡ Err f
+refused-answer c call r e f answer is err answered some = err-of answer e f answered (tested-err (refusal_of Playback c.status call) e f (sym is ∙ err) some)
+
+err-pass : {X : Type 0} (answer : Result X PcmError) (e : PcmError) → pass_by (let r : Result (Unit {0}) PcmError = Err e in r) ≡ Go → IsErrAnd answer (λ x. x ≡ e) → pass_by answer ≡ Go
+err-pass (Ok n) e went is = absurd is
+err-pass (Err x) e went is = subst (λ (y : PcmError). pass_by (let r : Result (Unit {0}) PcmError = Err y in r) ≡ Go) (sym is) went
+
+-- the refusal of a call is no stop of the gate
+pub refused-pass : {X : Type 0} (c : PlaybackStream) (call : Call) (r : Result (Unit {0}) PcmError) (e : PcmError) (answer : Result X PcmError) → r ≡ refused_by (refusal_of Playback c.status call) → r ≡ Err e
+    → IsErrAnd answer (λ x. x ≡ e) → c.status.stopped ≡ false → pass_by answer ≡ Go
+refused-pass c call r e answer is err answered unstopped = err-pass answer e (subst (λ (x : Result (Unit {0}) PcmError). pass_by x ≡ Go) (sym is ∙ err) (refused-go c call unstopped)) answered
+
+-- a stream isn't in two states
+pub not-both : (s : State) → s ≡ Running → s ≡ Prepared → ⊥
+not-both s runs waits = cc

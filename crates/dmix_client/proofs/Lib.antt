@@ -6,6 +6,7 @@ mod Growing
 mod Keeping
 mod Laying
 mod Looking
+mod Readiness
 mod Rewinding
 mod Sound
 mod Storing

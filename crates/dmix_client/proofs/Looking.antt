@@ -1,6 +1,7 @@
 -- The calls take their courses, by what their parts took.
-use Rattle.std.proofs.Common.{◌∙◌, ◌≡◌, ℕ, refl, sym, subst, List}
-use Rattle.std.specs.Prelude.{ℤ, Ok, Result, false, true, Option, None, Some}
+use Rattle.std.proofs.Common.{◌∙◌, ◌≡◌, ◌<◌, ℕ, ap, arith, refl, sym, subst, List}
+use Rattle.std.proofs.lemmas.Bool.Decides.{nat_tests}
+use Rattle.std.specs.Prelude.{ℤ, nat_eq, Err, IsErrAnd, Ok, Result, false, true, Option, None, Some}
 use Rattle.snd_base.specs.declared.errors.PcmError.{PcmError}
 use Rattle.snd_base.specs.declared.places.Cursor.{Cursor}
 use Rattle.mix_core.specs.declared.gate.Gate as gates
@@ -17,10 +18,13 @@ use Rattle.dmix_client.specs.declared.commit.Commit.{Commit}
 use Rattle.dmix_client.specs.declared.stream.PlaybackStream.{PlaybackStream}
 use Rattle.pcm_stream.specs.Status.{is_moving, refusal_of, refused_by}
 use Rattle.pcm_stream.specs.declared.direction.Direction.TheVariants.{Playback}
-use Rattle.dmix_client.specs.Calls.{Answered, is_running, pending_of, with_new_base, after_resume, start_count, after_start, started_in, sync_count, after_sync, taken_of, with_number, written_after}
-use Rattle.dmix_client.specs.Course.{if_admitted, admitted_by, commits, drain_on, drains, fills, looks, nothing, number_course, course_with_number, resumes, starts, syncs, takes_more, write_course, write_on, writes_on}
+use Rattle.dmix_client.specs.Calls.{Answered, is_running, after_pause, pending_of, with_new_base, after_resume, start_count, after_start, started_in, sync_count, after_sync, taken_of, with_number, written_after}
+use Rattle.dmix_client.specs.Course.{if_admitted, admitted_by, commits, drain_on, drains, fills, looks, nothing, number_course, course_with_number, pause_course, resumes, starts, syncs, takes_more, write_course, write_on, writes_on}
 use Rattle.dmix_client.specs.Rewind.{rewind_course, rewinds}
 use Rattle.dmix_client.specs.Writes.{count_with, frames_in, ring_with}
+
+nonzero : (n : ℕ) → 0 < n → nat_eq n 0 ≡ false
+nonzero n some = grind (arith, nat_tests)
 
 module _ {S T : Type 0} (P : mixport.Ghosts S) (G : gates.Ghosts T) where
   -- no position was loaded
@@ -76,11 +80,39 @@ module _ {S T : Type 0} (P : mixport.Ghosts S) (G : gates.Ghosts T) where
       → r ≡ refused_by (refusal_of Playback c.status call) → r ≡ Ok tt → TakesAt P G s m t done → TakesAt P G s (if_admitted c call m) t done
   admitted-ok s t c call m done r is ok takes = admitted_by-ok s t (refusal_of Playback c.status call) c m done (sym is ∙ ok) takes
 
+  admitted_by-err : {X : Type 0} (s : S × T) (o : Option PcmError) (c : PlaybackStream) (m : Course (Answered X)) (e : PcmError) (answer : Result X PcmError) → refused_by o ≡ Err e → IsErrAnd answer (λ x. x ≡ e)
+      → TakesAt P G s (admitted_by o c m) s (c, answer)
+  admitted_by-err s None c m e answer is answered = absurd (cc)
+  admitted_by-err s (Some f) c m e (Ok x) is answered = absurd answered
+  admitted_by-err s (Some f) c m e (Err x) is answered = record { there = refl; result = cc }
+
+  -- a call that is refused
+  pub refused-takes : {X : Type 0} (s : S × T) (c : PlaybackStream) (call : Call) (m : Course (Answered X)) (e : PcmError) (r : Result (Unit {0}) PcmError) (answer : Result X PcmError)
+      → r ≡ refused_by (refusal_of Playback c.status call) → r ≡ Err e → IsErrAnd answer (λ x. x ≡ e) → TakesAt P G s (if_admitted c call m) s (c, answer)
+  refused-takes s c call m e r answer is err answered = admitted_by-err s (refusal_of Playback c.status call) c m e answer (sym is ∙ err) answered
+
   -- the number of a client that moves frames
   pub number-moving : (s t : S × T) (number : PlaybackStream → ℕ) (c : PlaybackStream) (ring : List ℤ) (done : Answered (Unit {0})) (x : Answered ℕ) → is_moving c.status.state ≡ true
       → TakesAt P G s (syncs c call.Sync ring) t done → with_number number done ≡ x → TakesAt P G s (number_course number c ring) t x
   unfolding course_with_number
   number-moving s t number c ring done x moves takes is = rw moves (Takes-map (LoadsAt P G) (LaysAt P G) NoGet s t (syncs c call.Sync ring) (λ z. with_number number z) done x takes is)
+
+  -- and of one that rests
+  pub number-resting : (s : S × T) (number : PlaybackStream → ℕ) (c : PlaybackStream) (ring : List ℤ) (n : ℕ) → is_moving c.status.state ≡ false → n ≡ number c
+      → TakesAt P G s (number_course number c ring) s (let x : Answered ℕ = (c, Ok n) in x)
+  number-resting s number c ring n rests is = rw rests (record { there = refl; result = ap (λ (k : ℕ). let x : Answered ℕ = (c, Ok k) in x) is })
+
+  -- a pause, and a resume without pending frames and with some
+  pub pauses-takes : (s : S × T) (c d : PlaybackStream) (ring : List ℤ) (cursor : Cursor) → d ≡ after_pause c → TakesAt P G s (pause_course true c ring cursor) s (let x : Answered (Unit {0}) = (d, Ok tt) in x)
+  pauses-takes s c d ring cursor is = record { there = refl; result = ap (λ (e : PlaybackStream). let x : Answered (Unit {0}) = (e, Ok tt) in x) is }
+
+  pub rebases-takes : (s : S × T) (c d : PlaybackStream) (ring : List ℤ) (cursor : Cursor) → pending_of c ≡ 0 → d ≡ with_new_base c → TakesAt P G s (pause_course false c ring cursor) s (let x : Answered (Unit {0}) = (d, Ok tt) in x)
+  rebases-takes s c d ring cursor none is =
+      let test : nat_eq (pending_of c) 0 ≡ true = ap (λ (n : ℕ). nat_eq n 0) none in
+      rw test (record { there = refl; result = ap (λ (e : PlaybackStream). let x : Answered (Unit {0}) = (e, Ok tt) in x) is })
+
+  pub resumes-takes : (s t : S × T) (c : PlaybackStream) (ring : List ℤ) (cursor : Cursor) (done : Answered (Unit {0})) → 0 < pending_of c → TakesAt P G s (resumes c cursor ring) t done → TakesAt P G s (pause_course false c ring cursor) t done
+  resumes-takes s t c ring cursor done some takes = rw (nonzero (pending_of c) some) takes
 
   -- the parts of a write
   pub takes_more-by : (s t : S × T) (c : PlaybackStream) (ring samples stored : List ℤ) (n taken : ℕ) (last : Commit) (done : Answered ℕ) → taken ≡ taken_of c n → stored ≡ ring_with c ring samples taken

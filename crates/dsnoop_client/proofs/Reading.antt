@@ -4,7 +4,7 @@ use Rattle.std.proofs.lemmas.Bool.Decides.{nat_tests}
 use Rattle.std.proofs.Math.Nat.{mul-le-mul_right}
 use Rattle.std.specs.Prelude.{Bool, true, false, ◌&&◌, ◌↔◌, ℤ, nat_eq, nat_lt, if◌then◌else◌, replicate, Option, Some, Result, Ok, Err, unwrap_or}
 use Rattle.snd_base.specs.declared.errors.PcmError.{PcmError}
-use Rattle.snd_base.specs.declared.errors.PcmError.TheVariants.{Again, NoDevice, Xrun}
+use Rattle.snd_base.specs.declared.errors.PcmError.TheVariants.{Again, Xrun}
 use Rattle.snd_base.specs.declared.errors.PcmError.TheVariants as error
 use Rattle.snd_base.specs.declared.errors.XrunWhy.TheVariants as why
 use Rattle.snd_base.specs.declared.geometry.Geometry.{Geometry}
@@ -76,6 +76,16 @@ pub record IsReadExplained {S T : Type 0} (P : snoopport.Ghosts S) (G : gates.Gh
   pub told : IsExplained P G s t c d answer
   pub again : (answer ≡ Err Again) ↔ ((0 < n) × FindsNone c told.why.load)
   pub asks : Asks G s.1 t.1 d n answer
+
+-- a read of n frames of so many that are available finds none
+no-avail : (n avail : ℕ) → (nat_lt 0 n && nat_eq avail 0) ≡ true → avail ≡ 0
+no-avail n avail finds = grind (arith, nat_tests)
+
+some-wanted : (n avail : ℕ) → (nat_lt 0 n && nat_eq avail 0) ≡ true → 0 < n
+some-wanted n avail finds = grind (arith, nat_tests)
+
+avail-found : (n avail : ℕ) → (nat_lt 0 n && nat_eq avail 0) ≡ false → avail ≡ 0 → 0 < n → ⊥
+avail-found n avail goes none some = grind (arith, nat_tests)
 
 runs-or : (s : State) → (s ≡ state.Running) ⊎ (s ≡ state.Running → ⊥)
 runs-or state.Running = inl refl
@@ -173,33 +183,33 @@ module _ {S T : Type 0} (P : snoopport.Ghosts S) (G : gates.Ghosts T) (composes 
       → IsReadExplained P G s t c (if test then (u, Err Again) else read_to u done ended).0 n (if test then (u, Err Again) else read_to u done ended).1
   unfolding explained-went explained-some
   read-explained-if true n count done Whole test is_count came =
-      let none : avail_of u ≡ 0 = grind (arith, nat_tests) in
+      let none : avail_of u ≡ 0 = no-avail n (avail_of u) test in
       let nothing = no-frames n count done Whole none is_count came.up_to in
       record {
         told = explained-went P G s t c u u position Go (Err Again) (went-frames count u.next done Whole came) refl refl refl refl went.sound (λ h. cc, λ h. let goes = went.unstopped in cc) tt (λ h. cc) (λ avail frame h. cc) (λ frame channel word h. cc);
-        again = (λ h. (grind (arith, nat_tests), finds-none none), λ h. refl);
+        again = (λ h. (some-wanted n (avail_of u) test, finds-none none), λ h. refl);
         asks = asks-frames u n came.looks Go (Err Again) (came.looks_number ∙ ap (λ (k : ℕ). k * (P.view m.0).geometry.channels) nothing.1 ∙ (let zero : 0 * (P.view m.0).geometry.channels ≡ 0 = omega arith in zero)) refl came.asked_them;
       }
-  read-explained-if true n count done (Overtaken channel word) test is_count came = absurd (let nothing = no-frames n count done (Overtaken channel word) (grind (arith, nat_tests)) is_count came.up_to in let is = nothing.0 in cc)
-  read-explained-if true n count done Stopped test is_count came = absurd (let nothing = no-frames n count done Stopped (grind (arith, nat_tests)) is_count came.up_to in let is = nothing.0 in cc)
+  read-explained-if true n count done (Overtaken channel word) test is_count came = absurd (let nothing = no-frames n count done (Overtaken channel word) (no-avail n (avail_of u) test) is_count came.up_to in let is = nothing.0 in cc)
+  read-explained-if true n count done Stopped test is_count came = absurd (let nothing = no-frames n count done Stopped (no-avail n (avail_of u) test) is_count came.up_to in let is = nothing.0 in cc)
   read-explained-if false n count done Whole test is_count came = record {
     told = explained-went P G s t c u (record u { next = u.next + done }) position Go (Ok done) (went-frames count u.next done Whole came) refl refl refl refl (sound-next done (omega (arith, is_count, came.up_to)))
         (λ h. cc, λ h. let goes = went.unstopped in cc) tt (λ h. cc) (λ avail frame h. cc) (λ frame channel word h. cc);
-    again = (λ h. cc, λ h. absurd (let none = none-found h.1 in let some = h.0 in grind (arith, nat_tests)));
+    again = (λ h. cc, λ h. absurd (avail-found n (avail_of u) test (none-found h.1) h.0));
     asks = asks-frames (record u { next = u.next + done }) n came.looks Go (Ok done) (came.looks_number ∙ ap (λ (k : ℕ). done * k) same-channels) refl came.asked_them;
   }
   read-explained-if false n count done (Overtaken channel word) test is_count came = record {
     told = explained-went P G s t c u (in_state u state.Xrun) position Go (Err (Xrun (why.Overtaken (u.next + done) channel word))) (went-frames count u.next done (Overtaken channel word) came) refl refl refl refl sound-missed
         (λ h. cc, λ h. let goes = went.unstopped in cc) tt (λ h. cc) (λ avail frame h. cc)
         (λ frame at seen h. missed-at count done channel word frame at seen (omega (arith, is_count)) came (cc) (cc) (cc));
-    again = (λ h. cc, λ h. absurd (let none = none-found h.1 in let some = h.0 in grind (arith, nat_tests)));
+    again = (λ h. cc, λ h. absurd (avail-found n (avail_of u) test (none-found h.1) h.0));
     asks = asks-frames (in_state u state.Xrun) n came.looks Go (Err (Xrun (why.Overtaken (u.next + done) channel word)))
         (came.looks_number ∙ ap (λ (k : ℕ). done * k + (channel + 1)) same-channels ∙ ap (λ (k : ℕ). k * u.geometry.channels + (channel + 1)) (let gone : done ≡ u.next + done - u.next = omega arith in gone)) refl came.asked_them;
   }
   read-explained-if false n count done Stopped test is_count came = record {
     told = explained-went P G s t c u (record u { status = record u.status { stopped = true } }) position Stop (Err error.Stopped) (went-frames count u.next done Stopped came) refl refl refl refl sound-stopped
         (λ h. refl, λ h. refl) tt (λ h. cc) (λ avail frame h. cc) (λ frame channel word h. cc);
-    again = (λ h. cc, λ h. absurd (let none = none-found h.1 in let some = h.0 in grind (arith, nat_tests)));
+    again = (λ h. cc, λ h. absurd (avail-found n (avail_of u) test (none-found h.1) h.0));
     asks = asks-frames (record u { status = record u.status { stopped = true } }) n came.looks Stop (Err error.Stopped)
         (let fewer : (done + 1) * (P.view m.0).geometry.channels ≤ n * (P.view m.0).geometry.channels = mul-le-mul_right (P.view m.0).geometry.channels (omega (arith, is_count, came.up_to)) in
         subst (λ (k : ℕ). came.looks ≤ n * k) same-channels (omega (arith, came.looks_number, fewer))) refl came.asked_them;

@@ -1,5 +1,5 @@
 -- What the calls that load the position, and a read, did, by the courses that they took.
-use Rattle.std.proofs.Common.{◌≡◌, ℕ, ◌*◌, ◌∙◌, refl, sym, ap, subst, arith, [], ◌++◌, List, drop, length}
+use Rattle.std.proofs.Common.{◌≡◌, ℕ, ◌*◌, ◌≤◌, ◌∙◌, refl, sym, ap, subst, arith, [], ◌++◌, List, drop, length}
 use Rattle.std.specs.Prelude.{ℤ, Bool, true, false, nat_eq, if◌then◌else◌, OnOk, IfOk, IsErrAnd, Option, Result, Ok, Err, unwrap_or}
 use Rattle.snd_base.specs.declared.errors.PcmError.{PcmError}
 use Rattle.snd_base.specs.declared.errors.PcmError.TheVariants.{Again, Xrun}
@@ -24,7 +24,7 @@ use Rattle.dsnoop_client.specs.Calls.{Answered, read_after, taken_of, waits}
 use Rattle.dsnoop_client.specs.Course.{gets_frames, reads_first, reads_on, starts, syncs, transfer_on, transfers}
 use Rattle.dsnoop_client.specs.Port.{IsLookNumber}
 use Rattle.dsnoop_client.specs.Reads.{AreFrames, GivesFrames, through_all}
-use Rattle.dsnoop_client.specs.View.{CanUse, IsGoing, IsSoundReader, IsStart, IsSync}
+use Rattle.dsnoop_client.specs.View.{CanUse, HasRoom, IsGoing, IsSoundReader, IsStart, IsSync}
 use Rattle.dsnoop_client.proofs.CameTo.{gets_frames-come}
 use Rattle.dsnoop_client.proofs.Reading.{IsReadExplained, read-explained}
 use Rattle.dsnoop_client.proofs.Explaining.{After, NeverOvertaken, same_error, start-after, sync-after, explained-error, why-error}
@@ -98,6 +98,14 @@ module _ {S T : Type 0} (P : snoopport.Ghosts S) (G : gates.Ghosts T) where
   reads_first-explained composes asks s t c n d sound waits unstopped can takes =
       let parts = Takes-parts (LoadsAtSnoop P G) NoLay (GetsAtSnoop P G) s t (starts c call.Transfer) (transfer_on n) d takes in
       transfer_on-explained composes asks s parts.0 t c parts.1 n d (starts-after s parts.0 c call.Transfer parts.1 sound waits unstopped tt can parts.2) parts.3
+
+-- what a reader of one ring and setup has room for
+pub HasRoom-same : (c d : CaptureStream) (room : List ℤ) → d.geometry ≡ c.geometry → d.setup ≡ c.setup → HasRoom c room → HasRoom d room
+HasRoom-same c d room same_ring same_setup holds is =
+    holds (subst (λ (x : Setup). x.configured ≡ true) same_setup is) ∙ ap (λ (x : Geometry). x.channels) (sym same_ring)
+
+pub fits-same : (c d : CaptureStream) (frames samples : ℕ) → d.setup ≡ c.setup → frames * length c.setup.bindings ≤ samples → frames * length d.setup.bindings ≤ samples
+fits-same c d frames samples same_setup fits = subst (λ (x : Setup). frames * length x.bindings ≤ samples) (sym same_setup) fits
 
 -- a call that did nothing, and got no frame
 pub reads-none : {S : Type 0} (P : snoopport.Ghosts S) (p q : S) (c d : CaptureStream) (out after : List ℤ) (e : PcmError) → P.got p q [] → (c.status.state ≡ state.Running → d.next ≡ c.next) → GivesFrames P p q c d out after (Err e)

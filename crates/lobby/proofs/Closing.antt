@@ -1,5 +1,5 @@
 -- The seats of all places are joined, one after the other.
-use Rattle.std.proofs.Common.{◌≡◌, List, [], ◌∷◌, ◌++◌, Option, None, Some, get_or, length, append_assoc, arith, ap, refl, subst, sym, ◌∙◌}
+use Rattle.std.proofs.Common.{◌≡◌, List, [], ◌∷◌, ◌++◌, Option, None, Some, is_some, true, get_or, length, append_assoc, arith, ap, refl, subst, sym, ◌∙◌}
 use Rattle.std.proofs.Math.Seq.{get_or-append_seam}
 use Rattle.std.proofs.lemmas.List.{append-nil, length-append, nil_from_length}
 use Rattle.std.proofs.lemmas.Grind.{flat_map-append}
@@ -9,7 +9,7 @@ use Rattle.sum_table.specs.Joins.{HasJoined, OneRing}
 use Rattle.sum_table.specs.Seats.{key_of, places_of_seat, ring_of, view_of}
 use Rattle.lobby.specs.declared.lobby.Lobby.{Lobby}
 use Rattle.lobby.specs.Lobbies.{JoinsAll, JoinsEach, base_of, free_seats, key_of_lobby, laid_by, laid_by_all, ring_of_lobby}
-use Rattle.lobby.specs.Seats.{IsPlace, seat_at}
+use Rattle.lobby.specs.Seats.{AreFree, IsPlace, seat_at}
 
 -- some of the seats were joined, and the others are left
 pub record IsJoining (l : Lobby) (whole : MixSeat) (done left : List (Option MixSeat)) : Type 0 where
@@ -37,6 +37,14 @@ next_place l whole done left rest o s is next same =
     let items : done ++ o ∷ rest ≡ free_seats l = ap (λ xs. done ++ xs) (sym next) ∙ is.parts in
     let at : seat_at (free_seats l) (length done) ≡ Some s = ap (λ xs. get_or xs (length done) None) (sym items) ∙ (get_or-append_seam done o rest None ∙ same) in
     l.placed (length done) s at
+
+-- the seat that is joined next is that of a free place
+middle_free : (done rest : List (Option MixSeat)) (o : Option MixSeat) → AreFree (done ++ o ∷ rest) → is_some o ≡ true
+middle_free done rest o free = sym (ap is_some (get_or-append_seam done o rest None)) ∙ free (length done) None (omega (arith, length-append done (o ∷ rest)))
+
+pub next_free : (l : Lobby) (whole : MixSeat) (done left rest : List (Option MixSeat)) (o : Option MixSeat) → AreFree (free_seats l) → IsJoining l whole done left → left ≡ o ∷ rest
+    → is_some o ≡ true
+next_free l whole done left rest o free is next = middle_free done rest o (subst AreFree (sym is.parts ∙ ap (λ xs. done ++ xs) next) free)
 
 pub IsJoining-more : (l : Lobby) (whole joined : MixSeat) (done left rest : List (Option MixSeat)) (o : Option MixSeat) (s : MixSeat)
     → IsJoining l whole done left → left ≡ o ∷ rest → o ≡ Some s → HasJoined whole joined s → IsJoining l joined (done ++ o ∷ []) rest

@@ -1,5 +1,7 @@
-use Rattle.std.proofs.Common.{◌≡◌, ◌*◌, ◌+◌, ◌&&◌, ◌≤◌, ℕ, ℤ, List, [], take, drop, nat_lt, ◌∙◌, arith, subst, sym, ap}
+use Rattle.std.proofs.Common.{◌≡◌, ◌*◌, ◌+◌, ◌&&◌, ◌≤◌, ◌<◌, ℕ, ℤ, List, [], length, take, drop, nat_lt, ◌∙◌, arith, subst, sym, ap}
+use Rattle.std.proofs.lemmas.Nat.{mul-le}
 use Rattle.snd_base.specs.declared.places.Cursor.{Cursor}
+use Rattle.snd_base.specs.Places.{end_frame}
 use Rattle.sum_table.specs.declared.view.Key.{Key}
 use Rattle.card_player.specs.declared.player.CardPlayer.{CardPlayer}
 use Rattle.card_player.specs.FillLaws.{HasFilled, HasFilled-more}
@@ -11,6 +13,40 @@ use Rattle.card_sim.specs.Moments.{moments_to, position_of_writer}
 use Rattle.card_sim.proofs.Watching.{position_of_writer-captured, saw-ended, saw-more, saw-published}
 use Rattle.ring_rule.specs.Positions.{last_number}
 use Rattle.card_sim.proofs.run.run_all.Goals as goal
+
+-- a frame's samples are among those of all frames
+frame_within : (frame frames channels there n : ℕ) → frame < frames → there ≡ channels → frames * channels ≤ n → frame * channels + there ≤ n
+frame_within frame frames channels there n before same holds =
+    omega (arith, same, holds, mul-le (frame + 1) channels frames channels (omega (arith, before)) (omega arith))
+
+-- the number of channels is the same throughout
+same_channels : (p q : CardPlayer) (period n : ℕ) (old new : List ℤ) → HasFilled (seat_of p) (seat_of q) period n old new → (geometry_of q).channels ≡ (geometry_of p).channels
+same_channels p q period n old new filled = ap (λ (k : Key). k.geometry.channels) filled.played.goes.key
+
+pub run_frame-requires-clause-captured : goal.run_frame-requires-clause-captured
+run_frame-requires-clause-captured g c =
+    let filled = c.loop-frame.invariant.filled in
+    frame_within c.loop-frame.frame c.args.frames c.args.channels (geometry_of c.loop-frame.player).channels (length c.args.captured.now) c.loop-frame-test.true
+    (same_channels c.args.player.now c.loop-frame.player _ _ _ _ filled ∙ sym c.requires.channels)
+    (subst (λ (n : ℕ). c.args.frames * n ≤ length c.args.captured.now) (sym c.requires.channels) c.requires.can_run.captured_holds)
+
+pub run_frame-requires-clause-room : goal.run_frame-requires-clause-room
+run_frame-requires-clause-room g c =
+    let filled = c.loop-frame.invariant.filled in
+    subst (λ (n : ℕ). c.loop-frame.frame * c.args.channels + (geometry_of c.loop-frame.player).channels ≤ n) (sym c.loop-frame.auto.out)
+    (frame_within c.loop-frame.frame c.args.frames c.args.channels (geometry_of c.loop-frame.player).channels (length c.args.out.now) c.loop-frame-test.true
+    (same_channels c.args.player.now c.loop-frame.player _ _ _ _ filled ∙ sym c.requires.channels)
+    (subst (λ (n : ℕ). c.args.frames * n ≤ length c.args.out.now) (sym c.requires.channels) c.requires.can_run.out_holds))
+
+-- the ring has a frame more
+frame_left : (at first frame frames end_then end : ℕ) → at ≡ first + frame → frame < frames → first + frames ≤ end → end_then ≡ end → at < end_then
+frame_left at first frame frames end_then end at_is before holds same = omega (arith, at_is, before, holds, same)
+
+pub run_frame-requires-clause-fits : goal.run_frame-requires-clause-fits
+run_frame-requires-clause-fits g c =
+    let filled = c.loop-frame.invariant.filled in
+    frame_left (frame_of c.loop-frame.player) (frame_of c.args.player.now) c.loop-frame.frame c.args.frames (end_frame (geometry_of c.loop-frame.player)) (end_frame (geometry_of c.args.player.now))
+    (ap (λ (x : Cursor). x.frame) filled.next) c.loop-frame-test.true c.requires.can_run.rings_hold (ap (λ (k : Key). end_frame k.geometry) filled.played.goes.key)
 
 pub publish_period-due-requires-clause-due : goal.publish_period-due-requires-clause-due
 publish_period-due-requires-clause-due g c =

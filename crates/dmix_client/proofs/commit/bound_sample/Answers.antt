@@ -1,5 +1,5 @@
 use Rattle.std.proofs.Common.{◌≡◌, ◌∙◌, ℕ, List, ap, arith, length, rules, sym}
-use Rattle.std.specs.Prelude.{ℤ, pos, slice_index, slice_index_or}
+use Rattle.std.specs.Prelude.{slice_index}
 use Rattle.bindings.specs.Bound.{AreBindings, rising}
 use Rattle.dmix_client.proofs.Frames.{rising-single}
 use Rattle.dmix_client.proofs.commit.bound_sample.Goals.{then-channels-eq1, else-channels-eq1}

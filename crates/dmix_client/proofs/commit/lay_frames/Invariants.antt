@@ -1,4 +1,4 @@
-use Rattle.std.proofs.Common.{◌≡◌, ℕ, ◌+◌, ◌-◌, ◌≤◌}
+use Rattle.std.proofs.Common.{◌≡◌, ◌+◌, ◌-◌, ◌≤◌}
 use Rattle.snd_base.specs.Places.{IsFrom}
 use Rattle.dmix_client.specs.Port.{least_channel}
 use Rattle.dmix_client.specs.View.{ring_sample}

@@ -6,9 +6,10 @@ use Rattle.course.specs.AtPort.{TakesAt}
 use Rattle.bindings.specs.Bound.{rising}
 use Rattle.dmix_client.specs.Course.{lay_frame}
 use Rattle.dmix_client.specs.CourseLaws.{TakesAt-frame}
-use Rattle.dmix_client.specs.Port.{least_channel}
+use Rattle.dmix_client.specs.Port.{least_channel, IsOnCard}
 use Rattle.dmix_client.specs.RingLaws.{slot-within}
 use Rattle.dmix_client.specs.View.{ring_sample}
+use Rattle.snd_base.specs.declared.geometry.Geometry.{Geometry}
 use Rattle.dmix_client.proofs.Frames.{IsFrom-next, marks-joined, slot-run}
 use Rattle.dmix_client.proofs.Laying.{RestFrames-all, RestFrames-ended, RestFrames-next, RestFrames-none, TakesAt-ring_sample}
 use Rattle.dmix_client.proofs.commit.lay_run_of.Goals as goal
@@ -72,3 +73,12 @@ returns g c =
     let stream = c.args.stream.now in
     RestFrames-all port g.G.Gate stream.identity.member stream.stretch.card stream.setup.bindings (ring_sample stream c.args.ring.now) c.args.count c.args.first (c.args.port.now, c.args.gate.now) (c.loop-frame.port, c.loop-frame.gate) c.loop-frame.frame
     (omega (arith, c.loop-frame-test.false, c.loop-frame.auto.frame-end)) c.loop-frame.invariant.takes
+
+pub place_frame-placed-requires-clause-can_add : goal.place_frame-placed-requires-clause-can_add
+place_frame-placed-requires-clause-can_add g c = ap (λ (v : PortView). v.can_add) c.loop-frame.invariant.view_is ∙ c.requires.can_add
+
+pub place_frame-placed-requires-clause-channels : goal.place_frame-placed-requires-clause-channels
+place_frame-placed-requires-clause-channels g c = c.requires.channels
+
+pub place_frame-placed-requires-clause-bound : goal.place_frame-placed-requires-clause-bound
+place_frame-placed-requires-clause-bound g c = subst (λ (h : Geometry). IsOnCard c.args.stream.now.setup.bindings h) (sym (ap (λ (v : PortView). v.geometry) c.loop-frame.invariant.view_is)) c.requires.bound

@@ -1,9 +1,10 @@
-use Rattle.std.proofs.Common.{refl, subst}
+use Rattle.std.proofs.Common.{refl, subst, ◌∙◌, ap}
 use Rattle.std.specs.Prelude.{Some}
-use Rattle.mix_core.specs.Port.{load_of}
+use Rattle.mix_core.specs.Port.{load_of, PortView}
 use Rattle.course.specs.AtPort.{LoadsAt}
 use Rattle.dmix_client.specs.Calls.{sync_count}
 use Rattle.dmix_client.specs.CourseLaws.{TakesAt-looks}
+use Rattle.dmix_client.proofs.Readiness.{IsOnCard-configured}
 use Rattle.dmix_client.proofs.Sound.{configured-moving}
 use Rattle.dmix_client.proofs.Looking.{looks-none, looks-some}
 use Rattle.dmix_client.proofs.commit.look_and_commit.Goals as goal
@@ -24,3 +25,19 @@ returns-clause-found g c =
     (TakesAt-looks g.P.MixPort g.G.Gate g.met.P.MixPort.laid_composes g.met.P.MixPort.loaded_composes (λ position. c.args.stream.now) (sync_count c.args.stream.now) c.args.ring.now c.args.stream.now.setup.bindings
     (c.args.port.now, c.args.gate.now) (c.lay_frames-commit.new.port, c.lay_frames-commit.new.gate) (Some c.in-Ok.position) c.lay_frames-commit.result
     (configured-moving c.args.stream.now c.args.ring.now c.requires.sound c.requires.moving).bound (λ position. refl) (returns-clause-takes g c)).found
+
+pub lay_frames-commit-requires-clause-can_add : goal.lay_frames-commit-requires-clause-can_add
+lay_frames-commit-requires-clause-can_add g c = ap (λ (v : PortView). v.can_add) c.in-Ok.ensures.step.view_is ∙ c.requires.port.can
+
+pub lay_frames-commit-requires-clause-member : goal.lay_frames-commit-requires-clause-member
+lay_frames-commit-requires-clause-member g c = ap (λ (v : PortView). v.member) c.in-Ok.ensures.step.view_is ∙ c.requires.port.same_member
+
+pub lay_frames-commit-requires-clause-bound : goal.lay_frames-commit-requires-clause-bound
+lay_frames-commit-requires-clause-bound g c =
+    IsOnCard-configured c.args.stream.now c.args.ring.now (g.P.MixPort.view c.position.new.self).geometry (configured-moving c.args.stream.now c.args.ring.now c.requires.sound c.requires.moving) (ap (λ (v : PortView). v.geometry) c.in-Ok.ensures.step.view_is ∙ c.requires.port.same_geometry)
+
+pub lay_frames-commit-requires-clause-buffer : goal.lay_frames-commit-requires-clause-buffer
+lay_frames-commit-requires-clause-buffer g c = (configured-moving c.args.stream.now c.args.ring.now c.requires.sound c.requires.moving).buffer_least
+
+pub lay_frames-commit-requires-clause-room : goal.lay_frames-commit-requires-clause-room
+lay_frames-commit-requires-clause-room g c = (configured-moving c.args.stream.now c.args.ring.now c.requires.sound c.requires.moving).room

@@ -1,10 +1,13 @@
-use Rattle.std.proofs.Common.{refl, subst}
+use Rattle.std.proofs.Common.{refl, subst, ◌∙◌, ap, ◌≡◌, ◌≤◌, ◌*◌, length, sym}
 use Rattle.std.specs.Prelude.{Some}
-use Rattle.mix_core.specs.Port.{load_of}
+use Rattle.mix_core.specs.Port.{load_of, PortView}
 use Rattle.pcm_states.specs.declared.states.State.TheVariants.{Running}
 use Rattle.course.specs.AtPort.{LoadsAt}
 use Rattle.dmix_client.specs.Calls.{start_count, started_in}
 use Rattle.dmix_client.specs.CourseLaws.{TakesAt-looks}
+use Rattle.dmix_client.specs.declared.stream.PlaybackStream.{PlaybackStream}
+use Rattle.dmix_client.specs.Port.{IsOnCard}
+use Rattle.dmix_client.proofs.Readiness.{IsOnCard-configured}
 use Rattle.dmix_client.proofs.Sound.{configured-prepared}
 use Rattle.dmix_client.proofs.Looking.{looks-none, looks-some}
 use Rattle.dmix_client.proofs.commit.look_and_start.Goals as goal
@@ -25,3 +28,19 @@ returns-clause-found g c =
     (TakesAt-looks g.P.MixPort g.G.Gate g.met.P.MixPort.laid_composes g.met.P.MixPort.loaded_composes (λ position. started_in c.args.stream.now Running position c.args.cursor) (λ position. start_count c.args.stream.now c.args.cursor position c.args.upto) c.args.ring.now c.args.stream.now.setup.bindings
     (c.args.port.now, c.args.gate.now) (c.lay_frames-commit.new.port, c.lay_frames-commit.new.gate) (Some c.in-Ok.position) c.lay_frames-commit.result
     (configured-prepared c.args.stream.now c.args.ring.now c.requires.sound c.requires.prepared).bound (λ position. refl) (returns-clause-takes g c)).found
+
+pub lay_frames-commit-requires-clause-can_add : goal.lay_frames-commit-requires-clause-can_add
+lay_frames-commit-requires-clause-can_add g c = ap (λ (v : PortView). v.can_add) c.in-Ok.ensures.step.view_is ∙ c.requires.port.can
+
+pub lay_frames-commit-requires-clause-member : goal.lay_frames-commit-requires-clause-member
+lay_frames-commit-requires-clause-member g c = subst (λ (d : PlaybackStream). (g.P.MixPort.view c.position.new.self).member ≡ d.identity.member) (sym c.started_in-from.ensures) (ap (λ (v : PortView). v.member) c.in-Ok.ensures.step.view_is ∙ c.requires.port.same_member)
+
+pub lay_frames-commit-requires-clause-bound : goal.lay_frames-commit-requires-clause-bound
+lay_frames-commit-requires-clause-bound g c =
+    subst (λ (d : PlaybackStream). IsOnCard d.setup.bindings (g.P.MixPort.view c.position.new.self).geometry) (sym c.started_in-from.ensures) (IsOnCard-configured c.args.stream.now c.args.ring.now (g.P.MixPort.view c.position.new.self).geometry (configured-prepared c.args.stream.now c.args.ring.now c.requires.sound c.requires.prepared) (ap (λ (v : PortView). v.geometry) c.in-Ok.ensures.step.view_is ∙ c.requires.port.same_geometry))
+
+pub lay_frames-commit-requires-clause-buffer : goal.lay_frames-commit-requires-clause-buffer
+lay_frames-commit-requires-clause-buffer g c = subst (λ (d : PlaybackStream). 1 ≤ d.setup.config.buffer_size) (sym c.started_in-from.ensures) ((configured-prepared c.args.stream.now c.args.ring.now c.requires.sound c.requires.prepared).buffer_least)
+
+pub lay_frames-commit-requires-clause-room : goal.lay_frames-commit-requires-clause-room
+lay_frames-commit-requires-clause-room g c = subst (λ (d : PlaybackStream). length c.args.ring.now ≡ d.setup.config.buffer_size * length d.setup.bindings) (sym c.started_in-from.ensures) ((configured-prepared c.args.stream.now c.args.ring.now c.requires.sound c.requires.prepared).room)

@@ -1,9 +1,12 @@
-use Rattle.std.proofs.Common.{refl, ◌+◌, ◌-◌, ◌*◌, ◌≤◌, ◌∙◌, length, arith}
+use Rattle.std.proofs.Common.{refl, ◌≡◌, ℕ, ◌+◌, ◌-◌, ◌*◌, ◌≤◌, ◌<◌, ◌∙◌, length, arith, subst, sym}
+use Rattle.std.specs.Prelude.{All}
+use Rattle.snd_base.specs.Places.{first_frame}
 use Rattle.std.proofs.Math.Nat.{mul-le-mul_right}
 use Rattle.snoop_core.specs.declared.port.Got.TheVariants.{Whole}
-use Rattle.snoop_core.specs.Port.{Gets, numbered_frame}
-use Rattle.dsnoop_client.proofs.Filling.{Fills-ended, Fills-next}
-use Rattle.dsnoop_client.proofs.Getting.{Rest-all, Rest-ended, Rest-next}
+use Rattle.snoop_core.specs.Port.{Gets, SnoopView, numbered_frame}
+use Rattle.dsnoop_client.specs.Reads.{Fills}
+use Rattle.dsnoop_client.proofs.Filling.{Fills-ended, Fills-next, Fills-none}
+use Rattle.dsnoop_client.proofs.Getting.{Rest-all, Rest-ended, Rest-next, Rest-none}
 use Rattle.dsnoop_client.proofs.frames.load_frames.Goals as goal
 
 pub loop-index-preserved : goal.loop-index-preserved
@@ -40,3 +43,26 @@ pub returns-clause-takes : goal.returns-clause-takes
 returns-clause-takes g c =
     Rest-all g.P.SnoopPort g.G.Gate c.args.count c.args.first (c.args.port.now, c.args.gate.now) (c.loop-index.port, c.loop-index.gate) c.loop-index.index
     (omega (arith, c.loop-index-test.false, c.loop-index.auto.index-end)) c.loop-index.invariant.takes
+
+pub loop-index-init : goal.loop-index-init
+loop-index-init g c = record {
+  view_is = refl;
+  takes = Rest-none g.P.SnoopPort g.G.Gate c.args.count c.args.first (c.args.port.now, c.args.gate.now);
+  fills = Fills-none g.P.SnoopPort g.met.P.SnoopPort.got_composes c.args.port.now c.args.bindings.now c.args.first c.args.out.now;
+}
+
+pub load_through-requires-clause-on_card : goal.load_through-requires-clause-on_card
+load_through-requires-clause-on_card g c = subst (λ (v : SnoopView). All (λ channel. channel < v.geometry.channels) c.args.bindings.now) (sym c.loop-index.invariant.view_is) c.requires.on_card
+
+pub load_through-requires-clause-least : goal.load_through-requires-clause-least
+load_through-requires-clause-least g c =
+    subst (λ (v : SnoopView). first_frame v.geometry ≤ c.args.first + c.loop-index.index) (sym c.loop-index.invariant.view_is) (omega (arith, c.requires.least))
+
+pub load_through-requires-clause-captured : goal.load_through-requires-clause-captured
+load_through-requires-clause-captured g c =
+    subst (λ (v : SnoopView). c.args.first + c.loop-index.index < v.seen) (sym c.loop-index.invariant.view_is) (omega (arith, c.requires.captured, c.loop-index-test.true))
+
+pub returns-clause-fills : goal.returns-clause-fills
+returns-clause-fills g c =
+    let all : c.loop-index.index ≡ c.args.count = omega (arith, c.loop-index-test.false, c.loop-index.auto.index-end) in
+    subst (λ (n : ℕ). Fills g.P.SnoopPort c.args.port.now c.loop-index.port c.args.bindings.now c.args.first n Whole c.args.out.now c.loop-index.out) all c.loop-index.invariant.fills

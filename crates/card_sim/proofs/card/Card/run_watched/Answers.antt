@@ -1,11 +1,15 @@
-use Rattle.std.proofs.Common.{Bool, ◌∙◌, sym, ap, subst}
+use Rattle.std.proofs.Common.{◌≡◌, ◌-◌, ◌/◌, ℕ, ℤ, Bool, true, false, List, length, min, ◌∙◌, refl, sym, ap, subst}
+use Rattle.snd_base.specs.declared.geometry.Geometry.{Geometry}
 use Rattle.snd_base.specs.declared.places.Cursor.{Cursor}
-use Rattle.sum_table.specs.Players.{position_of_player}
+use Rattle.snd_base.specs.Places.{end_frame}
+use Rattle.sum_table.specs.Players.{next_of_player, position_of_player}
 use Rattle.card_player.specs.declared.player.CardPlayer.{CardPlayer}
 use Rattle.card_player.specs.PlayLaws.{last_number-positions_of}
-use Rattle.card_player.specs.Plays.{frame_of, frames_left, seat_of}
+use Rattle.card_player.specs.Plays.{frame_of, frames_left, geometry_of, seat_of}
 use Rattle.card_sim.specs.RunLaws.{RunsFrames-alone}
+use Rattle.card_sim.specs.Runs.{RunsFrames}
 use Rattle.card_sim.specs.Steps.{AreSeatsOfCard}
+use Rattle.snoop_table.specs.declared.seats.writer.WriterSeat.{WriterSeat}
 use Rattle.card_sim.proofs.card.Card.run_watched.Goals as goal
 
 pub invariant_of-self : goal.invariant_of-self
@@ -32,3 +36,40 @@ invariant_of-self-2 g c =
           ∙ (last_number-positions_of (position_of_player (seat_of c.args.self.now.player)) c.args.self.now.period (frame_of c.args.self.now.player) c.min-left.result
           ∙ sym (ap (λ (x : Cursor). x.frame) runs.next));
     }
+
+-- the number of frames that the card runs for, as it is reckoned
+left_is : (p : CardPlayer) (g : Geometry) (next : Cursor) (end left : ℕ) (out : List ℤ) → left ≡ min (end - next.frame) (length out / g.channels)
+    → end ≡ end_frame g → g ≡ geometry_of p → next ≡ next_of_player (seat_of p) → left ≡ frames_left p out
+left_is p g next end left out left_of end_of same next_of =
+    left_of ∙ (ap (λ (n : ℕ). min (n - next.frame) (length out / g.channels)) end_of
+    ∙ (ap (λ (h : Geometry). min (end_frame h - next.frame) (length out / h.channels)) same
+    ∙ ap (λ (x : Cursor). min (end_frame (geometry_of p) - x.frame) (length out / (geometry_of p).channels)) next_of))
+
+-- a run of a card that records, and of one that doesn't
+runs_as : (records is : Bool) (p q : CardPlayer) (w v : WriterSeat) (period n m : ℕ) (captured old new : List ℤ) → records ≡ is → n ≡ m → RunsFrames is p w q v period n captured old new
+    → RunsFrames records p w q v period m captured old new
+runs_as records is p q w v period n m captured old new same count runs =
+    subst (λ (k : ℕ). RunsFrames records p w q v period k captured old new) count (subst (λ (b : Bool). RunsFrames b p w q v period n captured old new) (sym same) runs)
+
+pub returns-then-not-self-clause-runs : goal.returns-then-not-self-clause-runs
+returns-then-not-self-clause-runs g c =
+    let p : CardPlayer = c.args.self.now.player in
+    runs_as c.args.self.now.records false p c.play_by.new.self c.args.self.now.writer c.args.self.now.writer c.args.self.now.period (frames_left p c.args.out.now) (frames_left p c.args.out.now)
+    c.args.captured.now c.args.out.now c.play_by.new.out c.if-not-self.true refl
+    (RunsFrames-alone p c.play_by.new.self c.args.self.now.writer c.args.self.now.period (frames_left p c.args.out.now) c.args.captured.now c.args.out.now c.play_by.new.out c.play_by.ensures.plays c.args.self.now.in_step.geometry)
+
+pub returns-then-left-frames-clause-runs : goal.returns-then-left-frames-clause-runs
+returns-then-left-frames-clause-runs g c =
+    let p : CardPlayer = c.args.self.now.player in
+    runs_as c.args.self.now.records true p c.run_frames.new.player c.args.self.now.writer c.run_frames.new.writer c.args.self.now.period c.min-left.result (frames_left p c.args.out.now)
+    c.args.captured.now c.args.out.now c.run_frames.new.out c.if-not-self.false
+    (left_is p c.geometry-geometry.result c.next-first.result c.end_frame.result c.min-left.result c.args.out.now c.min-left.ensures c.end_frame.ensures c.geometry-geometry.ensures c.next-first.ensures)
+    c.run_frames.ensures.runs
+
+pub returns-clause-runs : goal.returns-clause-runs
+returns-clause-runs g c =
+    let p : CardPlayer = c.args.self.now.player in
+    runs_as c.args.self.now.records true p c.run_frames.new.player c.args.self.now.writer c.run_frames.new.writer c.args.self.now.period c.min-left.result (frames_left p c.args.out.now)
+    c.args.captured.now c.args.out.now c.run_frames.new.out c.if-not-self.false
+    (left_is p c.geometry-geometry.result c.next-first.result c.end_frame.result c.min-left.result c.args.out.now c.min-left.ensures c.end_frame.ensures c.geometry-geometry.ensures c.next-first.ensures)
+    c.run_frames.ensures.runs

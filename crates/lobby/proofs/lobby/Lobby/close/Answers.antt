@@ -1,5 +1,5 @@
-use Rattle.std.proofs.Common.{◌∙◌, refl, rules, sym}
-use Rattle.lobby.proofs.Closing.{IsJoining-more, all_joined, next_place}
+use Rattle.std.proofs.Common.{◌∙◌, ap, is_some, refl, rules, sym, true≢false}
+use Rattle.lobby.proofs.Closing.{IsJoining-more, all_joined, next_free, next_place}
 use Rattle.lobby.proofs.lobby.Lobby.close.Goals as goal
 
 pub loop-seat-init : goal.loop-seat-init
@@ -18,3 +18,8 @@ loop-seat-preserved c =
 
 pub returns : goal.returns
 returns c = all_joined c.args.self c.loop-seat.whole c.loop-seat.yielded c.loop-seat.seat-iterator.rest.items c.loop-seat.invariant (sym c.loop-seat.seat-iterator.rest.ok.0 ∙ c.in-None.ensures.steps.0)
+
+pub unreachable-requires : goal.unreachable-requires
+unreachable-requires c =
+    let free = next_free c.args.self c.loop-seat.whole c.loop-seat.yielded c.loop-seat.seat-iterator.rest.items c.next.new.self.rest.items c.in-Some.seat c.requires c.loop-seat.invariant c.in-Some.ensures.steps.0 in
+    true≢false (sym free ∙ ap is_some c.in_default.is)

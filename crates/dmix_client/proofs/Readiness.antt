@@ -1,0 +1,40 @@
+-- A client that moves frames has counts near each other, and a port that loaded the position still is what its calls ask.
+use Rattle.std.proofs.Common.{◌≡◌, ◌+◌, ◌^◌, ◌<◌, arith, subst, sym}
+use Rattle.std.specs.Prelude.{Err, List, Ok, OnOk, Result, false, true, ℤ}
+use Rattle.snd_base.specs.declared.errors.PcmError.{PcmError}
+use Rattle.snd_base.specs.declared.geometry.Geometry.{Geometry}
+use Rattle.pcm_states.specs.declared.states.State.TheVariants.{Setup}
+use Rattle.pcm_stream.specs.Status.{is_moving}
+use Rattle.dmix_client.specs.declared.stream.PlaybackStream.{PlaybackStream}
+use Rattle.dmix_client.specs.Port.{IsOnCard}
+use Rattle.dmix_client.specs.View.{IsConfigured, IsGoing, IsReady, IsSoundClient}
+use Rattle.dmix_client.proofs.Sound.{configured-moving, hw-started}
+
+pub IsReady-moving : (c : PlaybackStream) (ring : List ℤ) → IsSoundClient c ring → is_moving c.status.state ≡ true → c.status.stopped ≡ false → IsReady c
+IsReady-moving c ring sound moves going =
+    let k = configured-moving c ring sound moves in
+    let m = sound.moving moves going in
+    record {
+      buffer_least = k.buffer_least;
+      buffer_most = k.buffer_most;
+      fits = m.fits;
+      near = omega (arith, hw-started c m.started, sound.seen, c.identity.geometry.frames_most);
+    }
+
+written-fits : (c : PlaybackStream) (ring : List ℤ) → IsSoundClient c ring → is_moving c.status.state ≡ true → c.status.stopped ≡ false → c.stretch.card + c.stretch.written < 2 ^ 64
+written-fits c ring sound moves going =
+    let ready = IsReady-moving c ring sound moves going in
+    omega (arith, ready.fits, ready.near, ready.buffer_most, sound.card, c.identity.geometry.frames_most)
+
+-- the same of a client that goes on, unless it is at its end
+pub IsReady-going : (r : Result (Unit {0}) PcmError) (c : PlaybackStream) (ring : List ℤ) → IsSoundClient c ring → OnOk r (IsGoing c) → OnOk r ((c.status.state ≡ Setup → ⊥) → IsReady c)
+IsReady-going (Ok done) c ring sound goes = λ on. IsReady-moving c ring sound (goes.moves on) goes.unstopped
+IsReady-going (Err e) c ring sound goes = tt
+
+pub written-fits-going : (r : Result (Unit {0}) PcmError) (c : PlaybackStream) (ring : List ℤ) → IsSoundClient c ring → OnOk r (IsGoing c) → OnOk r ((c.status.state ≡ Setup → ⊥) → c.stretch.card + c.stretch.written < 2 ^ 64)
+written-fits-going (Ok done) c ring sound goes = λ on. written-fits c ring sound (goes.moves on) goes.unstopped
+written-fits-going (Err e) c ring sound goes = tt
+
+-- the bindings of a client are on the card of its port
+pub IsOnCard-configured : (c : PlaybackStream) (ring : List ℤ) (g : Geometry) → IsConfigured c ring → g ≡ c.identity.geometry → IsOnCard c.setup.bindings g
+IsOnCard-configured c ring g k same = subst (λ (h : Geometry). IsOnCard c.setup.bindings h) (sym same) (record { bound = k.bound; below = k.on_card })

@@ -1,0 +1,68 @@
+-- A reader that runs is ready to read, and a read that doesn't start a prepared one waits.
+use Rattle.std.proofs.Common.{◌≡◌, ℕ, ◌-◌, ◌<◌, ◌≤◌, ap, arith, inl, inr, refl, subst, sym}
+use Rattle.std.proofs.lemmas.Bool.Decides.{nat_tests}
+use Rattle.std.specs.Prelude.{Bool, Err, IfOk, Ok, Result, false, if◌then◌else◌, nat_eq, nat_le, true}
+use Rattle.snd_base.specs.declared.errors.PcmError.{PcmError}
+use Rattle.snd_base.specs.declared.errors.PcmError.TheVariants.{Again}
+use Rattle.mix_core.specs.declared.gate.Gate as gates
+use Rattle.pcm_states.specs.declared.states.State.TheVariants as state
+use Rattle.pcm_stream.specs.Status.{is_set_up}
+use Rattle.snoop_core.specs.declared.port.SnoopPort as snoopport
+use Rattle.course.specs.AtSnoopPort.{TakesAtSnoop}
+use Rattle.dsnoop_client.specs.declared.stream.CaptureStream.{CaptureStream}
+use Rattle.dsnoop_client.specs.Calls.{Answered, waits}
+use Rattle.dsnoop_client.specs.Course.{read_course, reads_first}
+use Rattle.dsnoop_client.specs.Port.{Keeps}
+use Rattle.dsnoop_client.specs.View.{CanUse, IsReady, IsSoundReader, LoadsFor, is_running}
+use Rattle.dsnoop_client.proofs.Refusing.{Keeps-still, not-both}
+
+-- the counts of a reader that runs are near each other
+pub IsReady-running : (c : CaptureStream) → IsSoundReader c → c.status.state ≡ state.Running → IsReady c
+IsReady-running c sound runs =
+    let configured = sound.configured (sound.set_up (ap is_set_up runs)) in
+    record {
+      buffer_least = configured.runs.buffer_least;
+      buffer_most = configured.runs.buffer_most;
+      captured = (sound.reading runs).most;
+      near = omega (arith, sound.seen, c.geometry.frames_most);
+    }
+
+reached : (threshold n : ℕ) → threshold ≤ n → nat_le threshold n ≡ true
+reached threshold n high = grind (arith, nat_tests)
+
+missed : (threshold n : ℕ) → n < threshold → nat_le threshold n ≡ false
+missed threshold n low = grind (arith, nat_tests)
+
+-- a read of fewer frames than the start threshold loads none, of a reader that doesn't run
+pub never-loads : (c : CaptureStream) (n : ℕ) → is_running c.status.state ≡ false → n < c.setup.params.start_threshold → LoadsFor c n → ⊥
+never-loads c n still low (inl runs) = not-both c.status.state still runs
+never-loads c n still low (inr high) = omega (arith, low, high)
+
+few-waits : (n : ℕ) (none : Bool) → nat_eq n 0 ≡ none → IfOk (let r : Result ℕ PcmError = (if none then Ok 0 else Err Again) in r) (λ k. k ≤ n)
+few-waits n true is = omega arith
+few-waits n false is = tt
+
+pub waits-few : (n : ℕ) (answer : Result ℕ PcmError) → answer ≡ waits n → IfOk answer (λ k. k ≤ n)
+waits-few n answer is = subst (λ (r : Result ℕ PcmError). IfOk r (λ k. k ≤ n)) (sym is) (few-waits n (nat_eq n 0) refl)
+
+module _ {S T : Type 0} (P : snoopport.Ghosts S) (G : gates.Ghosts T) where
+  -- the read that starts a reader, and one that waits
+  pub read-first : (s t : S × T) (c : CaptureStream) (n : ℕ) (done : Answered ℕ) → is_running c.status.state ≡ false → c.setup.params.start_threshold ≤ n → TakesAtSnoop P G s (reads_first c n) t done → TakesAtSnoop P G s (read_course c n) t done
+  read-first s t c n done still high takes = rw (still, reached c.setup.params.start_threshold n high) takes
+
+  pub read-waits : (s : S × T) (c : CaptureStream) (n : ℕ) (answer : Result ℕ PcmError) → is_running c.status.state ≡ false → n < c.setup.params.start_threshold → answer ≡ waits n → TakesAtSnoop P G s (read_course c n) s (c, answer)
+  read-waits s c n answer still low is = rw (still, missed c.setup.params.start_threshold n low) (record { there = refl; result = ap (λ (r : Result ℕ PcmError). let a : Answered ℕ = (c, r) in a) is })
+
+  keeps-waits : (s : S × T) (c : CaptureStream) (none : Bool) → IsSoundReader c → CanUse c (P.view s.0) → c.status.stopped ≡ false → Keeps P G s s c c (let r : Result ℕ PcmError = (if none then Ok 0 else Err Again) in r)
+  keeps-waits s c true sound can unstopped = Keeps-still P G s c 0 sound can unstopped
+  keeps-waits s c false sound can unstopped = record {
+    sound = sound;
+    port = can;
+    same_ring = refl;
+    same_setup = refl;
+    stopped = (λ h. cc, λ h. absurd (cc));
+    told = λ still. refl;
+  }
+
+  pub Keeps-waits : (s : S × T) (c : CaptureStream) (n : ℕ) (answer : Result ℕ PcmError) → IsSoundReader c → CanUse c (P.view s.0) → c.status.stopped ≡ false → answer ≡ waits n → Keeps P G s s c c answer
+  Keeps-waits s c n answer sound can unstopped is = subst (λ (r : Result ℕ PcmError). Keeps P G s s c c r) (sym is) (keeps-waits s c (nat_eq n 0) sound can unstopped)
