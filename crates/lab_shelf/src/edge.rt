@@ -3,7 +3,7 @@ ghost use Rattle.std.specs.Prelude.{◌≡◌, ◌≤◌, None, IsUtf8, IfOk, On
 ghost use Rattle.std.specs.Io.KnownBytes.{Appends};
 ghost use Rattle.lab_shelf.specs.Counts.{IsFaultCount, count_after};
 
-use crate::fault::ShelfFault;
+use crate::fault::{ShelfFault, count_fault};
 use crate::traits::{Shelf, Sink};
 use std::alloc::Global;
 use std::fs::OpenOptions;
@@ -42,6 +42,18 @@ impl<R: Files> FileShelf<R> {
             write_faults: 0,
         }
     }
+
+    /// Writes these bytes to a file that is there, and counts a fault of the write.
+    fn change(&mut self, options: &OpenOptions, name: &[u8], bytes: &[u8]) -> Result<(), ShelfFault>
+        ensures text { OnOk result (IsUtf8 name.now) }
+        ensures after { self.new ≡ record self.old
+            { write_faults = count_after result self.old.write_faults } }
+        ensures faults { IsFaultCount result self.old.write_faults self.new.write_faults }
+    {
+        let outcome = change_file(&self.rt, options, name, bytes);
+        count_fault(&outcome, &mut self.write_faults);
+        outcome
+    }
 }
 
 impl<R: Files> Shelf for FileShelf<R> {
@@ -66,9 +78,7 @@ impl<R: Files> Shelf for FileShelf<R> {
         ensures write_faults { self.new.write_faults ≡ self.old.write_faults }
     {
         let outcome = read_piece(&self.rt, alloc, name, from, most);
-        if let Err(ShelfFault::Failed) = outcome {
-            self.fetch_faults = self.fetch_faults.saturating_add(1);
-        }
+        count_fault(&outcome, &mut self.fetch_faults);
         outcome
     }
 
@@ -80,9 +90,7 @@ impl<R: Files> Shelf for FileShelf<R> {
         ensures fetch_faults { self.new.fetch_faults ≡ self.old.fetch_faults }
     {
         let outcome = write_file(&self.rt, name, bytes);
-        if let Err(ShelfFault::Failed) = outcome {
-            self.write_faults = self.write_faults.saturating_add(1);
-        }
+        count_fault(&outcome, &mut self.write_faults);
         outcome
     }
 
@@ -105,11 +113,7 @@ impl<R: Files> Shelf for FileShelf<R> {
     {
         let mut options = OpenOptions::new();
         options.append(true);
-        let outcome = change_file(&self.rt, &options, name, bytes);
-        if let Err(ShelfFault::Failed) = outcome {
-            self.write_faults = self.write_faults.saturating_add(1);
-        }
-        outcome
+        self.change(&options, name, bytes)
     }
 
     fn finish(&mut self, name: &[u8], head: &[u8]) -> Result<(), ShelfFault>
@@ -121,11 +125,7 @@ impl<R: Files> Shelf for FileShelf<R> {
     {
         let mut options = OpenOptions::new();
         options.write(true);
-        let outcome = change_file(&self.rt, &options, name, head);
-        if let Err(ShelfFault::Failed) = outcome {
-            self.write_faults = self.write_faults.saturating_add(1);
-        }
-        outcome
+        self.change(&options, name, head)
     }
 }
 
@@ -163,15 +163,13 @@ impl<W: Write> Sink for StdSink<W> {
         ensures faults { IsFaultCount result self.old self.new }
     {
         let outcome = write_through(&mut self.writer, bytes);
-        if let Err(ShelfFault::Failed) = outcome {
-            self.faults = self.faults.saturating_add(1);
-        }
+        count_fault(&outcome, &mut self.faults);
         outcome
     }
 }
 
 /// What an error of the system means to a caller.
-fn fault_of(error: &io::Error) -> ShelfFault {
+fn fault_of(error: io::Error) -> ShelfFault {
     match error.kind() {
         ErrorKind::OutOfMemory => ShelfFault::Memory,
         _ => ShelfFault::Failed,
@@ -198,13 +196,9 @@ fn read_piece<R: Files>(
     ensures text { OnOk result (IsUtf8 name.now) }
 {
     let path = path_of(name)?;
-    match read_bytes(rt, alloc, path, from, most) {
-        Ok(mut bytes) => {
-            bytes.truncate(most as usize);
-            Ok(bytes)
-        }
-        Err(error) => Err(fault_of(&error)),
-    }
+    let mut bytes = read_bytes(rt, alloc, path, from, most).map_err(fault_of)?;
+    bytes.truncate(most as usize);
+    Ok(bytes)
 }
 
 /// The bytes that the system gives for a file from the byte `from` on, up to `most`.
@@ -215,14 +209,20 @@ fn read_bytes<R: Files>(
     from: u64,
     most: u64,
 ) -> io::Result<Vec<u8>> {
+    let file = open_at(rt, path, from)?;
+    let mut bytes = Vec::new(alloc);
+    file.take(most).read_to_end(&mut bytes)?;
+    Ok(bytes)
+}
+
+/// A file opened to be read from the byte `from` on.
+fn open_at<R: Files>(rt: &R, path: &str, from: u64) -> io::Result<R::File> {
     let mut file = fs::open(rt, path)?;
     // a pipe has no place to go to, but its beginning can be read
     if from > 0 {
         file.seek(SeekFrom::Start(from))?;
     }
-    let mut bytes = Vec::new(alloc);
-    file.take(most).read_to_end(&mut bytes)?;
-    Ok(bytes)
+    Ok(file)
 }
 
 /// Makes the file hold exactly these bytes.
@@ -230,7 +230,7 @@ fn write_file<R: Files>(rt: &R, name: &[u8], bytes: &[u8]) -> Result<(), ShelfFa
     ensures { OnOk result (IsUtf8 name.now) }
 {
     let path = path_of(name)?;
-    fs::write(rt, path, bytes).map_err(|error| fault_of(&error))
+    fs::write(rt, path, bytes).map_err(fault_of)
 }
 
 /// Opens a file that is there, and writes these bytes: at its end where the options ask to append, and
@@ -244,7 +244,7 @@ fn change_file<R: Files>(
     ensures { OnOk result (IsUtf8 name.now) }
 {
     let path = path_of(name)?;
-    write_at_place(rt, options, path, bytes).map_err(|error| fault_of(&error))
+    write_at_place(rt, options, path, bytes).map_err(fault_of)
 }
 
 /// Writes these bytes where a file that was opened with the options begins to be written.
@@ -262,10 +262,7 @@ fn write_at_place<R: Files>(
 fn write_through<W: Write>(writer: &mut W, bytes: &[u8]) -> Result<(), ShelfFault>
     ensures { OnOk result (Appends (W.contents writer.old) (W.contents writer.new) bytes.now) }
 {
-    match write_and_flush(writer, bytes) {
-        Ok(()) => Ok(()),
-        Err(error) => Err(fault_of(&error)),
-    }
+    write_and_flush(writer, bytes).map_err(fault_of)
 }
 
 /// Writes all of the bytes, and then what the writer holds back.

@@ -15,11 +15,18 @@ pub(crate) fn cut(content: &[u8], from: u64, most: u64) -> &[u8]
     &rest[..rest.len().min(most as usize)]
 }
 
+/// Whether an entry has this name.
+fn is_named(entry: &(Vec<u8>, Vec<u8>), name: &[u8]) -> bool
+    ensures { result ≡ bytes_eq name.now entry.now.0.items }
+{
+    name == entry.0.as_slice()
+}
+
 /// The index of the first entry of this name.
 fn place_of(entries: &[(Vec<u8>, Vec<u8>)], name: &[u8]) -> Option<usize>
     ensures { result ≡ position (λ entry. bytes_eq name.now entry.0.items) entries.now }
 {
-    entries.iter().position(|entry| name == entry.0.as_slice())
+    entries.iter().position(|entry| is_named(entry, name))
 }
 
 /// What the first entry of this name holds.
@@ -30,6 +37,31 @@ pub(crate) fn content_of<'a>(entries: &'a [(Vec<u8>, Vec<u8>)], name: &[u8]) -> 
         Some(place) => Some(entries[place].1.as_slice()),
         None => None,
     }
+}
+
+/// Adds an entry at the end. Nothing changes where there is no memory for it.
+fn add_entry(
+    entries: &mut Vec<(Vec<u8>, Vec<u8>)>,
+    name: &[u8],
+    content: Vec<u8>,
+) -> Result<(), AllocError>
+    ensures ok { OnOk result
+        (position (λ entry. bytes_eq name.now entry.0.items) entries.old.items ≡ None
+        → files_of entries.new.items
+        ≡ with_file (files_of entries.old.items) name.now content.items) }
+    ensures err { OnErr result (entries.new.items ≡ entries.old.items) }
+{
+    let alloc = *entries.allocator();
+    let name = Vec::from_slice(alloc, name)?;
+    entries.push((name, content))?;
+    Ok(())
+}
+
+/// Makes an entry hold other bytes.
+fn put_content(content: &mut Vec<u8>, bytes: Vec<u8>)
+    ensures { content.new ≡ bytes }
+{
+    *content = bytes;
 }
 
 /// Makes the first entry of this name hold these bytes, or adds one. Nothing changes where there is
@@ -46,9 +78,21 @@ pub(crate) fn put_file(
     let alloc = *entries.allocator();
     let content = Vec::from_slice(alloc, bytes)?;
     match place_of(entries, name) {
-        Some(place) => entries[place].1 = content,
-        None => entries.push((Vec::from_slice(alloc, name)?, content))?,
+        Some(place) => {
+            put_content(&mut entries[place].1, content);
+            Ok(())
+        }
+        None => add_entry(entries, name, content),
     }
+}
+
+/// Adds bytes at the end of what an entry holds. Nothing changes where there is no memory for it.
+fn extend(content: &mut Vec<u8>, bytes: &[u8]) -> Result<(), ShelfFault>
+    ensures ok { OnOk result (content.new.items ≡ content.old.items ++ bytes.now) }
+    ensures err { OnErr result (content.new.items ≡ content.old.items) }
+    ensures memory { IfErr result (λ fault. fault ≡ ShelfFault.Memory) }
+{
+    content.extend_from_slice(bytes)?;
     Ok(())
 }
 
@@ -68,10 +112,7 @@ pub(crate) fn append_to(
         → bytes_under (files_of entries.old) name.now ≡ None }
 {
     match place_of(entries, name) {
-        Some(place) => match entries[place].1.extend_from_slice(bytes) {
-            Ok(()) => Ok(()),
-            Err(_) => Err(ShelfFault::Memory),
-        },
+        Some(place) => extend(&mut entries[place].1, bytes),
         None => Err(ShelfFault::Failed),
     }
 }
@@ -82,6 +123,14 @@ fn put_front(content: &mut [u8], head: &[u8])
     ensures { content.new ≡ with_first_bytes head.now content.old }
 {
     content[..head.len()].copy_from_slice(head);
+}
+
+/// Replaces the first bytes of what an entry holds by as many others.
+fn put_head(content: &mut Vec<u8>, head: &[u8])
+    requires { length head.now ≤ length content.old.items }
+    ensures { content.new.items ≡ with_first_bytes head.now content.old.items }
+{
+    put_front(content.as_mut_slice(), head);
 }
 
 /// Replaces the first bytes of the first entry of this name, which are there, by as many others. It
@@ -103,7 +152,7 @@ pub(crate) fn overwrite(
 {
     match place_of(entries, name) {
         Some(place) => {
-            put_front(entries[place].1.as_mut_slice(), head);
+            put_head(&mut entries[place].1, head);
             Ok(())
         }
         None => Err(ShelfFault::Failed),

@@ -6,7 +6,7 @@ ghost use Rattle.lab_shelf.specs.Counts.{IsFaultCount, IsAsForeseen};
 ghost use Rattle.lab_shelf.specs.States.{files_of, fetch_answers, write_answers, after_fetch, after_store, after_change, after_put};
 
 use crate::entries::{append_to, content_of, cut, overwrite, put_file};
-use crate::fault::ShelfFault;
+use crate::fault::{ShelfFault, count_fault};
 use crate::traits::{Shelf, Sink};
 use std::alloc::Global;
 use std::marker::Model;
@@ -182,9 +182,7 @@ impl Shelf for MemoryShelf {
             return Err(ShelfFault::Failed);
         }
         let outcome = append_to(&mut self.entries, name, bytes);
-        if let Err(ShelfFault::Failed) = outcome {
-            self.write_faults = self.write_faults.saturating_add(1);
-        }
+        count_fault(&outcome, &mut self.write_faults);
         outcome
     }
 
@@ -211,9 +209,7 @@ impl Shelf for MemoryShelf {
             return Err(ShelfFault::Failed);
         }
         let outcome = overwrite(&mut self.entries, name, head);
-        if outcome.is_err() {
-            self.write_faults = self.write_faults.saturating_add(1);
-        }
+        count_fault(&outcome, &mut self.write_faults);
         outcome
     }
 }
