@@ -2,8 +2,10 @@ pub mod Below
 pub mod Changes
 pub mod Counts
 pub mod Downs
+pub mod Fields
 pub mod Fronts
 pub mod Groups
+pub mod Joined
 pub mod NumberedValues
 pub mod Numerals
 pub mod PartLists

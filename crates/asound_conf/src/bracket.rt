@@ -1,7 +1,7 @@
 //! Where a reader of a configuration text is among its brackets.
 
 /// A `{` or `[` that is open, or the text itself.
-#[derive(Clone, Copy, Debug)]
+#[derive(Clone, Copy)]
 pub struct Bracket {
     /// The number of its line.
     pub line: u32,
@@ -16,7 +16,7 @@ pub struct Bracket {
 }
 
 /// What may come next.
-#[derive(Clone, Copy, Debug)]
+#[derive(Clone, Copy)]
 pub enum Awaits {
     /// A key, or a value of `[ ]`, and a `,` or `;` before it where `separator` says so.
     Item { separator: bool },

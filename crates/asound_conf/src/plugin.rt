@@ -1,6 +1,6 @@
 //! The dmix, dsnoop and dshare devices that a configuration defines.
 ghost use Rattle.std.specs.Prelude.{◌≡◌, ◌<◌, ◌≤◌, ◌+◌, ◌^◌, option_map, IfOk};
-ghost use Rattle.asound_conf.specs.Device.{IsCard, as_group, card_of_slave, definition_of, device_by, field, field_in, format_of, frames_in_time, is_fit, is_period, is_ring, is_stream, kind_named, device_kind, number_of_node, slave_numbers, or_default, slave_period, slave_ring, device_slave, device_bindings};
+ghost use Rattle.asound_conf.specs.Device.{IsCard, as_group, card_of_slave, definition_of, device_by, device_in, field, field_pair, field_in, format_of, frames_in_time, is_fit, is_period, is_ring, is_stream, kind_named, device_kind, number_of_node, slave_card, slave_numbers, or_default, slave_period, slave_ring, device_slave, device_bindings};
 ghost use Rattle.asound_conf.specs.Answer.{answer_view};
 ghost use Rattle.asound_conf.specs.Tree.{get};
 ghost use Rattle.asound_conf.specs.Node.{entries_in, tree_of};
@@ -39,7 +39,7 @@ pub struct Device {
 }
 
 /// The number fields of a slave, each 0 where it isn't given.
-#[derive(Clone, Copy, Debug)]
+#[derive(Clone, Copy)]
 pub struct Numbers {
     pub channels: u32,
     pub rate: u32,
@@ -55,7 +55,7 @@ pub struct Numbers {
 }
 
 /// A card's numbers in their ranges.
-#[derive(Clone, Copy, Debug)]
+#[derive(Clone, Copy)]
 pub struct Card {
     pub channels: u8,
     pub rate: u32,
@@ -101,16 +101,16 @@ fn slave_of<'a>(root: Group<'a>, node: Option<Node<'a>>) -> Result<Group<'a>, Co
 fn kind_named(name: &[u8]) -> Result<DeviceKind, ConfWhy>
     ensures { result ≡ kind_named name.now }
 {
-    if name == b"dmix".as_slice() {
-        return Ok(DeviceKind::Dmix);
-    }
-    if name == b"dsnoop".as_slice() {
-        return Ok(DeviceKind::Dsnoop);
-    }
-    if name == b"dshare".as_slice() {
-        return Ok(DeviceKind::Dshare);
-    }
-    Err(ConfWhy::PluginType)
+    let kind = if name == b"dmix".as_slice() {
+        DeviceKind::Dmix
+    } else if name == b"dsnoop".as_slice() {
+        DeviceKind::Dsnoop
+    } else if name == b"dshare".as_slice() {
+        DeviceKind::Dshare
+    } else {
+        return Err(ConfWhy::PluginType);
+    };
+    Ok(kind)
 }
 
 /// The kind of device that a definition's type is.
@@ -151,19 +151,30 @@ fn field(name: &[u8], slave: Group<'_>) -> Result<u32, ConfWhy>
     }
 }
 
+/// Two number fields of a slave, each 0 where it isn't given.
+#[tactic(auto, unfolding(crate::specs::Device::field_pair))]
+fn field_pair(first: &[u8], second: &[u8], slave: Group<'_>) -> Result<(u32, u32), ConfWhy>
+    ensures { result ≡ field_pair first.now second.now (entries_in slave.entry) }
+{
+    Ok((field(first, slave)?, field(second, slave)?))
+}
+
 /// The number fields of a slave.
-#[tactic(auto, unfolding(crate::specs::Device::slave_numbers))]
 fn numbers_of(slave: Group<'_>) -> Result<Numbers, ConfWhy>
     ensures { result ≡ slave_numbers (entries_in slave.entry) }
 {
+    let (channels, rate) = field_pair(b"channels", b"rate", slave)?;
+    let (period_size, period_time) = field_pair(b"period_size", b"period_time", slave)?;
+    let (buffer_size, periods) = field_pair(b"buffer_size", b"periods", slave)?;
+    let buffer_time = field(b"buffer_time", slave)?;
     Ok(Numbers {
-        channels: field(b"channels", slave)?,
-        rate: field(b"rate", slave)?,
-        period_size: field(b"period_size", slave)?,
-        period_time: field(b"period_time", slave)?,
-        buffer_size: field(b"buffer_size", slave)?,
-        periods: field(b"periods", slave)?,
-        buffer_time: field(b"buffer_time", slave)?,
+        channels,
+        rate,
+        period_size,
+        period_time,
+        buffer_size,
+        periods,
+        buffer_time,
     })
 }
 
@@ -271,18 +282,26 @@ fn card_of(numbers: &Numbers) -> Result<Card, ConfWhy>
     })
 }
 
-/// The device of this name, or why there is none.
-#[tactic(auto, unfolding(crate::specs::Device::device_by))]
-pub fn device_by(root: Group<'_>, name: &[u8]) -> Result<Device, ConfWhy>
-    ensures value { result ≡ device_by (entries_in root.entry) name.now }
-    ensures card { IfOk result (λ d. IsCard d.channels d.rate d.period d.ring) }
+/// The card of a slave.
+#[tactic(auto, unfolding(crate::specs::Device::slave_card))]
+fn card_in(slave: Group<'_>) -> Result<Card, ConfWhy>
+    ensures value { result ≡ slave_card (entries_in slave.entry) }
+    ensures ranges { IfOk result (λ c. IsCard c.channels c.rate c.period c.ring) }
 {
-    let definition = defined(b"pcm", name, root)?;
-    let slave = slave_of(root, get(definition, b"slave"))?;
-    let kind = kind_of(get(definition, b"type"))?;
     check_format(get(slave, b"format"))?;
     let numbers = numbers_of(slave)?;
-    let card = card_of(&numbers)?;
+    card_of(&numbers)
+}
+
+/// The device of this definition.
+#[tactic(auto, unfolding(crate::specs::Device::device_in))]
+fn device_in<'a>(root: Group<'a>, definition: Group<'a>) -> Result<Device, ConfWhy>
+    ensures value { result ≡ device_in (entries_in root.entry) (entries_in definition.entry) }
+    ensures card { IfOk result (λ d. IsCard d.channels d.rate d.period d.ring) }
+{
+    let slave = slave_of(root, get(definition, b"slave"))?;
+    let kind = kind_of(get(definition, b"type"))?;
+    let card = card_in(slave)?;
     let bindings = read_bindings(get(definition, b"bindings"), card.channels)?;
     Ok(Device {
         kind,
@@ -292,4 +311,14 @@ pub fn device_by(root: Group<'_>, name: &[u8]) -> Result<Device, ConfWhy>
         ring: card.ring,
         bindings,
     })
+}
+
+/// The device of this name, or why there is none.
+#[tactic(auto, using(crate::proofs::Fields::device_by_definition))]
+pub fn device_by(root: Group<'_>, name: &[u8]) -> Result<Device, ConfWhy>
+    ensures value { result ≡ device_by (entries_in root.entry) name.now }
+    ensures card { IfOk result (λ d. IsCard d.channels d.rate d.period d.ring) }
+{
+    let definition = defined(b"pcm", name, root)?;
+    device_in(root, definition)
 }

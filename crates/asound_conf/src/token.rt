@@ -7,7 +7,7 @@ ghost use Rattle.asound_conf.specs.Token.{end_at, ends_word, is_blank, is_contro
 use crate::error::ConfWhy;
 
 /// A mark between words.
-#[derive(Clone, Copy, Debug, PartialEq, Eq)]
+#[derive(Clone, Copy)]
 pub enum Mark {
     OpenBrace,
     CloseBrace,
@@ -19,7 +19,7 @@ pub enum Mark {
 }
 
 /// A token of a configuration text.
-#[derive(Clone, Copy, Debug)]
+#[derive(Clone, Copy)]
 pub enum Token<'a> {
     /// A run of visible bytes without marks, quotes and `#`.
     Word(&'a [u8]),
@@ -31,7 +31,7 @@ pub enum Token<'a> {
 }
 
 /// A token, the number of its line, and the text that follows it.
-#[derive(Clone, Copy, Debug)]
+#[derive(Clone, Copy)]
 pub struct Lexeme<'a> {
     pub line: u32,
     pub token: Token<'a>,
