@@ -1,14 +1,15 @@
 -- A line that is checked in steps, with one check for some of them, is read as by all of them in turn.
-use Rattle.std.proofs.Common.{◌≡◌, ℕ, ◌+◌, List, [], ◌∷◌, ◌++◌, length, refl, ◌&&◌, ◌||◌, is_some, nat_le, nat_lt, Result, Ok, Err}
+use Rattle.std.proofs.Common.{◌≡◌, ℕ, ◌+◌, List, [], ◌∷◌, ◌++◌, length, refl, ◌&&◌, ◌||◌, Bool, true, false, cond, is_some, nat_le, nat_lt, Result, Ok, Err}
 use Rattle.lab_script.specs.declared.error.ScriptWhy.{ScriptWhy}
 use Rattle.lab_script.specs.declared.error.ScriptWhy.TheVariants as why
 use Rattle.lab_script.specs.declared.keys.Kind.TheVariants as kind
 use Rattle.lab_script.specs.declared.line.Actor.{Actor}
 use Rattle.lab_script.specs.declared.line.Op.{Op}
 use Rattle.lab_script.specs.Causes.{◌>>=◌, refuse_if, word_and_rest}
-use Rattle.lab_script.specs.Draft.{State, client_of, client_allowed, client_line, reader_of, reader_allowed, reader_line, line_allowed, with_line, actor_named, is_beside, ends_lap}
+use Rattle.lab_script.specs.Draft.{State, client_of, client_named, client_allowed, client_line, reader_of, reader_named, reader_allowed, reader_line, line_allowed, with_line, actor_named, is_beside, ends_lap}
 use Rattle.lab_script.specs.Keys.{keys_from, name_of, file_of}
 use Rattle.lab_script.specs.Ops.{op_of, played_by}
+use Rattle.lab_script.specs.Word.{is_name}
 use Rattle.lab_script.specs.Script.{is_of_card, is_unplug}
 
 -- after a value, what follows may be said in another way
@@ -29,28 +30,32 @@ after_four : {A : Type 0} (a b c d : Result (Unit {0}) ScriptWhy) (g : Unit {0} 
 after_four (Ok u) b c d g = after_three b c d g
 after_four (Err w) b c d g = refl
 
--- a client's line is its name and file, what is allowed, and its keys
+-- after a name, which is its word, what follows may be said in another way
+same_named : {A : Type 0} (word : List ℕ) (f g : List ℕ → Result A ScriptWhy) → f word ≡ g word → (name_of word >>= f) ≡ (name_of word >>= g)
+same_named {A = A} word f g same = form (is_name word)
+  where
+    form : (b : Bool) → (cond b (Ok word) (Err why.Name) >>= f) ≡ (cond b (Ok word) (Err why.Name) >>= g)
+    form true = same
+    form false = refl
+
+-- a client's line is its name, and what follows the name
 pub client_of_steps : (s : State) (number : ℕ) (words : List (List ℕ))
-    → client_of s number words
-    ≡ (word_and_rest words >>= (λ first. name_of first.0 >>= (λ name. word_and_rest first.1 >>= (λ second. file_of second.0 >>= (λ file.
-    client_allowed s first.0 second.1 >>= (λ u. client_line s.card number name file second.1))))))
-unfolding client_of client_allowed client_line
+    → client_of s number words ≡ (word_and_rest words >>= (λ first. name_of first.0 >>= (λ name. client_named s number name first.1)))
+unfolding client_of client_named client_allowed client_line
 client_of_steps s number words =
-    same_after (word_and_rest words) _ _ (λ first. same_after (name_of first.0) _ _ (λ name.
+    same_after (word_and_rest words) _ _ (λ first. same_named first.0 _ _ (
     same_after (word_and_rest first.1) _ _ (λ second. same_after (file_of second.0) _ _ (λ file.
     after_three (keys_from kind.Client [] second.1) (refuse_if (is_some (actor_named s first.0)) why.NameTwice)
-    (refuse_if (nat_le 64 (length s.clients)) why.TooMany) (λ u. client_line s.card number name file second.1)))))
+    (refuse_if (nat_le 64 (length s.clients)) why.TooMany) (λ u. client_line s.card number first.0 file second.1)))))
 
--- a reader's line is its name, what is allowed, and its keys
+-- a reader's line is its name, and what follows the name
 pub reader_of_steps : (s : State) (number : ℕ) (words : List (List ℕ))
-    → reader_of s number words
-    ≡ (word_and_rest words >>= (λ first. name_of first.0 >>= (λ name.
-    reader_allowed s first.0 first.1 >>= (λ u. reader_line s.card.channels number name first.1))))
-unfolding reader_of reader_allowed reader_line
+    → reader_of s number words ≡ (word_and_rest words >>= (λ first. name_of first.0 >>= (λ name. reader_named s number name first.1)))
+unfolding reader_of reader_named reader_allowed reader_line
 reader_of_steps s number words =
-    same_after (word_and_rest words) _ _ (λ first. same_after (name_of first.0) _ _ (λ name.
+    same_after (word_and_rest words) _ _ (λ first. same_named first.0 _ _ (
     after_three (keys_from kind.Reader [] first.1) (refuse_if (is_some (actor_named s first.0)) why.NameTwice)
-    (refuse_if (nat_le 64 (length s.readers)) why.TooMany) (λ u. reader_line s.card.channels number name first.1)))
+    (refuse_if (nat_le 64 (length s.readers)) why.TooMany) (λ u. reader_line s.card.channels number first.0 first.1)))
 
 -- the state after a line of a phase that is allowed
 abbrev pub line_added : State → ℕ → Actor → Op → State

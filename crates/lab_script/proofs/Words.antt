@@ -1,5 +1,5 @@
 -- Lines, words and digits.
-use Rattle.std.proofs.Common.{◌≡◌, ℕ, ◌+◌, ◌-◌, ◌*◌, ◌^◌, ◌<◌, ◌≤◌, Bool, true, false, List, [], ◌∷◌, length, take, drop, get_or, refl, ap, ◌∙◌, arith, Some, None, ◌&&◌, zero, suc, IsAscii}
+use Rattle.std.proofs.Common.{◌≡◌, ℕ, ◌+◌, ◌-◌, ◌*◌, ◌^◌, ◌<◌, ◌≤◌, Bool, true, false, List, [], ◌∷◌, length, take, drop, get_or, refl, ap, ◌∙◌, arith, Some, None, ◌&&◌, ◌||◌, zero, suc, IsAscii, Option, is_some, cond}
 use Rattle.std.specs.List.{slice_split, position, position_or_len, list_all}
 use Rattle.std.specs.Str.{all_ascii_digits}
 use Rattle.std.specs.Char.{is_ascii_digit}
@@ -14,7 +14,9 @@ use Rattle.std.proofs.lemmas.List.Splits.{slice_split_first, slice_split_none}
 use Rattle.std.proofs.lemmas.Bool.Decides.{nat_tests}
 use Rattle.std.proofs.lemmas.Option.{cond_some}
 use Rattle.std.proofs.lemmas.List.Sums.{fails_before_first}
-use Rattle.lab_script.specs.Word.{is_name, is_name_byte, is_file, is_file_byte}
+use Rattle.lab_script.specs.Draft.{keywords}
+use Rattle.lab_script.specs.Keys.{row_of}
+use Rattle.lab_script.specs.Word.{is_reserved, is_name, is_name_byte, is_file, is_file_byte}
 
 -- digits, one by one
 pub all_digits : (ds : List ℕ) → list_all is_ascii_digit ds ≡ all_ascii_digits ds
@@ -83,3 +85,12 @@ ascii_name word e = ascii_all is_name_byte name_byte_low word (both _ _ (both _ 
 
 pub ascii_file : (word : List ℕ) → is_file word ≡ true → IsAscii word
 ascii_file word e = ascii_all is_file_byte file_byte_low word (both _ _ e).1
+
+-- whether a test's row is found, or a later one
+some_row : {A : Type 0} (b : Bool) (x : A) (later : Option A) → is_some (cond b (Some x) later) ≡ (b || is_some later)
+some_row true x later = refl
+some_row false x later = refl
+
+-- a word is a keyword where it is reserved
+pub row_of_keywords : (word : List ℕ) → is_some (row_of keywords word) ≡ is_reserved word
+row_of_keywords word = grind (arith, some_row)

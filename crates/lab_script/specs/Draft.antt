@@ -182,6 +182,14 @@ reader_allowed s word keys = do
   once ← refuse_if (is_some (actor_named s word)) why.NameTwice
   refuse_if (nat_le 64 (length s.readers)) why.TooMany
 
+-- the client of this name, of the words after its name
+unfoldable pub client_named : State → ℕ → List ℕ → List (List ℕ) → Result ClientLine ScriptWhy
+client_named s number name words = do
+  first ← word_and_rest words
+  file ← file_of first.0
+  allowed ← client_allowed s name first.1
+  client_line s.card number name file first.1
+
 -- the reader of this name and keys, on a card of so many channels
 unfoldable pub reader_line : ℕ → ℕ → List ℕ → List (List ℕ) → Result ReaderLine ScriptWhy
 reader_line channels number name keys = do
@@ -195,6 +203,12 @@ reader_line channels number name keys = do
     start = number_given (codes "start") 1 keys;
     stop = stop_given keys;
   })
+
+-- the reader of this name, of the words after its name
+unfoldable pub reader_named : State → ℕ → List ℕ → List (List ℕ) → Result ReaderLine ScriptWhy
+reader_named s number name keys = do
+  allowed ← reader_allowed s name keys
+  reader_line s.card.channels number name keys
 
 -- `client NAME FILE KEYS`
 unfoldable pub with_client : State → ℕ → List (List ℕ) → Result State ScriptWhy

@@ -1,7 +1,7 @@
 //! The lines of clients and readers.
 ghost use Rattle.std.specs.Prelude.{◌≡◌, ◌<◌, IfOk, vec_len};
 ghost use Rattle.lab_script.specs.Causes.{Gives};
-ghost use Rattle.lab_script.specs.Draft.{client_of, client_allowed, client_line, reader_of, reader_allowed, reader_line, view};
+ghost use Rattle.lab_script.specs.Draft.{client_of, client_named, client_allowed, client_line, reader_of, reader_named, reader_allowed, reader_line, view};
 ghost use Rattle.lab_script.specs.Lexing.{words_between};
 
 use crate::causes::{first_of, refuse_if};
@@ -61,6 +61,25 @@ fn client_line(
     })
 }
 
+/// The client of this name, of what follows the name on its line.
+#[tactic(auto, unfolding(crate::specs::Draft::client_named))]
+fn client_named(
+    alloc: Global,
+    draft: &Draft,
+    number: u32,
+    name: Name,
+    words: &[u8],
+) -> Result<ClientLine, ScriptWhy>
+    ensures value { Gives (λ c. c) result
+        (client_named (view draft.now) number name (words_between words.now)) }
+    ensures room { IfOk result (λ c. vec_len draft.now.clients < 64) }
+{
+    let (path, keys) = first_of(words)?;
+    let file = read_file(alloc, path)?;
+    check_client(alloc, draft, name.as_str().as_bytes(), keys)?;
+    client_line(alloc, &draft.card, number, name, file, keys)
+}
+
 /// The client of what follows `client`, on the line of this number.
 #[tactic(auto, using(crate::proofs::Checks::client_of_steps))]
 pub fn read_client(
@@ -75,10 +94,7 @@ pub fn read_client(
 {
     let (word, words) = first_of(words)?;
     let name = read_name(alloc, word)?;
-    let (path, keys) = first_of(words)?;
-    let file = read_file(alloc, path)?;
-    check_client(alloc, draft, word, keys)?;
-    client_line(alloc, &draft.card, number, name, file, keys)
+    client_named(alloc, draft, number, name, words)
 }
 
 /// Checks the keys of a reader's line, and that one more reader of this name can be declared.
@@ -120,6 +136,23 @@ fn reader_line(
     })
 }
 
+/// The reader of this name, of what follows the name on its line.
+#[tactic(auto, unfolding(crate::specs::Draft::reader_named))]
+fn reader_named(
+    alloc: Global,
+    draft: &Draft,
+    number: u32,
+    name: Name,
+    keys: &[u8],
+) -> Result<ReaderLine, ScriptWhy>
+    ensures value { Gives (λ r. r) result
+        (reader_named (view draft.now) number name (words_between keys.now)) }
+    ensures room { IfOk result (λ r. vec_len draft.now.readers < 64) }
+{
+    check_reader(alloc, draft, name.as_str().as_bytes(), keys)?;
+    reader_line(alloc, draft.card.channels, number, name, keys)
+}
+
 /// The reader of what follows `reader`, on the line of this number.
 #[tactic(auto, using(crate::proofs::Checks::reader_of_steps))]
 pub fn read_reader(
@@ -134,6 +167,5 @@ pub fn read_reader(
 {
     let (word, keys) = first_of(words)?;
     let name = read_name(alloc, word)?;
-    check_reader(alloc, draft, word, keys)?;
-    reader_line(alloc, draft.card.channels, number, name, keys)
+    reader_named(alloc, draft, number, name, keys)
 }

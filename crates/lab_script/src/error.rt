@@ -1,82 +1,113 @@
 //! Why a script is refused.
 use std::alloc::{AllocError, AllocFailed};
+use std::fmt;
 use thiserror::Error;
 
 /// Why a script is refused.
-#[derive(Clone, Copy, Debug, PartialEq, Eq, Error)]
+#[derive(Clone, Copy, PartialEq, Eq, Error)]
 pub enum ScriptWhy {
     /// A line begins with a word of the language that can't begin a line here.
-    #[error("Order")]
     Order,
     /// A word isn't one of those allowed here.
-    #[error("Word")]
     Word,
     /// The line ends where a word must follow.
-    #[error("Missing")]
     Missing,
     /// A word follows a line that is whole.
-    #[error("Extra")]
     Extra,
     /// A declared name isn't of the form of a name.
-    #[error("Name")]
     Name,
     /// A file word has a byte that it can't have, or is too long.
-    #[error("File")]
     File,
     /// A word that must be a number isn't one.
-    #[error("Number")]
     Number,
     /// A number is out of its range.
-    #[error("Range")]
     Range,
     /// A key is given a second time on its line.
-    #[error("KeyTwice")]
     KeyTwice,
     /// A name is declared a second time.
-    #[error("NameTwice")]
     NameTwice,
     /// There are more clients, readers or phases than a script may have.
-    #[error("TooMany")]
     TooMany,
     /// The ring, the period or the lead don't fit together.
-    #[error("Fit")]
     Fit,
     /// The bindings bind no channel.
-    #[error("BindingsEmpty")]
     BindingsEmpty,
     /// The bindings bind more than eight channels.
-    #[error("BindingsTooMany")]
     BindingsTooMany,
     /// The bindings name a channel that the card doesn't have.
-    #[error("BindingRange {0}")]
     BindingRange(u32),
     /// The bindings name a channel of the card twice.
-    #[error("BindingTwice {0}")]
     BindingTwice(u32),
     /// A phase that unplugs the card has another line.
-    #[error("Alone")]
     Alone,
     /// The card plays or is unplugged after it was unplugged.
-    #[error("Unplugged")]
     Unplugged,
     /// The card plays more frames than a script may play.
-    #[error("Frames")]
     Frames,
     /// The card plays past the last lap of its ring.
-    #[error("LapEnd")]
     LapEnd,
     /// The text ends within a phase.
-    #[error("Unended")]
     Unended,
     /// The text has no line with words.
-    #[error("NoCard")]
     NoCard,
     /// The text is longer than a script may be.
-    #[error("TooLong")]
     TooLong,
     /// Memory ran out.
-    #[error("Memory")]
     Memory,
+}
+
+impl ScriptWhy {
+    /// Its name, by which it is printed.
+    fn name(&self) -> &'static str {
+        match self {
+            ScriptWhy::Order => "Order",
+            ScriptWhy::Word => "Word",
+            ScriptWhy::Missing => "Missing",
+            ScriptWhy::Extra => "Extra",
+            ScriptWhy::Name => "Name",
+            ScriptWhy::File => "File",
+            ScriptWhy::Number => "Number",
+            ScriptWhy::Range => "Range",
+            ScriptWhy::KeyTwice => "KeyTwice",
+            ScriptWhy::NameTwice => "NameTwice",
+            ScriptWhy::TooMany => "TooMany",
+            ScriptWhy::Fit => "Fit",
+            ScriptWhy::BindingsEmpty => "BindingsEmpty",
+            ScriptWhy::BindingsTooMany => "BindingsTooMany",
+            ScriptWhy::BindingRange(_) => "BindingRange",
+            ScriptWhy::BindingTwice(_) => "BindingTwice",
+            ScriptWhy::Alone => "Alone",
+            ScriptWhy::Unplugged => "Unplugged",
+            ScriptWhy::Frames => "Frames",
+            ScriptWhy::LapEnd => "LapEnd",
+            ScriptWhy::Unended => "Unended",
+            ScriptWhy::NoCard => "NoCard",
+            ScriptWhy::TooLong => "TooLong",
+            ScriptWhy::Memory => "Memory",
+        }
+    }
+}
+
+impl fmt::Debug for ScriptWhy {
+    fn fmt<W: fmt::Write>(&self, f: &mut fmt::Formatter<W>) -> fmt::Result {
+        match self {
+            ScriptWhy::BindingRange(number) | ScriptWhy::BindingTwice(number) => {
+                f.debug_tuple(self.name()).field(number).finish()
+            }
+            _ => f.write_str(self.name()),
+        }
+    }
+}
+
+impl fmt::Display for ScriptWhy {
+    fn fmt<W: fmt::Write>(&self, f: &mut fmt::Formatter<W>) -> fmt::Result {
+        match self {
+            ScriptWhy::BindingRange(number) | ScriptWhy::BindingTwice(number) => {
+                write!(f, "{} {number}", self.name())
+            }
+            _ => f.write_str(self.name()),
+        }
+    }
 }
 
 /// A refusal of a script: why, and the number of the line that it is about, from 1 on, or 0 for the

@@ -5,6 +5,8 @@ ghost use Rattle.std.specs.Str.{all_ascii_digits};
 ghost use Rattle.std.specs.Str.Parse.{digits_value};
 ghost use Rattle.lab_script.specs.Word.{parts_of, number_of_word, is_name, is_name_byte, is_file, is_file_byte, begins_lower, is_reserved};
 
+use crate::keyword::keyword_of;
+
 /// Where a byte is first.
 fn place_of(bytes: &[u8], byte: u8) -> Option<usize>
     ensures { result ≡ position (λ b. b == byte) bytes.now }
@@ -80,16 +82,11 @@ fn begins_lower(word: &[u8]) -> bool
 }
 
 /// Whether a word is one that no name is.
+#[tactic(auto, using(crate::proofs::Words::row_of_keywords))]
 fn is_reserved(word: &[u8]) -> bool
     ensures { result ≡ is_reserved word.now }
 {
-    word == b"card".as_slice()
-        || word == b"client".as_slice()
-        || word == b"reader".as_slice()
-        || word == b"open".as_slice()
-        || word == b"close".as_slice()
-        || word == b"phase".as_slice()
-        || word == b"end".as_slice()
+    keyword_of(word).is_some()
 }
 
 /// Whether a word has the form of a name.
