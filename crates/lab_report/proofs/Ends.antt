@@ -6,7 +6,7 @@ use Rattle.lab_report.specs.declared.error.ReportWhy.{ReportWhy}
 use Rattle.lab_report.specs.declared.request.Request.{Request}
 use Rattle.lab_report.specs.Answers.{answer_at, state_at}
 use Rattle.lab_report.specs.Causes.{◌>>=◌}
-use Rattle.lab_report.specs.Reading.{row_of_line, row_end, client_and_rest, reader_and_rest, segment_at, segment_end, run_at, played_run}
+use Rattle.lab_report.specs.Reading.{row_of_line, row_after_front, row_end, client_and_rest, reader_and_rest, segment_at, segment_end, run_at, played_run}
 use Rattle.lab_report.specs.Text.{front_text}
 use Rattle.lab_report.specs.Words.{is_space, space_of, feed_of, next_number, most_frames, number_or_dash_at, expect_words}
 
@@ -21,14 +21,11 @@ apart_after : {A B C : Type 0} (r : Result A ReportWhy) (f : A → Result C Repo
 apart_after (Ok x) f g h same = same x
 apart_after (Err w) f g h same = refl
 
--- a row is its front, its answer and its end
-pub row_at_steps : (script : Script) (request : Request) (line : List ℕ)
-    → row_of_line script request line
-    ≡ (expect_words (slice_split is_space (front_text script request)) line >>= (λ front. answer_at front >>= (λ answer.
-    space_of answer.1 >>= (λ before. row_end before >>= (λ ends.
-    Ok (record { phase = request.phase; actor = request.actor; op = request.op; answer = answer.0; state = ends.0; seen = ends.1 }))))))
-unfolding row_of_line row_end
-row_at_steps script request line =
+-- a row is its front and what is left after that
+pub row_of_line_parts : (script : Script) (request : Request) (line : List ℕ)
+    → row_of_line script request line ≡ (expect_words (slice_split is_space (front_text script request)) line >>= row_after_front request)
+unfolding row_of_line row_after_front row_end
+row_of_line_parts script request line =
     same_after (expect_words (slice_split is_space (front_text script request)) line) _ _ (λ front.
     same_after (answer_at front) _ _ (λ answer. same_after (space_of answer.1) _ _ (λ before.
     apart_after (state_at before) _ _ _ (λ state. apart_after (space_of state.1) _ _ _ (λ more.

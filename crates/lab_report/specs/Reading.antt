@@ -44,6 +44,14 @@ row_end rest = do
   end ← feed_of seen.1
   Ok (state.0, seen.0)
 
+-- the row of what is left of a line after the front of a row that is about this request
+unfoldable pub row_after_front : Request → List ℕ → Result Row ReportWhy
+row_after_front request rest = do
+  answer ← answer_at rest
+  before ← space_of answer.1
+  ends ← row_end before
+  Ok (record { phase = request.phase; actor = request.actor; op = request.op; answer = answer.0; state = ends.0; seen = ends.1 })
+
 -- the row of a line that is about this request
 unfoldable pub row_of_line : Script → Request → List ℕ → Result Row ReportWhy
 row_of_line script request line = do

@@ -53,6 +53,25 @@ xrun_text (Avail avail seen) = codes "avail " ++ decimal avail
 xrun_text (Late frame channel seen) = codes "late " ++ decimal frame ++ 32 ∷ decimal channel
 xrun_text (Overtaken frame channel seen) = codes "overtaken " ++ decimal frame ++ 32 ∷ decimal channel
 
+-- what a refusal's text begins with: the name of its error number, or `stopped`
+abbrev pub error_front : PcmError → List ℕ
+error_front BadState = codes "EBADFD"
+error_front (Xrun why) = codes "EPIPE "
+error_front Again = codes "EAGAIN"
+error_front NoDevice = codes "ENODEV"
+error_front (Invalid why) = codes "EINVAL"
+error_front (Busy until seen) = codes "EBUSY "
+error_front NotSupported = codes "EIO"
+error_front Stopped = codes "stopped"
+error_front LapEnd = []
+error_front Memory = []
+
+-- what a refusal's text says after that
+abbrev pub error_rest : PcmError → List ℕ
+error_rest (Xrun why) = xrun_text why
+error_rest (Busy until seen) = number_or_dash until ++ 32 ∷ decimal seen
+error_rest error = []
+
 -- a refusal, by the name of its error number; `LapEnd` and `Memory` have no text in a report
 abbrev pub error_text : PcmError → List ℕ
 error_text BadState = codes "EBADFD"

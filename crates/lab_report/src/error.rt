@@ -1,25 +1,40 @@
 //! Why a text is no report.
 use std::alloc::{AllocError, AllocFailed};
+use std::fmt;
 use thiserror::Error;
 
 /// Why a text is no report of a script.
 #[derive(Clone, Copy, Debug, PartialEq, Eq, Error)]
 pub enum ReportWhy {
     /// A word isn't the one, or one of those, that can be here; or the line ends before it.
-    #[error("Word")]
     Word,
     /// A word isn't a number in its decimal form, where a number must be.
-    #[error("Number")]
     Number,
     /// The text ends before a word, a line or a line feed that must follow.
-    #[error("Ended")]
     Ended,
     /// A word follows a line that is whole, or a line follows `end`.
-    #[error("Extra")]
     Extra,
     /// Memory ran out.
-    #[error("Memory")]
     Memory,
+}
+
+impl ReportWhy {
+    /// Its name, as it is printed.
+    fn name(&self) -> &'static str {
+        match self {
+            ReportWhy::Word => "Word",
+            ReportWhy::Number => "Number",
+            ReportWhy::Ended => "Ended",
+            ReportWhy::Extra => "Extra",
+            ReportWhy::Memory => "Memory",
+        }
+    }
+}
+
+impl fmt::Display for ReportWhy {
+    fn fmt<W: fmt::Write>(&self, f: &mut fmt::Formatter<W>) -> fmt::Result {
+        f.write_str(self.name())
+    }
 }
 
 /// A refusal of a report: why, and the number of the line that it is about, from 1 on. It is that of

@@ -4,7 +4,7 @@ ghost use Rattle.std.specs.List.{flat_map};
 ghost use Rattle.lab_script.specs.Limits.{IsScript};
 ghost use Rattle.lab_report.specs.Ranges.{IsReportInRange};
 ghost use Rattle.lab_report.specs.Reading.{report_in_text};
-ghost use Rattle.lab_report.specs.Text.{report_text, row_line, segment_line, run_line, tail_text, IsReportOf, IsRowOf, IsSegmentOf, IsRunOf, IsTailOf};
+ghost use Rattle.lab_report.specs.Text.{report_text, row_line, segment_line, run_line, played_line, tail_text, IsReportOf, IsRowOf, IsSegmentOf, IsRunOf, IsTailOf};
 
 use crate::report::Report;
 use crate::row::Row;
@@ -54,6 +54,14 @@ fn push_runs(text: &mut String, script: &Script, runs: &[(u32, u64, u64)]) -> Re
     Ok(())
 }
 
+/// Appends the line of what was played.
+fn push_played(text: &mut String, first: u64, frames: u64) -> Result<(), AllocError>
+    ensures { OnOk result
+        (string_bytes text.new ≡ string_bytes text.old ++ played_line first frames) }
+{
+    writeln!(text, "played {first} {frames}")
+}
+
 /// Appends what is below the rows.
 fn push_tail(text: &mut String, report: &Report, script: &Script) -> Result<(), AllocError>
     requires { IsTailOf script.now report.now }
@@ -62,9 +70,8 @@ fn push_tail(text: &mut String, report: &Report, script: &Script) -> Result<(), 
 {
     push_segments(text, script, report.segments.as_slice())?;
     push_runs(text, script, report.runs.as_slice())?;
-    let first = report.first;
-    let frames = report.frames;
-    write!(text, "played {first} {frames}\nend\n")
+    push_played(text, report.first, report.frames)?;
+    text.push_str("end\n")
 }
 
 /// Appends the line of a row of a run of this script to the bytes of a report's text.

@@ -31,6 +31,25 @@ fn place_of(actor: Actor) -> u64
     }
 }
 
+/// Appends the request of an opening or a closing, after so many phases.
+fn push_border(
+    requests: &mut Vec<Request>,
+    phases: u32,
+    actor: Actor,
+    op: Op,
+) -> Result<(), AllocError>
+    ensures { OnOk result
+        (requests.new.items ≡ requests.old.items
+        ++ (record { phase = phases; actor = actor; op = op }) ∷ []) }
+{
+    requests.push(Request {
+        phase: phases,
+        actor,
+        op,
+    })?;
+    Ok(())
+}
+
 /// Appends the requests of those lines of a phase whose actor has this place.
 fn push_place(
     requests: &mut Vec<Request>,
@@ -118,19 +137,10 @@ fn push_item(requests: &mut Vec<Request>, phases: u32, item: &Item) -> Result<()
         (requests.new.items ≡ requests.old.items ++ item_requests phases item.now) }
 {
     match item {
-        Item::Opens { actor, .. } => requests.push(Request {
-            phase: phases,
-            actor: *actor,
-            op: Op::Opens,
-        })?,
-        Item::Closes { actor, .. } => requests.push(Request {
-            phase: phases,
-            actor: *actor,
-            op: Op::Closes,
-        })?,
-        Item::Phase(phase) => push_phase(requests, phases + 1, phase.as_slice())?,
+        Item::Opens { actor, .. } => push_border(requests, phases, *actor, Op::Opens),
+        Item::Closes { actor, .. } => push_border(requests, phases, *actor, Op::Closes),
+        Item::Phase(phase) => push_phase(requests, phases + 1, phase.as_slice()),
     }
-    Ok(())
 }
 
 /// How many phases an item is.

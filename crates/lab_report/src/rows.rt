@@ -3,7 +3,7 @@ ghost use Rattle.std.specs.Prelude.{◌≡◌, length};
 ghost use Rattle.std.specs.List.{slice_split};
 ghost use Rattle.lab_script.specs.Limits.{IsActor};
 ghost use Rattle.lab_report.specs.Causes.{Gives};
-ghost use Rattle.lab_report.specs.Reading.{row_of_line, row_end};
+ghost use Rattle.lab_report.specs.Reading.{row_after_front, row_of_line, row_end};
 ghost use Rattle.lab_report.specs.Text.{front_text};
 ghost use Rattle.lab_report.specs.Words.{is_space, expect_words};
 
@@ -46,18 +46,11 @@ fn row_end(rest: &[u8]) -> Result<(State, Option<u64>), ReportWhy>
     Ok((state, seen))
 }
 
-/// The row of a line that is about this request.
-#[tactic(auto, using(crate::proofs::Ends::row_at_steps))]
-pub fn row_at(
-    front: &mut String,
-    script: &Script,
-    request: Request,
-    line: &[u8],
-) -> Result<Row, ReportWhy>
-    requires { IsActor (length script.now.clients) (length script.now.readers) request.actor }
-    ensures { Gives (λ r. r) result (row_of_line script.now request line.now) }
+/// The row of what is left of a line after the front of a row that is about this request.
+#[tactic(auto, unfolding(crate::specs::Reading::row_after_front))]
+fn row_after_front(request: Request, rest: &[u8]) -> Result<Row, ReportWhy>
+    ensures { Gives (λ r. r) result (row_after_front request rest.now) }
 {
-    let rest = after_front(front, script, request, line)?;
     let (answer, rest) = answer_at(rest)?;
     let rest = space_of(rest)?;
     let (state, seen) = row_end(rest)?;
@@ -69,4 +62,19 @@ pub fn row_at(
         state,
         seen,
     })
+}
+
+/// The row of a line that is about this request.
+#[tactic(auto, using(crate::proofs::Ends::row_of_line_parts))]
+pub fn row_at(
+    front: &mut String,
+    script: &Script,
+    request: Request,
+    line: &[u8],
+) -> Result<Row, ReportWhy>
+    requires { IsActor (length script.now.clients) (length script.now.readers) request.actor }
+    ensures { Gives (λ r. r) result (row_of_line script.now request line.now) }
+{
+    let rest = after_front(front, script, request, line)?;
+    row_after_front(request, rest)
 }

@@ -1,11 +1,13 @@
 //! The texts of a report's parts.
-ghost use Rattle.std.specs.Prelude.{◌≡◌, ◌++◌, ◌<◌, length, string_bytes, OnOk};
+ghost use Rattle.std.specs.Prelude.{◌≡◌, ◌++◌, ◌∷◌, [], ◌<◌, length, string_bytes, OnOk};
+ghost use Rattle.pcm_states.specs.States.{state_name};
 ghost use Rattle.lab_script.specs.Limits.{IsActor};
-ghost use Rattle.lab_report.specs.Text.{client_name, reader_name, actor_name, number_or_dash, xrun_text, error_text, answer_text, front_text, row_line, segment_line, run_line, HasErrorText, HasText, IsRowOf};
+ghost use Rattle.lab_report.specs.Text.{client_name, reader_name, actor_name, number_or_dash, xrun_text, error_front, error_rest, error_text, answer_text, front_text, row_line, segment_line, run_line, HasErrorText, HasText, IsRowOf};
 
 use crate::request::Request;
 use crate::row::{Answer, Row};
 use lab_script::{Actor, Script, push_op};
+use pcm_states::State;
 use snd_base::{PcmError, Segment, XrunWhy};
 use std::alloc::AllocError;
 
@@ -43,7 +45,7 @@ fn push_number(text: &mut String, number: Option<u64>) -> Result<(), AllocError>
 {
     match number {
         Some(value) => write!(text, "{value}"),
-        None => write!(text, "-"),
+        None => text.push_str("-"),
     }
 }
 
@@ -52,37 +54,54 @@ fn push_xrun(text: &mut String, why: XrunWhy) -> Result<(), AllocError>
     ensures { OnOk result (string_bytes text.new ≡ string_bytes text.old ++ xrun_text why) }
 {
     match why {
-        XrunWhy::Empty => write!(text, "empty"),
-        XrunWhy::Already => write!(text, "already"),
+        XrunWhy::Empty => text.push_str("empty"),
+        XrunWhy::Already => text.push_str("already"),
         XrunWhy::Avail { avail, .. } => write!(text, "avail {avail}"),
         XrunWhy::Late { frame, channel, .. } => write!(text, "late {frame} {channel}"),
         XrunWhy::Overtaken { frame, channel, .. } => write!(text, "overtaken {frame} {channel}"),
     }
 }
 
+/// What a refusal's text begins with: the name of its error number, or `stopped`.
+fn error_front(error: PcmError) -> &'static str
+    requires { HasErrorText error }
+    ensures { result.now ≡ error_front error }
+{
+    match error {
+        PcmError::BadState => "EBADFD",
+        PcmError::Xrun(_) => "EPIPE ",
+        PcmError::Again => "EAGAIN",
+        PcmError::NoDevice => "ENODEV",
+        PcmError::Invalid(_) => "EINVAL",
+        PcmError::Busy { .. } => "EBUSY ",
+        PcmError::NotSupported => "EIO",
+        PcmError::Stopped => "stopped",
+        PcmError::LapEnd | PcmError::Memory => unreachable!(),
+    }
+}
+
+/// Appends what a refusal's text says after its front.
+fn push_rest(text: &mut String, error: PcmError) -> Result<(), AllocError>
+    ensures { OnOk result (string_bytes text.new ≡ string_bytes text.old ++ error_rest error) }
+{
+    match error {
+        PcmError::Xrun(why) => push_xrun(text, why),
+        PcmError::Busy { until, seen } => {
+            push_number(text, until)?;
+            write!(text, " {seen}")
+        }
+        _ => Ok(()),
+    }
+}
+
 /// Appends a refusal, by the name of its error number.
+#[tactic(auto, using(crate::proofs::RowLine::error_text_parts))]
 fn push_error(text: &mut String, error: PcmError) -> Result<(), AllocError>
     requires { HasErrorText error }
     ensures { OnOk result (string_bytes text.new ≡ string_bytes text.old ++ error_text error) }
 {
-    match error {
-        PcmError::BadState => write!(text, "EBADFD"),
-        PcmError::Xrun(why) => {
-            write!(text, "EPIPE ")?;
-            push_xrun(text, why)
-        }
-        PcmError::Again => write!(text, "EAGAIN"),
-        PcmError::NoDevice => write!(text, "ENODEV"),
-        PcmError::Invalid(_) => write!(text, "EINVAL"),
-        PcmError::Busy { until, seen } => {
-            write!(text, "EBUSY ")?;
-            push_number(text, until)?;
-            write!(text, " {seen}")
-        }
-        PcmError::NotSupported => write!(text, "EIO"),
-        PcmError::Stopped => write!(text, "stopped"),
-        PcmError::LapEnd | PcmError::Memory => unreachable!(),
-    }
+    text.push_str(error_front(error))?;
+    push_rest(text, error)
 }
 
 /// Appends an answer.
@@ -91,7 +110,7 @@ fn push_answer(text: &mut String, answer: Answer) -> Result<(), AllocError>
     ensures { OnOk result (string_bytes text.new ≡ string_bytes text.old ++ answer_text answer) }
 {
     match answer {
-        Answer::Done => write!(text, "ok"),
+        Answer::Done => text.push_str("ok"),
         Answer::Count(number) => write!(text, "{number}"),
         Answer::Failed(error) => push_error(text, error),
     }
@@ -110,19 +129,27 @@ pub fn push_front(text: &mut String, script: &Script, request: Request) -> Resul
     write!(text, " =")
 }
 
+/// Appends the end of a row's line: the actor's state and the position that it saw.
+fn push_end(text: &mut String, state: State, seen: Option<u64>) -> Result<(), AllocError>
+    ensures { OnOk result
+        (string_bytes text.new ≡ string_bytes text.old
+        ++ 32 ∷ state_name state ++ 32 ∷ number_or_dash seen ++ 10 ∷ []) }
+{
+    write!(text, " {state} ")?;
+    push_number(text, seen)?;
+    writeln!(text)
+}
+
 /// Appends the line of a row.
 pub fn push_row(text: &mut String, script: &Script, row: &Row) -> Result<(), AllocError>
     requires { IsRowOf script.now row.now }
     ensures { OnOk result
         (string_bytes text.new ≡ string_bytes text.old ++ row_line script.now row.now) }
 {
-    let state = row.state;
     push_front(text, script, row.request())?;
     write!(text, " ")?;
     push_answer(text, row.answer)?;
-    write!(text, " {state} ")?;
-    push_number(text, row.seen)?;
-    writeln!(text)
+    push_end(text, row.state, row.seen)
 }
 
 /// Appends the line of a segment of the client of this number.
@@ -142,7 +169,8 @@ pub fn push_segment(
     let card = segment.card;
     let whole = segment.whole;
     let part = segment.part;
-    writeln!(text, "segment {name} {source} {card} {whole} {part}")
+    write!(text, "segment {name} {source} {card}")?;
+    writeln!(text, " {whole} {part}")
 }
 
 /// Appends the line of a run of the reader of this number.
