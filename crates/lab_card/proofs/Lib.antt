@@ -1,4 +1,5 @@
 pub mod OwnLines
+pub mod Hearing
 pub mod Meeting
 pub mod Rooms
 pub mod Running

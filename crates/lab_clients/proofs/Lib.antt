@@ -1,5 +1,6 @@
 mod ClosingLaws
 mod EndLaws
+mod Lent
 mod OpenAt
 mod OpeningLaws
 mod ReapLaws

@@ -1,14 +1,17 @@
 -- An opening is a claim and then an attach.
-use Rattle.std.proofs.Common.{◌≡◌, ℕ, List, None, Some, Result, Ok, Err, refl, sym, ap, subst, ◌∙◌}
+use Rattle.std.proofs.Common.{◌≡◌, ℕ, List, None, Some, Result, Ok, Err, true, false, true≢false, refl, sym, ap, subst, ◌∙◌}
+use Rattle.std.specs.Result.{IsErrAnd, is_err}
 use Rattle.snd_base.specs.declared.errors.PcmError.{PcmError}
 use Rattle.sum_table.specs.declared.seats.mix.MixSeat.{MixSeat}
 use Rattle.dshare.specs.Shared.{StandsFor}
 use Rattle.lab_script.specs.declared.script.Share.{Share}
 use Rattle.lab_run.specs.Claims.{claim_refusal, with_claim}
 use Rattle.lab_run.specs.Items.{Held}
+use Rattle.lobby.specs.declared.lobby.Lobby.{Lobby as Free}
+use Rattle.lobby.specs.Lobbies.{free_seats, seen_of_lobby}
 use Rattle.lab_run.specs.Places.{Lobby, after_attach}
 use Rattle.lab_places.specs.declared.places.Places.{Places}
-use Rattle.lab_places.specs.Held.{AttachesAt, HoldsGiven, IsAnswerOfRun, IsHeldBy, IsLobby, Opens, attached_held, opened_held, opened_if}
+use Rattle.lab_places.specs.Held.{AreAtPlaces, AttachesAt, HoldsGiven, IsAnswerOfRun, IsHeldBy, IsLobby, IsSameLobby, Opens, attached_held, lobby_of, opened_held, opened_if}
 
 -- what comes of an opening
 abbrev Came : Type 0
@@ -79,3 +82,40 @@ Opens-placeless sharing number channels position held e q granted attaches claim
           sym (ap (λ (x : Lobby × Result (Unit {0}) PcmError). x.1) is) ∙ attaches.answer,
         ) in
         record { held_then = then.0; answer = then.1; place = λ none. tt }
+
+-- the same lobby has the same places of a run
+pub IsLobby-same : (p q : Places) (lobby : Lobby) → IsSameLobby p q → IsLobby p lobby → IsLobby q lobby
+IsLobby-same p q lobby same is = record {
+  places = subst (λ (free : Free). AreAtPlaces (free_seats free) lobby.places) (sym same.lobby) is.places;
+  seen = is.seen ∙ sym (ap seen_of_lobby same.lobby);
+}
+
+-- a claim is refused, and its error handed on
+pub Opens-handed : (sharing : Share) (number : ℕ) (channels : List ℕ) (position : ℕ) (held : Held) (e : PcmError) (r : Result MixSeat PcmError) (q : Places) → IsErrAnd r (λ other. other ≡ e)
+    → claim_refusal sharing held.claims channels position ≡ Some e → IsHeldBy q held → Opens sharing number channels position held r q
+Opens-handed sharing number channels position held e (Ok s) q is = absurd is
+Opens-handed sharing number channels position held e (Err other) q is = λ refused held_by.
+    Opens-refused sharing number channels position held other q (refused ∙ ap Some (sym is)) held_by
+
+-- a claim is granted, and the attach goes well
+pub Opens-attached : (sharing : Share) (number : ℕ) (channels : List ℕ) (position : ℕ) (held : Held) (r : Result MixSeat PcmError) (q : Places) → is_err r ≡ false
+    → claim_refusal sharing held.claims channels position ≡ None → AttachesAt number position held.lobby r q → StandsFor q.shares (with_claim sharing channels held.claims)
+    → Opens sharing number channels position held r q
+Opens-attached sharing number channels position held (Ok s) q is = Opens-granted sharing number channels position held s q
+Opens-attached sharing number channels position held (Err e) q is = absurd (true≢false is)
+
+-- a claim is granted and no place is: the places after the attach have the claims of before
+pub Opens-undone : (sharing : Share) (number : ℕ) (channels : List ℕ) (position : ℕ) (held : Held) (r : Result MixSeat PcmError) (q t : Places) → lobby_of t ≡ lobby_of q → is_err r ≡ true
+    → claim_refusal sharing held.claims channels position ≡ None → AttachesAt number position held.lobby r q → StandsFor t.shares held.claims
+    → Opens sharing number channels position held r t
+Opens-undone sharing number channels position held (Ok s) q t same is = absurd (true≢false (sym is))
+Opens-undone sharing number channels position held (Err e) q t same is = λ granted attaches claims.
+    let lobby = (after_attach number position held.lobby).0 in
+    Opens-placeless sharing number channels position held e t granted (record {
+      lobby_then = record {
+        places = subst (λ (free : Free). AreAtPlaces (free_seats free) lobby.places) (sym same) attaches.lobby_then.places;
+        seen = attaches.lobby_then.seen ∙ sym (ap seen_of_lobby same);
+      };
+      answer = attaches.answer;
+      place = attaches.place;
+    }) claims

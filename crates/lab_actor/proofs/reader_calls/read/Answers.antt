@@ -1,7 +1,8 @@
-use Rattle.std.proofs.Common.{◌≡◌, ℕ, ◌+◌, ◌*◌, ◌≤◌, ◌++◌, ap, arith, drop, length, take, ◌∙◌}
+use Rattle.std.proofs.Common.{◌≡◌, ℕ, ◌+◌, ◌*◌, ◌≤◌, ◌++◌, ap, arith, drop, length, subst, sym, take, ◌∙◌}
 use Rattle.std.proofs.lemmas.List.{length-append, length-drop, length-replicate, length-take}
 use Rattle.std.specs.Prelude.{◌-◌, ℤ, List, min, pos, replicate}
 use Rattle.dsnoop_client.specs.FewerReads.{most_read}
+use Rattle.lab_actor.specs.Room.{HasSpace}
 use Rattle.lab_actor.proofs.Gates.{both}
 use Rattle.lab_actor.proofs.Read.{called-read, can-read, kept-behind, length-room}
 use Rattle.lab_actor.proofs.reader_calls.read.Goals as goal
@@ -47,3 +48,18 @@ returns-clause-called g c =
     (c.truncate.ensures.items
     ∙ kept-behind old _ xs out _ _ c.push_silence.new.samples.len before _ xs_is size (omega (arith, count, whole, dropped, taken, c.deref_mut.ensures.len))
     ∙ (λ i. old ++ take (c.unwrap_or.ensures i * c.channels-channels.ensures.value i) out))
+
+pub push_silence-requires : goal.push_silence-requires
+push_silence-requires g c =
+    let wanted : c.read_room-room.result * c.channels-channels.result ≡ min c.args.frames (most_read c.args.reader.now) * length c.args.reader.now.setup.bindings =
+    (λ i. c.read_room-room.ensures.value i * c.channels-channels.ensures.value i) in
+    subst (λ (count : ℕ). HasSpace count c.args.samples.now) (sym wanted) c.requires.room
+
+pub returns-clause-room : goal.returns-clause-room
+returns-clause-room g c =
+    let wanted : c.read_room-room.result * c.channels-channels.result ≡ min c.args.frames (most_read c.args.reader.now) * length c.args.reader.now.setup.bindings =
+    (λ i. c.read_room-room.ensures.value i * c.channels-channels.ensures.value i) in
+    let grown = c.push_silence.ensures.room in
+    let len = c.truncate.ensures.len in
+    let capacity = c.truncate.ensures.capacity in
+    record { few = omega (arith, wanted, grown.few, len); kept = omega (arith, grown.kept, capacity) }

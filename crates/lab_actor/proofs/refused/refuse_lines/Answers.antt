@@ -1,8 +1,10 @@
-use Rattle.std.proofs.Common.{◌≡◌, ◌<◌, arith, get_or, length, sym, vec_capacity, vec_len}
-use Rattle.std.proofs.lemmas.List.{append-nil, get_or_default}
+use Rattle.std.proofs.Common.{◌≡◌, ◌<◌, ◌++◌, List, arith, get_or, length, subst, sym, vec_capacity, vec_len}
+use Rattle.std.proofs.lemmas.List.{append-nil, get_or_default, take_all}
 use Rattle.lab_script.specs.declared.line.Actor.TheVariants as actor
 use Rattle.lab_script.specs.declared.line.Line.{Line}
 use Rattle.lab_script.specs.declared.line.Op.TheVariants as op
+use Rattle.lab_run.specs.Phases.{ops_by}
+use Rattle.lab_actor.specs.Refused.{refused_rows}
 use Rattle.lab_actor.specs.Room.{is_actor}
 use Rattle.lab_actor.proofs.Parts.{room-next, room-own}
 use Rattle.lab_actor.proofs.RefusedLaws.{are-refused, refused-next}
@@ -44,3 +46,9 @@ loop-index-preserved c =
 
 pub returns-clause-part : goal.returns-clause-part
 returns-clause-part c = λ number. are-refused c.lines_without_calls.ensures.clients c.lines_without_calls.ensures.readers c.args.phase number _
+
+pub returns-clause-rows : goal.returns-clause-rows
+returns-clause-rows c =
+    let past = c.loop-index-test.false in
+    subst (λ (done : List Line). c.loop-index.rows.items ≡ c.args.rows.now.items ++ refused_rows c.args.phase c.args.actor (ops_by (is_actor c.args.actor) done))
+    (take_all c.loop-index.index c.args.lines.now (omega (arith, past))) c.loop-index.invariant.rows

@@ -1,11 +1,12 @@
-use Rattle.std.proofs.Common.{◌≡◌, ℕ, ◌<◌, ap, arith, get_or, length, refl, subst, sym, ◌∙◌}
-use Rattle.std.proofs.lemmas.List.{get_or_default}
+use Rattle.std.proofs.Common.{◌≡◌, ℕ, ◌<◌, List, ap, arith, get_or, length, refl, subst, sym, ◌∙◌}
+use Rattle.std.proofs.lemmas.List.{get_or_default, take_all}
 use Rattle.std.specs.Prelude.{true, false, vec_capacity, vec_len}
 use Rattle.lab_script.specs.declared.line.Actor.TheVariants as actor
 use Rattle.lab_script.specs.declared.line.Line.{Line}
 use Rattle.lab_script.specs.declared.line.Op.TheVariants as op
-use Rattle.lab_run.specs.Phases.{is_client}
+use Rattle.lab_run.specs.Phases.{is_client, ops_by}
 use Rattle.lab_actor.specs.declared.client.ClientActor.{ClientActor}
+use Rattle.lab_actor.specs.ClientPart.{ClientPart}
 use Rattle.lab_actor.specs.Countdown.{by_gate_of, left_of}
 use Rattle.lab_actor.proofs.Gates.{both}
 use Rattle.lab_actor.proofs.Parts.{ClientPart-next, ClientPart-none, room-next, room-own}
@@ -66,3 +67,16 @@ loop-index-preserved g c =
       ended_room = room-next mine lines index line x.ended b.ended within is before.ended_room
           (λ own. call.ended_room (own_is own)) (λ other. (ap (λ (y : ClientActor). vec_len y.ended) (others other).0, ap (λ (y : ClientActor). vec_capacity y.ended) (others other).0));
     }
+
+pub returns-clause-part : goal.returns-clause-part
+returns-clause-part g c =
+    let past = c.loop-index-test.false in
+    subst
+    (λ (done : List Line). ClientPart g.P.MixPort left_of (by_gate_of g.G.Gate.stops) (both c.args.port.now c.args.gate.now) (both c.loop-index.port c.loop-index.gate) c.args.phase c.args.wav.now
+    c.args.self.now c.loop-index.self (ops_by (is_client c.args.self.now.number) done)) (take_all c.loop-index.index c.args.lines.now (omega (arith, past))) c.loop-index.invariant.part
+
+pub returns-clause-ready : goal.returns-clause-ready
+returns-clause-ready g c = c.loop-index.invariant.ready
+
+pub returns-clause-same_gate : goal.returns-clause-same_gate
+returns-clause-same_gate g c = c.loop-index.invariant.same_gate

@@ -1,5 +1,5 @@
-use Rattle.std.proofs.Common.{◌≡◌, ℕ, ◌<◌, ◌≤◌, ap, arith, get_or, length, refl, subst, sym, take, ◌∙◌}
-use Rattle.std.proofs.lemmas.List.{get_or_default}
+use Rattle.std.proofs.Common.{◌≡◌, ℕ, ◌<◌, List, ◌≤◌, ap, arith, get_or, length, refl, subst, sym, take, ◌∙◌}
+use Rattle.std.proofs.lemmas.List.{get_or_default, take_all}
 use Rattle.std.specs.Prelude.{true, false}
 use Rattle.lab_script.specs.declared.line.Actor.TheVariants as actor
 use Rattle.lab_script.specs.declared.line.Line.{Line}
@@ -8,7 +8,7 @@ use Rattle.lab_run.specs.Phases.{is_reader, ops_by, played_in}
 use Rattle.pcm_stream.specs.declared.setup.Setup.{Setup}
 use Rattle.lab_actor.specs.Countdown.{by_gate_of, left_of}
 use Rattle.lab_actor.proofs.Gates.{both}
-use Rattle.lab_actor.specs.ReaderPart.{channels_of}
+use Rattle.lab_actor.specs.ReaderPart.{ReaderPart, channels_of}
 use Rattle.lab_actor.proofs.Parts.{asked-within}
 use Rattle.lab_actor.proofs.ReaderParts.{HasGot-next, HasGot-none, ReaderPart-next, ReaderPart-none, line-fits, rows-next, rows-own}
 use Rattle.lab_actor.proofs.reader.ReaderActor.do_lines.Goals as goal
@@ -75,3 +75,17 @@ loop-index-preserved g c =
       got = HasGot-next (view c.args.port.now) (view c.loop-index.port) (view c.do_own.new.port) c.args.self.now x b mine lines index line within is before.part.same before.got got
           (λ other. ((others other).0, ap view (others other).1));
     }
+
+pub returns-clause-part : goal.returns-clause-part
+returns-clause-part g c =
+    let past = c.loop-index-test.false in
+    subst
+    (λ (done : List Line). ReaderPart g.P.SnoopPort left_of (by_gate_of g.G.Gate.stops) (both c.args.port.now c.args.gate.now) (both c.loop-index.port c.loop-index.gate) c.args.phase
+    (played_in c.args.lines.now) c.args.self.now c.loop-index.self (ops_by (is_reader c.args.self.now.number) done)) (take_all c.loop-index.index c.args.lines.now (omega (arith, past)))
+    c.loop-index.invariant.part
+
+pub returns-clause-usable : goal.returns-clause-usable
+returns-clause-usable g c = c.loop-index.invariant.usable
+
+pub returns-clause-same_gate : goal.returns-clause-same_gate
+returns-clause-same_gate g c = c.loop-index.invariant.same_gate
