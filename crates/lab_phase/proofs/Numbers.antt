@@ -1,7 +1,10 @@
 -- The numbers of clients and readers of a lab, and with what they can be opened.
 use Rattle.std.specs.Prelude.{◌≡◌, ℕ, zero, suc, ◌<◌, List, [], ◌∷◌, length, Option, None, IfSome, slice_index_or}
 use Rattle.std.proofs.Common.{refl, sym, ap, subst, ◌∙◌, arith}
+use Rattle.std.proofs.lemmas.Option.{get_or_from_slice_get}
 use Rattle.wav_io.specs.Sound.{Sound}
+use Rattle.lab_script.specs.Limits.{IsItem, IsScript}
+use Rattle.lab_script.specs.declared.line.Item.{Item}
 use Rattle.lab_script.specs.declared.script.CardLine.{CardLine}
 use Rattle.lab_script.specs.declared.script.ClientLine.{ClientLine}
 use Rattle.lab_script.specs.declared.script.ReaderLine.{ReaderLine}
@@ -13,7 +16,8 @@ use Rattle.lab_setup.specs.Usable.{IsUsable}
 use Rattle.lab_clients.specs.AtStage as clients
 use Rattle.lab_readers.specs.AtStage as readers
 use Rattle.lab_phase.specs.declared.lab.Lab.{Lab}
-use Rattle.lab_phase.specs.AtStage.{IsAtStage, session_of}
+use Rattle.lab_phase.specs.AtStage.{IsAtStage, IsNextItem, session_of}
+use Rattle.lab_phase.specs.BorderLaws.{next-inside}
 use Rattle.lab_phase.specs.Counts.{AreAll-reached}
 
 pub AreClientOpenings-length : (card : CardLine) (lines : List ClientLine) (wavs : List Sound) (setups : List (Option Setup)) → AreClientOpenings card lines wavs setups
@@ -36,6 +40,12 @@ pub get_or-any : {X : Type 0} (xs : List X) (i : ℕ) (d e : X) → i < length x
 get_or-any [] i d e inside = absurd (omega (arith, inside))
 get_or-any (x ∷ xs) zero d e inside = refl
 get_or-any (x ∷ xs) (suc i) d e inside = get_or-any xs i d e (omega (arith, inside))
+
+-- the next item is one that its script can have
+pub IsItem-next : (lab : Lab) (one : Item) → IsScript lab.script.now → IsNextItem lab one → IsItem (length lab.script.now.clients) (length lab.script.now.readers) one
+IsItem-next lab one script is =
+    subst (IsItem (length lab.script.now.clients) (length lab.script.now.readers)) (get_or_from_slice_get lab.script.now.body lab.next one one is)
+    (script.body lab.next one (next-inside lab one is))
 
 module _ (lab : Lab) (stage : Stage) (at : IsAtStage lab stage) where
   -- there is an opening, or none, for each client and each reader of the script

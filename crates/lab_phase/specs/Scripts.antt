@@ -1,5 +1,5 @@
 -- What a script says of the phase that comes next: its lines are such as its actors can be asked for, and the card's frames fit its rings.
-use Rattle.std.specs.Prelude.{◌≡◌, ℕ, zero, suc, ◌+◌, ◌*◌, ◌≤◌, ◌<◌, List, [], ◌∷◌, ◌++◌, length, take, All, sum_by}
+use Rattle.std.specs.Prelude.{◌≡◌, ℕ, zero, suc, ◌+◌, ◌*◌, ◌≤◌, List, [], ◌∷◌, ◌++◌, length, take, All}
 use Rattle.std.proofs.Common.{ap, subst, arith}
 use Rattle.std.proofs.lemmas.List.Sums.{sum_by-cons}
 use Rattle.wav_io.specs.Sound.{Sound}
@@ -13,7 +13,7 @@ use Rattle.lab_script.specs.declared.line.Op.TheVariants as op
 use Rattle.lab_script.specs.declared.script.Script.{Script}
 use Rattle.lab_script.specs.Limits.{IsItem, IsOpOf, IsPhase, IsScript}
 use Rattle.lab_script.specs.Script as scripts
-use Rattle.lab_script.specs.Script.{first_frame, frames_played, phases_of, position_after_phases}
+use Rattle.lab_script.specs.Script.{frames_played, phases_of, position_after_phases}
 use Rattle.lab_run.specs.Phases.{played_in}
 use Rattle.lab_run.specs.ScriptWords.{IsReached, PhasesAreOfScripts}
 use Rattle.lab_run.specs.Stage.{Session, Stage}

@@ -1,4 +1,4 @@
-//! The end of a run.
+//! What a run leaves, and the closing of its rings.
 ghost use Rattle.std.specs.Prelude.{◌≡◌};
 ghost use Rattle.snd_base.specs.Places.{first_frame};
 ghost use Rattle.sum_table.specs.Joins.{OneRing};
@@ -8,13 +8,9 @@ ghost use Rattle.lab_places.specs.Held.{key_of_places, ring_of_places};
 ghost use Rattle.lab_clients.specs.AtStage.{places_of};
 ghost use Rattle.lab_phase.specs.Ended.{HaveAllPlaces, IsMixBy};
 
-use crate::lab::Lab;
-use crate::report_room::ReportRoom;
 use card_sim::Card;
-use lab_card::CardActor;
 use lab_clients::LabClients;
 use lab_report::{Report, Row, Rows, Runs, Segments};
-use lab_run::reports_are_within_rows;
 use snd_base::Segment;
 
 /// What a run leaves: its report, the samples that the card played, and each reader's samples, all interleaved.
@@ -36,7 +32,7 @@ impl Drop for Outcome {
 }
 
 /// The first frame of a card, and how many frames it played since.
-fn frames_of(card: &Card<'_, '_>) -> (u64, u64)
+pub(crate) fn frames_of(card: &Card<'_, '_>) -> (u64, u64)
     ensures first { result.0 ≡ first_frame (geometry_of_card card.now) }
     ensures frames { result.1 ≡ frames_since_first card.now }
 {
@@ -45,7 +41,7 @@ fn frames_of(card: &Card<'_, '_>) -> (u64, u64)
 }
 
 /// The report of a run with these rows, segments and runs, whose card began at the first frame and played so many.
-fn report_of(
+pub(crate) fn report_of(
     rows: Vec<Row>,
     segments: Vec<(u32, Segment)>,
     runs: Vec<(u32, u64, u64)>,
@@ -70,7 +66,7 @@ fn report_of(
 /// Closes the clients that are still open, and the card's two rings.
 ///
 /// The caller has the clients of a run with all places of the card's sum ring.
-fn close_rings<'r>(clients: LabClients<'r>, card: Card<'r, 'r>)
+pub(crate) fn close_rings<'r>(clients: LabClients<'r>, card: Card<'r, 'r>)
     requires places { HaveAllPlaces clients }
     requires one_ring { OneRing (player_ring (seat_of_card card)) (player_key (seat_of_card card))
         (ring_of_places (places_of clients)) (key_of_places (places_of clients)) }
@@ -78,92 +74,4 @@ fn close_rings<'r>(clients: LabClients<'r>, card: Card<'r, 'r>)
 {
     let (player, _writer) = card.into_seats();
     let _closed = clients.into_seat().close(player);
-}
-
-impl<'r> Lab<'r, '_> {
-    ghost use Rattle.std.specs.Prelude.{◌≡◌};
-    ghost use Rattle.lab_phase.specs.AtStage.{IsLab, played_of};
-    ghost use Rattle.lab_phase.specs.Ended.{HasPlayedMix, IsAtEnd, IsMixAtStage, LeavesRun, LeavesStage};
-
-    /// Ends the run: closes what is still open and both rings, and gives the report with all segments and runs, what the card played and
-    /// what each reader recorded. The card played the mix of all that the clients' seats placed, which is seat by seat what the segments
-    /// say. It takes no memory.
-    ///
-    /// The caller has done all items of the script's body.
-    pub fn finish(self) -> Outcome
-        requires at { IsLab self }
-        requires end { IsAtEnd self }
-        ensures stage { LeavesStage self.entry result }
-        ensures run { LeavesRun self.entry result }
-        ensures placed { IsMixAtStage self.entry }
-        ensures played { result.played.items ≡ played_of self.entry }
-        ensures mix { HasPlayedMix self.entry }
-    {
-        reports_are_within_rows();
-        let Lab {
-            alloc: _,
-            script: _,
-            wavs: _,
-            capture: _,
-            openings: _,
-            card,
-            clients,
-            readers,
-            rows,
-            room,
-            phases: _,
-            next: _,
-        } = self;
-        let ReportRoom {
-            mut segments,
-            mut runs,
-            mut recorded,
-        } = room;
-        clients.segments_into(&mut segments);
-        readers.runs_into(&mut runs);
-        readers.recorded_into(&mut recorded);
-        let CardActor {
-            card,
-            played,
-            rows: _,
-            captured: _,
-        } = card.unwrap();
-        let (first, frames) = frames_of(&card);
-        close_rings(clients, card);
-        let report = report_of(rows, segments, runs, first, frames);
-        Outcome {
-            report,
-            played,
-            recorded,
-        }
-    }
-
-    /// Ends the run before its script's end: closes what is still open and both rings. Only closed rings tell that the card played the
-    /// mix of the segments so far. It takes no memory.
-    pub fn stop(self)
-        requires at { IsLab self }
-        ensures mix { HasPlayedMix self.entry }
-    {
-        let Lab {
-            alloc: _,
-            script: _,
-            wavs: _,
-            capture: _,
-            openings: _,
-            card,
-            clients,
-            readers: _,
-            rows: _,
-            room: _,
-            phases: _,
-            next: _,
-        } = self;
-        let CardActor {
-            card,
-            played: _,
-            rows: _,
-            captured: _,
-        } = card.unwrap();
-        close_rings(clients, card);
-    }
 }

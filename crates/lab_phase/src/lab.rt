@@ -1,4 +1,6 @@
 //! The lab at its beginning, and what it holds so far.
+mod end;
+
 use crate::report_room::ReportRoom;
 use card_player::CardPlayer;
 use card_sim::Card;
@@ -18,7 +20,6 @@ use wav_io::Wav;
 /// of the rings, and `'s` that of the script and the files.
 ///
 /// Its meaning is the stage that a run of the script has reached: `IsAtStage`.
-#[derive(Drop)]
 pub struct Lab<'r, 's> {
     pub(crate) alloc: Global,
     pub(crate) script: &'s Script,
@@ -33,6 +34,26 @@ pub struct Lab<'r, 's> {
     pub(crate) room: ReportRoom,
     pub(crate) phases: u32,
     pub(crate) next: usize,
+}
+
+// One call wherever a lab is let go. A derive drops each part in turn there, and the proof goes through all of them.
+impl<'r, 's> Drop for Lab<'r, 's> {
+    fn drop(self) {
+        let Lab {
+            alloc: _,
+            script: _,
+            wavs: _,
+            capture: _,
+            openings: _,
+            card: _,
+            clients: _,
+            readers: _,
+            rows: _,
+            room: _,
+            phases: _,
+            next: _,
+        } = self;
+    }
 }
 
 impl<'r, 's> Lab<'r, 's> {

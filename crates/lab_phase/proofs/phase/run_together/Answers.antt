@@ -1,7 +1,26 @@
-use Rattle.std.proofs.Common.{List, ap, arith, length, subst}
+use Rattle.std.proofs.Common.{List, ap, arith, length, refl, subst}
 use Rattle.lab_report.specs.declared.row.Row.{Row}
+use Rattle.lab_phase.specs.BorderLaws.{OnErr-always}
 use Rattle.lab_phase.specs.PhaseSteps.{HaveGivenRows, length-given}
 use Rattle.lab_phase.proofs.phase.run_together.Goals as goal
+
+pub take_room-requires : goal.take_room-requires
+take_room-requires g c = c.requires.fits
+
+pub returns-in_err-take_room-clause-kept : goal.returns-in_err-take_room-clause-kept
+returns-in_err-take_room-clause-kept g c = OnErr-always _ c.in_err-take_room.ensures.kept
+
+pub returns-in_err-take_room-clause-rows : goal.returns-in_err-take_room-clause-rows
+returns-in_err-take_room-clause-rows g c = OnErr-always _ c.in_err-take_room.ensures.rows
+
+pub returns-in_err-take_room-clause-gates : goal.returns-in_err-take_room-clause-gates
+returns-in_err-take_room-clause-gates g c = OnErr-always _ refl
+
+pub run_lines-requires : goal.run_lines-requires
+run_lines-requires g c = (
+  c.type_bounds.send-G,
+  (c.type_bounds.sync-R, c.requires.meet c.take_room.new.card c.take_room.new.clients c.take_room.new.readers c.in_ok-take_room.ensures.room),
+)
 
 pub take_rows-requires : goal.take_rows-requires
 take_rows-requires g c =

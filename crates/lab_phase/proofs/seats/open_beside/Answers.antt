@@ -1,12 +1,41 @@
-use Rattle.std.proofs.Common.{◌≡◌, ◌∙◌, IfOk, ℕ, ap, subst}
+use Rattle.std.proofs.Common.{◌≡◌, ◌∙◌, IfOk, ℕ, ap, subst, sym}
 use Rattle.std.specs.Option.{option_copied}
-use Rattle.sum_table.specs.Players.{position_of_player}
+use Rattle.sum_table.specs.declared.seats.player.PlayerSeat.{PlayerSeat}
+use Rattle.sum_table.specs.Joins.{OneRing}
+use Rattle.sum_table.specs.Players.{player_key, player_ring, position_of_player}
 use Rattle.lab_script.specs.declared.line.Actor.TheVariants as whose
 use Rattle.lab_run.specs.Stage.{Session, Stage, after_open}
 use Rattle.lab_card.specs.Moves.{frame_of_card}
-use Rattle.lab_clients.specs.AtStage.{AreAfter}
+use Rattle.lab_places.specs.Held.{key_of_places, ring_of_places}
+use Rattle.lab_clients.specs.AtStage.{AreAfter, places_of}
 use Rattle.lab_clients.specs.Opening.{AreBeforeOpening}
 use Rattle.lab_phase.proofs.seats.open_beside.Goals as goal
+
+pub open-opened-requires-clause-run : goal.open-opened-requires-clause-run
+open-opened-requires-clause-run c = c.requires.run
+
+pub open-opened-requires-clause-number : goal.open-opened-requires-clause-number
+open-opened-requires-clause-number c = c.requires.number
+
+pub open-opened-requires-clause-one_ring : goal.open-opened-requires-clause-one_ring
+open-opened-requires-clause-one_ring c =
+    subst (λ (p : PlayerSeat). OneRing (player_ring p) (player_key p) (ring_of_places (places_of c.args.clients.now)) (key_of_places (places_of c.args.clients.now)))
+    (sym c.into_seats-player.ensures.player) c.requires.one_ring
+
+pub open-opened-requires-clause-usable : goal.open-opened-requires-clause-usable
+open-opened-requires-clause-usable c = c.requires.usable
+
+pub returns-clause-same : goal.returns-clause-same
+returns-clause-same c = c.open-opened.ensures.same
+
+pub returns-clause-same_places : goal.returns-clause-same_places
+returns-clause-same_places c = c.open-opened.ensures.places
+
+pub returns-clause-places : goal.returns-clause-places
+returns-clause-places c = c.open-opened.ensures.card
+
+pub returns-clause-only : goal.returns-clause-only
+returns-clause-only c = c.open-opened.ensures.only
 
 pub returns-clause-after : goal.returns-clause-after
 returns-clause-after c =

@@ -2,8 +2,23 @@ use Rattle.std.proofs.Common.{arith, refl, ◌∙◌}
 use Rattle.lab_card.specs.declared.card.CardActor.{CardActor}
 use Rattle.lab_card.specs.MeetLaws.{IsSameCard-joined}
 use Rattle.lab_phase.specs.Asked.{asks_of}
-use Rattle.lab_phase.proofs.MeetLaws.{AreOf-lines, AreOfCard-ran, ClientsCanRun-met, HaveRun-halves, ReadersCanRun-met}
+use Rattle.lab_readers.specs.Ready.{AreOf-same}
+use Rattle.lab_phase.proofs.MeetLaws.{AreOf-lines, AreOfCard-ran, CardCanRun-met, ClientsCanRun-met, HaveRun-halves, ReadersCanRun-met}
 use Rattle.lab_phase.proofs.steps.run_lines.Goals as goal
+
+pub inform-requires : goal.inform-requires
+inform-requires g c = c.requires.clients_of_card
+
+pub inform-requires-2 : goal.inform-requires-2
+inform-requires-2 g c = AreOf-same c.args.card.now.card c.inform.new.card _ c.inform.ensures.card c.requires.readers_of_card
+
+pub run_all-requires-clause-card : goal.run_all-requires-clause-card
+run_all-requires-clause-card g c κs within =
+    let a = c.args.card.now in
+    let before : CardActor = record { card = c.inform-2.new.card; played = a.played; rows = a.rows; captured = a.captured } in
+    CardCanRun-met c.args.asked.now.lines.now a before
+    (record { card = IsSameCard-joined a.card c.inform.new.card c.inform-2.new.card c.inform.ensures.card c.inform-2.ensures.card; played = refl; rows = refl; captured = refl })
+    c.requires.card
 
 pub run_all-requires-clause-clients : goal.run_all-requires-clause-clients
 run_all-requires-clause-clients g c κs within =

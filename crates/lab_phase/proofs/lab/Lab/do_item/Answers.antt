@@ -1,9 +1,29 @@
 use Rattle.std.proofs.Common.{sym, subst}
-use Rattle.std.specs.Prelude.{IfOk}
+use Rattle.std.specs.Prelude.{IfOk, length}
+use Rattle.lab_script.specs.Limits.{IsItem}
 use Rattle.lab_script.specs.declared.line.Item.{Item}
 use Rattle.lab_phase.specs.declared.lab.Lab.{Lab}
 use Rattle.lab_phase.specs.AtStage.{DoesRow, border_after, session_of}
+use Rattle.lab_phase.proofs.Numbers.{IsItem-next}
 use Rattle.lab_phase.proofs.lab.Lab.do_item.Goals as goal
+
+pub open-requires-clause-at : goal.open-requires-clause-at
+open-requires-clause-at c = c.requires.at
+
+pub open-requires-clause-actor : goal.open-requires-clause-actor
+open-requires-clause-actor c =
+    let lab : Lab = c.args.self.now in
+    subst (IsItem (length lab.script.now.clients) (length lab.script.now.readers)) c.in-Opens.is
+    (IsItem-next lab c.args.item.now c.requires.at.at.has_done.reached.script_is c.requires.next)
+
+pub close-requires-clause-at : goal.close-requires-clause-at
+close-requires-clause-at c = c.requires.at
+
+pub close-requires-clause-actor : goal.close-requires-clause-actor
+close-requires-clause-actor c =
+    let lab : Lab = c.args.self.now in
+    subst (IsItem (length lab.script.now.clients) (length lab.script.now.readers)) c.in-Closes.is
+    (IsItem-next lab c.args.item.now c.requires.at.at.has_done.reached.script_is c.requires.next)
 
 pub returns-in-Opens-clause-does : goal.returns-in-Opens-clause-does
 returns-in-Opens-clause-does c =

@@ -1,0 +1,20 @@
+use Rattle.std.proofs.Common.{rules}
+use Rattle.lab_phase.proofs.steps.run_actors_at_once.Goals as goal
+
+pub join_mut-requires-after_bounds : goal.join_mut-requires-after_bounds
+join_mut-requires-after_bounds g c κs within = (
+  (
+    record { shared = c.type_bounds.sync-R.shared },
+    (
+      record { owned = c.type_bounds.send-G.owned; leaving = search rules },
+      (c.requires.clients, (record { owned = c.type_bounds.send-G.owned; leaving = search rules }, record { shared = c.type_bounds.sync-R.shared })),
+    ),
+  ),
+  (
+    record { shared = c.type_bounds.sync-R.shared },
+    (
+      record { owned = c.type_bounds.send-G.owned; leaving = search rules },
+      (c.requires.readers, (record { owned = c.type_bounds.send-G.owned; leaving = search rules }, record { shared = c.type_bounds.sync-R.shared })),
+    ),
+  ),
+)
