@@ -1,4 +1,5 @@
 mod Feeding
+mod Inputs
 mod Long
 mod Plugging
 mod Reading

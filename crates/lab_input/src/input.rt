@@ -51,7 +51,6 @@ impl Drop for Input {
 ///   where it isn't, but the run's WAV files up to it have more than 268,435,456 bytes together. The
 ///   card's file counts as well, and a file that is named twice counts twice;
 /// - `Memory`, where memory ran out.
-#[tactic(auto, unfolding(crate::specs::Input::input_in))]
 pub fn read_input<S: Shelf>(shelf: &mut S, alloc: Global, name: &[u8]) -> Result<Input, Stop>
     // The answer is what the files hold, or the first cause that they give.
     ensures input { ForSome (S.files shelf.old)

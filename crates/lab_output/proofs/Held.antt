@@ -1,8 +1,10 @@
 -- The outputs of a run that goes on are held, so that over a reliable shelf no call finds one missing.
 use Rattle.std.proofs.Common.{◌≡◌, ◌≢◌, ℕ, ◌<◌, Bool, true, false, cond, List, [], ◌∷◌, length, get_or, arith, refl, sym, ap, subst, ◌∙◌, zero, Some, None, option_map}
 use Rattle.std.proofs.lemmas.List.Elements.{All-from_recursion}
-use Rattle.std.specs.Prelude.{ℤ, Option, IsErrAnd, IsSome, Result, Ok, Err}
+use Rattle.std.specs.Prelude.{ℤ, Option, IfSome, IsErrAnd, IsErrOf, IsSome, Result, Ok, Err}
 use Rattle.std.specs.Option.{option_map_or}
+use Rattle.lab_shelf.specs.declared.fault.ShelfFault.{ShelfFault}
+use Rattle.lab_shelf.specs.declared.fault.ShelfFault.TheVariants.{Failed}
 use Rattle.lab_shelf.specs.Files.{Files, bytes_under, with_file, with_change}
 use Rattle.lab_stop.specs.declared.stop.Stop.{Stop}
 use Rattle.lab_stop.specs.declared.stop.Stop.TheVariants.{Write}
@@ -75,3 +77,11 @@ pub no-write : {X : Type 0} (Y : Type 0) (result : Result X Stop) (stop : Stop) 
     → NoWrite Y (Err stop) → NoWrite X result
 no-write Y (Ok x) stop passed other is = absurd passed
 no-write Y (Err e) stop passed other is = other (let write : e ≡ Write = cc in ap Err (sym passed ∙ write))
+
+-- a call that fails only where a file is missing doesn't fail where it is there
+pub no-failure : (files : Option Files) (name : List ℕ) (end : Result (Unit {0}) ShelfFault)
+    → (IsErrOf end Failed → IfSome files (λ m. bytes_under m name ≡ None)) → HasFile files name → end ≢ Err Failed
+no-failure None name end missing there failed = absurd there
+no-failure (Some m) name end missing there failed =
+    let none : bytes_under m name ≡ None = missing failed in
+    absurd cc

@@ -7,3 +7,4 @@ mod Longer
 mod Going
 mod Kept
 mod Steps
+mod Rows

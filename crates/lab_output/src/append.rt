@@ -9,8 +9,8 @@ ghost use Rattle.lab_stop.specs.declared.stop.Stop.TheVariants as stops;
 ghost use Rattle.wav_io.specs.Canonical.{sample_bytes};
 
 use crate::file::OutputFile;
-use lab_shelf::{Shelf, ShelfFault};
-use lab_stop::Stop;
+use lab_shelf::Shelf;
+use lab_stop::{Stop, written};
 use std::alloc::Global;
 use wav_io::append_samples;
 
@@ -28,11 +28,7 @@ fn append_bytes<S: Shelf>(shelf: &mut S, name: &[u8], bytes: &[u8]) -> Result<()
     ensures never { S.is_reliable shelf.old → HasFile (S.files shelf.old) name.now
         → result ≢ Err stops.Write }
 {
-    match shelf.append(name, bytes) {
-        Ok(()) => Ok(()),
-        Err(ShelfFault::Failed) => Err(Stop::Write),
-        Err(ShelfFault::Memory) => Err(Stop::Memory),
-    }
+    written(shelf.append(name, bytes))
 }
 
 /// Appends samples to a file, as one piece, unless there are none.

@@ -8,8 +8,8 @@ ghost use Rattle.lab_stop.specs.Stops.{IsWriteStop, WriteFaults};
 ghost use Rattle.lab_stop.specs.declared.stop.Stop.TheVariants as stops;
 
 use crate::file::OutputFile;
-use lab_shelf::{Shelf, ShelfFault};
-use lab_stop::Stop;
+use lab_shelf::Shelf;
+use lab_stop::{Stop, written};
 use wav_io::open_header;
 
 /// Begins a file: makes it hold an open head.
@@ -26,11 +26,7 @@ fn begin_file<S: Shelf>(shelf: &mut S, file: &OutputFile) -> Result<(), Stop>
     ensures never { S.is_reliable shelf.old → result ≢ Err stops.Write }
 {
     let head = open_header(file.channels, file.rate);
-    match shelf.begin(file.name.as_slice(), &head) {
-        Ok(()) => Ok(()),
-        Err(ShelfFault::Failed) => Err(Stop::Write),
-        Err(ShelfFault::Memory) => Err(Stop::Memory),
-    }
+    written(shelf.begin(file.name.as_slice(), &head))
 }
 
 /// Begins files, in order.

@@ -8,8 +8,8 @@ ghost use Rattle.lab_stop.specs.Stops.{IsWriteStop, WriteFaults};
 ghost use Rattle.lab_stop.specs.declared.stop.Stop.TheVariants as stops;
 
 use crate::file::OutputFile;
-use lab_shelf::{Shelf, ShelfFault};
-use lab_stop::Stop;
+use lab_shelf::Shelf;
+use lab_stop::{Stop, written};
 use wav_io::header;
 
 /// Puts the head of so many samples in the place of a file's first bytes.
@@ -31,11 +31,7 @@ fn finish_file<S: Shelf>(shelf: &mut S, file: &OutputFile, samples: usize) -> Re
 {
     let frames = samples / usize::from(file.channels);
     let head = header(file.channels, file.rate, frames as u32);
-    match shelf.finish(file.name.as_slice(), &head) {
-        Ok(()) => Ok(()),
-        Err(ShelfFault::Failed) => Err(Stop::Write),
-        Err(ShelfFault::Memory) => Err(Stop::Memory),
-    }
+    written(shelf.finish(file.name.as_slice(), &head))
 }
 
 /// Puts true heads in the places of the files' first bytes, in order. Each file has so many samples.

@@ -1,10 +1,10 @@
 -- What a loop over the pieces of a file keeps.
-use Rattle.std.proofs.Common.{◌≡◌, ℕ, ◌≤◌, ◌<◌, ◌⊎◌, true, false, List, [], ◌++◌, length, take, sym, ap, subst, refl, inl, inr, ◌∙◌}
-use Rattle.std.specs.Prelude.{Bool, Option, Ok, Err}
-use Rattle.std.specs.Option.{ForSome}
-use Rattle.lab_shelf.specs.Files.{Files}
+use Rattle.std.proofs.Common.{◌≡◌, ℕ, ◌≤◌, ◌<◌, ◌⊎◌, true, false, List, [], ◌++◌, length, drop, take, sym, ap, subst, refl, inl, inr, ◌∙◌}
+use Rattle.std.specs.Prelude.{Bool, IfSome, Option, Some, None, Ok, Err}
+use Rattle.std.specs.Option.{ForSome, option_map}
+use Rattle.lab_shelf.specs.Files.{Files, bytes_under, piece}
 use Rattle.lab_stop.specs.declared.stop.Stop.{Stop}
-use Rattle.lab_stop.specs.Causes.{first_bytes, fetched_from, piece_bytes}
+use Rattle.lab_stop.specs.Causes.{bytes_or_cause, first_bytes, fetched_from, missing, piece_bytes}
 use Rattle.lab_stop.specs.Passing.{IsCauseOf-passed, Misses-passed}
 use Rattle.lab_stop.specs.Pieces.{IsFetched, IsFetched-next, IsFetched-most, refused_alike}
 use Rattle.lab_stop.specs.Stops.{IsCauseOf, Misses}
@@ -17,6 +17,25 @@ pub record Fetching (files now : Option Files) (name bytes : List ℕ) (last : B
   pub no_fault : faults_now ≡ faults
   pub no_write_fault : writes_now ≡ writes
   pub reliable : before → after
+
+-- a piece that a shelf gives is the file's
+pub piece-fetched : (files : Option Files) (name bytes : List ℕ) (from most : ℕ)
+    → IfSome files (λ m. piece m name from most ≡ Some bytes) → ForSome files (λ m. fetched_from m name from most ≡ Ok bytes)
+piece-fetched None name bytes from most is m told = absurd cc
+piece-fetched (Some files) name bytes from most is m told =
+    let same : files ≡ m = cc in
+    subst (λ (f : Files). fetched_from f name from most ≡ Ok bytes) same (ap (bytes_or_cause name) is)
+
+-- a file that a shelf doesn't hold is missing at each piece
+pub piece-missing : (files : Option Files) (name spelled : List ℕ) (from most : ℕ)
+    → IfSome files (λ m. bytes_under m name ≡ None) → spelled ≡ name
+    → ForSome files (λ m. fetched_from m name from most ≡ Err (missing spelled))
+piece-missing None name spelled from most is same m told = absurd cc
+piece-missing (Some files) name spelled from most is same m told =
+    let known : files ≡ m = cc in
+    subst (λ (f : Files). fetched_from f name from most ≡ Err (missing spelled)) known
+    (ap (λ (o : Option (List ℕ)). bytes_or_cause name (option_map (λ (c : List ℕ). take most (drop from c)) o)) is
+    ∙ ap (λ (n : List ℕ). Err (missing n)) (sym same))
 
 -- the first piece is fetched
 pub fetched-first : (files : Option Files) (name piece : List ℕ) (last : Bool)

@@ -5,6 +5,7 @@ ghost use Rattle.lab_shelf.specs.Files.{TookPart};
 ghost use Rattle.lab_stop.specs.declared.stop.Stop.TheVariants as stops;
 ghost use Rattle.lab_stop.specs.Causes.{first_bytes, fetched_from, piece_bytes};
 ghost use Rattle.lab_stop.specs.Stops.{FetchFaults, AnswersOrStops, IsWriteStop, Misses, WriteFaults};
+ghost use Rattle.lab_stop.specs.Writing.{written};
 
 use crate::stop::Stop;
 use lab_shelf::{Shelf, ShelfFault, Sink};
@@ -77,6 +78,18 @@ pub fn fetch_most<S: Shelf>(
     Ok(bytes)
 }
 
+/// How a call of a shelf or a sink that writes ends a command: with `Write` where the call failed, and
+/// with `Memory` where no memory was left for it.
+pub fn written(end: Result<(), ShelfFault>) -> Result<(), Stop>
+    ensures { result ≡ written end }
+{
+    match end {
+        Ok(()) => Ok(()),
+        Err(ShelfFault::Failed) => Err(Stop::Write),
+        Err(ShelfFault::Memory) => Err(Stop::Memory),
+    }
+}
+
 /// Puts a text on a sink. It stops with `Write` where the sink fails, which counts that, and with
 /// `Memory` only where no memory is left; the sink took the first bytes of the text then.
 pub fn put<K: Sink>(out: &mut K, text: &[u8]) -> Result<(), Stop>
@@ -88,9 +101,5 @@ pub fn put<K: Sink>(out: &mut K, text: &[u8]) -> Result<(), Stop>
     ensures still { K.is_reliable out.old → K.is_reliable out.new }
     ensures reliable { K.is_reliable out.old → result ≢ Err stops.Write }
 {
-    match out.put(text) {
-        Ok(()) => Ok(()),
-        Err(ShelfFault::Failed) => Err(Stop::Write),
-        Err(ShelfFault::Memory) => Err(Stop::Memory),
-    }
+    written(out.put(text))
 }

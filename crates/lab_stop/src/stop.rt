@@ -1,5 +1,6 @@
 //! Why a command stops, the exit status that says so, and the line that it puts.
-ghost use Rattle.std.specs.Prelude.{◌≡◌, ◌≤◌, List, ℕ};
+ghost use Rattle.std.specs.Prelude.{◌≡◌, ◌≤◌, ◌∷◌, ◌++◌, [], codes, IfOk, List, ℕ, string_bytes};
+ghost use Rattle.std.specs.Str.{IsUtf8};
 ghost use Rattle.lab_shelf.specs.Files.{TookPart};
 ghost use Rattle.lab_stop.specs.Stops.{IsConfStop, IsScriptStop, IsWavStop, status_of};
 
@@ -104,20 +105,47 @@ pub fn status(end: &Result<(), Stop>) -> u8
     }
 }
 
+/// The name of a file as a text, or none where it isn't UTF-8.
+fn name_text(name: &[u8]) -> &str
+    ensures utf8 { IsUtf8 name.now → result.now ≡ name.now }
+    ensures other { ¬ (IsUtf8 name.now) → result.now ≡ [] }
+{
+    str::from_utf8(name).unwrap_or("")
+}
+
+/// The line that says why the WAV file of this name is refused.
+fn wav_reason(alloc: Global, name: &[u8], why: WavError) -> Result<String, AllocError> {
+    let name = name_text(name);
+    format!(in alloc; "dmixlab: wav {name}: {why}\n")
+}
+
+/// The line that says that the file of this name can't be read.
+fn read_reason(alloc: Global, name: &[u8]) -> Result<String, AllocError>
+    ensures { IsUtf8 name.now → IfOk result (λ line. string_bytes line
+        ≡ codes "dmixlab: read " ++ name.now ++ 10 ∷ []) }
+{
+    let name = name_text(name);
+    format!(in alloc; "dmixlab: read {name}\n")
+}
+
+/// The line that says why a script is refused.
+fn script_reason(alloc: Global, error: ScriptError) -> Result<String, AllocError> {
+    format!(in alloc; "dmixlab: script {error}\n")
+}
+
+/// The line that says why a configuration is refused.
+fn conf_reason(alloc: Global, error: ConfError) -> Result<String, AllocError> {
+    format!(in alloc; "dmixlab: conf {error}\n")
+}
+
 /// The line that says why a command stopped.
 fn reason(alloc: Global, stop: &Stop) -> Result<String, AllocError> {
     match stop {
         Stop::Words => String::from_str(alloc, "dmixlab: words\n"),
-        Stop::Script(error) => format!(in alloc; "dmixlab: script {error}\n"),
-        Stop::Conf(error) => format!(in alloc; "dmixlab: conf {error}\n"),
-        Stop::Wav { name, why } => {
-            let name = str::from_utf8(name.as_slice()).unwrap_or("");
-            format!(in alloc; "dmixlab: wav {name}: {why}\n")
-        }
-        Stop::Read { name } => {
-            let name = str::from_utf8(name.as_slice()).unwrap_or("");
-            format!(in alloc; "dmixlab: read {name}\n")
-        }
+        Stop::Script(error) => script_reason(alloc, *error),
+        Stop::Conf(error) => conf_reason(alloc, *error),
+        Stop::Wav { name, why } => wav_reason(alloc, name.as_slice(), *why),
+        Stop::Read { name } => read_reason(alloc, name.as_slice()),
         Stop::Write => String::from_str(alloc, "dmixlab: write\n"),
         Stop::Memory => String::from_str(alloc, "dmixlab: memory\n"),
     }

@@ -1,23 +1,42 @@
-use Rattle.std.proofs.Common.{◌≡◌, ℕ, ◌/◌, ap, ◌∙◌}
+use Rattle.std.proofs.Common.{◌≡◌, ℕ, ◌/◌, ap, sym, subst, ◌∙◌}
+use Rattle.std.proofs.lemmas.Result.{on_err_weaker, on_ok_weaker}
 use Rattle.wav_io.specs.Canonical.{head}
+use Rattle.lab_stop.specs.Writing.{OnOk-written, OnErr-written, IfErr-written, WriteFaults-written, written-no_write}
 use Rattle.lab_output.specs.Files.{head_of}
+use Rattle.lab_output.specs.Going.{HasFile}
 use Rattle.lab_output.proofs.Going.{named-closed, named-part}
+use Rattle.lab_output.proofs.Held.{no-failure}
 use Rattle.lab_output.proofs.finish.finish_file.Goals as goal
 
-pub returns-in-Ok-clause-closed : goal.returns-in-Ok-clause-closed
-returns-in-Ok-clause-closed g c =
+pub returns-clause-closed : goal.returns-clause-closed
+returns-clause-closed g c =
     let h : c.header-head.result ≡ head_of c.args.file.now c.args.samples =
     c.header-head.ensures ∙ ap (λ (d : ℕ). head c.args.file.now.channels c.args.file.now.rate (c.args.samples / d)) c.from.ensures in
-    named-closed _ _ c.as_slice.result.now c.args.file.now.name c.header-head.result (head_of c.args.file.now c.args.samples) c.as_slice.ensures h c.in-Ok.ensures.ok
+    rw c.written.ensures
+    (OnOk-written _ c.finish.result
+    (on_ok_weaker c.finish.result
+    (named-closed _ _ c.as_slice.result.now c.args.file.now.name c.header-head.result (head_of c.args.file.now c.args.samples) c.as_slice.ensures h)
+    c.finish.ensures.ok))
 
-pub returns-in-Err-Failed-clause-part : goal.returns-in-Err-Failed-clause-part
-returns-in-Err-Failed-clause-part g c =
+pub returns-clause-part : goal.returns-clause-part
+returns-clause-part g c =
     let h : c.header-head.result ≡ head_of c.args.file.now c.args.samples =
     c.header-head.ensures ∙ ap (λ (d : ℕ). head c.args.file.now.channels c.args.file.now.rate (c.args.samples / d)) c.from.ensures in
-    named-part _ _ c.as_slice.result.now c.args.file.now.name c.header-head.result (head_of c.args.file.now c.args.samples) c.as_slice.ensures h c.in-Err-Failed.ensures.err
+    rw c.written.ensures
+    (OnErr-written _ c.finish.result
+    (on_err_weaker c.finish.result
+    (named-part _ _ c.as_slice.result.now c.args.file.now.name c.header-head.result (head_of c.args.file.now c.args.samples) c.as_slice.ensures h)
+    c.finish.ensures.err))
 
-pub returns-in-Err-Memory-clause-part : goal.returns-in-Err-Memory-clause-part
-returns-in-Err-Memory-clause-part g c =
-    let h : c.header-head.result ≡ head_of c.args.file.now c.args.samples =
-    c.header-head.ensures ∙ ap (λ (d : ℕ). head c.args.file.now.channels c.args.file.now.rate (c.args.samples / d)) c.from.ensures in
-    named-part _ _ c.as_slice.result.now c.args.file.now.name c.header-head.result (head_of c.args.file.now c.args.samples) c.as_slice.ensures h c.in-Err-Memory.ensures.err
+pub returns-clause-only : goal.returns-clause-only
+returns-clause-only g c = rw c.written.ensures (IfErr-written c.finish.result)
+
+pub returns-clause-faults : goal.returns-clause-faults
+returns-clause-faults g c = rw c.written.ensures (WriteFaults-written c.finish.result _ _ c.finish.ensures.faults)
+
+pub returns-clause-never : goal.returns-clause-never
+returns-clause-never g c reliable there =
+    rw c.written.ensures
+    (written-no_write c.finish.result
+    (no-failure _ _ c.finish.result (c.finish.ensures.missing reliable)
+    (subst (HasFile (g.S.Shelf.files c.args.shelf.now)) (sym c.as_slice.ensures) there)))

@@ -1,5 +1,7 @@
-use Rattle.std.proofs.Common.{refl}
+use Rattle.std.proofs.Common.{ℕ, Err, refl, subst}
 use Rattle.std.proofs.lemmas.Result.{err_from_is_err_and}
+use Rattle.lab_stop.specs.Stops.{WriteFaults}
+use Rattle.lab_output.proofs.Held.{file-at}
 use Rattle.lab_output.proofs.Steps.{Closing-next, Closing-stop, Closing-all, room-at}
 use Rattle.lab_output.proofs.finish.finish_files.Goals as goal
 
@@ -26,3 +28,17 @@ returns-in_err-finish_file-clause-part g c =
 
 pub returns-clause-closed : goal.returns-clause-closed
 returns-clause-closed g c = Closing-all _ _ _ _ _ _ _ _ _ _ _ c.loop-number.invariant c.loop-number-test.false
+
+pub returns-in_err-finish_file-clause-faults : goal.returns-in_err-finish_file-clause-faults
+returns-in_err-finish_file-clause-faults g c =
+    let p = err_from_is_err_and c.from_residual.result c.from_residual.ensures.1 in
+    rw (p.1, p.2)
+    (subst (λ (before : ℕ). WriteFaults {X = Unit {0}} (Err c.in_err-finish_file.field-0.0) before (g.S.Shelf.write_faults c.finish_file.new.shelf))
+    c.loop-number.invariant.write_faults c.in_err-finish_file.ensures.faults)
+
+pub returns-in_err-finish_file-clause-never : goal.returns-in_err-finish_file-clause-never
+returns-in_err-finish_file-clause-never g c reliable there =
+    let p = err_from_is_err_and c.from_residual.result c.from_residual.ensures.1 in
+    rw (p.1, p.2)
+    (c.in_err-finish_file.ensures.never (c.loop-number.invariant.reliable reliable)
+    (file-at _ _ _ c.index-files-number.result (c.loop-number.invariant.there there) c.loop-number-test.true c.index-files-number.is))

@@ -1,0 +1,238 @@
+-- What a run reads: its script, the sound that its card captures, and its clients' sounds.
+use Rattle.std.proofs.Common.{◌≡◌, ◌⊎◌, ◌≤◌, ℕ, List, ap, sym, subst, inl, inr, ◌∙◌, arith}
+use Rattle.std.specs.Prelude.{Option, Result, Ok, Err}
+use Rattle.std.specs.Option.{ForSome}
+use Rattle.lab_script.specs.declared.error.ScriptError.{ScriptError}
+use Rattle.lab_script.specs.declared.error.ScriptWhy.{ScriptWhy}
+use Rattle.lab_script.specs.declared.error.ScriptWhy.TheVariants as why
+use Rattle.lab_script.specs.declared.script.ClientLine.{ClientLine}
+use Rattle.lab_script.specs.declared.script.Script.{Script}
+use Rattle.lab_script.specs.Reading.{script_of, RefusesAt}
+use Rattle.lab_shelf.specs.Files.{Files}
+use Rattle.lab_stop.specs.declared.stop.Stop.{Stop}
+use Rattle.lab_stop.specs.declared.stop.Stop.TheVariants as stops
+use Rattle.lab_stop.specs.Causes.{Cause, first_bytes, ◌>>=◌}
+use Rattle.lab_stop.specs.Passing.{IsCauseOf-passed, Misses-passed}
+use Rattle.lab_stop.specs.Stops.{FetchFaults, IsCauseOf, IsScriptStop, Misses}
+use Rattle.wav_io.specs.Sound.{Sound}
+use Rattle.lab_input.specs.Input.{RunInput, as_script, script_in, capture_in, sounds_in, input_in}
+
+-- ---- the script
+
+-- the script, where this is what the first bytes of its file are
+abbrev script_from : Result (List ℕ) Cause → Result Script Cause
+script_from bytes = bytes >>= λ text. as_script (script_of text)
+
+script_in-missing : (files : Files) (name : List ℕ) (e : Cause)
+    → first_bytes files name 1048577 ≡ Err e → script_in files name ≡ Err e
+unfolding script_in
+script_in-missing files name e is = ap script_from is
+
+-- a stop at the bytes of a script is one at the script
+pub script_in-stop : (files : Option Files) (name : List ℕ) (stop : Stop)
+    → ForSome files (λ m. IsCauseOf stop (first_bytes m name 1048577))
+    → ForSome files (λ m. IsCauseOf stop (script_in m name))
+script_in-stop files name stop is m told =
+    IsCauseOf-passed stop (first_bytes m name 1048577) (script_in m name)
+    (script_in-missing m name) (is m told)
+
+-- over reliable files a script that is missing at its bytes is missing
+pub script_in-misses : (files : Option Files) (name : List ℕ) (stop : Stop)
+    → ForSome files (λ m. Misses {X = Unit {0}} (Err stop) (first_bytes m name 1048577))
+    → ForSome files (λ m. Misses {X = Unit {0}} (Err stop) (script_in m name))
+script_in-misses files name stop is m told =
+    Misses-passed stop (first_bytes m name 1048577) (script_in m name)
+    (script_in-missing m name) (is m told)
+
+script_in-read : (files : Files) (name text : List ℕ) → first_bytes files name 1048577 ≡ Ok text
+    → script_in files name ≡ as_script (script_of text)
+unfolding script_in
+script_in-read files name text is = ap script_from is
+
+-- a stop at a text that is refused: for memory, or with the refusal
+abbrev IsRefused : ScriptError → Stop → Result Script ScriptError → Type 0
+IsRefused error stop said = (stop ≡ stops.Memory) ⊎ ((stop ≡ stops.Script error) × (said ≡ Err error))
+
+IsRefused-of : (why : ScriptWhy) (error : ScriptError) (stop : Stop) (said : Result Script ScriptError)
+    → RefusesAt why error said → IsScriptStop why error stop → IsRefused error stop said
+IsRefused-of why.Memory error stop said refuses is = inl is
+IsRefused-of why.Order error stop said refuses is = inr (is, refuses)
+IsRefused-of why.Word error stop said refuses is = inr (is, refuses)
+IsRefused-of why.Missing error stop said refuses is = inr (is, refuses)
+IsRefused-of why.Extra error stop said refuses is = inr (is, refuses)
+IsRefused-of why.Name error stop said refuses is = inr (is, refuses)
+IsRefused-of why.File error stop said refuses is = inr (is, refuses)
+IsRefused-of why.Number error stop said refuses is = inr (is, refuses)
+IsRefused-of why.Range error stop said refuses is = inr (is, refuses)
+IsRefused-of why.KeyTwice error stop said refuses is = inr (is, refuses)
+IsRefused-of why.NameTwice error stop said refuses is = inr (is, refuses)
+IsRefused-of why.TooMany error stop said refuses is = inr (is, refuses)
+IsRefused-of why.Fit error stop said refuses is = inr (is, refuses)
+IsRefused-of why.BindingsEmpty error stop said refuses is = inr (is, refuses)
+IsRefused-of why.BindingsTooMany error stop said refuses is = inr (is, refuses)
+IsRefused-of (why.BindingRange channel) error stop said refuses is = inr (is, refuses)
+IsRefused-of (why.BindingTwice channel) error stop said refuses is = inr (is, refuses)
+IsRefused-of why.Alone error stop said refuses is = inr (is, refuses)
+IsRefused-of why.Unplugged error stop said refuses is = inr (is, refuses)
+IsRefused-of why.Frames error stop said refuses is = inr (is, refuses)
+IsRefused-of why.LapEnd error stop said refuses is = inr (is, refuses)
+IsRefused-of why.Unended error stop said refuses is = inr (is, refuses)
+IsRefused-of why.NoCard error stop said refuses is = inr (is, refuses)
+IsRefused-of why.TooLong error stop said refuses is = inr (is, refuses)
+
+IsRefused-cause : (error : ScriptError) (stop : Stop) (said : Result Script ScriptError)
+    → IsRefused error stop said → IsCauseOf stop (as_script said)
+IsRefused-cause error stop said (inl is) = subst (λ (s : Stop). IsCauseOf s (as_script said)) (sym is) tt
+IsRefused-cause error stop said (inr is) = subst (λ (s : Stop). IsCauseOf s (as_script said)) (sym is.0) (ap as_script is.1)
+
+-- a stop at a script that is refused is at that cause
+pub script_in-refused : (files : Option Files) (name text spelled : List ℕ) (error : ScriptError) (stop : Stop)
+    → ForSome files (λ m. first_bytes m name 1048577 ≡ Ok text) → spelled ≡ text
+    → RefusesAt error.why error (script_of spelled) → IsScriptStop error.why error stop
+    → ForSome files (λ m. IsCauseOf stop (script_in m name))
+script_in-refused files name text spelled error stop read same refuses is m told =
+    subst (λ (r : Result Script Cause). IsCauseOf stop r)
+    (sym (script_in-read m name text (read m told) ∙ ap (λ (t : List ℕ). as_script (script_of t)) (sym same)))
+    (IsRefused-cause error stop (script_of spelled) (IsRefused-of error.why error stop (script_of spelled) refuses is))
+
+misses_none : {Y : Type 0} (error : ScriptError) (stop : Stop) (said : Result Script ScriptError) (given : Result Y Cause)
+    → IsRefused error stop said → Misses {X = Unit {0}} (Err stop) given
+misses_none {Y} error stop said given (inl is) = subst (λ (s : Stop). Misses {X = Unit {0}} (Err s) given) (sym is) tt
+misses_none {Y} error stop said given (inr is) = subst (λ (s : Stop). Misses {X = Unit {0}} (Err s) given) (sym is.0) tt
+
+faults_none : (error : ScriptError) (stop : Stop) (said : Result Script ScriptError) (before now : ℕ)
+    → IsRefused error stop said → before ≤ now → FetchFaults {X = Unit {0}} (Err stop) before now
+faults_none error stop said before now (inl is) few = subst (λ (s : Stop). FetchFaults {X = Unit {0}} (Err s) before now) (sym is) few
+faults_none error stop said before now (inr is) few = subst (λ (s : Stop). FetchFaults {X = Unit {0}} (Err s) before now) (sym is.0) few
+
+-- a stop at a script that is refused is at no missing file
+pub Misses-refused : {Y : Type 0} (error : ScriptError) (stop : Stop) (said : Result Script ScriptError) (given : Result Y Cause)
+    → RefusesAt error.why error said → IsScriptStop error.why error stop
+    → Misses {X = Unit {0}} (Err stop) given
+Misses-refused {Y} error stop said given refuses is =
+    misses_none error stop said given (IsRefused-of error.why error stop said refuses is)
+
+-- a stop at a script that is refused counts no fault
+pub FetchFaults-refused : (error : ScriptError) (stop : Stop) (said : Result Script ScriptError) (before now : ℕ)
+    → RefusesAt error.why error said → IsScriptStop error.why error stop
+    → now ≡ before → FetchFaults {X = Unit {0}} (Err stop) before now
+FetchFaults-refused error stop said before now refuses is same =
+    faults_none error stop said before now (IsRefused-of error.why error stop said refuses is) (omega (arith, same))
+
+-- ---- the sounds
+
+-- what a run reads, where these are its script, and its sounds once the script is there
+abbrev input_from : Files → Result Script Cause → Result RunInput Cause
+input_from files script = do
+  s ← script
+  capture ← capture_in files s.card.capture
+  sounds ← sounds_in files capture.1 s.card s.clients
+  Ok (record { script = s; capture = capture.0; sounds = sounds })
+
+input_in-missing : (files : Files) (name : List ℕ) (e : Cause)
+    → script_in files name ≡ Err e → input_in files name ≡ Err e
+unfolding input_in
+input_in-missing files name e is = ap (input_from files) is
+
+-- a stop at the script is one at the input
+pub input_in-stop : (files : Option Files) (name : List ℕ) (stop : Stop)
+    → ForSome files (λ m. IsCauseOf stop (script_in m name))
+    → ForSome files (λ m. IsCauseOf stop (input_in m name))
+input_in-stop files name stop is m told =
+    IsCauseOf-passed stop (script_in m name) (input_in m name) (input_in-missing m name) (is m told)
+
+-- over reliable files a script that is missing is missing in the input
+pub input_in-misses : (files : Option Files) (name : List ℕ) (stop : Stop)
+    → ForSome files (λ m. Misses {X = Unit {0}} (Err stop) (script_in m name))
+    → ForSome files (λ m. Misses {X = Unit {0}} (Err stop) (input_in m name))
+input_in-misses files name stop is m told =
+    Misses-passed stop (script_in m name) (input_in m name) (input_in-missing m name) (is m told)
+
+-- the input of a script that is there
+abbrev captured_from : Files → Script → Result (Option Sound × ℕ) Cause → Result RunInput Cause
+captured_from files script captured = do
+  capture ← captured
+  sounds ← sounds_in files capture.1 script.card script.clients
+  Ok (record { script = script; capture = capture.0; sounds = sounds })
+
+input_in-script : (files : Files) (name : List ℕ) (script : Script) → script_in files name ≡ Ok script
+    → input_in files name ≡ captured_from files script (capture_in files script.card.capture)
+unfolding input_in
+input_in-script files name script is = ap (input_from files) is
+
+capture-missing : (files : Files) (name : List ℕ) (script : Script) (e : Cause) → script_in files name ≡ Ok script
+    → capture_in files script.card.capture ≡ Err e → input_in files name ≡ Err e
+capture-missing files name script e read is = input_in-script files name script read ∙ ap (captured_from files script) is
+
+-- a stop at the file that the card captures is one at the input
+pub capture_in-stop : (files now : Option Files) (name : List ℕ) (script : Script) (stop : Stop) → now ≡ files
+    → ForSome files (λ m. script_in m name ≡ Ok script)
+    → ForSome now (λ m. IsCauseOf stop (capture_in m script.card.capture))
+    → ForSome files (λ m. IsCauseOf stop (input_in m name))
+capture_in-stop files now name script stop same read is m told =
+    IsCauseOf-passed stop (capture_in m script.card.capture) (input_in m name)
+    (λ e. capture-missing m name script e (read m told)) (is m (same ∙ told))
+
+-- over reliable files a captured file that is missing is missing in the input
+pub capture_in-misses : (files now : Option Files) (name : List ℕ) (script : Script) (stop : Stop) → now ≡ files
+    → ForSome files (λ m. script_in m name ≡ Ok script)
+    → ForSome now (λ m. Misses {X = Unit {0}} (Err stop) (capture_in m script.card.capture))
+    → ForSome files (λ m. Misses {X = Unit {0}} (Err stop) (input_in m name))
+capture_in-misses files now name script stop same read is m told =
+    Misses-passed stop (capture_in m script.card.capture) (input_in m name)
+    (λ e. capture-missing m name script e (read m told)) (is m (same ∙ told))
+
+-- the input of a script and of a captured sound that are there
+abbrev sounds_from : Script → Option Sound → Result (List Sound) Cause → Result RunInput Cause
+sounds_from script capture read = do
+  sounds ← read
+  Ok (record { script = script; capture = capture; sounds = sounds })
+
+input_in-captured : (files : Files) (name : List ℕ) (script : Script) (captured : Option Sound × ℕ) (clients : List ClientLine)
+    → clients ≡ script.clients → script_in files name ≡ Ok script → capture_in files script.card.capture ≡ Ok captured
+    → input_in files name ≡ sounds_from script captured.0 (sounds_in files captured.1 script.card clients)
+input_in-captured files name script captured clients listed read is =
+    input_in-script files name script read
+    ∙ ap (captured_from files script) is
+    ∙ ap (λ cs. sounds_from script captured.0 (sounds_in files captured.1 script.card cs)) (sym listed)
+
+sounds-missing : (files : Files) (name : List ℕ) (script : Script) (captured : Option Sound × ℕ) (clients : List ClientLine) (e : Cause)
+    → clients ≡ script.clients → script_in files name ≡ Ok script → capture_in files script.card.capture ≡ Ok captured
+    → sounds_in files captured.1 script.card clients ≡ Err e → input_in files name ≡ Err e
+sounds-missing files name script captured clients e listed read found is =
+    input_in-captured files name script captured clients listed read found ∙ ap (sounds_from script captured.0) is
+
+-- a stop at the clients' sounds is one at the input
+pub sounds_in-stop : (files now then_ : Option Files) (name : List ℕ) (script : Script) (captured : Option Sound × ℕ) (clients : List ClientLine) (stop : Stop)
+    → clients ≡ script.clients → now ≡ files → then_ ≡ now
+    → ForSome files (λ m. script_in m name ≡ Ok script)
+    → ForSome now (λ m. capture_in m script.card.capture ≡ Ok captured)
+    → ForSome then_ (λ m. IsCauseOf stop (sounds_in m captured.1 script.card clients))
+    → ForSome files (λ m. IsCauseOf stop (input_in m name))
+sounds_in-stop files now then_ name script captured clients stop listed same same_then read found is m told =
+    IsCauseOf-passed stop (sounds_in m captured.1 script.card clients) (input_in m name)
+    (λ e. sounds-missing m name script captured clients e listed (read m told) (found m (same ∙ told)))
+    (is m (same_then ∙ same ∙ told))
+
+-- over reliable files a client's file that is missing is missing in the input
+pub sounds_in-misses : (files now then_ : Option Files) (name : List ℕ) (script : Script) (captured : Option Sound × ℕ) (clients : List ClientLine) (stop : Stop)
+    → clients ≡ script.clients → now ≡ files → then_ ≡ now
+    → ForSome files (λ m. script_in m name ≡ Ok script)
+    → ForSome now (λ m. capture_in m script.card.capture ≡ Ok captured)
+    → ForSome then_ (λ m. Misses {X = Unit {0}} (Err stop) (sounds_in m captured.1 script.card clients))
+    → ForSome files (λ m. Misses {X = Unit {0}} (Err stop) (input_in m name))
+sounds_in-misses files now then_ name script captured clients stop listed same same_then read found is m told =
+    Misses-passed stop (sounds_in m captured.1 script.card clients) (input_in m name)
+    (λ e. sounds-missing m name script captured clients e listed (read m told) (found m (same ∙ told)))
+    (is m (same_then ∙ same ∙ told))
+
+-- the input of a script, of a captured sound and of sounds that are there
+pub input_in-all : (files now then_ : Option Files) (name : List ℕ) (script : Script) (captured : Option Sound × ℕ) (clients : List ClientLine) (sounds : List Sound)
+    → clients ≡ script.clients → now ≡ files → then_ ≡ now
+    → ForSome files (λ m. script_in m name ≡ Ok script)
+    → ForSome now (λ m. capture_in m script.card.capture ≡ Ok captured)
+    → ForSome then_ (λ m. sounds_in m captured.1 script.card clients ≡ Ok sounds)
+    → ForSome files (λ m. input_in m name ≡ Ok (record { script = script; capture = captured.0; sounds = sounds }))
+input_in-all files now then_ name script captured clients sounds listed same same_then read found is m told =
+    input_in-captured m name script captured clients listed (read m told) (found m (same ∙ told))
+    ∙ ap (sounds_from script captured.0) (is m (same_then ∙ same ∙ told))

@@ -1,0 +1,20 @@
+use Rattle.lab_stop.specs.Writing.{OnOk-written, OnErr-written, IfErr-written, WriteFaults-written, written-no_write}
+use Rattle.lab_output.proofs.Held.{no-failure}
+use Rattle.lab_output.proofs.append.append_bytes.Goals as goal
+
+pub returns-clause-appended : goal.returns-clause-appended
+returns-clause-appended g c = rw c.written.ensures (OnOk-written _ c.append.result c.append.ensures.ok)
+
+pub returns-clause-part : goal.returns-clause-part
+returns-clause-part g c = rw c.written.ensures (OnErr-written _ c.append.result c.append.ensures.err)
+
+pub returns-clause-only : goal.returns-clause-only
+returns-clause-only g c = rw c.written.ensures (IfErr-written c.append.result)
+
+pub returns-clause-faults : goal.returns-clause-faults
+returns-clause-faults g c = rw c.written.ensures (WriteFaults-written c.append.result _ _ c.append.ensures.faults)
+
+pub returns-clause-never : goal.returns-clause-never
+returns-clause-never g c reliable there =
+    rw c.written.ensures
+    (written-no_write c.append.result (no-failure _ _ c.append.result (c.append.ensures.missing reliable) there))
