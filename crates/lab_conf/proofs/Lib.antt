@@ -2,3 +2,4 @@ mod LineWords
 mod Numerals
 mod CardWords
 mod CardLines
+mod Devices

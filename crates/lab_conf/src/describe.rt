@@ -54,7 +54,6 @@ pub fn describe_device<S: Shelf>(
 }
 
 /// The device of a name in the configuration in a file of the shelf.
-#[tactic(auto, unfolding(crate::specs::Described::device_in))]
 fn device_in<S: Shelf>(
     shelf: &mut S,
     alloc: Global,

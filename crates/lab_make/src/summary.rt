@@ -45,9 +45,10 @@ impl fmt::Display for Summary {
             xruns,
             sum,
         } = *self;
+        write!(f, "made {seed} {clients} {phases}\nplayed {played}\n")?;
         write!(
             f,
-            "made {seed} {clients} {phases}\nplayed {played}\nsegments {segments}\nlaid {laid}\nxruns {xruns}\nsum {sum}\n"
+            "segments {segments}\nlaid {laid}\nxruns {xruns}\nsum {sum}\n"
         )
     }
 }

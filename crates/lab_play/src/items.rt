@@ -128,8 +128,7 @@ fn do_item<R: Threads + Sync, S: Shelf, K: Sink, G: Gate + Send>(
             out,
             gates,
         ),
-        Item::Opens { .. } => do_border(lab, item),
-        Item::Closes { .. } => do_border(lab, item),
+        Item::Opens { .. } | Item::Closes { .. } => do_border(lab, item),
     }
 }
 

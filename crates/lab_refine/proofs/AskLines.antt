@@ -8,9 +8,11 @@ use Rattle.lab_script.specs.declared.error.ScriptWhy.TheVariants as why
 use Rattle.lab_script.specs.Lexing.{first_and_rest}
 use Rattle.lab_script.specs.declared.error.ScriptError.{ScriptError}
 use Rattle.lab_refine.specs.declared.request.Ask.{Ask}
-use Rattle.lab_refine.specs.Grammar.{ask_of, IsAsk}
+use Rattle.lab_refine.specs.declared.request.Request.{Request}
+use Rattle.lab_refine.specs.declared.request.SlaveLine.{SlaveLine}
+use Rattle.lab_refine.specs.Grammar.{ask_of, slave_of, IsAsk}
 use Rattle.std.proofs.lemmas.List.Elements.{All-append, All-cons, All-nil}
-use Rattle.lab_refine.specs.Reading.{asks_of, on_line, Reads, Refuses, ◌>>=◌}
+use Rattle.lab_refine.specs.Reading.{asked_in, asks_of, on_line, Reads, Refuses, ◌>>=◌}
 
 -- asks that were read before others
 abbrev pub joined : List Ask → Result (List Ask) ScriptError → Result (List Ask) ScriptError
@@ -84,3 +86,47 @@ All-read ask number (Err cause) is can = absurd (let e = is in cc)
 pub All-asks : (asks longer : List Ask) (ask : Ask) → All IsAsk asks → IsAsk ask → longer ≡ asks ++ ask ∷ [] → All IsAsk longer
 All-asks asks longer ask can one is =
     subst (All IsAsk) (sym is) (All-append IsAsk asks (ask ∷ []) can (All-cons IsAsk ask [] one (All-nil IsAsk)))
+
+-- a refusal of a part is one of the whole
+pub Refuses-passed : {X Y : Type 0} (cause : ScriptWhy) (e : ScriptError) (part : Result X ScriptError) (given : Result Y ScriptError)
+    → (part ≡ Err e → given ≡ Err e) → Refuses cause e part → Refuses cause e given
+Refuses-passed why.Memory e part given passes refuses = tt
+Refuses-passed cause e part given passes refuses = passes refuses
+
+-- no line is a slave's
+pub asked_in-none : (lines : List (ℕ × List (List ℕ))) → None ≡ first_and_rest lines
+    → asked_in lines ≡ Err (record { line = 0; why = why.NoCard })
+unfolding asked_in
+asked_in-none [] e = refl
+asked_in-none (line ∷ lines) e = absurd (let n = e in cc)
+
+-- a request with this slave, once what is asked is known
+abbrev request_with : SlaveLine → Result (List Ask) ScriptError → Result Request ScriptError
+request_with slave asked = asked >>= λ asks. Ok (record { slave = slave; asks = asks })
+
+asked_in-first : (lines more : List (ℕ × List (List ℕ))) (number : ℕ) (words : List (List ℕ)) (slave : Result SlaveLine ScriptError)
+    → Some ((number, words), more) ≡ first_and_rest lines → slave ≡ on_line number (slave_of words)
+    → asked_in lines ≡ (slave >>= λ s. request_with s (asks_of more))
+unfolding asked_in
+asked_in-first lines more number words slave first is =
+    ap asked_in (lines-are lines more (number, words) first)
+    ∙ ap (λ (said : Result SlaveLine ScriptError). said >>= λ s. request_with s (asks_of more)) (sym is)
+
+-- the slave's line is refused
+pub asked_in-refused : (lines more : List (ℕ × List (List ℕ))) (number : ℕ) (words : List (List ℕ)) (e : ScriptError)
+    → Some ((number, words), more) ≡ first_and_rest lines → Err e ≡ on_line number (slave_of words) → asked_in lines ≡ Err e
+asked_in-refused lines more number words e first is = asked_in-first lines more number words (Err e) first is
+
+-- the lines after the slave's are refused
+pub asked_in-later : (lines more : List (ℕ × List (List ℕ))) (number : ℕ) (words : List (List ℕ)) (slave : SlaveLine) (e : ScriptError)
+    → Some ((number, words), more) ≡ first_and_rest lines → Ok slave ≡ on_line number (slave_of words)
+    → asks_of more ≡ Err e → asked_in lines ≡ Err e
+asked_in-later lines more number words slave e first is refused =
+    asked_in-first lines more number words (Ok slave) first is ∙ ap (request_with slave) refused
+
+-- the slave's line and those after it say something
+pub asked_in-all : (lines more : List (ℕ × List (List ℕ))) (number : ℕ) (words : List (List ℕ)) (slave : SlaveLine) (read asks : List Ask)
+    → Some ((number, words), more) ≡ first_and_rest lines → Ok slave ≡ on_line number (slave_of words)
+    → asks_of more ≡ Ok read → asks ≡ read → asked_in lines ≡ Ok (record { slave = slave; asks = asks })
+asked_in-all lines more number words slave read asks first is all same =
+    asked_in-first lines more number words (Ok slave) first is ∙ ap (request_with slave) (all ∙ ap Ok (sym same))

@@ -1,3 +1,4 @@
 mod AnswerLaws
 mod MaskMembers
 mod AskLines
+mod Requests

@@ -11,7 +11,7 @@ use hw_space::Param;
 use lab_script::ScriptWhy;
 
 /// The word with which a line asks something.
-#[derive(Clone, Copy, Debug)]
+#[derive(Clone, Copy)]
 enum Verb {
     Set,
     Min,

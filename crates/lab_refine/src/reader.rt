@@ -56,7 +56,6 @@ fn read_asks(alloc: Global, number: u32, text: &[u8]) -> Result<Vec<Ask>, Script
 }
 
 /// What a text of any length that is in memory asks.
-#[tactic(auto, unfolding(crate::specs::Reading::asked_in))]
 fn read_lines(alloc: Global, text: &[u8]) -> Result<Request, ScriptError>
     requires { length text.now < 2 ^ 31 }
     ensures exact { Reads (λ r. r) result (asked_in (lines_from 1 text.now)) }

@@ -37,7 +37,8 @@ pub(crate) fn push_interval(text: &mut String, interval: &Interval) -> Result<()
     let max = interval.max;
     let upper = upper_mark(interval.openmax);
     let integer = integer_mark(interval.integer);
-    write!(text, "{lower}{min},{max}{upper}{integer}")
+    write!(text, "{lower}{min},{max}")?;
+    write!(text, "{upper}{integer}")
 }
 
 /// Whether a number is a member of a mask.

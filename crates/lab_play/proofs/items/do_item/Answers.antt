@@ -18,18 +18,3 @@ returns-in-Opens-clause-part g c =
     let after : Scene = scene c.do_border.new.lab before.outputs before.files before.taken in
     OnErr-all (StopsAt stops before after.lab before.files before.taken) c.do_border.result
     (λ start is. IsStoppedAt-playing start stops after (c.do_border.ensures.written stops before.outputs before.files before.taken start is))
-
-pub returns-in-Closes-clause-done : goal.returns-in-Closes-clause-done
-returns-in-Closes-clause-done g c =
-    let stops : Stops = stops_by g.G.Gate.stops c.args.gates.now in
-    let before : Scene = scene c.args.lab.now c.args.outputs.now (g.S.Shelf.files c.args.shelf.now) (g.K.Sink.taken c.args.out.now) in
-    let after : Scene = scene c.do_border-in-Closes.new.lab before.outputs before.files before.taken in
-    OnOk-all (SceneGoesOn stops before stops after) c.do_border-in-Closes.result (c.do_border-in-Closes.ensures.written stops before.outputs before.files before.taken)
-
-pub returns-in-Closes-clause-part : goal.returns-in-Closes-clause-part
-returns-in-Closes-clause-part g c =
-    let stops : Stops = stops_by g.G.Gate.stops c.args.gates.now in
-    let before : Scene = scene c.args.lab.now c.args.outputs.now (g.S.Shelf.files c.args.shelf.now) (g.K.Sink.taken c.args.out.now) in
-    let after : Scene = scene c.do_border-in-Closes.new.lab before.outputs before.files before.taken in
-    OnErr-all (StopsAt stops before after.lab before.files before.taken) c.do_border-in-Closes.result
-    (λ start is. IsStoppedAt-playing start stops after (c.do_border-in-Closes.ensures.written stops before.outputs before.files before.taken start is))

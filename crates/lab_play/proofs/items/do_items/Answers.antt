@@ -49,3 +49,27 @@ loop-index-preserved g c =
       reliable = λ is. item.reliable (so_far.reliable is);
       reliable_out = λ is. item.reliable_out (so_far.reliable_out is);
     }
+
+pub returns-clause-done : goal.returns-clause-done
+returns-clause-done g c = c.loop-index.invariant.goes_on
+
+pub returns-clause-fetch_faults : goal.returns-clause-fetch_faults
+returns-clause-fetch_faults g c = c.loop-index.invariant.fetch_faults
+
+pub returns-clause-faults : goal.returns-clause-faults
+returns-clause-faults g c = c.loop-index.invariant.faults
+
+pub returns-clause-reliable : goal.returns-clause-reliable
+returns-clause-reliable g c = c.loop-index.invariant.reliable
+
+pub returns-clause-reliable_out : goal.returns-clause-reliable_out
+returns-clause-reliable_out g c = c.loop-index.invariant.reliable_out
+
+pub returns-in_err-do_item-clause-fetch_faults : goal.returns-in_err-do_item-clause-fetch_faults
+returns-in_err-do_item-clause-fetch_faults g c = c.do_item.ensures.fetch_faults ∙ c.loop-index.invariant.fetch_faults
+
+pub returns-in_err-do_item-clause-reliable : goal.returns-in_err-do_item-clause-reliable
+returns-in_err-do_item-clause-reliable g c is = c.do_item.ensures.reliable (c.loop-index.invariant.reliable is)
+
+pub returns-in_err-do_item-clause-reliable_out : goal.returns-in_err-do_item-clause-reliable_out
+returns-in_err-do_item-clause-reliable_out g c is = c.do_item.ensures.reliable_out (c.loop-index.invariant.reliable_out is)

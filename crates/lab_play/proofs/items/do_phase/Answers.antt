@@ -72,3 +72,18 @@ returns-in-Err-clause-part g c start is =
     let stays = StaysAtStage-same c.args.lab.now c.run_phase.new.self c.in-Err.ensures.kept in
     IsStoppedAt-playing start stops (scene c.run_phase.new.self c.args.outputs.now files taken)
     (StaysWritten-stage c.args.lab.now c.run_phase.new.self stays stops c.args.outputs.now files taken start is)
+
+pub returns-in-Ok-clause-only : goal.returns-in-Ok-clause-only
+returns-in-Ok-clause-only g c = c.write_phase.ensures.only
+
+pub returns-in-Ok-clause-fetch_faults : goal.returns-in-Ok-clause-fetch_faults
+returns-in-Ok-clause-fetch_faults g c = c.write_phase.ensures.fetch_faults
+
+pub returns-in-Ok-clause-faults : goal.returns-in-Ok-clause-faults
+returns-in-Ok-clause-faults g c = c.write_phase.ensures.faults
+
+pub returns-in-Ok-clause-reliable : goal.returns-in-Ok-clause-reliable
+returns-in-Ok-clause-reliable g c = c.write_phase.ensures.reliable
+
+pub returns-in-Ok-clause-reliable_out : goal.returns-in-Ok-clause-reliable_out
+returns-in-Ok-clause-reliable_out g c = c.write_phase.ensures.reliable_out

@@ -77,3 +77,21 @@ returns-clause-part g c =
       new = c.in_ok-outputs.ensures.new;
     })))
     c.play_all.ensures.part
+
+pub play_all-requires-clause-gates : goal.play_all-requires-clause-gates
+play_all-requires-clause-gates g c κs within = c.requires.gates
+
+pub returns-clause-only : goal.returns-clause-only
+returns-clause-only g c = c.play_all.ensures.only
+
+pub returns-clause-fetch_faults : goal.returns-clause-fetch_faults
+returns-clause-fetch_faults g c = c.play_all.ensures.fetch_faults
+
+pub returns-clause-faults : goal.returns-clause-faults
+returns-clause-faults g c = c.play_all.ensures.faults
+
+pub returns-clause-reliable : goal.returns-clause-reliable
+returns-clause-reliable g c = c.play_all.ensures.reliable
+
+pub returns-clause-never : goal.returns-clause-never
+returns-clause-never g c = c.play_all.ensures.never

@@ -141,3 +141,21 @@ returns-in-Ok-clause-never g c shelf out known failed =
       known = known;
     })
     failed
+
+pub returns-in-Ok-clause-only : goal.returns-in-Ok-clause-only
+returns-in-Ok-clause-only g c = c.end.ensures.only
+
+pub returns-in-Ok-clause-fetch_faults : goal.returns-in-Ok-clause-fetch_faults
+returns-in-Ok-clause-fetch_faults g c = c.end.ensures.fetch_faults ∙ (c.do_items.ensures.fetch_faults ∙ c.begin.ensures.fetch_faults)
+
+pub returns-in-Ok-clause-reliable : goal.returns-in-Ok-clause-reliable
+returns-in-Ok-clause-reliable g c is = c.end.ensures.reliable (c.do_items.ensures.reliable (c.begin.ensures.reliable is))
+
+pub returns-clause-fetch_faults : goal.returns-clause-fetch_faults
+returns-clause-fetch_faults g c = c.do_items.ensures.fetch_faults ∙ c.begin.ensures.fetch_faults
+
+pub returns-clause-reliable : goal.returns-clause-reliable
+returns-clause-reliable g c is = c.do_items.ensures.reliable (c.begin.ensures.reliable is)
+
+pub do_items-requires-clause-gates : goal.do_items-requires-clause-gates
+do_items-requires-clause-gates g c κs within = c.requires.gates

@@ -96,3 +96,36 @@ returns-clause-changes g c before stage sounds at longer going =
     (all-going c.loop-number.outputs.files.items c.loop-number.outputs.samples.items sounds targets c.loop-number.number before (g.S.Shelf.files c.loop-number.shelf) longer all
     (inv.going_on before stage sounds at longer going))
     (AreLonger-same targets))
+
+pub returns-clause-fetch_faults : goal.returns-clause-fetch_faults
+returns-clause-fetch_faults g c = c.loop-number.invariant.fetch_faults
+
+pub returns-clause-faults : goal.returns-clause-faults
+returns-clause-faults g c = c.loop-number.invariant.write_faults
+
+pub returns-clause-reliable : goal.returns-clause-reliable
+returns-clause-reliable g c = c.loop-number.invariant.reliable
+
+pub returns-clause-outputs : goal.returns-clause-outputs
+returns-clause-outputs g c = c.loop-number.invariant.outputs_are
+
+pub returns-clause-files : goal.returns-clause-files
+returns-clause-files g c = c.loop-number.invariant.files
+
+pub returns-clause-rows : goal.returns-clause-rows
+returns-clause-rows g c = c.loop-number.invariant.rows
+
+pub returns-in_err-append-clause-outputs : goal.returns-in_err-append-clause-outputs
+returns-in_err-append-clause-outputs g c = c.append.ensures.outputs
+
+pub returns-in_err-append-clause-files : goal.returns-in_err-append-clause-files
+returns-in_err-append-clause-files g c = c.append.ensures.files ∙ c.loop-number.invariant.files
+
+pub returns-in_err-append-clause-rows : goal.returns-in_err-append-clause-rows
+returns-in_err-append-clause-rows g c = c.append.ensures.rows ∙ c.loop-number.invariant.rows
+
+pub returns-in_err-append-clause-fetch_faults : goal.returns-in_err-append-clause-fetch_faults
+returns-in_err-append-clause-fetch_faults g c = c.append.ensures.fetch_faults ∙ c.loop-number.invariant.fetch_faults
+
+pub returns-in_err-append-clause-reliable : goal.returns-in_err-append-clause-reliable
+returns-in_err-append-clause-reliable g c is = c.append.ensures.reliable (c.loop-number.invariant.reliable is)

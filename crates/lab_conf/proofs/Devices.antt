@@ -1,0 +1,139 @@
+-- Why the device of a name in a configuration's file can't be had: the file is missing, or the configuration or the device is refused.
+use Rattle.std.proofs.Common.{◌≡◌, ◌⊎◌, ℕ, List, ap, sym, subst, inl, inr, ◌∙◌, refl, arith}
+use Rattle.std.specs.Prelude.{Option, Result, Ok, Err}
+use Rattle.std.specs.Option.{ForSome}
+use Rattle.asound_conf.specs.declared.error.ConfError.{ConfError}
+use Rattle.asound_conf.specs.declared.error.ConfWhy.{ConfWhy}
+use Rattle.asound_conf.specs.declared.error.ConfWhy.TheVariants as why
+use Rattle.asound_conf.specs.declared.plugin.Device.{Device}
+use Rattle.asound_conf.specs.Device.{device_of}
+use Rattle.asound_conf.specs.Grammar.{conf_of}
+use Rattle.asound_conf.specs.Reading.{RefusesText}
+use Rattle.asound_conf.specs.Tree.{Entries}
+use Rattle.lab_shelf.specs.Files.{Files}
+use Rattle.lab_stop.specs.declared.stop.Stop.{Stop}
+use Rattle.lab_stop.specs.declared.stop.Stop.TheVariants as stops
+use Rattle.lab_stop.specs.Causes.{Cause, first_bytes, ◌>>=◌}
+use Rattle.lab_stop.specs.Passing.{IsCauseOf-passed, Misses-passed}
+use Rattle.lab_stop.specs.Stops.{FetchFaults, IsCauseOf, IsConfStop, Misses}
+use Rattle.lab_conf.specs.Described.{as_conf, device_in}
+
+-- ---- the stops
+
+-- a stop at a configuration that is refused is for memory, or with the refusal
+IsConfStop-either : (cause : ConfWhy) (error : ConfError) (stop : Stop) → IsConfStop cause error stop
+    → (stop ≡ stops.Memory) ⊎ (stop ≡ stops.Conf error)
+IsConfStop-either why.Memory error stop is = inl is
+IsConfStop-either cause error stop is = inr is
+
+-- an error is the one that is given, unless memory ran out
+RefusesText-either : (cause : ConfWhy) (error : ConfError) (given : Result Entries ConfError) → RefusesText cause error given
+    → (cause ≡ why.Memory) ⊎ (given ≡ Err error)
+RefusesText-either why.Memory error given refuses = inl refl
+RefusesText-either cause error given refuses = inr refuses
+
+-- it is at the cause that is given, if it isn't for memory
+IsCauseOf-either : {X : Type 0} (error : ConfError) (stop : Stop) (given : Result X ConfError)
+    → (stop ≡ stops.Memory) ⊎ (stop ≡ stops.Conf error) → given ≡ Err error → IsCauseOf stop (as_conf given)
+IsCauseOf-either error stop given (inl is) refuses = subst (λ (s : Stop). IsCauseOf s (as_conf given)) (sym is) tt
+IsCauseOf-either error stop given (inr is) refuses = subst (λ (s : Stop). IsCauseOf s (as_conf given)) (sym is) (ap as_conf refuses)
+
+IsCauseOf-text : (error : ConfError) (stop : Stop) (given : Result Entries ConfError) → IsConfStop error.why error stop
+    → (error.why ≡ why.Memory) ⊎ (given ≡ Err error) → IsCauseOf stop (as_conf given)
+IsCauseOf-text error stop given is (inl memory) =
+    subst (λ (s : Stop). IsCauseOf s (as_conf given)) (sym (subst (λ (cause : ConfWhy). IsConfStop cause error stop) memory is)) tt
+IsCauseOf-text error stop given is (inr refuses) =
+    IsCauseOf-either error stop given (IsConfStop-either error.why error stop is) refuses
+
+misses_none : {Y : Type 0} (error : ConfError) (stop : Stop) (given : Result Y Cause)
+    → (stop ≡ stops.Memory) ⊎ (stop ≡ stops.Conf error) → Misses {X = Unit {0}} (Err stop) given
+misses_none {Y} error stop given (inl is) = subst (λ (s : Stop). Misses {X = Unit {0}} (Err s) given) (sym is) tt
+misses_none {Y} error stop given (inr is) = subst (λ (s : Stop). Misses {X = Unit {0}} (Err s) given) (sym is) tt
+
+faults_none : (error : ConfError) (stop : Stop) (before now : ℕ) → (stop ≡ stops.Memory) ⊎ (stop ≡ stops.Conf error)
+    → now ≡ before → FetchFaults {X = Unit {0}} (Err stop) before now
+faults_none error stop before now (inl is) same =
+    subst (λ (s : Stop). FetchFaults {X = Unit {0}} (Err s) before now) (sym is) (omega (arith, same))
+faults_none error stop before now (inr is) same =
+    subst (λ (s : Stop). FetchFaults {X = Unit {0}} (Err s) before now) (sym is) (omega (arith, same))
+
+-- a stop at a configuration that is refused is at no missing file
+pub Misses-conf : {Y : Type 0} (error : ConfError) (stop : Stop) (given : Result Y Cause) → IsConfStop error.why error stop
+    → Misses {X = Unit {0}} (Err stop) given
+Misses-conf {Y} error stop given is = misses_none error stop given (IsConfStop-either error.why error stop is)
+
+-- a stop at a configuration that is refused counts no fault
+pub FetchFaults-conf : (error : ConfError) (stop : Stop) (before now : ℕ) → IsConfStop error.why error stop
+    → now ≡ before → FetchFaults {X = Unit {0}} (Err stop) before now
+FetchFaults-conf error stop before now is same = faults_none error stop before now (IsConfStop-either error.why error stop is) same
+
+-- ---- the device
+
+-- the device in a configuration, where there is one
+abbrev device_from : List ℕ → Result Entries Cause → Result Device Cause
+device_from name conf = conf >>= λ root. as_conf (device_of root name)
+
+-- the device in a configuration's text, where it is there
+abbrev device_at : List ℕ → Result (List ℕ) Cause → Result Device Cause
+device_at name bytes = bytes >>= λ text. device_from name (as_conf (conf_of text))
+
+device_in-text : (files : Files) (file name : List ℕ) (bytes : Result (List ℕ) Cause) → first_bytes files file 1048577 ≡ bytes
+    → device_in files file name ≡ device_at name bytes
+unfolding device_in
+device_in-text files file name bytes is = ap (device_at name) is
+
+-- a stop at the configuration's bytes is one at the device
+pub device_in-stop : (files : Option Files) (file name : List ℕ) (stop : Stop)
+    → ForSome files (λ m. IsCauseOf stop (first_bytes m file 1048577))
+    → ForSome files (λ m. IsCauseOf stop (device_in m file name))
+device_in-stop files file name stop is m told =
+    IsCauseOf-passed stop (first_bytes m file 1048577) (device_in m file name)
+    (λ e. device_in-text m file name (Err e)) (is m told)
+
+-- over reliable files a configuration that is missing at its bytes is missing
+pub device_in-misses : (files : Option Files) (file name : List ℕ) (stop : Stop)
+    → ForSome files (λ m. Misses {X = Unit {0}} (Err stop) (first_bytes m file 1048577))
+    → ForSome files (λ m. Misses {X = Unit {0}} (Err stop) (device_in m file name))
+device_in-misses files file name stop is m told =
+    Misses-passed stop (first_bytes m file 1048577) (device_in m file name)
+    (λ e. device_in-text m file name (Err e)) (is m told)
+
+device_in-read : (files : Files) (file name text spelled : List ℕ) (conf : Result Entries ConfError)
+    → first_bytes files file 1048577 ≡ Ok text → spelled ≡ text → conf_of spelled ≡ conf
+    → device_in files file name ≡ device_from name (as_conf conf)
+device_in-read files file name text spelled conf read same is =
+    device_in-text files file name (Ok text) read
+    ∙ ap (λ (t : List ℕ). device_from name (as_conf (conf_of t))) (sym same)
+    ∙ ap (λ (c : Result Entries ConfError). device_from name (as_conf c)) is
+
+refused_at : (name : List ℕ) (error : ConfError) (stop : Stop) (conf : Result Entries ConfError)
+    → IsCauseOf stop (as_conf conf) → IsCauseOf stop (device_from name (as_conf conf))
+refused_at name error stop conf is =
+    IsCauseOf-passed stop (as_conf conf) (device_from name (as_conf conf)) (λ e is. ap (device_from name) is) is
+
+-- a stop at a configuration that is refused is at that cause
+pub device_in-refused : (files : Option Files) (file name text spelled : List ℕ) (error : ConfError) (stop : Stop)
+    → ForSome files (λ m. first_bytes m file 1048577 ≡ Ok text) → spelled ≡ text
+    → RefusesText error.why error (conf_of spelled) → IsConfStop error.why error stop
+    → ForSome files (λ m. IsCauseOf stop (device_in m file name))
+device_in-refused files file name text spelled error stop read same refuses is m told =
+    subst (λ (r : Result Device Cause). IsCauseOf stop r) (sym (device_in-read m file name text spelled (conf_of spelled) (read m told) same refl))
+    (refused_at name error stop (conf_of spelled)
+    (IsCauseOf-text error stop (conf_of spelled) is (RefusesText-either error.why error (conf_of spelled) refuses)))
+
+-- what the device of a configuration that is read is, or why there is none
+pub device_in-read_of : (files : Option Files) (file name text spelled : List ℕ) (root : Entries) (found : Result Device ConfError)
+    → ForSome files (λ m. first_bytes m file 1048577 ≡ Ok text) → spelled ≡ text → conf_of spelled ≡ Ok root
+    → found ≡ device_of root name → ForSome files (λ m. device_in m file name ≡ as_conf found)
+device_in-read_of files file name text spelled root found read same is found_is m told =
+    device_in-read m file name text spelled (Ok root) (read m told) same is ∙ ap as_conf (sym found_is)
+
+-- a stop at a device that is refused is at that cause
+pub device_in-lacks : (files : Option Files) (file name text spelled : List ℕ) (root : Entries) (error : ConfError) (stop : Stop)
+    → ForSome files (λ m. first_bytes m file 1048577 ≡ Ok text) → spelled ≡ text → conf_of spelled ≡ Ok root
+    → Err error ≡ device_of root name → IsConfStop error.why error stop
+    → ForSome files (λ m. IsCauseOf stop (device_in m file name))
+device_in-lacks files file name text spelled root error stop read same is lacks stopped m told =
+    subst (λ (r : Result Device Cause). IsCauseOf stop r)
+    (sym (device_in-read_of files file name text spelled root (Err error) read same is lacks m told))
+    (IsCauseOf-either error stop (Err error) (IsConfStop-either error.why error stop stopped) refl)

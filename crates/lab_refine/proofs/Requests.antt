@@ -1,0 +1,98 @@
+-- Why what the text in a file asks can't be had: the file is missing, or the text is refused.
+use Rattle.std.proofs.Common.{◌≡◌, ◌⊎◌, ℕ, List, ap, sym, subst, inl, inr, ◌∙◌, arith, refl}
+use Rattle.std.specs.Prelude.{Option, Result, Ok, Err}
+use Rattle.std.specs.Option.{ForSome}
+use Rattle.lab_script.specs.declared.error.ScriptError.{ScriptError}
+use Rattle.lab_script.specs.declared.error.ScriptWhy.{ScriptWhy}
+use Rattle.lab_script.specs.declared.error.ScriptWhy.TheVariants as why
+use Rattle.lab_shelf.specs.Files.{Files}
+use Rattle.lab_stop.specs.declared.stop.Stop.{Stop}
+use Rattle.lab_stop.specs.declared.stop.Stop.TheVariants as stops
+use Rattle.lab_stop.specs.Causes.{Cause, first_bytes, ◌>>=◌}
+use Rattle.lab_stop.specs.Passing.{IsCauseOf-passed, Misses-passed}
+use Rattle.lab_stop.specs.Stops.{FetchFaults, IsCauseOf, IsScriptStop, Misses}
+use Rattle.lab_refine.specs.declared.request.Request.{Request}
+use Rattle.lab_refine.specs.Answered.{as_request, request_in}
+use Rattle.lab_refine.specs.Reading.{Refuses, request_of_text}
+
+-- a stop at a text that is refused: for memory, or with the refusal
+abbrev IsRefused : ScriptError → Stop → Result Request ScriptError → Type 0
+IsRefused error stop asked = (stop ≡ stops.Memory) ⊎ ((stop ≡ stops.Script error) × (asked ≡ Err error))
+
+IsRefused-of : (cause : ScriptWhy) (error : ScriptError) (stop : Stop) (asked : Result Request ScriptError)
+    → Refuses cause error asked → IsScriptStop cause error stop → IsRefused error stop asked
+IsRefused-of why.Memory error stop asked refuses is = inl is
+IsRefused-of cause error stop asked refuses is = inr (is, refuses)
+
+IsRefused-cause : (error : ScriptError) (stop : Stop) (asked : Result Request ScriptError)
+    → IsRefused error stop asked → IsCauseOf stop (as_request asked)
+IsRefused-cause error stop asked (inl is) = subst (λ (s : Stop). IsCauseOf s (as_request asked)) (sym is) tt
+IsRefused-cause error stop asked (inr is) = subst (λ (s : Stop). IsCauseOf s (as_request asked)) (sym is.0) (ap as_request is.1)
+
+misses_none : {Y : Type 0} (error : ScriptError) (stop : Stop) (asked : Result Request ScriptError) (given : Result Y Cause)
+    → IsRefused error stop asked → Misses {X = Unit {0}} (Err stop) given
+misses_none {Y} error stop asked given (inl is) = subst (λ (s : Stop). Misses {X = Unit {0}} (Err s) given) (sym is) tt
+misses_none {Y} error stop asked given (inr is) = subst (λ (s : Stop). Misses {X = Unit {0}} (Err s) given) (sym is.0) tt
+
+faults_none : (error : ScriptError) (stop : Stop) (asked : Result Request ScriptError) (before now : ℕ)
+    → IsRefused error stop asked → now ≡ before → FetchFaults {X = Unit {0}} (Err stop) before now
+faults_none error stop asked before now (inl is) same =
+    subst (λ (s : Stop). FetchFaults {X = Unit {0}} (Err s) before now) (sym is) (omega (arith, same))
+faults_none error stop asked before now (inr is) same =
+    subst (λ (s : Stop). FetchFaults {X = Unit {0}} (Err s) before now) (sym is.0) (omega (arith, same))
+
+-- a stop at a text that is refused is at no missing file
+pub Misses-refused : {Y : Type 0} (error : ScriptError) (stop : Stop) (asked : Result Request ScriptError) (given : Result Y Cause)
+    → Refuses error.why error asked → IsScriptStop error.why error stop
+    → Misses {X = Unit {0}} (Err stop) given
+Misses-refused {Y} error stop asked given refuses is =
+    misses_none error stop asked given (IsRefused-of error.why error stop asked refuses is)
+
+-- a stop at a text that is refused counts no fault
+pub FetchFaults-refused : (error : ScriptError) (stop : Stop) (asked : Result Request ScriptError) (before now : ℕ)
+    → Refuses error.why error asked → IsScriptStop error.why error stop
+    → now ≡ before → FetchFaults {X = Unit {0}} (Err stop) before now
+FetchFaults-refused error stop asked before now refuses is same =
+    faults_none error stop asked before now (IsRefused-of error.why error stop asked refuses is) same
+
+-- what is asked, where this is what the bytes of the text are
+abbrev request_from : Result (List ℕ) Cause → Result Request Cause
+request_from bytes = bytes >>= λ text. as_request (request_of_text text)
+
+request_in-text : (files : Files) (name : List ℕ) (bytes : Result (List ℕ) Cause) → first_bytes files name 1048577 ≡ bytes
+    → request_in files name ≡ request_from bytes
+unfolding request_in
+request_in-text files name bytes is = ap request_from is
+
+-- a stop at the bytes of a text is one at what it asks
+pub request_in-stop : (files : Option Files) (name : List ℕ) (stop : Stop)
+    → ForSome files (λ m. IsCauseOf stop (first_bytes m name 1048577))
+    → ForSome files (λ m. IsCauseOf stop (request_in m name))
+request_in-stop files name stop is m told =
+    IsCauseOf-passed stop (first_bytes m name 1048577) (request_in m name) (λ e. request_in-text m name (Err e)) (is m told)
+
+-- over reliable files a text that is missing at its bytes is missing
+pub request_in-misses : (files : Option Files) (name : List ℕ) (stop : Stop)
+    → ForSome files (λ m. Misses {X = Unit {0}} (Err stop) (first_bytes m name 1048577))
+    → ForSome files (λ m. Misses {X = Unit {0}} (Err stop) (request_in m name))
+request_in-misses files name stop is m told =
+    Misses-passed stop (first_bytes m name 1048577) (request_in m name) (λ e. request_in-text m name (Err e)) (is m told)
+
+-- what a text asks that is read, or why it is refused
+pub request_in-read : (files : Option Files) (name text spelled : List ℕ) (asked : Result Request ScriptError)
+    → ForSome files (λ m. first_bytes m name 1048577 ≡ Ok text) → spelled ≡ text → request_of_text spelled ≡ asked
+    → ForSome files (λ m. request_in m name ≡ as_request asked)
+request_in-read files name text spelled asked read same is m told =
+    request_in-text m name (Ok text) (read m told)
+    ∙ ap (λ (t : List ℕ). as_request (request_of_text t)) (sym same)
+    ∙ ap as_request is
+
+-- a stop at a text that is refused is at that cause
+pub request_in-refused : (files : Option Files) (name text spelled : List ℕ) (error : ScriptError) (stop : Stop)
+    → ForSome files (λ m. first_bytes m name 1048577 ≡ Ok text) → spelled ≡ text
+    → Refuses error.why error (request_of_text spelled) → IsScriptStop error.why error stop
+    → ForSome files (λ m. IsCauseOf stop (request_in m name))
+request_in-refused files name text spelled error stop read same refuses is m told =
+    subst (λ (r : Result Request Cause). IsCauseOf stop r)
+    (sym (request_in-read files name text spelled (request_of_text spelled) read same refl m told))
+    (IsRefused-cause error stop (request_of_text spelled) (IsRefused-of error.why error stop (request_of_text spelled) refuses is))
