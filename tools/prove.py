@@ -31,6 +31,8 @@ LONG, JOBS_OF_LONG = 0.8, 2
 A_PROOF, A_FURTHER_JOB = 2_500_000_000, 250_000_000
 # the rest of the memory is left to others
 PART_OF_MEMORY = 0.85
+# the prover's allocator, mimalloc, otherwise gives memory back to the system and soon asks for it anew
+KEPT_MEMORY = ("MIMALLOC_PURGE_DELAY", "-1")
 
 
 def load(path):
@@ -274,6 +276,7 @@ def main(root, log):
         return UNKNOWN_RT
     if not all(hasattr(rt, it) for it in USED_OF_RT):
         return UNKNOWN_RT
+    os.environ.setdefault(*KEPT_MEMORY)
     with open(log, "a", encoding="utf-8") as file:
         return 0 if build_program(rt, root, file) else NOT_PROVED
 
