@@ -28,10 +28,16 @@ use sw_limits::SwParams;
 /// samples that agrees with its local ring on these, which the client then represents (`StandsFor`): a call places exactly
 /// the frames by which the entries of `segment` grow (`grows`), and the client represents the list after the call too
 /// (`stands`). The frames that `writei` is offered are in the list right after those that were accepted, whatever it answers.
-#[derive(Drop)]
 pub struct Client {
     pub(crate) stream: PlaybackStream,
     pub(crate) ring: Vec<i16>,
+}
+
+// One call wherever it is let go. A derive drops each part in turn there, and the proof goes through all of them.
+impl Drop for Client {
+    fn drop(self) {
+        let Client { stream: _, ring: _ } = self;
+    }
 }
 
 impl Model for Client {

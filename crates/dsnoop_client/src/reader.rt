@@ -24,10 +24,19 @@ use sw_limits::SwParams;
 /// Contracts see its state, its settings and how far it has read. Frames of the card are absolute numbers, samples are
 /// interleaved. It has no ring of its own: a read takes the frames from the card's ring, and one that a later frame was
 /// stored over is an xrun.
-#[derive(Drop)]
 pub struct Reader {
     pub(crate) stream: CaptureStream,
     pub(crate) frame: Vec<i16>,
+}
+
+// One call wherever it is let go. A derive drops each part in turn there, and the proof goes through all of them.
+impl Drop for Reader {
+    fn drop(self) {
+        let Reader {
+            stream: _,
+            frame: _,
+        } = self;
+    }
 }
 
 impl Model for Reader {

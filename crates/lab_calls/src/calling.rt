@@ -10,7 +10,6 @@ use std::marker::{Send, Sync};
 use std::thread::Threads;
 
 /// What a call leaves: its status, its files, and what it put on its outputs.
-#[derive(Drop)]
 pub struct Left {
     /// The exit status.
     pub status: u8,
@@ -20,6 +19,18 @@ pub struct Left {
     pub out: MemorySink,
     /// What was put on standard error.
     pub errors: MemorySink,
+}
+
+// One call wherever it is let go. A derive drops each part in turn there, and the proof goes through all of them.
+impl Drop for Left {
+    fn drop(self) {
+        let Left {
+            status: _,
+            shelf: _,
+            out: _,
+            errors: _,
+        } = self;
+    }
 }
 
 /// Calls the program with these words over files in memory. The shelf's and the output's calls of

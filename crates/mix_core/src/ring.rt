@@ -29,7 +29,6 @@ use std::marker::Model;
 ///   be an add with the reply `Outside`, and those are left out, and after one that ends with `Stopped`, since it is none.
 ///
 /// An add or withdrawal that was late changes nothing, so the core represents the history without it too.
-#[derive(Drop)]
 pub struct Core {
     geometry: Geometry,
     words: Vec<u64>,
@@ -37,6 +36,20 @@ pub struct Core {
     next: Cursor,
     position: u64,
     gone: bool,
+}
+
+// One call wherever it is let go. A derive drops each part in turn there, and the proof goes through all of them.
+impl Drop for Core {
+    fn drop(self) {
+        let Core {
+            geometry: _,
+            words: _,
+            marks: _,
+            next: _,
+            position: _,
+            gone: _,
+        } = self;
+    }
 }
 
 impl Model for Core {

@@ -16,11 +16,21 @@ use std::marker::Model;
 /// A core represents a list of stored samples, of whole frames one after the other, of which it keeps those of the last lap.
 /// A new core represents the empty list. For each list that a core represented before `store`, it represents afterwards this
 /// list with the stored frame at its end, and after every other call the same list.
-#[derive(Drop)]
 pub struct SnoopCore {
     ring: SampleRing,
     position: u64,
     gone: bool,
+}
+
+// One call wherever it is let go. A derive drops each part in turn there, and the proof goes through all of them.
+impl Drop for SnoopCore {
+    fn drop(self) {
+        let SnoopCore {
+            ring: _,
+            position: _,
+            gone: _,
+        } = self;
+    }
 }
 
 impl Model for SnoopCore {
