@@ -27,10 +27,10 @@ use Rattle.dmix_client.specs.Course.{if_admitted, admitted_by}
 use Rattle.dmix_client.specs.Growth.{AnySamples, IsBacked, Keeps, KeepsBack, segment_entries}
 use Rattle.dmix_client.specs.StandingLaws.{IsBacked-back, IsBacked-grows, IsBacked-new, IsBacked-rebased}
 use Rattle.dmix_client.specs.View.{ClientView, IsSoundClient}
-use Rattle.lab_script.specs.declared.line.Op.{Op}
-use Rattle.lab_script.specs.declared.line.Op.TheVariants as op
-use Rattle.lab_report.specs.declared.row.Answer.{Answer}
-use Rattle.lab_report.specs.declared.row.Answer.TheVariants.{Done, Failed}
+use Rattle.lab_lines.specs.declared.line.Op.{Op}
+use Rattle.lab_lines.specs.declared.line.Op.TheVariants as op
+use Rattle.lab_lines.specs.declared.row.Answer.{Answer}
+use Rattle.lab_lines.specs.declared.row.Answer.TheVariants.{Done, Failed}
 use Rattle.lab_run.specs.Client.{call_answer, done_answer, ended_by, frames_of, reported_error, stretch_of}
 use Rattle.lab_run.specs.ClientAtPort.{IsOffered, made_call}
 use Rattle.lab_actor.specs.ClientLines.{ExtendsStretches, HasClientCalled, IsReady, entries_by}

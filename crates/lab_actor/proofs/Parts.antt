@@ -11,10 +11,10 @@ use Rattle.snd_base.specs.declared.places.Segment.{Segment}
 use Rattle.snd_base.specs.Relations.{Composes}
 use Rattle.mix_core.specs.declared.port.MixPort as mixport
 use Rattle.wav_io.specs.Sound.{Sound}
-use Rattle.lab_script.specs.declared.line.Actor.{Actor}
-use Rattle.lab_script.specs.declared.line.Line.{Line}
-use Rattle.lab_script.specs.declared.line.Op.{Op}
-use Rattle.lab_report.specs.declared.row.Row.{Row}
+use Rattle.lab_lines.specs.declared.line.Actor.{Actor}
+use Rattle.lab_lines.specs.declared.line.Line.{Line}
+use Rattle.lab_lines.specs.declared.line.Op.{Op}
+use Rattle.lab_lines.specs.declared.row.Row.{Row}
 use Rattle.lab_run.specs.ActorPart.{Doing, PartsGrow}
 use Rattle.lab_run.specs.Client.{Client, client_kind, row_by}
 use Rattle.lab_run.specs.ClientAtPort.{IsClientLine}

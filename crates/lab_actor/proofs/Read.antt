@@ -30,10 +30,10 @@ use Rattle.dsnoop_client.specs.FewerReads.{most_read, read_course-fewer}
 use Rattle.dsnoop_client.specs.Port.{Keeps}
 use Rattle.dsnoop_client.specs.Reads.{GivesFrames, bound_samples, through_all}
 use Rattle.dsnoop_client.specs.View.{CanRead, CanUse, frames_in}
-use Rattle.lab_script.specs.declared.line.Op.{Op}
-use Rattle.lab_script.specs.declared.line.Op.TheVariants as op
-use Rattle.lab_report.specs.declared.row.Answer.{Answer}
-use Rattle.lab_report.specs.declared.row.Answer.TheVariants.{Count, Failed}
+use Rattle.lab_lines.specs.declared.line.Op.{Op}
+use Rattle.lab_lines.specs.declared.line.Op.TheVariants as op
+use Rattle.lab_lines.specs.declared.row.Answer.{Answer}
+use Rattle.lab_lines.specs.declared.row.Answer.TheVariants.{Count, Failed}
 use Rattle.lab_run.specs.Client.{count_answer, done_answer}
 use Rattle.lab_run.specs.Reader.{call_answer, call_of, frames_by}
 use Rattle.lab_run.specs.Stretches.{got_by}

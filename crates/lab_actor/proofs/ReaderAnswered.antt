@@ -18,10 +18,10 @@ use Rattle.dsnoop_client.specs.Calls.{Answered}
 use Rattle.dsnoop_client.specs.Course.{if_admitted, read_course}
 use Rattle.dsnoop_client.specs.FewerReads.{most_read, read_course-fewer}
 use Rattle.dsnoop_client.specs.View.{CanUse}
-use Rattle.lab_script.specs.declared.line.Op.{Op}
-use Rattle.lab_script.specs.declared.line.Op.TheVariants as op
-use Rattle.lab_report.specs.declared.row.Answer.{Answer}
-use Rattle.lab_report.specs.declared.row.Answer.TheVariants.{Count, Done, Failed}
+use Rattle.lab_lines.specs.declared.line.Op.{Op}
+use Rattle.lab_lines.specs.declared.line.Op.TheVariants as op
+use Rattle.lab_lines.specs.declared.row.Answer.{Answer}
+use Rattle.lab_lines.specs.declared.row.Answer.TheVariants.{Count, Done, Failed}
 use Rattle.lab_run.specs.Client.{count_answer}
 use Rattle.lab_run.specs.Reader.{call_of, frames_by}
 use Rattle.lab_run.specs.ReaderAtPort.{IsReaderLine, ReaderLinesAreParts, ReaderLinesWithoutCall}

@@ -7,12 +7,12 @@ use Rattle.snd_base.specs.declared.geometry.Geometry.{Geometry}
 use Rattle.wav_io.specs.Sound.{Sound}
 use Rattle.dmix_client.specs.declared.stream.PlaybackStream.{PlaybackStream}
 use Rattle.dsnoop_client.specs.declared.stream.CaptureStream as reading
-use Rattle.lab_script.specs.declared.line.Actor.{Actor}
-use Rattle.lab_script.specs.declared.line.Actor.TheVariants as actor
-use Rattle.lab_script.specs.declared.line.Line.{Line}
-use Rattle.lab_script.specs.declared.line.Op.{Op}
-use Rattle.lab_report.specs.declared.row.Answer.TheVariants.{Failed}
-use Rattle.lab_report.specs.declared.row.Row.{Row}
+use Rattle.lab_lines.specs.declared.line.Actor.{Actor}
+use Rattle.lab_lines.specs.declared.line.Actor.TheVariants as actor
+use Rattle.lab_lines.specs.declared.line.Line.{Line}
+use Rattle.lab_lines.specs.declared.line.Op.{Op}
+use Rattle.lab_lines.specs.declared.row.Answer.TheVariants.{Failed}
+use Rattle.lab_lines.specs.declared.row.Row.{Row}
 use Rattle.lab_run.specs.ActorPart.{ActorPart, Findings}
 use Rattle.lab_run.specs.Client as clients
 use Rattle.lab_run.specs.ClientAtPort.{ClientLinesWithoutCall}

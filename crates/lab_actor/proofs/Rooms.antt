@@ -5,8 +5,8 @@ use Rattle.std.specs.Prelude.{◌-◌, ℤ, min, vec_capacity, vec_len}
 use Rattle.std.specs.Global.{Vec}
 use Rattle.dsnoop_client.specs.declared.stream.CaptureStream.{CaptureStream}
 use Rattle.dsnoop_client.specs.FewerReads.{most_read}
-use Rattle.lab_script.specs.declared.line.Op.{Op}
-use Rattle.lab_script.specs.declared.line.Op.TheVariants as op
+use Rattle.lab_lines.specs.declared.line.Op.{Op}
+use Rattle.lab_lines.specs.declared.line.Op.TheVariants as op
 use Rattle.lab_actor.specs.Room.{HasSpace, fitting_op, samples_wanted, spare_frames}
 
 -- there is room for what a line names of no more frames than there is room for

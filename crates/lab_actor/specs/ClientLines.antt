@@ -12,10 +12,10 @@ use Rattle.dmix_client.specs.Expansion.{expand}
 use Rattle.dmix_client.specs.Growth.{IsBacked, TakesAway, segment_entries}
 use Rattle.dmix_client.specs.Port.{CanUse}
 use Rattle.dmix_client.specs.View.{ClientView}
-use Rattle.lab_script.specs.declared.line.Op.{Op}
-use Rattle.lab_script.specs.declared.line.Op.TheVariants as op
-use Rattle.lab_report.specs.declared.row.Answer.{Answer}
-use Rattle.lab_report.specs.declared.row.Answer.TheVariants.{Done}
+use Rattle.lab_lines.specs.declared.line.Op.{Op}
+use Rattle.lab_lines.specs.declared.line.Op.TheVariants as op
+use Rattle.lab_lines.specs.declared.row.Answer.{Answer}
+use Rattle.lab_lines.specs.declared.row.Answer.TheVariants.{Done}
 use Rattle.lab_run.specs.Client.{ended_by, frames_of}
 use Rattle.lab_run.specs.ClientAtPort.{IsClientLine, IsOffered, is_die, made_call}
 use Rattle.lab_run.specs.Members.{with_member}

@@ -14,10 +14,10 @@ use Rattle.course.specs.Course.{Course, Takes}
 use Rattle.course.specs.CourseLaws.{Takes-follow}
 use Rattle.dmix_client.specs.declared.stream.PlaybackStream as playing
 use Rattle.dsnoop_client.specs.declared.stream.CaptureStream as reading
-use Rattle.lab_script.specs.declared.line.Op.{Op}
-use Rattle.lab_script.specs.declared.line.Op.TheVariants as op
-use Rattle.lab_report.specs.declared.row.Answer.{Answer}
-use Rattle.lab_report.specs.declared.row.Row.{Row}
+use Rattle.lab_lines.specs.declared.line.Op.{Op}
+use Rattle.lab_lines.specs.declared.line.Op.TheVariants as op
+use Rattle.lab_lines.specs.declared.row.Answer.{Answer}
+use Rattle.lab_lines.specs.declared.row.Row.{Row}
 use Rattle.lab_run.specs.ActorPart.{ActorPart, DoesGet, DoesLay, DoesLoad, Doing, Findings, LineDone}
 use Rattle.lab_run.specs.Client.{client_kind, dies_if}
 use Rattle.lab_run.specs.Client as client

@@ -10,9 +10,9 @@ use Rattle.dsnoop_client.specs.declared.stream.CaptureStream.{CaptureStream}
 use Rattle.dsnoop_client.specs.FewerReads.{most_read}
 use Rattle.dsnoop_client.specs.Reads.{through_all}
 use Rattle.dsnoop_client.specs.View.{CanUse}
-use Rattle.lab_script.specs.declared.line.Op.{Op}
-use Rattle.lab_script.specs.declared.line.Op.TheVariants as op
-use Rattle.lab_report.specs.declared.row.Answer.{Answer}
+use Rattle.lab_lines.specs.declared.line.Op.{Op}
+use Rattle.lab_lines.specs.declared.line.Op.TheVariants as op
+use Rattle.lab_lines.specs.declared.row.Answer.{Answer}
 use Rattle.lab_run.specs.ActorPart.{Doing}
 use Rattle.lab_run.specs.Reader.{call_of, frames_by}
 use Rattle.lab_run.specs.ReaderAtPort.{IsAtSnoop, IsReaderLine}

@@ -4,11 +4,11 @@ use Rattle.snd_base.specs.declared.errors.PcmError.TheVariants.{BadState}
 use Rattle.snd_base.specs.declared.geometry.Geometry.{Geometry}
 use Rattle.pcm_states.specs.declared.states.State.TheVariants.{Open}
 use Rattle.wav_io.specs.Sound.{Sound}
-use Rattle.lab_script.specs.declared.line.Actor.{Actor}
-use Rattle.lab_script.specs.declared.line.Actor.TheVariants as actor
-use Rattle.lab_script.specs.declared.line.Op.{Op}
-use Rattle.lab_report.specs.declared.row.Answer.TheVariants.{Failed}
-use Rattle.lab_report.specs.declared.row.Row.{Row}
+use Rattle.lab_lines.specs.declared.line.Actor.{Actor}
+use Rattle.lab_lines.specs.declared.line.Actor.TheVariants as actor
+use Rattle.lab_lines.specs.declared.line.Op.{Op}
+use Rattle.lab_lines.specs.declared.row.Answer.TheVariants.{Failed}
+use Rattle.lab_lines.specs.declared.row.Row.{Row}
 use Rattle.lab_run.specs.ActorPart.{ActorPart, Findings}
 use Rattle.lab_run.specs.Client.{Client, client_kind}
 use Rattle.lab_run.specs.Reader.{Reader, reader_kind}

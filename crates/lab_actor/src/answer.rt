@@ -2,7 +2,7 @@
 ghost use Rattle.std.specs.Prelude.{◌≡◌};
 ghost use Rattle.lab_run.specs.Client.{count_answer, done_answer, reported_error};
 
-use lab_report::Answer;
+use lab_lines::Answer;
 use snd_base::{PcmError, Why, XrunWhy};
 
 /// An error as a report has it: without the word or position that was found, and without which argument was invalid.

@@ -1,7 +1,7 @@
 //! An open client of a script, and what its lines do in a phase.
 ghost use Rattle.std.specs.Prelude.{◌≡◌, ◌++◌, ◌+◌, ◌<◌, ◌≤◌, ◌∷◌, [], All, IfErr, OnOk, false, if◌then◌else◌, true, vec_capacity, vec_len};
 ghost use Rattle.dmix_client.specs.Calls.{is_paused};
-ghost use Rattle.lab_script.specs.declared.line.Line.{Line};
+ghost use Rattle.lab_lines.specs.declared.line.Line.{Line};
 ghost use Rattle.lab_run.specs.Phases.{is_client, ops_by};
 ghost use Rattle.lab_actor.specs.ClientLines.{CanCall, HasClientAnswered, IsFew, IsReady, ends_stretch, laid_of};
 ghost use Rattle.lab_actor.specs.ClientPart.{ClientLine, ClientPart, left_in, stops_in};
@@ -12,9 +12,8 @@ use crate::client_calls::call;
 use crate::countdown::Countdown;
 use crate::room::{is_of, line_count, push_row};
 use dmix_client::Client;
-use lab_report::{Answer, Row};
+use lab_lines::{Actor, Answer, Line, Op, Row};
 use lab_run::{client_lines_are_parts, lines_without_calls, parts_grow};
-use lab_script::{Actor, Line, Op};
 use mix_core::{Gate, MixPort};
 use pcm_states::State;
 use snd_base::{PcmError, Segment};

@@ -5,8 +5,7 @@ ghost use Rattle.lab_actor.specs.ClientLines.{HasClientCalled, IsFew, IsReady};
 
 use crate::answer::{counted, done, moved};
 use dmix_client::Client;
-use lab_report::Answer;
-use lab_script::Op;
+use lab_lines::{Answer, Op};
 use mix_core::{Gate, MixPort};
 use snd_base::PcmError;
 use wav_io::Wav;

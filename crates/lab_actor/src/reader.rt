@@ -1,7 +1,7 @@
 //! An open reader of a script, and what its lines do in a phase.
 ghost use Rattle.std.specs.Prelude.{◌≡◌, ◌<◌, ◌≤◌, ◌∷◌, [], All, IfErr, OnOk, false, true, length, vec_capacity};
 ghost use Rattle.dsnoop_client.specs.View.{CanUse};
-ghost use Rattle.lab_script.specs.declared.line.Line.{Line};
+ghost use Rattle.lab_lines.specs.declared.line.Line.{Line};
 ghost use Rattle.lab_run.specs.Phases.{is_reader, ops_by, played_in};
 ghost use Rattle.lab_run.specs.Stretches.{got_by};
 ghost use Rattle.lab_actor.specs.ClientLines.{CanCall};
@@ -16,9 +16,8 @@ use crate::frame_runs::FrameRuns;
 use crate::reader_calls::call_fitting;
 use crate::room::{frames_wanted, is_of, line_count, most_wanted, push_row};
 use dsnoop_client::Reader;
-use lab_report::{Answer, Row};
+use lab_lines::{Actor, Answer, Line, Op, Row};
 use lab_run::{lines_without_calls, parts_grow, reader_lines_are_parts};
-use lab_script::{Actor, Line, Op};
 use mix_core::Gate;
 use snd_base::PcmError;
 use snoop_core::SnoopPort;

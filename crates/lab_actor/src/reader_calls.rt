@@ -7,8 +7,7 @@ ghost use Rattle.lab_actor.specs.Room.{GrowsBy, HasSpace, fitting_op, samples_wa
 
 use crate::answer::{counted, done, moved};
 use dsnoop_client::Reader;
-use lab_report::Answer;
-use lab_script::Op;
+use lab_lines::{Answer, Op};
 use mix_core::Gate;
 use snd_base::PcmError;
 use snoop_core::SnoopPort;

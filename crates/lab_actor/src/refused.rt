@@ -5,9 +5,8 @@ ghost use Rattle.lab_actor.specs.Refused.{AreRefused, refused_row, refused_rows}
 ghost use Rattle.lab_actor.specs.Room.{GrowsBy, HasSpace, is_actor, line_count};
 
 use crate::room::{is_of, push_row};
-use lab_report::{Answer, Row};
+use lab_lines::{Actor, Answer, Line, Row};
 use lab_run::lines_without_calls;
-use lab_script::{Actor, Line};
 use pcm_states::State;
 use snd_base::PcmError;
 

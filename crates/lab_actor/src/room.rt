@@ -1,12 +1,11 @@
 //! The room that the rows of an actor's lines want.
 ghost use Rattle.std.specs.Prelude.{◌≡◌, ◌<◌, ◌≤◌, ◌+◌, ◌++◌, ◌∷◌, [], ◌↔◌, All, IfSome, IsTrue, if◌then◌else◌, length, max, vec_capacity, vec_len};
-ghost use Rattle.lab_script.specs.declared.line.Line.{Line};
+ghost use Rattle.lab_lines.specs.declared.line.Line.{Line};
 ghost use Rattle.lab_run.specs.Phases.{ops_by, played_at, played_in};
 ghost use Rattle.lab_actor.specs.ReaderLines.{IsFewRead};
 ghost use Rattle.lab_actor.specs.Room.{asked_by, frames_wanted, is_actor, line_count};
 
-use lab_report::Row;
-use lab_script::{Actor, Line, Op};
+use lab_lines::{Actor, Line, Op, Row};
 
 /// Whether a line is a client's or a reader's.
 pub(crate) fn is_of(line: &Line, actor: Actor) -> bool

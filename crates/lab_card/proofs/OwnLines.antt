@@ -5,10 +5,9 @@ use Rattle.std.proofs.lemmas.List.{length-append, take-append-drop}
 use Rattle.std.proofs.lemmas.List.Sums.{sum_by-append}
 use mir.Val.{bool_byte}
 use Rattle.std.specs.Prelude.{Bool, true, false, if◌then◌else◌}
-use Rattle.lab_script.specs.declared.line.Line.{Line}
-use Rattle.lab_script.specs.declared.line.Op.{Op}
-use Rattle.lab_script.specs.Ops.{played_by}
-use Rattle.lab_script.specs.Script.{is_of_card}
+use Rattle.lab_lines.specs.declared.line.Line.{Line}
+use Rattle.lab_lines.specs.declared.line.Op.{Op}
+use Rattle.lab_lines.specs.Script.{is_of_card, played_by}
 use Rattle.lab_run.specs.Phases.{ops_by}
 use Rattle.lab_card.specs.CardLines.{frames_by}
 

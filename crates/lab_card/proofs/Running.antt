@@ -12,10 +12,9 @@ use Rattle.sum_table.specs.Players.{track_of}
 use Rattle.snoop_table.specs.declared.seats.writer.WriterSeat.{WriterSeat}
 use Rattle.snoop_table.specs.Writers.{writer_track}
 use Rattle.wav_io.specs.Sound.{Sound}
-use Rattle.lab_script.specs.declared.line.Op.{Op}
-use Rattle.lab_script.specs.declared.line.Op.TheVariants as op
-use Rattle.lab_script.specs.Ops.{played_by}
-use Rattle.lab_script.specs.Script.{is_unplug}
+use Rattle.lab_lines.specs.declared.line.Op.{Op}
+use Rattle.lab_lines.specs.declared.line.Op.TheVariants as op
+use Rattle.lab_lines.specs.Script.{is_unplug, played_by}
 use Rattle.card_player.specs.Plays.{HasPlayed, frames_left, is_multiple, periods_to, positions_of, first_samples, seat_of}
 use Rattle.card_sim.specs.declared.card.Card.{Card}
 use Rattle.card_sim.specs.Runs.{HasCaptured, RunsFrames, RunsThrough, captured_if, period_of, player_of, records_of, writer_of}

@@ -3,7 +3,7 @@ use Rattle.std.specs.Prelude.{◌≡◌, ℕ, ◌+◌, ◌-◌, ℤ, pos, nat_lt
 use Rattle.std.proofs.Common.{ap, arith}
 use Rattle.std.specs.List.{flat_map, range_with_len}
 use Rattle.dmix_client.specs.Expansion.{sample_at}
-use Rattle.lab_script.specs.Script.{first_frame}
+use Rattle.lab_lines.specs.Script.{first_frame}
 use Rattle.lab_run.specs.LabRun.{captured_sample}
 use Rattle.lab_run.specs.Stage.{Session}
 use Rattle.wav_io.specs.Sound.{Sound}

@@ -2,10 +2,9 @@
 use Rattle.std.specs.Prelude.{◌≡◌, ℕ, ◌+◌, Bool, ℤ, List, [], ◌∷◌, ◌++◌, Option}
 use Rattle.std.specs.List.{list_any, sum_by}
 use Rattle.wav_io.specs.Sound.{Sound}
-use Rattle.lab_script.specs.declared.line.Op.{Op}
-use Rattle.lab_script.specs.declared.line.Op.TheVariants as op
-use Rattle.lab_script.specs.Ops.{played_by}
-use Rattle.lab_script.specs.Script.{is_unplug}
+use Rattle.lab_lines.specs.declared.line.Op.{Op}
+use Rattle.lab_lines.specs.declared.line.Op.TheVariants as op
+use Rattle.lab_lines.specs.Script.{is_unplug, played_by}
 use Rattle.lab_run.specs.Phases.{card_rows}
 use Rattle.card_player.specs.Plays.{positions_of}
 use Rattle.card_sim.specs.Runs.{period_of}

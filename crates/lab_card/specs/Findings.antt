@@ -37,8 +37,8 @@ use Rattle.wav_io.specs.Sound.{Sound}
 use Rattle.card_player.specs.Plays.{at_frame}
 use Rattle.card_sim.specs.declared.card.Card.{Card}
 use Rattle.card_sim.specs.Runs.{captured_if, period_of, records_of, writer_of}
-use Rattle.lab_script.specs.declared.line.Line.{Line}
-use Rattle.lab_script.specs.Script.{is_of_card}
+use Rattle.lab_lines.specs.declared.line.Line.{Line}
+use Rattle.lab_lines.specs.Script.{is_of_card}
 use Rattle.lab_run.specs.ActorPart.{AreOf, Each, Findings}
 use Rattle.lab_run.specs.Phases.{ops_by, phase_positions, published_by}
 use Rattle.lab_run.specs.Rules.{Rules}

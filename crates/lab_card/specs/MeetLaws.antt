@@ -14,7 +14,7 @@ use Rattle.snoop_table.specs.Writers.{writer_track}
 use Rattle.sum_table.specs.Players.{track_of}
 use Rattle.card_sim.specs.declared.card.Card.{Card}
 use Rattle.card_sim.specs.Runs.{period_of, records_of, writer_of}
-use Rattle.lab_script.specs.declared.line.Line.{Line}
+use Rattle.lab_lines.specs.declared.line.Line.{Line}
 use Rattle.lab_run.specs.ActorPart.{Each}
 use Rattle.lab_run.specs.Phases.{phase_positions}
 use Rattle.lab_run.specs.Rules.{Rules}

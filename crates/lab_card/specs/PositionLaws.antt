@@ -9,11 +9,10 @@ use Rattle.std.proofs.lemmas.List.Elements.{Contains-append_cases, Contains-appe
 use Rattle.ring_rule.specs.Positions.{last_number}
 use Rattle.card_player.specs.PlayLaws.{last_number-append, last_number-positions_of, periods_to-ended}
 use Rattle.card_player.specs.Plays.{ends_period, is_multiple, period_at, periods_to, positions_of}
-use Rattle.lab_script.specs.declared.line.Line.{Line}
-use Rattle.lab_script.specs.declared.line.Op.{Op}
-use Rattle.lab_script.specs.declared.line.Op.TheVariants as op
-use Rattle.lab_script.specs.Ops.{played_by}
-use Rattle.lab_script.specs.Script.{is_of_card}
+use Rattle.lab_lines.specs.declared.line.Line.{Line}
+use Rattle.lab_lines.specs.declared.line.Op.{Op}
+use Rattle.lab_lines.specs.declared.line.Op.TheVariants as op
+use Rattle.lab_lines.specs.Script.{is_of_card, played_by}
 use Rattle.lab_run.specs.ActorPart.{Each}
 use Rattle.lab_run.specs.Phases.{on_the_way, ops_by, played_at, played_in, published_by}
 use Rattle.lab_card.specs.CardLines.{frames_by, positions_at, positions_by}

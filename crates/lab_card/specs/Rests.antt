@@ -10,7 +10,7 @@ use Rattle.snoop_table.specs.Writers.{writer_track}
 use Rattle.card_player.specs.PlayLaws.{last_number-append}
 use Rattle.card_sim.specs.declared.card.Card.{Card}
 use Rattle.card_sim.specs.Runs.{captured_if, period_of, records_of, writer_of}
-use Rattle.lab_script.specs.declared.line.Op.{Op}
+use Rattle.lab_lines.specs.declared.line.Op.{Op}
 use Rattle.lab_run.specs.ActorPart.{Each}
 use Rattle.lab_card.specs.declared.card.CardActor.{CardActor}
 use Rattle.lab_card.specs.CardLines.{CardPart, positions_by, unplugs_by}

@@ -1,7 +1,7 @@
 -- The room that a card wants for a phase.
 use Rattle.std.specs.Prelude.{◌≡◌, ℕ, ◌+◌, ◌*◌, ◌≤◌, List, vec_capacity, vec_len}
 use Rattle.snd_base.specs.Places.{end_frame}
-use Rattle.lab_script.specs.declared.line.Op.{Op}
+use Rattle.lab_lines.specs.declared.line.Op.{Op}
 use Rattle.card_sim.specs.Runs.{period_of}
 use Rattle.lab_card.specs.declared.card.CardActor.{CardActor}
 use Rattle.lab_card.specs.CardLines.{frames_by}

@@ -7,10 +7,10 @@ use Rattle.sum_table.specs.declared.view.Track.{Track}
 use Rattle.wav_io.specs.Sound.{Sound}
 use Rattle.card_sim.specs.declared.card.Card.{Card}
 use Rattle.card_sim.specs.Runs.{period_of}
-use Rattle.lab_script.specs.declared.line.Line.{Line}
-use Rattle.lab_script.specs.Limits.{IsLine}
-use Rattle.lab_script.specs.Script.{is_of_card, unplugs}
-use Rattle.lab_report.specs.declared.row.Row.{Row}
+use Rattle.lab_lines.specs.declared.line.Line.{Line}
+use Rattle.lab_lines.specs.Limits.{IsLine}
+use Rattle.lab_lines.specs.Script.{is_of_card, unplugs}
+use Rattle.lab_lines.specs.declared.row.Row.{Row}
 use Rattle.lab_run.specs.Client.{Client}
 use Rattle.lab_run.specs.Items.{phase_end, rules_of}
 use Rattle.lab_run.specs.Phases.{ops_by, played_in, phase_positions}

@@ -3,13 +3,13 @@ use Rattle.std.specs.Prelude.{◌≡◌, ℕ, suc, ◌+◌, ◌||◌, Bool, true
 use Rattle.std.proofs.Common.{refl, sym, ap, subst, ◌∙◌, arith}
 use Rattle.std.proofs.lemmas.Bool.{false≢true}
 use Rattle.std.proofs.lemmas.List.Folds.{list_any-append}
-use Rattle.lab_script.specs.declared.line.Actor.{Actor}
-use Rattle.lab_script.specs.declared.line.Actor.TheVariants.{Card, Client, Reader}
-use Rattle.lab_script.specs.declared.line.Line.{Line}
-use Rattle.lab_script.specs.declared.line.Op.{Op}
-use Rattle.lab_script.specs.declared.line.Op.TheVariants as op
-use Rattle.lab_script.specs.Limits.{IsLine, IsOpOf, IsPhase}
-use Rattle.lab_script.specs.Script.{is_of_card, is_unplug, unplugs}
+use Rattle.lab_lines.specs.declared.line.Actor.{Actor}
+use Rattle.lab_lines.specs.declared.line.Actor.TheVariants.{Card, Client, Reader}
+use Rattle.lab_lines.specs.declared.line.Line.{Line}
+use Rattle.lab_lines.specs.declared.line.Op.{Op}
+use Rattle.lab_lines.specs.declared.line.Op.TheVariants as op
+use Rattle.lab_lines.specs.Limits.{IsLine, IsOpOf, IsPhase}
+use Rattle.lab_lines.specs.Script.{is_of_card, is_unplug, unplugs}
 use Rattle.lab_run.specs.Lines.{EachMay, Kind, LinesMay}
 use Rattle.lab_run.specs.Phases.{is_client, is_reader, ops_by}
 use Rattle.lab_run.specs.Rules.{AtPort, Rules}

@@ -1,12 +1,10 @@
 //! The lines of a card in a phase.
 ghost use Rattle.std.specs.Prelude.{◌≡◌, ◌↔◌, IsTrue, ◌+◌, ◌^◌, ◌<◌, ◌≤◌, ◌∷◌, [], length};
-ghost use Rattle.lab_script.specs.Script.{is_of_card};
+ghost use Rattle.lab_lines.specs.Script.{is_of_card, played_by};
 ghost use Rattle.lab_run.specs.Phases.{card_row, ops_by};
-ghost use Rattle.lab_script.specs.Ops.{played_by};
 ghost use Rattle.lab_card.specs.CardLines.{frames_by};
 
-use lab_report::{Answer, Row};
-use lab_script::{Actor, Line, Op};
+use lab_lines::{Actor, Answer, Line, Op, Row};
 use pcm_states::State;
 
 /// Whether a line is the card's.

@@ -7,9 +7,9 @@ use Rattle.sum_table.specs.Players.{player_key, player_ring}
 use Rattle.sum_table.specs.Seats.{TableId, view_of}
 use Rattle.wav_io.specs.Sound.{Sound}
 use Rattle.card_sim.specs.declared.card.Card.{Card}
-use Rattle.lab_script.specs.declared.line.Actor.TheVariants as actor
-use Rattle.lab_script.specs.declared.line.Line.{Line}
-use Rattle.lab_report.specs.declared.row.Row.{Row}
+use Rattle.lab_lines.specs.declared.line.Actor.TheVariants as actor
+use Rattle.lab_lines.specs.declared.line.Line.{Line}
+use Rattle.lab_lines.specs.declared.row.Row.{Row}
 use Rattle.dmix_client.specs.declared.stream.PlaybackStream.{PlaybackStream}
 use Rattle.lab_run.specs.Client.{Client, stretch_of}
 use Rattle.lab_run.specs.Phases.{is_client, ops_by}

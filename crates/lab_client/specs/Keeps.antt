@@ -12,9 +12,9 @@ use Rattle.sum_table.specs.Seats.{TableId, key_of, marks_of_seat, member_of, rin
 use Rattle.lobby.specs.Seats.{IsPlace}
 use Rattle.dmix_client.specs.View.{ClientView}
 use Rattle.card_sim.specs.declared.card.Card.{Card}
-use Rattle.lab_script.specs.declared.line.Actor.TheVariants as actor
-use Rattle.lab_script.specs.declared.line.Line.{Line}
-use Rattle.lab_report.specs.declared.row.Row.{Row}
+use Rattle.lab_lines.specs.declared.line.Actor.TheVariants as actor
+use Rattle.lab_lines.specs.declared.line.Line.{Line}
+use Rattle.lab_lines.specs.declared.row.Row.{Row}
 use Rattle.lab_run.specs.Client.{Client}
 use Rattle.lab_run.specs.Members.{with_member}
 use Rattle.lab_run.specs.PortSteps.{IsLastSince, MarksAlike}

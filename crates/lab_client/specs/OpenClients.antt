@@ -11,7 +11,7 @@ use Rattle.wav_io.specs.Sound.{Sound}
 use Rattle.dmix_client.specs.declared.stream.PlaybackStream.{PlaybackStream}
 use Rattle.dmix_client.specs.Growth.{segment_entries}
 use Rattle.card_sim.specs.declared.card.Card.{Card}
-use Rattle.lab_script.specs.declared.line.Line.{Line}
+use Rattle.lab_lines.specs.declared.line.Line.{Line}
 use Rattle.lab_run.specs.Phases.{is_client, ops_by}
 use Rattle.lab_run.specs.PortSteps.{IsLastSince, MarksAlike}
 use Rattle.lab_run.specs.Rules.{AtPort}

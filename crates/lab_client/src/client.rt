@@ -6,8 +6,7 @@ use bindings::Bindings;
 use card_sim::Card;
 use dmix_client::Client;
 use lab_actor::{ClientActor, line_count, refuse_lines};
-use lab_report::{Answer, Row};
-use lab_script::{Actor, Line, Op};
+use lab_lines::{Actor, Answer, Line, Op, Row};
 use lab_setup::Opening;
 use mix_core::{Gate, MixPort};
 use pcm_states::State;
@@ -40,7 +39,7 @@ impl<'r> LabClient<'r> {
     ghost use Rattle.sum_table.specs.Seats.{geometry_of, member_of};
     ghost use Rattle.std.specs.Option.{option_to_list};
     ghost use Rattle.lab_setup.specs.Usable.{IsUsable};
-    ghost use Rattle.lab_script.specs.declared.line.Line.{Line};
+    ghost use Rattle.lab_lines.specs.declared.line.Line.{Line};
     ghost use Rattle.lab_run.specs.Client.{row_by, segments_of};
     ghost use Rattle.lab_run.specs.Items.{is_stopped};
     ghost use Rattle.lab_run.specs.Phases.{is_client, ops_by};

@@ -3,7 +3,7 @@ use bindings::Bindings;
 use card_sim::Card;
 use lab_actor::ClientActor;
 use lab_card::{hear_client, inform_client};
-use lab_script::Line;
+use lab_lines::Line;
 use mix_core::Gate;
 use sum_table::MixSeat;
 use wav_io::Wav;
@@ -20,7 +20,7 @@ pub struct OpenClient<'r> {
 impl OpenClient<'_> {
     ghost use Rattle.std.specs.Prelude.{All, ℕ};
     ghost use Rattle.wav_io.specs.Sound.{Sound};
-    ghost use Rattle.lab_script.specs.declared.line.Line.{Line};
+    ghost use Rattle.lab_lines.specs.declared.line.Line.{Line};
     ghost use Rattle.lab_actor.specs.ClientLines.{IsFew};
     ghost use Rattle.lab_card.specs.Meets.{IsClientOf, IsSameCard};
     ghost use Rattle.lab_client.specs.Clients.{HasRoomAt};

@@ -15,10 +15,10 @@ use Rattle.lobby.specs.Lobbies.{free_seats}
 use Rattle.lobby.specs.Seats.{last_of}
 use Rattle.dmix_client.specs.declared.stream.PlaybackStream.{PlaybackStream}
 use Rattle.pcm_states.specs.declared.states.State.TheVariants as state
-use Rattle.lab_script.specs.declared.line.Actor.TheVariants as actor
-use Rattle.lab_script.specs.declared.line.Op.TheVariants as op
-use Rattle.lab_report.specs.declared.row.Answer.TheVariants.{Done, Failed}
-use Rattle.lab_report.specs.declared.row.Row.{Row}
+use Rattle.lab_lines.specs.declared.line.Actor.TheVariants as actor
+use Rattle.lab_lines.specs.declared.line.Op.TheVariants as op
+use Rattle.lab_lines.specs.declared.row.Answer.TheVariants.{Done, Failed}
+use Rattle.lab_lines.specs.declared.row.Row.{Row}
 use Rattle.lab_run.specs.Client.{Client, row_by, segments_of}
 use Rattle.lab_run.specs.Items.{Held, held_of, held_without}
 use Rattle.lab_run.specs.Members.{with_member}

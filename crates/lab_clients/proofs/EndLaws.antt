@@ -20,8 +20,8 @@ use Rattle.sum_table.specs.Seats.{TableId, key_of, places_of_seat, view_of}
 use Rattle.lobby.specs.Lobbies.{free_seats, laid_by_all, laid_by}
 use Rattle.lobby.specs.Seats.{AreFree, seat_at}
 use Rattle.dmix_client.specs.declared.stream.PlaybackStream.{PlaybackStream}
-use Rattle.lab_script.specs.declared.script.Share.{Share}
-use Rattle.lab_script.specs.Script.{first_frame}
+use Rattle.lab_lines.specs.declared.script.Share.{Share}
+use Rattle.lab_lines.specs.Script.{first_frame}
 use Rattle.lab_run.specs.Client.{Client, present_of, segments_of}
 use Rattle.lab_run.specs.Items.{Held, held_of, held_without}
 use Rattle.lab_run.specs.LabRun.{all_segments, entries_of, with_numbers}

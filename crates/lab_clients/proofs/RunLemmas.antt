@@ -5,7 +5,7 @@ use denote.Param.Members.{Shared}
 use Rattle.std.proofs.Common.{sym, ◌∙◌, ap, subst, arith}
 use Rattle.std.proofs.lemmas.List.{get_or-set_other, get_or_default, length-set}
 use Rattle.wav_io.specs.Sound.{Sound}
-use Rattle.lab_script.specs.declared.line.Line.{Line}
+use Rattle.lab_lines.specs.declared.line.Line.{Line}
 use Rattle.lab_run.specs.Items.{no_sound}
 use Rattle.lab_actors.specs.Gates.{stops_at, stops_at-index, stops_at-set_other, stops_at-set_same}
 use Rattle.lab_actors.specs.Pairs.{AreEach-changed, ChangesPair, ChangesPair-holds, ChangesPairs}

@@ -8,7 +8,7 @@ use Rattle.sum_table.specs.Seats.{TableId, member_of}
 use Rattle.wav_io.specs.Sound.{Sound}
 use Rattle.dmix_client.specs.View.{ClientView}
 use Rattle.card_sim.specs.declared.card.Card.{Card}
-use Rattle.lab_script.specs.declared.line.Line.{Line}
+use Rattle.lab_lines.specs.declared.line.Line.{Line}
 use Rattle.lab_run.specs.Client.{Client, stretch_of}
 use Rattle.lab_run.specs.Rules.{AtPort}
 use Rattle.lab_run.specs.Stage.{Session, Setup}

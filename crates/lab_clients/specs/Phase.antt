@@ -9,9 +9,9 @@ use Rattle.sum_table.specs.Seats.{TableId}
 use Rattle.lobby.specs.Lobbies.{free_seats}
 use Rattle.wav_io.specs.Sound.{Sound}
 use Rattle.card_sim.specs.declared.card.Card.{Card}
-use Rattle.lab_script.specs.declared.line.Line.{Line}
-use Rattle.lab_script.specs.declared.line.Op.{Op}
-use Rattle.lab_report.specs.declared.row.Row.{Row}
+use Rattle.lab_lines.specs.declared.line.Line.{Line}
+use Rattle.lab_lines.specs.declared.line.Op.{Op}
+use Rattle.lab_lines.specs.declared.row.Row.{Row}
 use Rattle.lab_run.specs.ActorPart.{PartsAreRuns}
 use Rattle.lab_run.specs.Client.{Client, client_kind}
 use Rattle.lab_run.specs.Items.{Held, client_kinds, held_after, reaped_client, reaped_client_if, reaped_one, rules_of}

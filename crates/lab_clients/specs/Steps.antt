@@ -3,7 +3,7 @@ use Rattle.std.specs.Prelude.{◌≡◌, ℕ, ◌<◌, ◌≤◌, nat_lt, Bool, 
 use Rattle.std.proofs.Common.{refl}
 use Rattle.wav_io.specs.Sound.{Sound}
 use Rattle.card_sim.specs.declared.card.Card.{Card}
-use Rattle.lab_script.specs.declared.line.Line.{Line}
+use Rattle.lab_lines.specs.declared.line.Line.{Line}
 use Rattle.lab_run.specs.Items.{no_sound}
 use Rattle.lab_run.specs.Phases.{is_client, ops_by}
 use Rattle.lab_card.specs.Meets.{IsSameCard}

@@ -1,6 +1,6 @@
 //! All clients of a script in a phase at once, each in a thread.
 ghost use Rattle.std.specs.Prelude.{◌≡◌, ◌<◌, ◌≤◌, All, length};
-ghost use Rattle.lab_script.specs.declared.line.Line.{Line};
+ghost use Rattle.lab_lines.specs.declared.line.Line.{Line};
 ghost use Rattle.lab_actor.specs.ClientLines.{IsFew};
 ghost use Rattle.lab_client.specs.Clients.{RunsLines};
 ghost use Rattle.lab_clients.specs.Steps.{AreReady, AreSameFrom, IsReadyAt, RunsAt, sound_at};
@@ -8,7 +8,7 @@ ghost use Rattle.lab_actors.specs.Walks.{AreEach};
 
 use lab_actors::for_each_pair;
 use lab_client::LabClient;
-use lab_script::Line;
+use lab_lines::Line;
 use mix_core::Gate;
 use std::thread::Threads;
 use wav_io::Wav;

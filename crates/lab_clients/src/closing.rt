@@ -1,14 +1,13 @@
 //! Closings of clients, between two phases.
 use crate::clients::LabClients;
-use lab_report::{Answer, Row};
+use lab_lines::{Actor, Answer, Op, Row};
 use lab_run::last_frames_are_own;
-use lab_script::{Actor, Op};
 use pcm_states::State;
 use snd_base::PcmError;
 
 impl LabClients<'_> {
     ghost use Rattle.std.specs.Prelude.{◌<◌, IsSome, List, length};
-    ghost use Rattle.lab_script.specs.declared.line.Actor.TheVariants as actor;
+    ghost use Rattle.lab_lines.specs.declared.line.Actor.TheVariants as actor;
     ghost use Rattle.lab_run.specs.Client.{Client};
     ghost use Rattle.lab_run.specs.Items.{Held};
     ghost use Rattle.lab_run.specs.Rules.{AtPort};

@@ -4,8 +4,8 @@ ghost use Rattle.lab_clients.specs.End.{AreNewClients};
 
 use crate::clients::LabClients;
 use lab_client::LabClient;
+use lab_lines::Share;
 use lab_places::Places;
-use lab_script::Share;
 use snd_base::{PcmError, Segment};
 use std::alloc::Global;
 use sum_table::MixSeat;

@@ -1,8 +1,7 @@
 //! Openings of clients, between two phases.
 use crate::clients::LabClients;
 use dmix_client::Client;
-use lab_report::{Answer, Row};
-use lab_script::{Actor, Op};
+use lab_lines::{Actor, Answer, Op, Row};
 use lab_setup::Opening;
 use pcm_states::State;
 use snd_base::{Geometry, PcmError, Why};
@@ -15,7 +14,7 @@ impl LabClients<'_> {
     ghost use Rattle.sum_table.specs.Joins.{OneRing};
     ghost use Rattle.sum_table.specs.Players.{player_geometry, player_key, player_ring, position_of_player};
     ghost use Rattle.lobby.specs.Loads.{PlayerStays};
-    ghost use Rattle.lab_script.specs.declared.line.Actor.TheVariants as actor;
+    ghost use Rattle.lab_lines.specs.declared.line.Actor.TheVariants as actor;
     ghost use Rattle.lab_run.specs.Stage.{Session, Stage, after_open};
     ghost use Rattle.lab_setup.specs.Usable.{IsUsable};
     ghost use Rattle.lab_places.specs.Held.{IsSameCard, key_of_places, next_place, ring_of_places};

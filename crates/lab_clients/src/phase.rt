@@ -5,8 +5,7 @@ use crate::steps::{
     busy_count, hear_clients, inform_clients, run_in_turn, take_client_room, take_client_rows,
 };
 use card_sim::Card;
-use lab_report::Row;
-use lab_script::Line;
+use lab_lines::{Line, Row};
 use mix_core::Gate;
 use snd_base::PcmError;
 use std::marker::{Send, Sync};
@@ -16,7 +15,7 @@ use wav_io::Wav;
 impl LabClients<'_> {
     ghost use Rattle.std.specs.Prelude.{◌≡◌, ◌++◌, ◌↔◌, ◌≤◌, All, [], IfErr, IsTrue, OnErr, OnOk, count_by, length, vec_capacity};
     ghost use Rattle.std.specs.List.{flat_map};
-    ghost use Rattle.lab_script.specs.declared.line.Line.{Line};
+    ghost use Rattle.lab_lines.specs.declared.line.Line.{Line};
     ghost use Rattle.lab_actor.specs.ClientLines.{IsFew};
     ghost use Rattle.lab_actor.specs.Room.{HasSpace};
     ghost use Rattle.lab_card.specs.Meets.{IsSameCard};

@@ -2,7 +2,7 @@
 ghost use Rattle.std.specs.Prelude.{◌≡◌, ◌++◌, ◌<◌, ◌≤◌, ℕ, All, IfErr, IsTrue, OnErr, OnOk, ◌↔◌, count_by, length, vec_capacity};
 ghost use Rattle.std.specs.List.{flat_map};
 ghost use Rattle.wav_io.specs.Sound.{Sound};
-ghost use Rattle.lab_script.specs.declared.line.Line.{Line};
+ghost use Rattle.lab_lines.specs.declared.line.Line.{Line};
 ghost use Rattle.lab_actor.specs.ClientLines.{IsFew};
 ghost use Rattle.lab_actor.specs.Room.{HasSpace};
 ghost use Rattle.lab_card.specs.Meets.{IsSameCard};
@@ -13,8 +13,7 @@ ghost use Rattle.lab_actors.specs.Walks.{AreEach};
 
 use card_sim::Card;
 use lab_client::LabClient;
-use lab_report::Row;
-use lab_script::{Line, Op};
+use lab_lines::{Line, Op, Row};
 use mix_core::Gate;
 use snd_base::PcmError;
 use wav_io::Wav;

@@ -12,9 +12,9 @@ use Rattle.lab_refine.specs.Answered.{IsAnswerTo}
 use Rattle.lab_run.specs.LabRun.{Outcome}
 use Rattle.lab_run.specs.Openings.{IsSessionOf}
 use Rattle.lab_run.specs.Stage.{Session}
-use Rattle.lab_script.specs.declared.line.Item.{Item}
-use Rattle.lab_script.specs.declared.script.Script.{Script as ScriptOf}
-use Rattle.lab_script.specs.Limits.{IsScript}
+use Rattle.lab_lines.specs.declared.line.Item.{Item}
+use Rattle.lab_lines.specs.declared.script.Script.{Script as ScriptOf}
+use Rattle.lab_lines.specs.Limits.{IsScript}
 use Rattle.lab_shelf.specs.Files.{Files, TookPart}
 use Rattle.lab_stop.specs.declared.stop.Stop.{Stop}
 use Rattle.lab_stop.specs.declared.stop.Stop.TheVariants.{Words, Script, Conf, Wav, Read, Write, Memory}

@@ -13,7 +13,7 @@ use Rattle.lab_run.specs.LabRun.{Outcome, lab_text}
 use Rattle.lab_run.specs.Openings.{IsSessionOf}
 use Rattle.lab_run.specs.Phases.{AreUnmixed}
 use Rattle.lab_run.specs.Stage.{Session}
-use Rattle.lab_script.specs.declared.script.Script.{Script as ScriptOf}
+use Rattle.lab_lines.specs.declared.script.Script.{Script as ScriptOf}
 use Rattle.lab_shelf.specs.Files.{Files}
 use Rattle.lab_stop.specs.declared.stop.Stop.{Stop}
 use Rattle.lab_stop.specs.declared.stop.Stop.TheVariants.{Words, Script, Conf, Wav, Read, Write, Memory}

@@ -2,7 +2,7 @@
 use Rattle.std.proofs.Common.{◌≡◌, ◌≤◌, ◌%◌, ◌*◌, ◌/◌, ℕ, true, List, [], ◌∷◌, codes, Some, None, Ok, nat_le, refl, arith}
 use Rattle.std.proofs.lemmas.Bool.Decides.{nat_tests}
 use Rattle.asound_conf.specs.Device.{IsCard}
-use Rattle.lab_script.specs.declared.script.Share.TheVariants as share
+use Rattle.lab_lines.specs.declared.script.Share.TheVariants as share
 use Rattle.lab_script.specs.Draft.{card_of, divides}
 use Rattle.lab_script.specs.Keys.{key_value}
 use Rattle.lab_script.specs.Reading.{card_line}

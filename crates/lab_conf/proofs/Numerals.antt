@@ -9,7 +9,8 @@ use Rattle.std.specs.Str.Parse.{digits_value}
 use Rattle.std.proofs.lemmas.Bool.Decides.{nat_tests}
 use Rattle.std.proofs.lemmas.Fmt.{decimal_nonempty, length-decimal-le, digits_decimal, digits_value-decimal}
 use Rattle.std.proofs.lemmas.Str.Parse.{IsNumeralModel, numerals_by_value, tells_all_ascii_digits}
-use Rattle.lab_script.specs.Word.{is_file_byte, number_of_word}
+use Rattle.lab_lines.specs.Names.{is_file_byte}
+use Rattle.lab_script.specs.Word.{number_of_word}
 use Rattle.lab_conf.proofs.LineWords.{is_plain_word, weaker}
 
 -- numerals are digits, and their values those of std

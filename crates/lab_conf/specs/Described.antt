@@ -6,8 +6,8 @@ use Rattle.asound_conf.specs.declared.plugin.Device.{Device}
 use Rattle.asound_conf.specs.Grammar.{conf_of}
 use Rattle.asound_conf.specs.Device.{device_of}
 use Rattle.asound_conf.specs.Text.{card_line, device_text}
-use Rattle.lab_script.specs.declared.script.Script.{Script}
-use Rattle.lab_script.specs.declared.script.Share.TheVariants as share
+use Rattle.lab_lines.specs.declared.script.Script.{Script}
+use Rattle.lab_lines.specs.declared.script.Share.TheVariants as share
 use Rattle.lab_script.specs.Reading.{script_of}
 use Rattle.lab_shelf.specs.Files.{Files, TookPart}
 use Rattle.lab_stop.specs.Causes.{Cause, conf_refused, first_bytes, ◌>>=◌}

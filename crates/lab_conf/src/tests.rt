@@ -1,7 +1,8 @@
 //! What no clause says: the lines of a device byte for byte, worked out by hand, that the card's line is
 //! read as a whole script, the cause of each refusal, and how a failed fetch ends.
 use super::describe_device;
-use lab_script::{Script, Share, read_script};
+use lab_lines::{Script, Share};
+use lab_script::read_script;
 use lab_shelf::MemoryShelf;
 use lab_stop::Stop;
 use std::alloc::{AllocError, Global};

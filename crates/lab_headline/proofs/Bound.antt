@@ -6,10 +6,10 @@ use Rattle.mix_core.specs.declared.marks.Marks.{Marks}
 use Rattle.course.specs.Course.{◌>>=◌, ends}
 use Rattle.wav_io.specs.Sound.{Sound}
 use Rattle.dmix_client.specs.declared.stream.PlaybackStream.{PlaybackStream}
-use Rattle.lab_script.specs.declared.line.Op.{Op}
-use Rattle.lab_script.specs.declared.line.Op.TheVariants as op
-use Rattle.lab_report.specs.declared.row.Answer.{Answer}
-use Rattle.lab_report.specs.declared.row.Answer.TheVariants.{Done, Failed}
+use Rattle.lab_lines.specs.declared.line.Op.{Op}
+use Rattle.lab_lines.specs.declared.line.Op.TheVariants as op
+use Rattle.lab_lines.specs.declared.row.Answer.{Answer}
+use Rattle.lab_lines.specs.declared.row.Answer.TheVariants.{Done, Failed}
 use Rattle.lab_run.specs.Client.{Client, after_call, begins, call_of, client_kind, line_by, line_if}
 use Rattle.lab_run.specs.LateRows.{is_rewind}
 use Rattle.lab_run.specs.Lines.{LineMay}

@@ -14,10 +14,10 @@ use Rattle.hw_space.specs.Narrowings.{point, with_value}
 use Rattle.hw_space.specs.Settled.{IsLeft}
 use Rattle.hw_space.specs.Widest.{whole_from_to, widest}
 use Rattle.wav_io.specs.Sound.{Sound}
-use Rattle.lab_script.specs.declared.script.CardLine.{CardLine}
-use Rattle.lab_script.specs.declared.script.ClientLine.{ClientLine}
-use Rattle.lab_script.specs.declared.script.Script.{Script}
-use Rattle.lab_script.specs.Limits.{IsBoundWhere, IsClientLine, IsScript}
+use Rattle.lab_lines.specs.declared.script.CardLine.{CardLine}
+use Rattle.lab_lines.specs.declared.script.ClientLine.{ClientLine}
+use Rattle.lab_lines.specs.declared.script.Script.{Script}
+use Rattle.lab_lines.specs.Limits.{IsBoundWhere, IsClientLine, IsScript}
 use Rattle.lab_run.specs.Openings.{AreClientOpenings, IsClientOpening, IsSessionOf}
 use Rattle.lab_run.specs.Stage.{Session, Setup}
 use Rattle.lab_headline.specs.OneSample.{AreBound}

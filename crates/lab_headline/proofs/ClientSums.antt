@@ -7,7 +7,7 @@ use Rattle.mix_core.specs.declared.port.Entry.{Entry}
 use Rattle.mix_core.specs.HistoryLaws.{fold-from, total-append}
 use Rattle.mix_core.specs.Laid.{sum_of_samples, total}
 use Rattle.wav_io.specs.Sound.{Sound}
-use Rattle.lab_script.specs.declared.line.Item.{Item}
+use Rattle.lab_lines.specs.declared.line.Item.{Item}
 use Rattle.lab_run.specs.Client.{Client, segments_of}
 use Rattle.lab_run.specs.LabRun.{LabRun, Outcome, entries_by, report_of}
 use Rattle.lab_run.specs.Rules.{AtPort}

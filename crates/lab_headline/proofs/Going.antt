@@ -9,9 +9,9 @@ use Rattle.mix_core.specs.declared.marks.Marks.{Marks}
 use Rattle.wav_io.specs.Sound.{Sound}
 use Rattle.dmix_client.specs.declared.stream.PlaybackStream.{PlaybackStream}
 use Rattle.dmix_client.specs.Calls.{segment_of}
-use Rattle.lab_script.specs.declared.line.Op.{Op}
-use Rattle.lab_report.specs.declared.row.Answer.{Answer}
-use Rattle.lab_report.specs.declared.row.Row.{Row}
+use Rattle.lab_lines.specs.declared.line.Op.{Op}
+use Rattle.lab_lines.specs.declared.row.Answer.{Answer}
+use Rattle.lab_lines.specs.declared.row.Row.{Row}
 use Rattle.lab_run.specs.Client.{Client, begins, client_kind, line_by}
 use Rattle.lab_run.specs.Items.{client_kinds}
 use Rattle.lab_run.specs.Lines.{EachMay, LineMay, LinesMay}

@@ -27,9 +27,9 @@ use Rattle.dmix_client.specs.Course.{if_admitted, admitted_by, commits, drain_co
 use Rattle.dmix_client.specs.Rewind.{back_of, checks, last_channel, last_laid, rewind_course, rewind_on, rewindable_course, rewindable_of, rewinds, after_rewind, take_frames, taken_back, takes_back}
 use Rattle.dmix_client.specs.View.{avail_of, ring_sample}
 use Rattle.dmix_client.specs.Writes.{count_with, ring_with, starts_with}
-use Rattle.lab_script.specs.declared.line.Op.{Op}
-use Rattle.lab_script.specs.declared.line.Op.TheVariants as op
-use Rattle.lab_report.specs.declared.row.Answer.{Answer}
+use Rattle.lab_lines.specs.declared.line.Op.{Op}
+use Rattle.lab_lines.specs.declared.line.Op.TheVariants as op
+use Rattle.lab_lines.specs.declared.row.Answer.{Answer}
 use Rattle.lab_run.specs.Client.{call_answer, call_of, count_answer, done_answer, write_course}
 use Rattle.lab_run.specs.LateRows.{is_rewind}
 use Rattle.lab_run.proofs.LateLaws.{LateAnswer, LateErr, LateIn, LateWhy, next-late, reported-late}

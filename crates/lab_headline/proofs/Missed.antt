@@ -8,10 +8,10 @@ use Rattle.mix_core.specs.Laid.{at}
 use Rattle.wav_io.specs.Sound.{Sound}
 use Rattle.dmix_client.specs.Calls.{segment_of}
 use Rattle.dmix_client.specs.declared.stream.PlaybackStream.{PlaybackStream}
-use Rattle.lab_script.specs.declared.line.Item.{Item}
-use Rattle.lab_script.specs.declared.line.Op.{Op}
-use Rattle.lab_script.specs.declared.line.Op.TheVariants as op
-use Rattle.lab_report.specs.declared.row.Answer.{Answer}
+use Rattle.lab_lines.specs.declared.line.Item.{Item}
+use Rattle.lab_lines.specs.declared.line.Op.{Op}
+use Rattle.lab_lines.specs.declared.line.Op.TheVariants as op
+use Rattle.lab_lines.specs.declared.row.Answer.{Answer}
 use Rattle.lab_run.specs.Client.{Client, begins, client_kind, line_by, stretch_of}
 use Rattle.lab_run.specs.Items.{no_sound, rules_of}
 use Rattle.lab_run.specs.LabRun.{entries_by}

@@ -6,7 +6,7 @@ use Rattle.std.proofs.lemmas.Nat.{div-mul-add, mod-mul-add}
 use Rattle.lap_word.specs.Clamp.{clamp_of}
 use Rattle.mix_core.specs.Laid.{total}
 use Rattle.wav_io.specs.Sound.{Sound}
-use Rattle.lab_script.specs.declared.line.Item.{Item}
+use Rattle.lab_lines.specs.declared.line.Item.{Item}
 use Rattle.lab_run.specs.LabRun.{LabRun, Outcome, mixed_at, outcome_of, report_of}
 use Rattle.lab_run.specs.Stage.{Session, Stage}
 use Rattle.lab_headline.specs.Mix.{IsMixOf, placed_entries}

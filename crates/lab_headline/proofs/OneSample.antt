@@ -18,7 +18,7 @@ use Rattle.wav_io.specs.Sound.{Sound}
 use Rattle.dshare.specs.Owners.{has_channel}
 use Rattle.dmix_client.specs.Expansion.{expand, frame_entries, sample_at}
 use Rattle.lab_run.specs.Client.{Client, segments_of}
-use Rattle.lab_script.specs.declared.script.Script.{Script}
+use Rattle.lab_lines.specs.declared.script.Script.{Script}
 use Rattle.lab_run.specs.LabRun.{LabRun, Outcome, entries_by, with_numbers}
 use Rattle.lab_run.specs.Openings.{IsSessionOf}
 use Rattle.lab_headline.specs.Mix.{placed_entries}
@@ -28,8 +28,8 @@ use Rattle.lab_run.specs.Stage.{Session, Setup}
 use Rattle.snd_base.specs.Places.{first_frame}
 use Rattle.dshare.specs.Owners.{ClaimRow as Claim}
 use Rattle.dmix_client.specs.declared.stream.PlaybackStream.{PlaybackStream}
-use Rattle.lab_script.specs.declared.line.Item.{Item}
-use Rattle.lab_script.specs.declared.script.Share.TheVariants.{Dshare}
+use Rattle.lab_lines.specs.declared.line.Item.{Item}
+use Rattle.lab_lines.specs.declared.script.Share.TheVariants.{Dshare}
 use Rattle.lab_run.specs.Claims.{ClaimIsOwners}
 use Rattle.lab_run.specs.Client.{present_of}
 use Rattle.lab_run.specs.Items.{ItemsMay}

@@ -16,10 +16,10 @@ use Rattle.course.specs.Course.{◌>>=◌, Course, ends, gets, lays, loads}
 use Rattle.dmix_client.specs.declared.stream.PlaybackStream.{PlaybackStream}
 use Rattle.dmix_client.specs.Calls.{Answered, is_paused, after_pause, after_prepare, segment_of}
 use Rattle.dmix_client.specs.Course.{if_admitted, admitted_by, pause_course}
-use Rattle.lab_script.specs.declared.line.Op.{Op}
-use Rattle.lab_script.specs.declared.line.Op.TheVariants as op
-use Rattle.lab_report.specs.declared.row.Answer.{Answer}
-use Rattle.lab_report.specs.declared.row.Answer.TheVariants.{Done}
+use Rattle.lab_lines.specs.declared.line.Op.{Op}
+use Rattle.lab_lines.specs.declared.line.Op.TheVariants as op
+use Rattle.lab_lines.specs.declared.row.Answer.{Answer}
+use Rattle.lab_lines.specs.declared.row.Answer.TheVariants.{Done}
 use Rattle.wav_io.specs.Sound.{Sound}
 use Rattle.lab_run.specs.Client.{Client, after_call, call_answer, begins, call_of, client_kind, dies_if, done_answer, ended_by, line_by, line_if, stretch_of}
 use Rattle.lab_run.specs.Lines.{LineMay}

@@ -13,12 +13,12 @@ use Rattle.snd_base.specs.declared.geometry.Geometry.{Geometry}
 use Rattle.sw_limits.specs.declared.params.SwParams.{SwParams}
 use Rattle.sw_limits.specs.BoundaryLaws.{IsBoundary-unique}
 use Rattle.wav_io.specs.Sound.{Sound}
-use Rattle.lab_script.specs.declared.script.CardLine.{CardLine}
-use Rattle.lab_script.specs.declared.script.ClientLine.{ClientLine}
-use Rattle.lab_script.specs.declared.script.ReaderLine.{ReaderLine}
-use Rattle.lab_script.specs.declared.script.Script.{Script}
-use Rattle.lab_script.specs.declared.script.Stop.{Stop}
-use Rattle.lab_script.specs.declared.script.Stop.TheVariants.{At, Never}
+use Rattle.lab_lines.specs.declared.script.CardLine.{CardLine}
+use Rattle.lab_lines.specs.declared.script.ClientLine.{ClientLine}
+use Rattle.lab_lines.specs.declared.script.ReaderLine.{ReaderLine}
+use Rattle.lab_lines.specs.declared.script.Script.{Script}
+use Rattle.lab_lines.specs.declared.script.Stop.{Stop}
+use Rattle.lab_lines.specs.declared.script.Stop.TheVariants.{At, Never}
 use Rattle.lab_run.specs.Openings.{AreClientOpenings, AreParams, AreReaderOpenings, IsChosen, IsClientOpening, IsNarrowed, IsReaderOpening, IsRingOf, IsStop, Values, client_values, reader_values}
 use Rattle.lab_run.specs.Stage.{Setup}
 use Rattle.lab_headline.specs.OneSession.{HaveOneSession}

@@ -6,10 +6,10 @@ use Rattle.std.proofs.lemmas.List.FromFn.{length-range_with_len}
 use Rattle.std.specs.List.{flat_map, range_with_len}
 use Rattle.std.specs.Prelude.{ℤ, Bool, true, false, suc, nat_eq, map, slice_index_or, if◌then◌else◌, zero, slice_get}
 use Rattle.wav_io.specs.Sound.{Sound}
-use Rattle.lab_script.specs.declared.line.Item.{Item}
-use Rattle.lab_script.specs.declared.script.CardLine.{CardLine}
-use Rattle.lab_script.specs.declared.script.ReaderLine.{ReaderLine}
-use Rattle.lab_script.specs.declared.script.Script.{Script}
+use Rattle.lab_lines.specs.declared.line.Item.{Item}
+use Rattle.lab_lines.specs.declared.script.CardLine.{CardLine}
+use Rattle.lab_lines.specs.declared.script.ReaderLine.{ReaderLine}
+use Rattle.lab_lines.specs.declared.script.Script.{Script}
 use Rattle.lab_run.specs.LabRun.{LabRun, Outcome, captured_sample, joined_runs, recorded_from, runs_of, bindings_of}
 use Rattle.lab_run.specs.Openings.{AreReaderOpenings, IsSessionOf, read_by}
 use Rattle.lab_run.specs.OwnRows.{rows_by, runs_by}

@@ -11,19 +11,18 @@ use Rattle.wav_io.specs.Sound.{Sound}
 use Rattle.dmix_client.specs.declared.stream.PlaybackStream.{PlaybackStream}
 use Rattle.dsnoop_client.specs.declared.stream.CaptureStream as reading
 use Rattle.dshare.specs.Owners as owners
-use Rattle.lab_script.specs.declared.line.Actor.TheVariants as actor
-use Rattle.lab_script.specs.declared.line.Item.{Item}
-use Rattle.lab_script.specs.declared.line.Item.TheVariants as item
-use Rattle.lab_script.specs.declared.line.Line.{Line}
-use Rattle.lab_script.specs.declared.line.Op.{Op}
-use Rattle.lab_script.specs.declared.line.Op.TheVariants as op
-use Rattle.lab_script.specs.declared.script.Share.{Share}
-use Rattle.lab_script.specs.declared.script.Share.TheVariants.{Dmix, Dshare}
-use Rattle.lab_script.specs.Ops.{played_by}
-use Rattle.lab_script.specs.Script.{is_of_card}
-use Rattle.lab_report.specs.declared.row.Answer.{Answer}
-use Rattle.lab_report.specs.declared.row.Answer.TheVariants.{Failed}
-use Rattle.lab_report.specs.declared.row.Row.{Row}
+use Rattle.lab_lines.specs.declared.line.Actor.TheVariants as actor
+use Rattle.lab_lines.specs.declared.line.Item.{Item}
+use Rattle.lab_lines.specs.declared.line.Item.TheVariants as item
+use Rattle.lab_lines.specs.declared.line.Line.{Line}
+use Rattle.lab_lines.specs.declared.line.Op.{Op}
+use Rattle.lab_lines.specs.declared.line.Op.TheVariants as op
+use Rattle.lab_lines.specs.declared.script.Share.{Share}
+use Rattle.lab_lines.specs.declared.script.Share.TheVariants.{Dmix, Dshare}
+use Rattle.lab_lines.specs.Script.{is_of_card, played_by}
+use Rattle.lab_lines.specs.declared.row.Answer.{Answer}
+use Rattle.lab_lines.specs.declared.row.Answer.TheVariants.{Failed}
+use Rattle.lab_lines.specs.declared.row.Row.{Row}
 use Rattle.lab_run.specs.Claims.{claim_refusal, is_free_channel}
 use Rattle.lab_run.specs.Client.{Client, row_by, segments_of}
 use Rattle.lab_run.specs.Items.{ItemMay, ItemsMay, client_kinds, no_sound, phase_end, reader_kinds, rules_of}
@@ -40,7 +39,7 @@ use Rattle.lab_headline.specs.Late.{IsLate, IsLineOf, ListsSegments, IsRowOfLine
 use Rattle.lab_headline.proofs.Listed.{items-over, late-over, listed-at, reaped-over}
 use Rattle.lab_headline.proofs.Sealed.{IsStart, Over, over-lines}
 use Rattle.snd_base.specs.declared.places.Segment.{Segment}
-use Rattle.lab_report.specs.declared.report.Report.{Report}
+use Rattle.lab_lines.specs.declared.report.Report.{Report}
 use Rattle.lab_run.specs.OwnRows.{segments_by}
 
 -- ---- lists

@@ -20,10 +20,10 @@ use Rattle.dmix_client.specs.declared.stream.PlaybackStream.{PlaybackStream}
 use Rattle.dmix_client.specs.declared.stream.Stretch.{Stretch}
 use Rattle.dmix_client.specs.Calls.{Answered, after_drop, is_paused, is_prepared, after_prepare}
 use Rattle.dmix_client.specs.Course.{if_admitted, admitted_by, drain_course}
-use Rattle.lab_script.specs.declared.line.Op.{Op}
-use Rattle.lab_script.specs.declared.line.Op.TheVariants as op
-use Rattle.lab_report.specs.declared.row.Answer.{Answer}
-use Rattle.lab_report.specs.declared.row.Row.{Row}
+use Rattle.lab_lines.specs.declared.line.Op.{Op}
+use Rattle.lab_lines.specs.declared.line.Op.TheVariants as op
+use Rattle.lab_lines.specs.declared.row.Answer.{Answer}
+use Rattle.lab_lines.specs.declared.row.Row.{Row}
 use Rattle.lab_run.specs.Client.{Client, after_call, call_answer, begins, call_of, client_kind, count_answer, done_answer, ended_by, line_by, line_if, present_of, segments_of, stretch_of}
 use Rattle.lab_run.specs.Lines.{LineMay, LinesMay}
 use Rattle.lab_run.specs.Rules.{AtPort, MayGet, MayLay, MayLoad, Rules}

@@ -3,7 +3,7 @@ use Rattle.std.specs.Prelude.{◌≡◌, ℕ, List, length, map}
 use Rattle.std.specs.List.{flat_map, range_with_len}
 use Rattle.mix_core.specs.declared.port.Entry.{Entry}
 use Rattle.mix_core.specs.Laid.{sum_of_samples, total}
-use Rattle.lab_report.specs.declared.report.Report.{Report}
+use Rattle.lab_lines.specs.declared.report.Report.{Report}
 use Rattle.lab_run.specs.LabRun.{entries_by}
 use Rattle.lab_run.specs.OwnRows.{segments_by}
 use Rattle.lab_run.specs.Stage.{Session}

@@ -1,7 +1,7 @@
 -- What a run of a script says, all in all.
 use Rattle.std.specs.Prelude.{List, Option}
 use Rattle.wav_io.specs.Sound.{Sound}
-use Rattle.lab_script.specs.declared.script.Script.{Script}
+use Rattle.lab_lines.specs.declared.script.Script.{Script}
 use Rattle.lab_run.specs.LabRun.{Outcome}
 use Rattle.lab_run.specs.Stage.{Session}
 use Rattle.lab_headline.specs.Clients.{IsSumOfClients}

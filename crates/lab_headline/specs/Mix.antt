@@ -3,8 +3,8 @@ use Rattle.std.specs.Prelude.{◌≡◌, ℕ, ◌+◌, ◌*◌, ◌<◌, ℤ, po
 use Rattle.lap_word.specs.Clamp.{clamp_of}
 use Rattle.mix_core.specs.Laid.{total}
 use Rattle.mix_core.specs.declared.port.Entry.{Entry}
-use Rattle.lab_script.specs.Script.{first_frame}
-use Rattle.lab_report.specs.declared.report.Report.{Report}
+use Rattle.lab_lines.specs.Script.{first_frame}
+use Rattle.lab_lines.specs.declared.report.Report.{Report}
 use Rattle.lab_run.specs.LabRun.{entries_of}
 use Rattle.lab_run.specs.Stage.{Session}
 

@@ -2,8 +2,8 @@
 use Rattle.std.specs.Prelude.{◌≡◌, ℕ, ◌≤◌, ℤ, pos, List, [], ◌∷◌, IfSome, None, slice_index_or}
 use Rattle.bindings.specs.Bound.{AreBindings}
 use Rattle.mix_core.specs.Laid.{at, count, total}
-use Rattle.lab_script.specs.declared.script.Share.TheVariants.{Dshare}
-use Rattle.lab_report.specs.declared.report.Report.{Report}
+use Rattle.lab_lines.specs.declared.script.Share.TheVariants.{Dshare}
+use Rattle.lab_lines.specs.declared.report.Report.{Report}
 use Rattle.lab_run.specs.Stage.{Session, Setup}
 use Rattle.lab_headline.specs.Mix.{placed_entries}
 

@@ -1,7 +1,7 @@
 -- A script and its clients' files have one session: the card's ring, and with what each client and each reader is opened, are settled by them.
 use Rattle.std.specs.Prelude.{◌≡◌, List}
 use Rattle.wav_io.specs.Sound.{Sound}
-use Rattle.lab_script.specs.declared.script.Script.{Script}
+use Rattle.lab_lines.specs.declared.script.Script.{Script}
 use Rattle.lab_run.specs.Openings.{IsSessionOf}
 use Rattle.lab_run.specs.Stage.{Session}
 

@@ -2,8 +2,8 @@
 use Rattle.std.specs.Prelude.{◌≡◌, ℕ, true, false, List, [], Option, Some, None}
 use Rattle.dshare.specs.Owners.{has_channel}
 use Rattle.dmix_client.specs.declared.stream.PlaybackStream.{PlaybackStream}
-use Rattle.lab_script.specs.declared.line.Item.{Item}
-use Rattle.lab_script.specs.declared.script.Share.TheVariants.{Dshare}
+use Rattle.lab_lines.specs.declared.line.Item.{Item}
+use Rattle.lab_lines.specs.declared.script.Share.TheVariants.{Dshare}
 use Rattle.lab_run.specs.Items.{ItemsMay}
 use Rattle.lab_run.specs.Stage.{Session, Stage, client_at, first_stage}
 

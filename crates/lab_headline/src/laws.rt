@@ -3,10 +3,10 @@ ghost use Rattle.std.specs.Prelude.{◌≡◌, List, [], ◌∷◌, Option, ℕ,
 ghost use Rattle.snd_base.specs.declared.places.Segment.{Segment};
 ghost use Rattle.mix_core.specs.Laid.{total};
 ghost use Rattle.wav_io.specs.Sound.{Sound};
-ghost use Rattle.lab_script.specs.declared.line.Item.{Item};
-ghost use Rattle.lab_script.specs.declared.script.Script.{Script};
-ghost use Rattle.lab_report.specs.declared.report.Report.{Report};
-ghost use Rattle.lab_script.specs.Limits.{IsScript};
+ghost use Rattle.lab_lines.specs.declared.line.Item.{Item};
+ghost use Rattle.lab_lines.specs.declared.script.Script.{Script};
+ghost use Rattle.lab_lines.specs.declared.report.Report.{Report};
+ghost use Rattle.lab_lines.specs.Limits.{IsScript};
 ghost use Rattle.lab_run.specs.LabRun.{LabRun, Outcome, runs_of};
 ghost use Rattle.lab_run.specs.Openings.{IsSessionOf};
 ghost use Rattle.lab_run.specs.OwnRows.{IsClientAlone};

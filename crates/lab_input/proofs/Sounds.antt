@@ -4,8 +4,8 @@ use Rattle.std.proofs.lemmas.List.{append-nil, drop_all}
 use Rattle.std.proofs.lemmas.List.{length-append}
 use Rattle.std.specs.Prelude.{Option, Some, Result, Ok, Err}
 use Rattle.std.specs.Option.{ForSome}
-use Rattle.lab_script.specs.declared.script.CardLine.{CardLine}
-use Rattle.lab_script.specs.declared.script.ClientLine.{ClientLine}
+use Rattle.lab_lines.specs.declared.script.CardLine.{CardLine}
+use Rattle.lab_lines.specs.declared.script.ClientLine.{ClientLine}
 use Rattle.lab_input.specs.declared.shape.Shape.{Shape}
 use Rattle.lab_input.specs.Plug.{shape_for}
 use Rattle.lab_shelf.specs.Files.{Files}

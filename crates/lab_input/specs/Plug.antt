@@ -7,8 +7,8 @@
 --     weight shape bytes sound      how many bytes of a run's limit a sound takes whose file has so many
 use Rattle.std.specs.Prelude.{◌≡◌, ℕ, ◌*◌, ◌≤◌, ◌==◌, nat_le, max, if◌then◌else◌, List, length, Option, Some, None, Result, Ok, Err}
 use Rattle.lab_input.specs.declared.shape.Shape.{Shape}
-use Rattle.lab_script.specs.declared.script.CardLine.{CardLine}
-use Rattle.lab_script.specs.declared.script.ClientLine.{ClientLine}
+use Rattle.lab_lines.specs.declared.script.CardLine.{CardLine}
+use Rattle.lab_lines.specs.declared.script.ClientLine.{ClientLine}
 use Rattle.plug_chain.specs.declared.wide.Wide.{Wide}
 use Rattle.plug_chain.specs.declared.wide.Wide.TheVariants.{U8, S16Le, S24Packed, S32Le}
 use Rattle.plug_chain.specs.Frames.{Conversion}

@@ -1,13 +1,14 @@
 //! The input of a run.
 ghost use Rattle.std.specs.Prelude.{◌≡◌, IfOk, length};
 ghost use Rattle.std.specs.Option.{ForSome};
-ghost use Rattle.lab_script.specs.Limits.{IsScript};
+ghost use Rattle.lab_lines.specs.Limits.{IsScript};
 ghost use Rattle.lab_stop.specs.Stops.{FetchFaults, AnswersOrStops, Misses};
 ghost use Rattle.lab_input.specs.Input.{input_in, script_in};
 ghost use Rattle.lab_input.specs.Read.{input_of};
 
 use crate::wavs::{read_capture, read_wavs};
-use lab_script::{Script, read_script};
+use lab_lines::Script;
+use lab_script::read_script;
 use lab_shelf::Shelf;
 use lab_stop::{Stop, fetch_most};
 use std::alloc::Global;

@@ -1,9 +1,9 @@
 //! What a client with `plug` takes its file as.
 ghost use Rattle.std.specs.Prelude.{◌≡◌, IfSome};
-ghost use Rattle.lab_script.specs.Limits.{IsCardLine};
+ghost use Rattle.lab_lines.specs.Limits.{IsCardLine};
 ghost use Rattle.lab_input.specs.Plug.{IsShape, shape_for, wide_of};
 
-use lab_script::{CardLine, ClientLine};
+use lab_lines::{CardLine, ClientLine};
 use plug_chain::Wide;
 
 /// The channels and the rate to which a file is converted.

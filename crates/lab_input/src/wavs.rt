@@ -2,13 +2,13 @@
 ghost use Rattle.std.specs.Prelude.{◌≡◌, ◌≤◌, IfOk, length};
 ghost use Rattle.std.specs.Option.{ForSome};
 ghost use Rattle.lab_stop.specs.Stops.{FetchFaults, AnswersOrStops, Misses};
-ghost use Rattle.lab_script.specs.Limits.{IsCardLine};
+ghost use Rattle.lab_lines.specs.Limits.{IsCardLine};
 ghost use Rattle.lab_input.specs.Input.{capture_in, most_of_run, sound_in, sounds_in};
 ghost use Rattle.lab_input.specs.Plug.{IsShape};
 
 use crate::shape::{Shape, shape_for};
 use crate::sound::read_sound;
-use lab_script::{CardLine, ClientLine};
+use lab_lines::{CardLine, ClientLine};
 use lab_shelf::Shelf;
 use lab_stop::{Stop, wav_stop};
 use std::alloc::Global;

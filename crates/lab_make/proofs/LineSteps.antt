@@ -4,17 +4,18 @@ use Rattle.std.specs.Option.{option_map_or}
 use Rattle.std.specs.Fmt.{decimal, digits}
 use Rattle.std.proofs.lemmas.Bool.{false≢true}
 use Rattle.std.proofs.lemmas.Bool.Decides.{nat_tests, Decides-eqb}
-use Rattle.lab_script.specs.declared.line.Actor.{Actor}
-use Rattle.lab_script.specs.declared.line.Actor.TheVariants.{Card, Client}
-use Rattle.lab_script.specs.declared.line.Item.TheVariants as item
-use Rattle.lab_script.specs.declared.line.Op.{Op}
-use Rattle.lab_script.specs.declared.line.Op.TheVariants as op
+use Rattle.lab_lines.specs.declared.line.Actor.{Actor}
+use Rattle.lab_lines.specs.declared.line.Actor.TheVariants.{Card, Client}
+use Rattle.lab_lines.specs.declared.line.Item.TheVariants as item
+use Rattle.lab_lines.specs.declared.line.Op.{Op}
+use Rattle.lab_lines.specs.declared.line.Op.TheVariants as op
 use Rattle.lab_script.specs.Draft.{State, card_of, client_of, border_of, ends_lap, is_beside, actor_named, with_end, with_line, with_open, with_phase}
 use Rattle.lab_script.specs.Keys.{key_value}
-use Rattle.lab_script.specs.Ops.{op_of, played_by}
+use Rattle.lab_script.specs.Ops.{op_of}
 use Rattle.lab_script.specs.Reading.{card_line}
-use Rattle.lab_script.specs.Script.{is_of_card, is_unplug}
-use Rattle.lab_script.specs.Word.{is_name, is_file, number_of_word}
+use Rattle.lab_lines.specs.Script.{is_of_card, is_unplug, played_by}
+use Rattle.lab_lines.specs.Names.{is_name, is_file}
+use Rattle.lab_script.specs.Word.{number_of_word}
 use Rattle.lab_make.specs.Lines.{card_words}
 use Rattle.lab_make.specs.Script.{made_card}
 use Rattle.lab_make.proofs.NumberTests.{below_test}

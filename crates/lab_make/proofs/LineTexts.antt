@@ -6,7 +6,8 @@ use Rattle.std.proofs.lemmas.Bool.Decides.{nat_tests}
 use Rattle.std.proofs.lemmas.List.{take_all}
 use Rattle.std.proofs.lemmas.List.Splits.{slice_split_at, slice_split_none}
 use Rattle.std.proofs.lemmas.List.Folds.{list_all-append}
-use Rattle.lab_script.specs.Word.{is_feed, is_file_byte}
+use Rattle.lab_lines.specs.Names.{is_file_byte}
+use Rattle.lab_script.specs.Word.{is_feed}
 use Rattle.lab_script.specs.Lexing.{is_blank, is_hash, is_word, lines_from, numbered_lines, put_line, without_return, words_between, words_in}
 use Rattle.lab_make.specs.Lines.{lines_text}
 

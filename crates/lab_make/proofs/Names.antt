@@ -4,7 +4,7 @@ use Rattle.std.specs.Fmt.{decimal, digits}
 use Rattle.std.proofs.lemmas.Bool.Decides.{same_from_decides, Decides-eqb}
 use Rattle.std.proofs.lemmas.Slice.Eq.{bytes_eq-Decides}
 use Rattle.std.proofs.lemmas.Fmt.{decimal_injective}
-use Rattle.lab_script.specs.Word.{is_name, is_file}
+use Rattle.lab_lines.specs.Names.{is_name, is_file}
 use Rattle.lab_make.specs.Files.{file_name}
 use Rattle.lab_make.specs.Lines.{client_name, client_words, open_words, write_words, frames_written}
 use Rattle.lab_make.proofs.LineTexts.{is_plain_word, is_plain_line}

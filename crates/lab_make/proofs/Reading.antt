@@ -5,11 +5,11 @@ use Rattle.std.specs.Fmt.{decimal, digits}
 use Rattle.std.proofs.lemmas.Bool.{false≢true}
 use Rattle.std.proofs.lemmas.Bool.Decides.{nat_tests, Decides-eqb}
 use Rattle.std.proofs.lemmas.List.FromFn.{length-map-range_with_len, map-range_with_len_more}
-use Rattle.lab_script.specs.declared.line.Actor.{Actor}
-use Rattle.lab_script.specs.declared.line.Actor.TheVariants.{Card, Client, Reader}
-use Rattle.lab_script.specs.declared.line.Item.{Item}
-use Rattle.lab_script.specs.declared.line.Line.{Line}
-use Rattle.lab_script.specs.declared.line.Op.TheVariants as op
+use Rattle.lab_lines.specs.declared.line.Actor.{Actor}
+use Rattle.lab_lines.specs.declared.line.Actor.TheVariants.{Card, Client, Reader}
+use Rattle.lab_lines.specs.declared.line.Item.{Item}
+use Rattle.lab_lines.specs.declared.line.Line.{Line}
+use Rattle.lab_lines.specs.declared.line.Op.TheVariants as op
 use Rattle.lab_script.specs.Causes.{◌>>=◌}
 use Rattle.lab_script.specs.Draft.{State, ends_lap, inside, is_beside, is_client, is_reader, keywords, actor_named, or_else, unknown_inside, with_client, with_line, with_words}
 use Rattle.lab_script.specs.Keys.{row_of}

@@ -1,15 +1,15 @@
 -- The script that the text of a workload spells.
 use Rattle.std.specs.Prelude.{ℕ, ◌+◌, ◌-◌, ◌*◌, List, [], ◌∷◌, ◌++◌, map, None, false}
 use Rattle.std.specs.List.{flat_map, range_with_len}
-use Rattle.lab_script.specs.declared.line.Actor.TheVariants.{Card, Client}
-use Rattle.lab_script.specs.declared.line.Item.{Item}
-use Rattle.lab_script.specs.declared.line.Item.TheVariants as item
-use Rattle.lab_script.specs.declared.line.Line.{Line}
-use Rattle.lab_script.specs.declared.line.Op.TheVariants as op
-use Rattle.lab_script.specs.declared.script.CardLine.{CardLine}
-use Rattle.lab_script.specs.declared.script.ClientLine.{ClientLine}
-use Rattle.lab_script.specs.declared.script.Script.{Script}
-use Rattle.lab_script.specs.declared.script.Share.TheVariants as share
+use Rattle.lab_lines.specs.declared.line.Actor.TheVariants.{Card, Client}
+use Rattle.lab_lines.specs.declared.line.Item.{Item}
+use Rattle.lab_lines.specs.declared.line.Item.TheVariants as item
+use Rattle.lab_lines.specs.declared.line.Line.{Line}
+use Rattle.lab_lines.specs.declared.line.Op.TheVariants as op
+use Rattle.lab_lines.specs.declared.script.CardLine.{CardLine}
+use Rattle.lab_lines.specs.declared.script.ClientLine.{ClientLine}
+use Rattle.lab_lines.specs.declared.script.Script.{Script}
+use Rattle.lab_lines.specs.declared.script.Share.TheVariants as share
 use Rattle.lab_make.specs.Files.{file_name}
 use Rattle.lab_make.specs.Lines.{client_name, frames_written}
 

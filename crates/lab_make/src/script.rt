@@ -1,12 +1,13 @@
 //! The script of a workload.
 ghost use Rattle.std.specs.Prelude.{◌≡◌, ◌≤◌, IfErr, IfOk, Ok, length};
-ghost use Rattle.lab_script.specs.Limits.{IsScript};
+ghost use Rattle.lab_lines.specs.Limits.{IsScript};
 ghost use Rattle.lab_script.specs.Reading.{script_of};
 ghost use Rattle.lab_make.specs.Lines.{made_text};
 ghost use Rattle.lab_make.specs.Script.{made_script};
 
 use crate::text::made_text;
-use lab_script::{Script, ScriptWhy, read_script};
+use lab_lines::Script;
+use lab_script::{ScriptWhy, read_script};
 use snd_base::PcmError;
 use std::alloc::Global;
 

@@ -3,7 +3,7 @@ ghost use Rattle.std.specs.Prelude.{◌≡◌, ◌+◌, ◌*◌, ◌^◌, ◌≤
 ghost use Rattle.lab_make.specs.Summary.{IsSummaryOf, is_pipe, sample_sum, words_laid, xrun_count};
 
 use crate::workload::Workload;
-use lab_report::{Answer, Report, Row};
+use lab_lines::{Answer, Report, Row};
 use snd_base::{PcmError, Segment};
 use std::fmt;
 

@@ -1,6 +1,6 @@
 //! What no clause says of a workload: samples of a generator written apart, and the smallest script byte for byte.
 use super::*;
-use lab_report::{Report, Rows, Runs, Segments};
+use lab_lines::{Report, Rows, Runs, Segments};
 use snd_base::Segment;
 use std::test::*;
 

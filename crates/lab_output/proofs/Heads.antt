@@ -7,10 +7,10 @@ use Rattle.std.proofs.lemmas.List.Elements.{All-from_recursion, recursion_from_A
 use Rattle.snd_base.specs.declared.errors.Why.{Why}
 use Rattle.snd_base.specs.declared.errors.Why.TheVariants.{BindingsEmpty, BindingsTooMany}
 use Rattle.bindings.specs.Answers.{or_first, entry_defects}
-use Rattle.lab_script.specs.declared.script.CardLine.{CardLine}
-use Rattle.lab_script.specs.declared.script.ReaderLine.{ReaderLine}
-use Rattle.lab_script.specs.declared.script.Script.{Script}
-use Rattle.lab_script.specs.Limits.{IsScript, IsCardLine, IsReaderLine, IsBoundWhere}
+use Rattle.lab_lines.specs.declared.script.CardLine.{CardLine}
+use Rattle.lab_lines.specs.declared.script.ReaderLine.{ReaderLine}
+use Rattle.lab_lines.specs.declared.script.Script.{Script}
+use Rattle.lab_lines.specs.Limits.{IsScript, IsCardLine, IsReaderLine, IsBoundWhere}
 use Rattle.lab_output.specs.Files.{IsOutputFile, output_files, played_file, recorded_file, reader_channels}
 use Rattle.lab_output.specs.Going.{IsFew}
 

@@ -2,8 +2,8 @@
 use Rattle.std.proofs.Common.{◌≡◌, ℕ, ◌+◌, ◌-◌, ◌<◌, List, [], ◌∷◌, ◌++◌, length, add-one, append_assoc, drop, take, get_or, arith, sym, ap, ◌∙◌, suc, zero}
 use Rattle.std.proofs.lemmas.List.{append-nil, length-drop, take_all}
 use Rattle.std.specs.List.{flat_map}
-use Rattle.lab_script.specs.declared.script.Script.{Script}
-use Rattle.lab_report.specs.declared.row.Row.{Row}
+use Rattle.lab_lines.specs.declared.script.Script.{Script}
+use Rattle.lab_lines.specs.declared.row.Row.{Row}
 use Rattle.lab_report.specs.Text.{row_line}
 use Rattle.lab_output.specs.Text.{rows_text}
 

@@ -6,9 +6,9 @@
 --     MayHold      what a file of a run that stopped may hold
 use Rattle.std.specs.Prelude.{◌≡◌, ◌≢◌, ◌⊎◌, ℕ, ◌/◌, ◌^◌, ◌<◌, ◌≤◌, ℤ, List, [], ◌∷◌, ◌++◌, length, map, take, drop, codes, Option, Some, None, ⊤}
 use Rattle.std.specs.List.{flat_map, AllByRecursion}
-use Rattle.lab_script.specs.declared.script.CardLine.{CardLine}
-use Rattle.lab_script.specs.declared.script.ReaderLine.{ReaderLine}
-use Rattle.lab_script.specs.declared.script.Script.{Script}
+use Rattle.lab_lines.specs.declared.script.CardLine.{CardLine}
+use Rattle.lab_lines.specs.declared.script.ReaderLine.{ReaderLine}
+use Rattle.lab_lines.specs.declared.script.Script.{Script}
 use Rattle.lab_shelf.specs.Files.{Files, with_file}
 use Rattle.wav_io.specs.Canonical.{head, open_head, sample_bytes, canonical}
 use Rattle.wav_io.specs.Sound.{Sound}

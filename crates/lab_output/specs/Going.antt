@@ -5,7 +5,7 @@ use Rattle.std.specs.Option.{option_map}
 use Rattle.wav_io.specs.Canonical.{sample_bytes}
 use Rattle.lab_shelf.specs.Files.{Files, bytes_under, with_file, with_change, with_first_bytes, IsPartWritten, IsPartFinished}
 use Rattle.lab_output.specs.declared.file.OutputFile.{OutputFile}
-use Rattle.lab_script.specs.declared.script.Script.{Script}
+use Rattle.lab_lines.specs.declared.script.Script.{Script}
 use Rattle.lab_output.specs.declared.outputs.Outputs.{Outputs}
 use Rattle.lab_output.specs.Files.{IsOutputFile, AreApart, output_files, open_head_of, head_of, unfinished_files}
 

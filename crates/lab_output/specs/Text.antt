@@ -1,9 +1,9 @@
 -- The text of a run's report, as it is put.
 use Rattle.std.specs.Prelude.{ℕ, List, ◌++◌, codes, drop}
 use Rattle.std.specs.List.{flat_map}
-use Rattle.lab_script.specs.declared.script.Script.{Script}
-use Rattle.lab_report.specs.declared.row.Row.{Row}
-use Rattle.lab_report.specs.declared.report.Report.{Report}
+use Rattle.lab_lines.specs.declared.script.Script.{Script}
+use Rattle.lab_lines.specs.declared.row.Row.{Row}
+use Rattle.lab_lines.specs.declared.report.Report.{Report}
 use Rattle.lab_report.specs.Text.{row_line, tail_text}
 
 -- the report's first line

@@ -1,11 +1,11 @@
 //! The files that a run writes.
 ghost use Rattle.std.specs.Prelude.{◌≡◌, ◌++◌, IfErr, IfOk, OnOk, length, map};
-ghost use Rattle.lab_script.specs.Limits.{IsScript};
+ghost use Rattle.lab_lines.specs.Limits.{IsScript};
 ghost use Rattle.lab_output.specs.Files.{AreApart, IsOutputFile, output_files, played_file, played_name, recorded_file, recorded_name, reader_channels};
 ghost use Rattle.lab_stop.specs.declared.stop.Stop.TheVariants as stops;
 
 use bindings::Bindings;
-use lab_script::{CardLine, ReaderLine, Script};
+use lab_lines::{CardLine, ReaderLine, Script};
 use lab_stop::Stop;
 use std::alloc::{AllocError, Global};
 use std::marker::Model;

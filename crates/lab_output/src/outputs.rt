@@ -1,7 +1,7 @@
 //! What a run has written so far, and each step of writing it.
 ghost use Rattle.std.specs.Prelude.{[], ◌≡◌, ◌≢◌, ◌≤◌, ◌<◌, ◌++◌, All, Err, IfErr, IfOk, IsSome, List, ℤ, OnErr, OnOk, Option, drop, length, slice_index_or, slice_set, take};
 ghost use Rattle.std.specs.Option.{option_map};
-ghost use Rattle.lab_script.specs.Limits.{IsScript};
+ghost use Rattle.lab_lines.specs.Limits.{IsScript};
 ghost use Rattle.lab_report.specs.Text.{IsRowOf, IsTailOf};
 ghost use Rattle.lab_shelf.specs.Changes.{Changes};
 ghost use Rattle.lab_shelf.specs.Files.{Files, TookPart};
@@ -16,8 +16,7 @@ use crate::begin::begin_files;
 use crate::file::{OutputFile, output_files};
 use crate::finish::finish_files;
 use crate::text::{push_tail, rows_from};
-use lab_report::{Report, Row};
-use lab_script::Script;
+use lab_lines::{Report, Row, Script};
 use lab_shelf::{Shelf, Sink};
 use lab_stop::{Stop, put};
 use std::alloc::Global;

@@ -4,8 +4,8 @@ ghost use Rattle.std.specs.List.{flat_map};
 ghost use Rattle.lab_report.specs.Text.{IsRowOf, IsTailOf, row_line, tail_text};
 ghost use Rattle.lab_stop.specs.declared.stop.Stop.TheVariants as stops;
 
-use lab_report::{Report, Row, print_row, print_tail};
-use lab_script::Script;
+use lab_lines::{Report, Row, Script};
+use lab_report::{print_row, print_tail};
 use lab_stop::Stop;
 use std::alloc::Global;
 

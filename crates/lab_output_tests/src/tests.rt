@@ -1,13 +1,14 @@
 //! What no clause says: that calls work where there is memory, what is in the files and in the text byte
 //! for byte, and how many calls are made.
 ghost use Rattle.std.specs.Prelude.{◌≡◌, ◌≤◌, All, IfOk, length};
-ghost use Rattle.lab_script.specs.Limits.{IsScript};
+ghost use Rattle.lab_lines.specs.Limits.{IsScript};
 ghost use Rattle.lab_report.specs.Text.{IsReportOf};
 ghost use Rattle.lab_output.specs.Going.{AreOutputs};
 
+use lab_lines::{Report, Script};
 use lab_output::{Outputs, outputs_of};
-use lab_report::{Report, read_report};
-use lab_script::{Script, read_script};
+use lab_report::read_report;
+use lab_script::read_script;
 use lab_shelf::{MemoryShelf, MemorySink, Shelf};
 use lab_stop::Stop;
 use std::alloc::Global;

@@ -7,11 +7,11 @@ use Rattle.sum_table.specs.Players.{player_key, player_ring}
 use Rattle.snoop_table.specs.Writers.{writer_geometry, writer_ring}
 use Rattle.card_sim.specs.declared.card.Card.{Card}
 use Rattle.card_sim.specs.Runs.{writer_of}
-use Rattle.lab_script.specs.declared.line.Item.TheVariants as item
-use Rattle.lab_script.specs.declared.line.Line.{Line}
-use Rattle.lab_script.specs.declared.line.Op.{Op}
-use Rattle.lab_script.specs.Script.{is_of_card}
-use Rattle.lab_report.specs.declared.row.Row.{Row}
+use Rattle.lab_lines.specs.declared.line.Item.TheVariants as item
+use Rattle.lab_lines.specs.declared.line.Line.{Line}
+use Rattle.lab_lines.specs.declared.line.Op.{Op}
+use Rattle.lab_lines.specs.Script.{is_of_card}
+use Rattle.lab_lines.specs.declared.row.Row.{Row}
 use Rattle.lab_run.specs.Client.{Client}
 use Rattle.lab_run.specs.Items.{Held, held_of, phase_end}
 use Rattle.lab_run.specs.Phases.{card_rows, is_reader, ops_by}

@@ -19,7 +19,7 @@ use Rattle.snoop_table.specs.Rings as snoop
 use Rattle.snoop_table.specs.Writers.{writer_track}
 use Rattle.wav_io.specs.Sound.{Sound}
 use Rattle.card_sim.specs.Runs.{period_of, records_of, writer_of}
-use Rattle.lab_script.specs.Script.{first_frame}
+use Rattle.lab_lines.specs.Script.{first_frame}
 use Rattle.lab_run.specs.Stage.{Session, first_stage}
 use Rattle.lab_card.specs.declared.card.CardActor.{CardActor}
 use Rattle.lab_card.specs.Moves.{frame_of_card, geometry_of_card, is_gone, seat_of_card}

@@ -5,9 +5,9 @@ use Rattle.std.proofs.lemmas.Option.{none-some, same_Some}
 use Rattle.snd_base.specs.declared.geometry.Geometry.{Geometry}
 use Rattle.snd_base.specs.Places as rings
 use Rattle.wav_io.specs.Sound.{Sound}
-use Rattle.lab_script.specs.declared.script.CardLine.{CardLine}
-use Rattle.lab_script.specs.declared.script.ClientLine.{ClientLine}
-use Rattle.lab_script.specs.Script.{first_frame}
+use Rattle.lab_lines.specs.declared.script.CardLine.{CardLine}
+use Rattle.lab_lines.specs.declared.script.ClientLine.{ClientLine}
+use Rattle.lab_lines.specs.Script.{first_frame}
 use Rattle.lab_run.specs.Items.{no_sound}
 use Rattle.lab_run.specs.Openings.{AreClientOpenings, IsRingOf}
 use Rattle.lab_run.specs.Stage.{Session, Setup}

@@ -8,10 +8,10 @@ use Rattle.snd_base.specs.Places.{end_frame}
 use Rattle.sum_table.specs.Players.{player_key, player_ring}
 use Rattle.card_sim.specs.declared.card.Card.{Card}
 use Rattle.card_sim.specs.Runs.{period_of}
-use Rattle.lab_script.specs.declared.line.Line.{Line}
-use Rattle.lab_script.specs.declared.line.Op.{Op}
-use Rattle.lab_script.specs.Script.{is_of_card}
-use Rattle.lab_report.specs.declared.row.Row.{Row}
+use Rattle.lab_lines.specs.declared.line.Line.{Line}
+use Rattle.lab_lines.specs.declared.line.Op.{Op}
+use Rattle.lab_lines.specs.Script.{is_of_card}
+use Rattle.lab_lines.specs.declared.row.Row.{Row}
 use Rattle.lab_run.specs.Phases.{ops_by}
 use Rattle.lab_actors.specs.Gates.{stops_at}
 use Rattle.lab_actors.specs.Walks.{AreEach, AreEach-length}

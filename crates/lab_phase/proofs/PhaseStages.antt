@@ -10,12 +10,12 @@ use Rattle.snoop_table.specs.Writers.{writer_geometry, writer_ring}
 use Rattle.wav_io.specs.Sound.{Sound}
 use Rattle.card_sim.specs.declared.card.Card.{Card}
 use Rattle.card_sim.specs.Runs.{writer_of}
-use Rattle.lab_script.specs.declared.line.Item.{Item}
-use Rattle.lab_script.specs.declared.line.Item.TheVariants as item
-use Rattle.lab_script.specs.declared.line.Line.{Line}
-use Rattle.lab_script.specs.Limits.{IsPhase}
-use Rattle.lab_script.specs.Script.{is_of_card, phases_of}
-use Rattle.lab_report.specs.declared.row.Row.{Row}
+use Rattle.lab_lines.specs.declared.line.Item.{Item}
+use Rattle.lab_lines.specs.declared.line.Item.TheVariants as item
+use Rattle.lab_lines.specs.declared.line.Line.{Line}
+use Rattle.lab_lines.specs.Limits.{IsPhase}
+use Rattle.lab_lines.specs.Script.{is_of_card, phases_of}
+use Rattle.lab_lines.specs.declared.row.Row.{Row}
 use Rattle.lab_run.specs.Client.{Client}
 use Rattle.lab_run.specs.Items.{held_of, is_reader_stopped, is_stopped, phase_end, reaped_client, reaped_client_if, reaped_reader, reaped_reader_if}
 use Rattle.lab_run.specs.Phases.{card_rows, ops_by}

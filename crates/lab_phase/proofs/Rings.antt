@@ -2,7 +2,7 @@
 use Rattle.std.proofs.Common.{◌≡◌, ◌≤◌, ℕ, sym, ap, ◌∙◌, subst}
 use Rattle.std.proofs.Props.{props}
 use Rattle.snd_base.specs.declared.geometry.Geometry.{Geometry}
-use Rattle.lab_script.specs.declared.script.CardLine.{CardLine}
+use Rattle.lab_lines.specs.declared.script.CardLine.{CardLine}
 use Rattle.lab_run.specs.Openings.{IsRingOf}
 
 -- the numbers of a ring, and that they are in their ranges

@@ -2,11 +2,11 @@
 use Rattle.std.specs.Prelude.{◌≡◌, ◌≢◌, ℕ, ◌≤◌, Bool, true, false, if◌then◌else◌, List, [], ◌∷◌, ◌++◌, length}
 use Rattle.std.proofs.Common.{refl, ap, subst, ◌∙◌, arith}
 use Rattle.std.proofs.lemmas.Bool.{false≢true}
-use Rattle.lab_script.specs.declared.line.Actor.{Actor}
-use Rattle.lab_script.specs.declared.line.Actor.TheVariants.{Card, Client, Reader}
-use Rattle.lab_script.specs.declared.line.Line.{Line}
-use Rattle.lab_script.specs.Limits.{IsPhase}
-use Rattle.lab_script.specs.Script.{is_of_card, unplugs}
+use Rattle.lab_lines.specs.declared.line.Actor.{Actor}
+use Rattle.lab_lines.specs.declared.line.Actor.TheVariants.{Card, Client, Reader}
+use Rattle.lab_lines.specs.declared.line.Line.{Line}
+use Rattle.lab_lines.specs.Limits.{IsPhase}
+use Rattle.lab_lines.specs.Script.{is_of_card, unplugs}
 use Rattle.lab_run.specs.Phases.{is_client, is_reader, ops_by}
 use Rattle.lab_card.specs.CardLines.{unplugs_by}
 use Rattle.lab_card.specs.Unplugs.{unplugs_by-ops_by}

@@ -2,8 +2,8 @@
 use Rattle.std.specs.Prelude.{◌≡◌, ℕ, ◌+◌, ◌≤◌, nat_lt, if◌then◌else◌, List, All, count_by, length}
 use Rattle.std.specs.Option.{option_copied}
 use Rattle.card_sim.specs.declared.card.Card.{Card}
-use Rattle.lab_script.specs.declared.line.Line.{Line}
-use Rattle.lab_script.specs.Script.{is_of_card}
+use Rattle.lab_lines.specs.declared.line.Line.{Line}
+use Rattle.lab_lines.specs.Script.{is_of_card}
 use Rattle.lab_run.specs.Phases.{ops_by}
 use Rattle.lab_actor.specs.ClientLines.{IsFew}
 use Rattle.lab_actor.specs.ReaderLines.{IsFewRead}

@@ -12,11 +12,11 @@ use Rattle.wav_io.specs.Sound.{Sound}
 use Rattle.card_player.specs.Plays.{at_frame, behind_words, words_at}
 use Rattle.card_player.specs.PlayLaws.{behind_words-append, words_at-append}
 use Rattle.card_sim.specs.Runs.{records_of}
-use Rattle.lab_script.specs.declared.line.Line.{Line}
-use Rattle.lab_script.specs.declared.line.Op.{Op}
-use Rattle.lab_script.specs.Limits.{IsLine}
-use Rattle.lab_script.specs.Script.{is_of_card}
-use Rattle.lab_report.specs.declared.row.Row.{Row}
+use Rattle.lab_lines.specs.declared.line.Line.{Line}
+use Rattle.lab_lines.specs.declared.line.Op.{Op}
+use Rattle.lab_lines.specs.Limits.{IsLine}
+use Rattle.lab_lines.specs.Script.{is_of_card}
+use Rattle.lab_lines.specs.declared.row.Row.{Row}
 use Rattle.lab_run.specs.Client.{Client}
 use Rattle.lab_run.specs.Items.{phase_end}
 use Rattle.lab_run.specs.Phases.{ops_by}

@@ -5,7 +5,7 @@ use Rattle.mix_core.specs.History.{AreExact, AreInOrder}
 use Rattle.mix_core.specs.declared.port.Entry.{Entry}
 use Rattle.sum_table.specs.Players.{track_of}
 use Rattle.card_sim.specs.declared.card.Card.{Card}
-use Rattle.lab_script.specs.Script.{first_frame}
+use Rattle.lab_lines.specs.Script.{first_frame}
 use Rattle.lab_run.specs.Client.{Client}
 use Rattle.lab_run.specs.Items.{Held}
 use Rattle.lab_run.specs.LabRun as runs

@@ -6,12 +6,11 @@ use Rattle.std.proofs.lemmas.Bool.{lt-ltb}
 use Rattle.std.proofs.lemmas.List.{length-append}
 use Rattle.wav_io.specs.Sound.{Sound}
 use Rattle.card_sim.specs.Runs.{records_of}
-use Rattle.lab_script.specs.declared.line.Line.{Line}
-use Rattle.lab_script.specs.declared.line.Op.{Op}
-use Rattle.lab_script.specs.Limits.{IsPhase}
-use Rattle.lab_script.specs.Ops.{played_by}
-use Rattle.lab_script.specs.Script.{is_of_card}
-use Rattle.lab_report.specs.declared.row.Row.{Row}
+use Rattle.lab_lines.specs.declared.line.Line.{Line}
+use Rattle.lab_lines.specs.declared.line.Op.{Op}
+use Rattle.lab_lines.specs.Limits.{IsPhase}
+use Rattle.lab_lines.specs.Script.{is_of_card, played_by}
+use Rattle.lab_lines.specs.declared.row.Row.{Row}
 use Rattle.lab_run.specs.Client.{Client}
 use Rattle.lab_run.specs.Items.{PhaseMay, held_of, phase_end}
 use Rattle.lab_run.specs.Phases.{card_rows, ops_by}

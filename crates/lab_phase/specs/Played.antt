@@ -13,7 +13,7 @@ use Rattle.mix_core.specs.declared.port.Entry.{Entry}
 use Rattle.mix_core.specs.History.{AreExact, AreInOrder, taken_place}
 use Rattle.mix_core.specs.Laid.{total}
 use Rattle.card_player.specs.Plays.{words_at}
-use Rattle.lab_script.specs.Script.{first_frame}
+use Rattle.lab_lines.specs.Script.{first_frame}
 use Rattle.lab_run.specs.LabRun.{entries_of, mix_of, mixed_at}
 use Rattle.lab_run.specs.Stage.{Session}
 

@@ -2,9 +2,9 @@
 use Rattle.std.specs.Prelude.{◌≡◌, ℕ, ◌+◌, ◌-◌, List, [], ◌∷◌, map, Option}
 use Rattle.std.proofs.Common.{sym, subst, arith}
 use Rattle.snd_base.specs.declared.geometry.Geometry.{Geometry}
-use Rattle.lab_script.specs.declared.line.Actor.TheVariants as actor
-use Rattle.lab_script.specs.declared.line.Item.{Item}
-use Rattle.lab_script.specs.declared.line.Item.TheVariants as item
+use Rattle.lab_lines.specs.declared.line.Actor.TheVariants as actor
+use Rattle.lab_lines.specs.declared.line.Item.{Item}
+use Rattle.lab_lines.specs.declared.line.Item.TheVariants as item
 use Rattle.lab_run.specs.Client.{Client}
 use Rattle.lab_run.specs.Items.{ItemMay}
 use Rattle.lab_run.specs.LabRun.{AreWithin}

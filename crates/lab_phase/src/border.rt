@@ -1,14 +1,13 @@
 //! The openings and closings of a script's body.
 use crate::lab::Lab;
 use crate::seats::{open_beside, put_card};
-use lab_report::Row;
-use lab_script::{Actor, Item};
+use lab_lines::{Actor, Item, Row};
 use snd_base::PcmError;
 
 impl<'r> Lab<'r, '_> {
     ghost use Rattle.std.specs.Prelude.{◌≡◌, ◌<◌, IfErr, IfOk, OnErr, OnOk, length};
-    ghost use Rattle.lab_script.specs.declared.line.Actor.TheVariants as whose;
-    ghost use Rattle.lab_script.specs.Limits.{IsBorder};
+    ghost use Rattle.lab_lines.specs.declared.line.Actor.TheVariants as whose;
+    ghost use Rattle.lab_lines.specs.Limits.{IsBorder};
     ghost use Rattle.lab_run.specs.Stage.{after_close, after_open};
     ghost use Rattle.lab_actor.specs.Room.{HasSpace};
     ghost use Rattle.lab_phase.specs.AtStage.{AddsRow, DoesItem, DoesRow, HasEndRoom, IsNextItem, IsBorderItem, IsLab, border_after, played_of, session_of};

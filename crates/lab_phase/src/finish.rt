@@ -10,7 +10,7 @@ ghost use Rattle.lab_phase.specs.Ended.{HaveAllPlaces, IsMixBy};
 
 use card_sim::Card;
 use lab_clients::LabClients;
-use lab_report::{Report, Row, Rows, Runs, Segments};
+use lab_lines::{Report, Row, Rows, Runs, Segments};
 use snd_base::Segment;
 
 /// What a run leaves: its report, the samples that the card played, and each reader's samples, all interleaved.

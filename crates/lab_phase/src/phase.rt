@@ -1,6 +1,6 @@
 //! The phases of the script's body.
 ghost use Rattle.std.specs.Prelude.{◌≡◌, [], IfErr, OnErr, OnOk, length};
-ghost use Rattle.lab_script.specs.Script.{is_of_card};
+ghost use Rattle.lab_lines.specs.Script.{is_of_card};
 ghost use Rattle.lab_run.specs.Phases.{ops_by};
 ghost use Rattle.lab_card.specs.declared.card.CardActor.{CardActor};
 ghost use Rattle.lab_card.specs.Room.{FitsRing};
@@ -14,10 +14,9 @@ use crate::lab::Lab;
 use crate::steps::{Asked, run_lines, take_room, take_rows};
 use lab_card::{CardActor, line_count};
 use lab_clients::LabClients;
+use lab_lines::{Line, Row};
 use lab_readers::LabReaders;
-use lab_report::Row;
 use lab_run::{last_frames_are_own, members_are_unreported, parts_are_runs, runs_are_of_scripts};
-use lab_script::Line;
 use mix_core::Gate;
 use snd_base::PcmError;
 use std::marker::{Send, Sync};
@@ -80,8 +79,8 @@ fn run_together<R: Threads + Sync, G: Gate + Send>(
 
 impl<'r> Lab<'r, '_> {
     ghost use Rattle.std.specs.Prelude.{◌≡◌, ◌≢◌, ◌≤◌, ◌<◌, IfErr, OnErr, OnOk, length};
-    ghost use Rattle.lab_script.specs.declared.line.Item.TheVariants as item;
-    ghost use Rattle.lab_script.specs.Script.{is_of_card};
+    ghost use Rattle.lab_lines.specs.declared.line.Item.TheVariants as item;
+    ghost use Rattle.lab_lines.specs.Script.{is_of_card};
     ghost use Rattle.lab_run.specs.Phases.{ops_by};
     ghost use Rattle.lab_clients.specs.Reaped.{AreDoneInRun};
     ghost use Rattle.lab_readers.specs.AtStage.{AreOfRing};

@@ -3,7 +3,7 @@ ghost use Rattle.std.specs.Prelude.{◌≡◌, ◌<◌, IfErr, IfOk, IfSome, OnE
 ghost use Rattle.std.specs.Option.{option_copied};
 ghost use Rattle.sum_table.specs.Joins.{OneRing};
 ghost use Rattle.sum_table.specs.Players.{player_key, player_ring};
-ghost use Rattle.lab_script.specs.declared.line.Actor.TheVariants as whose;
+ghost use Rattle.lab_lines.specs.declared.line.Actor.TheVariants as whose;
 ghost use Rattle.lab_run.specs.Stage.{Session, Stage, after_open};
 ghost use Rattle.lab_setup.specs.Usable.{IsUsable};
 ghost use Rattle.lab_card.specs.Moves.{frame_of_card, seat_of_card};
@@ -18,7 +18,7 @@ use card_player::CardPlayer;
 use card_sim::Card;
 use lab_card::CardActor;
 use lab_clients::LabClients;
-use lab_report::Row;
+use lab_lines::Row;
 use lab_setup::Opening;
 use snd_base::PcmError;
 use std::alloc::Global;

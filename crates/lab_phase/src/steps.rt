@@ -1,7 +1,7 @@
 //! The steps of a phase in which clients or readers have lines.
 ghost use Rattle.std.specs.Prelude.{◌≡◌, ◌≤◌, ◌++◌, IfErr, OnErr, OnOk, drop, length, take};
 ghost use Rattle.std.specs.Thread.{IsSend, IsSync};
-ghost use Rattle.lab_script.specs.Script.{is_of_card};
+ghost use Rattle.lab_lines.specs.Script.{is_of_card};
 ghost use Rattle.lab_run.specs.Phases.{ops_by};
 ghost use Rattle.lab_actor.specs.Room.{HasSpace};
 ghost use Rattle.lab_card.specs.Room.{FitsRing};
@@ -10,9 +10,8 @@ ghost use Rattle.lab_phase.specs.PhaseSteps.{AreSameButRoom, CardHasRun, Clients
 
 use lab_card::{CardActor, line_count};
 use lab_clients::LabClients;
+use lab_lines::{Line, Row};
 use lab_readers::LabReaders;
-use lab_report::Row;
-use lab_script::Line;
 use mix_core::Gate;
 use snd_base::PcmError;
 use std::marker::{Send, Sync};

@@ -3,7 +3,7 @@ use Rattle.std.proofs.Common.{◌≡◌, ℕ, List, ◌∷◌, Option, None, Som
 use Rattle.snd_base.specs.declared.errors.PcmError.{PcmError}
 use Rattle.dshare.specs.Owners.{AreFree, ClaimRow, busy, claimed}
 use Rattle.dshare.specs.Shared.{Ownership, StandsFor}
-use Rattle.lab_script.specs.declared.script.Share.TheVariants.{Dshare}
+use Rattle.lab_lines.specs.declared.script.Share.TheVariants.{Dshare}
 use Rattle.lab_run.specs.Claims.{ClaimIsOwners, claim_refusal}
 use Rattle.lab_places.specs.Held.{IsClaimed}
 

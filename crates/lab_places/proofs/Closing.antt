@@ -7,7 +7,7 @@ use Rattle.lobby.specs.declared.lobby.Lobby.{Lobby as Free}
 use Rattle.lobby.specs.Lobbies.{TakesBack, free_seats, seen_of_lobby}
 use Rattle.lobby.specs.Seats as seats
 use Rattle.dshare.specs.Shared as shared
-use Rattle.lab_script.specs.declared.script.Share.{Share}
+use Rattle.lab_lines.specs.declared.script.Share.{Share}
 use Rattle.lab_run.specs.Claims.{with_release}
 use Rattle.lab_run.specs.Items.{Held}
 use Rattle.lab_run.specs.PortSteps.{last_from}

@@ -4,7 +4,7 @@ use Rattle.std.specs.Result.{IsErrAnd, is_err}
 use Rattle.snd_base.specs.declared.errors.PcmError.{PcmError}
 use Rattle.sum_table.specs.declared.seats.mix.MixSeat.{MixSeat}
 use Rattle.dshare.specs.Shared.{StandsFor}
-use Rattle.lab_script.specs.declared.script.Share.{Share}
+use Rattle.lab_lines.specs.declared.script.Share.{Share}
 use Rattle.lab_run.specs.Claims.{claim_refusal, with_claim}
 use Rattle.lab_run.specs.Items.{Held}
 use Rattle.lobby.specs.declared.lobby.Lobby.{Lobby as Free}

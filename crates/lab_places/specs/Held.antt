@@ -15,8 +15,8 @@ use Rattle.lobby.specs.Lobbies.{CanTakeBack, free_seats, key_of_lobby, ring_of_l
 use Rattle.lobby.specs.Seats as seats
 use Rattle.dshare.specs.Owners.{ClaimRow}
 use Rattle.dshare.specs.Shared as shared
-use Rattle.lab_script.specs.declared.script.Share.{Share}
-use Rattle.lab_script.specs.declared.script.Share.TheVariants.{Dmix, Dshare}
+use Rattle.lab_lines.specs.declared.script.Share.{Share}
+use Rattle.lab_lines.specs.declared.script.Share.TheVariants.{Dmix, Dshare}
 use Rattle.lab_run.specs.Claims.{claim_refusal, with_claim, with_release}
 use Rattle.lab_run.specs.Items.{Held}
 use Rattle.lab_run.specs.Places.{Lobby, Place, after_attach, is_free, is_held_by, last_of, left_by, new_lobby}

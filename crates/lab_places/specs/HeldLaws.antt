@@ -12,7 +12,7 @@ use Rattle.sum_table.specs.declared.seats.mix.MixSeat.{MixSeat}
 use Rattle.sum_table.specs.Seats.{member_of, places_of_seat}
 use Rattle.lobby.specs.Lobbies.{CanTakeBack, free_seats}
 use Rattle.lobby.specs.Seats as seats
-use Rattle.lab_script.specs.declared.script.Share.{Share}
+use Rattle.lab_lines.specs.declared.script.Share.{Share}
 use Rattle.lab_run.specs.Claims.{claim_refusal, with_claim}
 use Rattle.lab_run.specs.Items.{Held}
 use Rattle.lab_run.specs.Places.{Lobby, Place, attached_by, held_by, is_below, is_free, is_held_by, is_silent, last_of, least_last, left_place, place_after}

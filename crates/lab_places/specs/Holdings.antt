@@ -8,7 +8,7 @@ use Rattle.sum_table.specs.declared.seats.mix.MixSeat.{MixSeat}
 use Rattle.sum_table.specs.Seats.{member_of, places_of_seat}
 use Rattle.dshare.specs.Owners.{ClaimRow}
 use Rattle.dshare.specs.Shared.{AreOfCard}
-use Rattle.lab_script.specs.declared.script.Share.{Share}
+use Rattle.lab_lines.specs.declared.script.Share.{Share}
 use Rattle.lab_run.specs.Items.{Held}
 use Rattle.lab_places.specs.declared.places.Places.{Places}
 use Rattle.lab_places.specs.Held.{CanClose, HoldsNone, HoldsPlace, IsHeldBy, closed_held, new_held, opened_held, share_of, shares_of}

@@ -8,8 +8,8 @@ use Rattle.std.proofs.lemmas.Bool.Decides.{nat_tests}
 use Rattle.std.proofs.lemmas.List.Elements.{All-from_recursion, recursion_from_All}
 use Rattle.dshare.specs.Owners.{ClaimRow, busy, has_channel, last_frames, owner_of}
 use Rattle.dshare.specs.Shared as shared
-use Rattle.lab_script.specs.declared.script.Share.{Share}
-use Rattle.lab_script.specs.declared.script.Share.TheVariants.{Dmix, Dshare}
+use Rattle.lab_lines.specs.declared.script.Share.{Share}
+use Rattle.lab_lines.specs.declared.script.Share.TheVariants.{Dmix, Dshare}
 use Rattle.lab_run.specs.Claims.{claim_refusal, is_free_channel, with_claim, with_release}
 use Rattle.lab_run.specs.Items.{Held}
 use Rattle.lab_places.specs.declared.places.Places.{Places}

@@ -5,9 +5,9 @@ use Rattle.snd_base.specs.declared.errors.PcmError.{PcmError}
 use Rattle.mix_core.specs.Marks.{high_frame}
 use Rattle.pcm_states.specs.declared.states.State.TheVariants as state
 use Rattle.dmix_client.specs.declared.stream.PlaybackStream.{PlaybackStream}
-use Rattle.lab_script.specs.declared.line.Actor.TheVariants as actor
-use Rattle.lab_script.specs.declared.line.Op.TheVariants as op
-use Rattle.lab_report.specs.declared.row.Answer.TheVariants.{Done}
+use Rattle.lab_lines.specs.declared.line.Actor.TheVariants as actor
+use Rattle.lab_lines.specs.declared.line.Op.TheVariants as op
+use Rattle.lab_lines.specs.declared.row.Answer.TheVariants.{Done}
 use Rattle.lab_run.specs.Claims.{claim_refusal}
 use Rattle.lab_run.specs.Client.{Client}
 use Rattle.lab_run.specs.Items.{Held, held_of, held_without, reaped_one}

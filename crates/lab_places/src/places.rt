@@ -9,8 +9,8 @@ ghost use Rattle.lab_places.specs.Held.{HasMetPlayer};
 
 use bindings::Bindings;
 use dshare::Shares;
+use lab_lines::Share;
 use lab_run::claims_are_of_owners;
-use lab_script::Share;
 use lobby::Lobby;
 use mix_core::MixPort;
 use snd_base::PcmError;

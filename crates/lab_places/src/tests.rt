@@ -9,7 +9,7 @@ ghost use Rattle.lab_places.specs.Held.{key_of_places, ring_of_places, shares_of
 
 use super::*;
 use bindings::Bindings;
-use lab_script::Share;
+use lab_lines::Share;
 use mix_core::{MixPort, NeverStops, Placed};
 use snd_base::{Geometry, PcmError};
 use std::alloc::Global;

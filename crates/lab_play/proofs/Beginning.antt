@@ -17,9 +17,9 @@ use Rattle.lab_phase.specs.StopLaws.{AreStopsOf-first}
 use Rattle.lab_run.specs.LabRun.{recorded_from}
 use Rattle.lab_run.specs.Openings.{AreReaderOpenings}
 use Rattle.lab_run.specs.Stage.{Session, Setup, Stage, first_stage, no_reader}
-use Rattle.lab_script.specs.declared.script.CardLine.{CardLine}
-use Rattle.lab_script.specs.declared.script.ReaderLine.{ReaderLine}
-use Rattle.lab_script.specs.declared.script.Script.{Script}
+use Rattle.lab_lines.specs.declared.script.CardLine.{CardLine}
+use Rattle.lab_lines.specs.declared.script.ReaderLine.{ReaderLine}
+use Rattle.lab_lines.specs.declared.script.Script.{Script}
 use Rattle.lab_shelf.specs.Changes.{Changes}
 use Rattle.lab_shelf.specs.Files.{Files, TookPart}
 use Rattle.lab_play.specs.Ends.{IsNewRun}

@@ -19,16 +19,16 @@ use Rattle.lab_phase.specs.AtStage.{capture_of, items_done, played_of, session_o
 use Rattle.lab_phase.specs.Ended.{HasPlayedMix, LeavesRun, LeavesStage, outcome_in}
 use Rattle.lab_phase.specs.PhaseRuns.{Stops}
 use Rattle.lab_phase.specs.StopLaws.{AreWithin-counted}
-use Rattle.lab_report.specs.declared.report.Report.{Report}
-use Rattle.lab_report.specs.declared.row.Row.{Row}
+use Rattle.lab_lines.specs.declared.report.Report.{Report}
+use Rattle.lab_lines.specs.declared.row.Row.{Row}
 use Rattle.lab_report.specs.Text.{IsReportOf, report_text, row_line, tail_text}
 use Rattle.lab_rows.specs.Reports.{OutcomesAreOfScripts}
 use Rattle.lab_run.specs.LabRun.{LabRun, Outcome, outcome_of, recorded_from}
 use Rattle.lab_run.specs.Openings.{IsSessionOf}
 use Rattle.lab_run.specs.Stage.{Session, Stage}
-use Rattle.lab_script.specs.declared.line.Item.{Item}
-use Rattle.lab_script.specs.declared.script.Script.{Script}
-use Rattle.lab_script.specs.Limits.{IsScript}
+use Rattle.lab_lines.specs.declared.line.Item.{Item}
+use Rattle.lab_lines.specs.declared.script.Script.{Script}
+use Rattle.lab_lines.specs.Limits.{IsScript}
 use Rattle.lab_shelf.specs.Changes.{Changes, TookPart-all, TookPart-then}
 use Rattle.lab_shelf.specs.Files.{Files, TookPart}
 use Rattle.lab_stop.specs.declared.stop.Stop.{Stop}

@@ -11,11 +11,11 @@ use Rattle.std.proofs.lemmas.List.{take-append-drop}
 use Rattle.std.proofs.lemmas.List.Concat.{flat_map-append}
 use Rattle.snd_base.specs.Places as rings
 use Rattle.wav_io.specs.Sound.{Sound}
-use Rattle.lab_script.specs.declared.line.Item.{Item}
-use Rattle.lab_script.specs.declared.script.CardLine.{CardLine}
-use Rattle.lab_script.specs.declared.script.Script.{Script}
-use Rattle.lab_script.specs.Script.{first_frame}
-use Rattle.lab_report.specs.declared.row.Row.{Row}
+use Rattle.lab_lines.specs.declared.line.Item.{Item}
+use Rattle.lab_lines.specs.declared.script.CardLine.{CardLine}
+use Rattle.lab_lines.specs.declared.script.Script.{Script}
+use Rattle.lab_lines.specs.Script.{first_frame}
+use Rattle.lab_lines.specs.declared.row.Row.{Row}
 use Rattle.lab_report.specs.Text.{row_line, tail_text}
 use Rattle.lab_run.specs.LabRun.{all_segments, entries_of, mix_of, mixed_at, recorded_from, report_of}
 use Rattle.lab_run.specs.Openings.{IsSessionOf}

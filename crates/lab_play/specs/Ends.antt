@@ -1,6 +1,6 @@
 -- The beginning of a run, and its end.
 use Rattle.std.specs.Prelude.{◌≡◌, ℕ, List, [], Option, IsSome}
-use Rattle.lab_script.specs.declared.script.Script.{Script}
+use Rattle.lab_lines.specs.declared.script.Script.{Script}
 use Rattle.lab_run.specs.LabRun.{Outcome}
 use Rattle.lab_run.specs.Stage.{first_stage}
 use Rattle.lab_input.specs.Input.{RunInput}

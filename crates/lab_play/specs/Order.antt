@@ -6,10 +6,10 @@
 --     RowsFollowFrames      one of these, or nothing was put but the first line
 use Rattle.std.specs.Prelude.{◌≡◌, ◌⊎◌, ℕ, ℤ, List, [], ◌∷◌, Option}
 use Rattle.std.specs.Option.{option_map}
-use Rattle.lab_script.specs.declared.line.Item.{Item}
-use Rattle.lab_script.specs.declared.line.Item.TheVariants as item
-use Rattle.lab_script.specs.declared.line.Line.{Line}
-use Rattle.lab_script.specs.declared.script.Script.{Script}
+use Rattle.lab_lines.specs.declared.line.Item.{Item}
+use Rattle.lab_lines.specs.declared.line.Item.TheVariants as item
+use Rattle.lab_lines.specs.declared.line.Line.{Line}
+use Rattle.lab_lines.specs.declared.script.Script.{Script}
 use Rattle.lab_run.specs.Items.{ItemMay}
 use Rattle.lab_run.specs.ScriptWords.{IsReached}
 use Rattle.lab_run.specs.Stage.{Session, Stage}

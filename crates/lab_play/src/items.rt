@@ -1,6 +1,6 @@
 //! The items of a script's body, one after the other.
 ghost use Rattle.std.specs.Prelude.{◌≡◌, ◌≢◌, ◌+◌, ◌≤◌, Err, IfErr, OnErr, OnOk, length};
-ghost use Rattle.lab_script.specs.declared.line.Item.TheVariants as item;
+ghost use Rattle.lab_lines.specs.declared.line.Item.TheVariants as item;
 ghost use Rattle.lab_stop.specs.Stops.{IsWriteStop};
 ghost use Rattle.lab_stop.specs.declared.stop.Stop.TheVariants as stops;
 ghost use Rattle.lab_phase.specs.AtStage.{DoesItem, IsBorderItem, IsLab, IsNextItem, IsSameScript, items_done, played_of};
@@ -9,10 +9,10 @@ ghost use Rattle.lab_play.specs.Counts.{PlayFaults};
 ghost use Rattle.lab_play.specs.Playing.{CanPlay, SceneGoesOn, IsKnownRun, StaysWritten, StopsAt, scene};
 
 use crate::write::write_phase;
+use lab_lines::{Item, Line, Script};
 use lab_output::Outputs;
 use lab_phase::Lab;
 use lab_rows::stages_grow;
-use lab_script::{Item, Line, Script};
 use lab_shelf::{Shelf, Sink};
 use lab_stop::Stop;
 use mix_core::Gate;

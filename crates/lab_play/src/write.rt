@@ -13,10 +13,10 @@ ghost use Rattle.lab_play.specs.Appending.{CanAppend};
 ghost use Rattle.lab_play.specs.Counts.{PlayFaults};
 ghost use Rattle.lab_play.specs.Playing.{CanCatchUp, CatchesUp, IsKnownBehind, StopsBehind, scene, sounds_at};
 
+use lab_lines::Script;
 use lab_output::Outputs;
 use lab_phase::Lab;
 use lab_rows::{stages_have_rows, stages_have_sizes};
-use lab_script::Script;
 use lab_shelf::{Shelf, Sink};
 use lab_stop::Stop;
 use std::alloc::Global;

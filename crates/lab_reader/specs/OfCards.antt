@@ -8,7 +8,7 @@ use Rattle.snoop_table.specs.Readers.{geometry_of, ring_of}
 use Rattle.snoop_table.specs.Writers.{writer_geometry, writer_ring}
 use Rattle.card_sim.specs.declared.card.Card.{Card}
 use Rattle.card_sim.specs.Runs.{writer_of}
-use Rattle.lab_script.specs.declared.line.Line.{Line}
+use Rattle.lab_lines.specs.declared.line.Line.{Line}
 use Rattle.lab_run.specs.Phases.{played_in}
 use Rattle.lab_run.specs.Rules.{AtPort}
 use Rattle.lab_card.specs.MeetLaws.{IsReaderOf-moved, IsReaderOf-same}

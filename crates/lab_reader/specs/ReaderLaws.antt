@@ -13,7 +13,7 @@ use Rattle.dsnoop_client.specs.Reads.{through_all}
 use Rattle.dsnoop_client.specs.View.{CanUse}
 use Rattle.wav_io.specs.Sound.{Sound}
 use Rattle.card_sim.specs.declared.card.Card.{Card}
-use Rattle.lab_script.specs.declared.line.Line.{Line}
+use Rattle.lab_lines.specs.declared.line.Line.{Line}
 use Rattle.lab_run.specs.Phases.{is_reader, ops_by, played_in}
 use Rattle.lab_run.specs.Rules.{AtPort}
 use Rattle.lab_run.specs.Stage.{Setup, new_port, opened_reader}

@@ -12,7 +12,7 @@ use Rattle.dsnoop_client.specs.Reads.{through_all}
 use Rattle.wav_io.specs.Sound.{Sound}
 use Rattle.card_sim.specs.declared.card.Card.{Card}
 use Rattle.card_sim.specs.Runs.{records_of, writer_of}
-use Rattle.lab_script.specs.Script as scripts
+use Rattle.lab_lines.specs.Script as scripts
 use Rattle.lab_run.specs.LabRun.{bindings_of, captured_sample, recorded_by}
 use Rattle.lab_run.specs.Stage.{Session}
 use Rattle.lab_actor.specs.declared.reader.ReaderActor.{ReaderActor}

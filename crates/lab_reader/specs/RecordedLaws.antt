@@ -26,9 +26,9 @@ use Rattle.dsnoop_client.specs.Reads.{bound_samples, through_all}
 use Rattle.wav_io.specs.Sound.{Sound}
 use Rattle.card_sim.specs.declared.card.Card.{Card}
 use Rattle.card_sim.specs.Runs.{captured_if, records_of, writer_of}
-use Rattle.lab_script.specs.declared.line.Line.{Line}
-use Rattle.lab_script.specs.declared.line.Op.{Op}
-use Rattle.lab_script.specs.Script.{is_of_card}
+use Rattle.lab_lines.specs.declared.line.Line.{Line}
+use Rattle.lab_lines.specs.declared.line.Op.{Op}
+use Rattle.lab_lines.specs.Script.{is_of_card}
 use Rattle.lab_run.specs.Phases.{is_reader, ops_by, played_in}
 use Rattle.lab_actor.specs.declared.reader.ReaderActor.{ReaderActor}
 use Rattle.lab_actor.specs.FrameRuns.{frames_of_runs}

@@ -4,9 +4,9 @@ use Rattle.snoop_table.specs.declared.seats.reader.ReaderSeat.{ReaderSeat}
 use Rattle.snoop_table.specs.Readers.{SameReader, geometry_of, seat_view}
 use Rattle.dsnoop_client.specs.View.{CanUse}
 use Rattle.card_sim.specs.declared.card.Card.{Card}
-use Rattle.lab_script.specs.declared.line.Actor.TheVariants as actor
-use Rattle.lab_script.specs.declared.line.Line.{Line}
-use Rattle.lab_script.specs.declared.line.Op.{Op}
+use Rattle.lab_lines.specs.declared.line.Actor.TheVariants as actor
+use Rattle.lab_lines.specs.declared.line.Line.{Line}
+use Rattle.lab_lines.specs.declared.line.Op.{Op}
 use Rattle.lab_run.specs.Phases.{played_in}
 use Rattle.lab_run.specs.Stage.{Setup, opened_reader}
 use Rattle.lab_actor.specs.declared.reader.ReaderActor.{ReaderActor}

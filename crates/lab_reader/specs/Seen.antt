@@ -18,8 +18,8 @@ use Rattle.snoop_table.specs.Writers.{writer_geometry, writer_track}
 use Rattle.wav_io.specs.Sound.{Sound}
 use Rattle.card_sim.specs.declared.card.Card.{Card}
 use Rattle.card_sim.specs.Runs.{records_of, writer_of}
-use Rattle.lab_script.specs.declared.line.Line.{Line}
-use Rattle.lab_script.specs.Script.{is_of_card}
+use Rattle.lab_lines.specs.declared.line.Line.{Line}
+use Rattle.lab_lines.specs.Script.{is_of_card}
 use Rattle.lab_run.specs.Phases.{ops_by, played_in}
 use Rattle.lab_actor.specs.Progress.{SeesAtMost}
 use Rattle.lab_card.specs.declared.card.CardActor.{CardActor}

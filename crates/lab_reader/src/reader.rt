@@ -1,6 +1,6 @@
 //! One reader of a script, whether it is open or not.
 ghost use Rattle.std.specs.Prelude.{◌≡◌, ◌≢◌, ◌++◌, ◌<◌, ◌≤◌, ◌∷◌, ◌↔◌, [], All, IfErr, IfOk, IsSome, IsTrue, None, OnErr, OnOk, Some, length, vec_capacity, vec_len};
-ghost use Rattle.lab_script.specs.declared.line.Line.{Line};
+ghost use Rattle.lab_lines.specs.declared.line.Line.{Line};
 ghost use Rattle.lab_run.specs.Items.{is_reader_stopped};
 ghost use Rattle.lab_run.specs.LabRun.{runs_of};
 ghost use Rattle.lab_run.specs.Reader.{row_by};
@@ -18,8 +18,7 @@ use card_sim::Card;
 use dsnoop_client::Reader;
 use lab_actor::{FrameRuns, ReaderActor, line_count, refuse_lines};
 use lab_card::{hear_reader, inform_reader};
-use lab_report::{Answer, Row};
-use lab_script::{Actor, Line, Op};
+use lab_lines::{Actor, Answer, Line, Op, Row};
 use lab_setup::Opening;
 use mix_core::Gate;
 use pcm_states::State;

@@ -8,11 +8,11 @@ use Rattle.snoop_table.specs.Readers.{SameReader}
 use Rattle.pcm_states.specs.declared.states.State.TheVariants as state
 use Rattle.dsnoop_client.specs.declared.stream.CaptureStream.{CaptureStream}
 use Rattle.wav_io.specs.Sound.{Sound}
-use Rattle.lab_script.specs.declared.line.Actor.TheVariants as actor
-use Rattle.lab_script.specs.declared.line.Op.{Op}
-use Rattle.lab_script.specs.declared.line.Op.TheVariants as op
-use Rattle.lab_report.specs.declared.row.Answer.TheVariants.{Done}
-use Rattle.lab_report.specs.declared.row.Row.{Row}
+use Rattle.lab_lines.specs.declared.line.Actor.TheVariants as actor
+use Rattle.lab_lines.specs.declared.line.Op.{Op}
+use Rattle.lab_lines.specs.declared.line.Op.TheVariants as op
+use Rattle.lab_lines.specs.declared.row.Answer.TheVariants.{Done}
+use Rattle.lab_lines.specs.declared.row.Row.{Row}
 use Rattle.lab_run.specs.Reader.{Reader, row_by}
 use Rattle.lab_run.specs.Stage.{Session, Setup, Stage, after_close, after_open}
 use Rattle.lab_reader.specs.declared.reader.LabReader.{LabReader}

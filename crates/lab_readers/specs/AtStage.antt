@@ -6,8 +6,8 @@ use Rattle.snd_base.specs.Places as rings
 use Rattle.snoop_table.specs.declared.seats.reader.ReaderSeat.{ReaderSeat}
 use Rattle.snoop_table.specs.Readers as seats
 use Rattle.wav_io.specs.Sound.{Sound}
-use Rattle.lab_script.specs.Script.{first_frame}
-use Rattle.lab_report.specs.declared.row.Row.{Row}
+use Rattle.lab_lines.specs.Script.{first_frame}
+use Rattle.lab_lines.specs.declared.row.Row.{Row}
 use Rattle.lab_run.specs.Items.{is_reader_stopped}
 use Rattle.lab_run.specs.LabRun.{bindings_of}
 use Rattle.lab_run.specs.Reader.{Reader}

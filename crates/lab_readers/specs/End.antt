@@ -8,7 +8,7 @@ use Rattle.snd_base.specs.Places as rings
 use Rattle.snoop_table.specs.declared.seats.reader.ReaderSeat.{ReaderSeat}
 use Rattle.snoop_table.specs.Readers as seats
 use Rattle.wav_io.specs.Sound.{Sound}
-use Rattle.lab_script.specs.Script.{first_frame}
+use Rattle.lab_lines.specs.Script.{first_frame}
 use Rattle.lab_run.specs.LabRun.{all_runs, with_numbers, recorded_by, recorded_from, runs_of}
 use Rattle.lab_run.specs.Reader.{Reader}
 use Rattle.lab_run.specs.Rules.{AtPort}

@@ -9,8 +9,8 @@ use Rattle.snoop_table.specs.Readers as seats
 use Rattle.wav_io.specs.Sound.{Sound}
 use Rattle.card_sim.specs.declared.card.Card.{Card}
 use Rattle.card_sim.specs.Runs.{records_of}
-use Rattle.lab_script.specs.declared.line.Line.{Line}
-use Rattle.lab_report.specs.declared.row.Row.{Row}
+use Rattle.lab_lines.specs.declared.line.Line.{Line}
+use Rattle.lab_lines.specs.declared.row.Row.{Row}
 use Rattle.lab_run.specs.ActorPart.{PartsAreRuns}
 use Rattle.lab_run.specs.Items.{reader_kinds, rules_of}
 use Rattle.lab_run.specs.LabRun.{bindings_of}

@@ -9,9 +9,8 @@ ghost use Rattle.lab_readers.specs.AtStage.{IsLaterSpare, IsOfRing};
 ghost use Rattle.lab_readers.specs.Opening.{AreNew, HasClosing, HasOpening};
 
 use crate::readers::LabReaders;
+use lab_lines::{Answer, Op, Row};
 use lab_reader::LabReader;
-use lab_report::{Answer, Row};
-use lab_script::Op;
 use lab_setup::Opening;
 use pcm_states::State;
 use snd_base::{Geometry, PcmError, Why};
@@ -88,7 +87,7 @@ impl<'r> LabReaders<'r> {
     ghost use Rattle.std.specs.Option.{option_copied};
     ghost use Rattle.snoop_table.specs.Readers.{SameReader};
     ghost use Rattle.wav_io.specs.Sound.{Sound};
-    ghost use Rattle.lab_script.specs.declared.line.Actor.TheVariants as actor;
+    ghost use Rattle.lab_lines.specs.declared.line.Actor.TheVariants as actor;
     ghost use Rattle.lab_run.specs.Reader.{Reader};
     ghost use Rattle.lab_run.specs.Rules.{AtPort};
     ghost use Rattle.lab_run.specs.Stage.{Session, Stage, after_close, after_open, first_stage};

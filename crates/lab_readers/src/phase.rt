@@ -6,8 +6,7 @@ use crate::steps::{
 };
 use crate::threads::run_at_once;
 use card_sim::Card;
-use lab_report::Row;
-use lab_script::Line;
+use lab_lines::{Line, Row};
 use mix_core::Gate;
 use snd_base::PcmError;
 use std::marker::{Send, Sync};
@@ -17,7 +16,7 @@ impl LabReaders<'_> {
     ghost use Rattle.std.specs.Prelude.{◌≡◌, ◌++◌, ◌≤◌, All, IfErr, List, OnOk, Option, count_by, length, map, vec_capacity, ℕ};
     ghost use Rattle.std.specs.List.{flat_map};
     ghost use Rattle.wav_io.specs.Sound.{Sound};
-    ghost use Rattle.lab_script.specs.declared.line.Line.{Line};
+    ghost use Rattle.lab_lines.specs.declared.line.Line.{Line};
     ghost use Rattle.lab_run.specs.Items.{reaped_reader};
     ghost use Rattle.lab_run.specs.Reader.{Reader};
     ghost use Rattle.lab_run.specs.Rules.{AtPort};

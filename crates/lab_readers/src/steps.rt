@@ -1,7 +1,7 @@
 //! Lists of readers, in a phase.
 ghost use Rattle.std.specs.Prelude.{◌≡◌, ◌++◌, ◌≤◌, All, IfErr, OnOk, count_by, length, vec_capacity};
 ghost use Rattle.std.specs.List.{flat_map};
-ghost use Rattle.lab_script.specs.declared.line.Line.{Line};
+ghost use Rattle.lab_lines.specs.declared.line.Line.{Line};
 ghost use Rattle.lab_actor.specs.ReaderLines.{IsFewRead};
 ghost use Rattle.lab_actor.specs.Room.{HasSpace};
 ghost use Rattle.lab_actors.specs.Gates.{stops_at};
@@ -12,9 +12,8 @@ ghost use Rattle.lab_readers.specs.AtStage.{IsLaterSpare, IsOfRing};
 ghost use Rattle.lab_readers.specs.Steps.{HasKept, HasRowsTaken, HasTakenRoom, IsHeardBy, IsInformedBy, IsReady, IsReaped, RunsBehind, is_busy};
 
 use card_sim::Card;
+use lab_lines::{Line, Row};
 use lab_reader::LabReader;
-use lab_report::Row;
-use lab_script::Line;
 use mix_core::Gate;
 use snd_base::PcmError;
 use snoop_table::ReaderSeat;

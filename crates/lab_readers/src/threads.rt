@@ -1,14 +1,14 @@
 //! All readers of a script in a phase at once, each in a thread.
 ghost use Rattle.std.specs.Prelude.{◌≡◌, ◌≤◌, All, length};
-ghost use Rattle.lab_script.specs.declared.line.Line.{Line};
+ghost use Rattle.lab_lines.specs.declared.line.Line.{Line};
 ghost use Rattle.lab_actor.specs.ReaderLines.{IsFewRead};
 ghost use Rattle.lab_actors.specs.Gates.{stops_at};
 ghost use Rattle.lab_actors.specs.Walks.{AreEach};
 ghost use Rattle.lab_readers.specs.Steps.{IsReady, RunsBehind};
 
 use lab_actors::for_each_pair;
+use lab_lines::Line;
 use lab_reader::LabReader;
-use lab_script::Line;
 use mix_core::Gate;
 use std::marker::{Send, Sync};
 use std::thread::Threads;

@@ -6,15 +6,16 @@ use Rattle.std.proofs.lemmas.List.{append-nil, length-map}
 use Rattle.std.proofs.lemmas.List.Elements.{recursion_from_All}
 use Rattle.std.proofs.lemmas.Option.{slice_get_past}
 use Rattle.snd_base.specs.declared.places.Segment.{Segment}
-use Rattle.lab_script.specs.declared.script.Script.{Script}
-use Rattle.lab_script.specs.Limits.{IsScript}
-use Rattle.lab_report.specs.declared.report.Report.{Report}
-use Rattle.lab_report.specs.declared.request.Request.{Request}
-use Rattle.lab_report.specs.declared.row.Row.{Row}
+use Rattle.lab_lines.specs.declared.script.Script.{Script}
+use Rattle.lab_lines.specs.Limits.{IsScript}
+use Rattle.lab_lines.specs.declared.report.Report.{Report}
+use Rattle.lab_lines.specs.declared.request.Request.{Request}
+use Rattle.lab_lines.specs.declared.row.Row.{Row}
 use Rattle.lab_report.specs.Causes.{◌>>=◌}
 use Rattle.lab_report.specs.Reading.{State, nothing, tail_by, with_line, next_line, on_line, lines_after, report_in_text}
 use Rattle.lab_report.specs.Requests.{requests_of}
-use Rattle.lab_report.specs.Text.{client_name, reader_name, request_of_row, row_line, segment_line, run_line, played_line, report_text, IsRowOf, IsSegmentOf, IsRunOf, IsReportOf}
+use Rattle.lab_lines.specs.Rows.{request_of_row}
+use Rattle.lab_report.specs.Text.{client_name, reader_name, row_line, segment_line, run_line, played_line, report_text, IsRowOf, IsSegmentOf, IsRunOf, IsReportOf}
 use Rattle.lab_report.specs.Words.{lines_of, front_word}
 use Rattle.lab_report.proofs.Printed.{IsLineText, lines_of-line, lines_of-lines, front_word-printed}
 use Rattle.lab_report.specs.Ranges.{IsWide, IsRowInRange, IsSegmentInRange, IsRunInRange, IsReportInRange}

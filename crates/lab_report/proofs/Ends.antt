@@ -1,9 +1,9 @@
 -- A line whose end is read by a function of its own is read as word by word.
 use Rattle.std.proofs.Common.{◌≡◌, ℕ, List, refl, Result, Ok, Err}
 use Rattle.std.specs.List.{slice_split}
-use Rattle.lab_script.specs.declared.script.Script.{Script}
+use Rattle.lab_lines.specs.declared.script.Script.{Script}
 use Rattle.lab_report.specs.declared.error.ReportWhy.{ReportWhy}
-use Rattle.lab_report.specs.declared.request.Request.{Request}
+use Rattle.lab_lines.specs.declared.request.Request.{Request}
 use Rattle.lab_report.specs.Answers.{answer_at, state_at}
 use Rattle.lab_report.specs.Causes.{◌>>=◌}
 use Rattle.lab_report.specs.Reading.{row_of_line, row_after_front, row_end, client_and_rest, reader_and_rest, segment_at, segment_end, run_at, played_run}

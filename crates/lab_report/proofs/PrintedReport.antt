@@ -8,12 +8,12 @@ use Rattle.std.proofs.lemmas.List.Sums.{position_or_len_is}
 use Rattle.std.proofs.lemmas.Option.{get_or_from_slice_get}
 use Rattle.std.proofs.lemmas.Slice.Eq.{bytes_eq-Decides}
 use Rattle.snd_base.specs.declared.places.Segment.{Segment}
-use Rattle.lab_script.specs.declared.script.ClientLine.{ClientLine}
-use Rattle.lab_script.specs.declared.script.ReaderLine.{ReaderLine}
-use Rattle.lab_script.specs.declared.script.Script.{Script}
+use Rattle.lab_lines.specs.declared.script.ClientLine.{ClientLine}
+use Rattle.lab_lines.specs.declared.script.ReaderLine.{ReaderLine}
+use Rattle.lab_lines.specs.declared.script.Script.{Script}
 use Rattle.lab_script.specs.Draft.{is_client, is_reader}
-use Rattle.lab_script.specs.Limits.{IsScript}
-use Rattle.lab_script.specs.Word.{is_name, is_name_byte}
+use Rattle.lab_lines.specs.Limits.{IsScript}
+use Rattle.lab_lines.specs.Names.{is_name, is_name_byte}
 use Rattle.lab_report.specs.declared.error.ReportWhy.TheVariants as why
 use Rattle.lab_report.specs.Causes.{◌>>=◌, some_or}
 use Rattle.lab_report.specs.Reading.{client_and_rest, reader_and_rest, segment_at, run_at, played_run}

@@ -12,17 +12,18 @@ use Rattle.snd_base.specs.declared.errors.XrunWhy.TheVariants.{Empty, Already, A
 use Rattle.pcm_states.specs.declared.states.State.{State as PcmState}
 use Rattle.pcm_states.specs.declared.states.State.TheVariants as state
 use Rattle.pcm_states.specs.States.{state_name}
-use Rattle.lab_script.specs.declared.script.Script.{Script}
+use Rattle.lab_lines.specs.declared.script.Script.{Script}
 use Rattle.lab_script.specs.Keys.{row_of}
 use Rattle.lab_report.specs.declared.error.ReportWhy.TheVariants as why
-use Rattle.lab_report.specs.declared.row.Answer.{Answer}
-use Rattle.lab_report.specs.declared.row.Answer.TheVariants.{Done, Count, Failed}
-use Rattle.lab_report.specs.declared.row.Row.{Row}
+use Rattle.lab_lines.specs.declared.row.Answer.{Answer}
+use Rattle.lab_lines.specs.declared.row.Answer.TheVariants.{Done, Count, Failed}
+use Rattle.lab_lines.specs.declared.row.Row.{Row}
 use Rattle.lab_report.specs.Answers.{plain_answers, states, frame_and_channel, xrun_by, xrun_of, busy_of, answer_by, answer_at, state_at}
 use Rattle.lab_report.specs.Causes.{◌>>=◌, some_or}
 use Rattle.lab_report.specs.Ranges.{IsWide, IsWideWhere, IsXrunInRange, IsAnswerInRange, IsRowInRange}
 use Rattle.lab_report.specs.Reading.{row_of_line}
-use Rattle.lab_report.specs.Text.{request_of_row, number_or_dash, xrun_text, answer_text, front_text, row_line, HasText, HasXrunText, HasStateText}
+use Rattle.lab_lines.specs.Rows.{request_of_row}
+use Rattle.lab_report.specs.Text.{number_or_dash, xrun_text, answer_text, front_text, row_line, HasText, HasXrunText, HasStateText}
 use Rattle.lab_report.specs.Words.{is_end, most_frames, number_or_dash_at}
 use Rattle.lab_report.proofs.Printed.{in_word, in_line, front_word-printed, decimal_in_word, decimal_of-decimal, next_number-printed, not_digits, dash-printed, number-printed, expect_words-printed}
 

@@ -11,24 +11,25 @@ use Rattle.snd_base.specs.declared.errors.XrunWhy.TheVariants.{Empty, Already, A
 use Rattle.snd_base.specs.declared.errors.PcmError.TheVariants.{Xrun}
 use Rattle.snd_base.specs.declared.places.Segment.{Segment}
 use Rattle.pcm_states.specs.declared.states.State.{State as PcmState}
-use Rattle.lab_script.specs.declared.script.Script.{Script}
+use Rattle.lab_lines.specs.declared.script.Script.{Script}
 use Rattle.lab_script.specs.Draft.{is_client, is_reader}
 use Rattle.lab_script.specs.Keys.{row_of}
-use Rattle.lab_script.specs.Limits.{IsScript}
+use Rattle.lab_lines.specs.Limits.{IsScript}
 use Rattle.lab_script.proofs.Kept.{RowsHave, row_of-has}
 use Rattle.lab_report.specs.declared.error.ReportError.{ReportError}
 use Rattle.lab_report.specs.declared.error.ReportWhy.{ReportWhy}
 use Rattle.lab_report.specs.declared.error.ReportWhy.TheVariants as why
-use Rattle.lab_report.specs.declared.report.Report.{Report}
-use Rattle.lab_report.specs.declared.request.Request.{Request}
-use Rattle.lab_report.specs.declared.row.Answer.{Answer}
-use Rattle.lab_report.specs.declared.row.Answer.TheVariants.{Count, Failed}
-use Rattle.lab_report.specs.declared.row.Row.{Row}
+use Rattle.lab_lines.specs.declared.report.Report.{Report}
+use Rattle.lab_lines.specs.declared.request.Request.{Request}
+use Rattle.lab_lines.specs.declared.row.Answer.{Answer}
+use Rattle.lab_lines.specs.declared.row.Answer.TheVariants.{Count, Failed}
+use Rattle.lab_lines.specs.declared.row.Row.{Row}
 use Rattle.lab_report.specs.Answers.{plain_answers, states, frame_and_channel, xrun_by, longer_answer, answer_by, answer_at, state_at}
 use Rattle.lab_report.specs.Causes.{◌>>=◌, some_or}
 use Rattle.lab_report.specs.Reading.{State, nothing, row_of_line, client_and_rest, reader_and_rest, segment_at, run_at, played_run, with_segment, with_run, with_played, tail_by, below_rows, after_head, version_of, with_line, next_line, on_line, report_at, lines_after, report_in_text, Answers}
 use Rattle.lab_report.specs.Requests.{requests_of}
-use Rattle.lab_report.specs.Text.{request_of_row, HasText, HasXrunText, HasStateText, IsRowOf, IsSegmentOf, IsRunOf, IsReportOf, front_text}
+use Rattle.lab_lines.specs.Rows.{request_of_row}
+use Rattle.lab_report.specs.Text.{HasText, HasXrunText, HasStateText, IsRowOf, IsSegmentOf, IsRunOf, IsReportOf, front_text}
 use Rattle.lab_report.specs.Words.{lines_of, is_space, front_word, space_of, feed_of, next_number, most_frames, number_or_dash_at, decimal_of, expect_word, expect_words}
 use Rattle.lab_report.proofs.Actors.{IsAsked, requests_of-asked}
 

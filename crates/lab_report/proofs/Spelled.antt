@@ -18,8 +18,8 @@ use Rattle.pcm_states.specs.States.{state_name}
 use Rattle.lab_script.specs.Keys.{row_of}
 use Rattle.lab_report.specs.declared.error.ReportWhy.{ReportWhy}
 use Rattle.lab_report.specs.declared.error.ReportWhy.TheVariants as why
-use Rattle.lab_report.specs.declared.row.Answer.{Answer}
-use Rattle.lab_report.specs.declared.row.Answer.TheVariants.{Count, Failed}
+use Rattle.lab_lines.specs.declared.row.Answer.{Answer}
+use Rattle.lab_lines.specs.declared.row.Answer.TheVariants.{Count, Failed}
 use Rattle.lab_report.specs.Answers.{plain_answers, states, frame_and_channel, xrun_by, xrun_of, busy_of, count_and_rest, longer_answer, answer_by, answer_at, state_at}
 use Rattle.lab_report.specs.Causes.{some_or}
 use Rattle.lab_report.specs.Text.{number_or_dash, xrun_text, answer_text}

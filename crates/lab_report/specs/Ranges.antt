@@ -5,12 +5,12 @@ use Rattle.snd_base.specs.declared.errors.PcmError.TheVariants.{Xrun, Busy}
 use Rattle.snd_base.specs.declared.errors.XrunWhy.{XrunWhy}
 use Rattle.snd_base.specs.declared.errors.XrunWhy.TheVariants.{Empty, Already, Avail, Late, Overtaken}
 use Rattle.snd_base.specs.declared.places.Segment.{Segment}
-use Rattle.lab_script.specs.declared.line.Op.{Op}
-use Rattle.lab_script.specs.declared.line.Op.TheVariants as op
-use Rattle.lab_report.specs.declared.row.Answer.{Answer}
-use Rattle.lab_report.specs.declared.row.Answer.TheVariants.{Done, Count, Failed}
-use Rattle.lab_report.specs.declared.row.Row.{Row}
-use Rattle.lab_report.specs.declared.report.Report.{Report}
+use Rattle.lab_lines.specs.declared.line.Op.{Op}
+use Rattle.lab_lines.specs.declared.line.Op.TheVariants as op
+use Rattle.lab_lines.specs.declared.row.Answer.{Answer}
+use Rattle.lab_lines.specs.declared.row.Answer.TheVariants.{Done, Count, Failed}
+use Rattle.lab_lines.specs.declared.row.Row.{Row}
+use Rattle.lab_lines.specs.declared.report.Report.{Report}
 
 -- a number of 64 bits
 abbrev pub IsWide : ℕ → Type 0

@@ -3,15 +3,15 @@ use Rattle.std.specs.Prelude.{◌≡◌, ℕ, ◌+◌, ◌==◌, ◌&&◌, Bool,
 use Rattle.std.specs.List.{slice_split, position}
 use Rattle.pcm_states.specs.declared.states.State.{State as RowState}
 use Rattle.snd_base.specs.declared.places.Segment.{Segment}
-use Rattle.lab_script.specs.declared.script.Script.{Script}
+use Rattle.lab_lines.specs.declared.script.Script.{Script}
 use Rattle.lab_script.specs.Draft.{is_client, is_reader}
 use Rattle.lab_report.specs.declared.error.ReportError.{ReportError}
 use Rattle.lab_report.specs.declared.error.ReportWhy.{ReportWhy}
 use Rattle.lab_report.specs.declared.error.ReportWhy.TheVariants as why
 use Rattle.lab_report.specs.declared.reader.Draft.{Draft}
-use Rattle.lab_report.specs.declared.report.Report.{Report}
-use Rattle.lab_report.specs.declared.request.Request.{Request}
-use Rattle.lab_report.specs.declared.row.Row.{Row}
+use Rattle.lab_lines.specs.declared.report.Report.{Report}
+use Rattle.lab_lines.specs.declared.request.Request.{Request}
+use Rattle.lab_lines.specs.declared.row.Row.{Row}
 use Rattle.lab_report.specs.Answers.{answer_at, state_at}
 use Rattle.lab_report.specs.Causes.{◌>>=◌, some_or}
 use Rattle.lab_report.specs.Requests.{requests_of}

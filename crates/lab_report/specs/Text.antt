@@ -12,18 +12,18 @@ use Rattle.snd_base.specs.declared.places.Segment.{Segment}
 use Rattle.pcm_states.specs.declared.states.State.{State}
 use Rattle.pcm_states.specs.declared.states.State.TheVariants.{Suspended}
 use Rattle.pcm_states.specs.States.{state_name}
-use Rattle.lab_script.specs.declared.line.Actor.{Actor}
-use Rattle.lab_script.specs.declared.line.Actor.TheVariants.{Card, Client, Reader}
-use Rattle.lab_script.specs.declared.script.ClientLine.{ClientLine}
-use Rattle.lab_script.specs.declared.script.ReaderLine.{ReaderLine}
-use Rattle.lab_script.specs.declared.script.Script.{Script}
-use Rattle.lab_script.specs.Limits.{IsActor}
+use Rattle.lab_lines.specs.declared.line.Actor.{Actor}
+use Rattle.lab_lines.specs.declared.line.Actor.TheVariants.{Card, Client, Reader}
+use Rattle.lab_lines.specs.declared.script.ClientLine.{ClientLine}
+use Rattle.lab_lines.specs.declared.script.ReaderLine.{ReaderLine}
+use Rattle.lab_lines.specs.declared.script.Script.{Script}
+use Rattle.lab_lines.specs.Limits.{IsActor}
 use Rattle.lab_script.specs.Ops.{op_text}
-use Rattle.lab_report.specs.declared.request.Request.{Request}
-use Rattle.lab_report.specs.declared.row.Answer.{Answer}
-use Rattle.lab_report.specs.declared.row.Answer.TheVariants.{Done, Count, Failed}
-use Rattle.lab_report.specs.declared.row.Row.{Row}
-use Rattle.lab_report.specs.declared.report.Report.{Report}
+use Rattle.lab_lines.specs.declared.request.Request.{Request}
+use Rattle.lab_lines.specs.declared.row.Answer.{Answer}
+use Rattle.lab_lines.specs.declared.row.Answer.TheVariants.{Done, Count, Failed}
+use Rattle.lab_lines.specs.declared.row.Row.{Row}
+use Rattle.lab_lines.specs.declared.report.Report.{Report}
 use Rattle.lab_report.specs.Requests.{requests_of}
 
 -- the name of the client of this number
@@ -94,10 +94,6 @@ answer_text (Failed error) = error_text error
 -- what a row is about: PHASE NAME OP =
 abbrev pub front_text : Script → Request → List ℕ
 front_text script request = decimal request.phase ++ 32 ∷ actor_name script request.actor ++ 32 ∷ op_text request.op ++ codes " ="
-
--- what a row is about, of a row
-abbrev pub request_of_row : Row → Request
-request_of_row row = record { phase = row.phase; actor = row.actor; op = row.op }
 
 -- the line of a row: what it is about, the answer, the state, and what was seen
 abbrev pub row_line : Script → Row → List ℕ

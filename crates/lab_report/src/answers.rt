@@ -6,8 +6,8 @@ ghost use Rattle.lab_report.specs.Causes.{Gives};
 
 use crate::error::ReportWhy;
 use crate::numbers::{decimal_of, next_number, number_or_dash_at};
-use crate::row::Answer;
 use crate::words::{space_of, word_of};
+use lab_lines::Answer;
 use lab_script::row_of;
 use pcm_states::State;
 use snd_base::{PcmError, Why, XrunWhy};

@@ -1,15 +1,13 @@
 //! Printing a report.
 ghost use Rattle.std.specs.Prelude.{◌≡◌, ◌++◌, All, string_bytes, IfErr, IfOk, Ok, OnOk};
 ghost use Rattle.std.specs.List.{flat_map};
-ghost use Rattle.lab_script.specs.Limits.{IsScript};
+ghost use Rattle.lab_lines.specs.Limits.{IsScript};
 ghost use Rattle.lab_report.specs.Ranges.{IsReportInRange};
 ghost use Rattle.lab_report.specs.Reading.{report_in_text};
 ghost use Rattle.lab_report.specs.Text.{report_text, row_line, segment_line, run_line, played_line, tail_text, IsReportOf, IsRowOf, IsSegmentOf, IsRunOf, IsTailOf};
 
-use crate::report::Report;
-use crate::row::Row;
 use crate::text::{push_row, push_run, push_segment};
-use lab_script::Script;
+use lab_lines::{Report, Row, Script};
 use snd_base::{PcmError, Segment};
 use std::alloc::{AllocError, Global};
 

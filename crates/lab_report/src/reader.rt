@@ -1,8 +1,8 @@
 //! The reader of a report's text.
 ghost use Rattle.std.specs.Prelude.{◌≡◌, ◌≤◌, All, IfOk, length};
 ghost use Rattle.std.specs.Option.{ForSome};
-ghost use Rattle.lab_script.specs.Limits.{IsActor, IsScript};
-ghost use Rattle.lab_report.specs.declared.request.Request.{Request};
+ghost use Rattle.lab_lines.specs.Limits.{IsActor, IsScript};
+ghost use Rattle.lab_lines.specs.declared.request.Request.{Request};
 ghost use Rattle.lab_report.specs.Causes.{Gives};
 ghost use Rattle.lab_report.specs.Reading.{view, nothing, tail_by, end_line, below_rows, after_head, version_of, head_at, with_line, next_line, report_at, lines_after, report_in_text, Answers};
 ghost use Rattle.lab_report.specs.Words.{lines_of};
@@ -11,13 +11,11 @@ ghost use Rattle.lab_report.specs.Text.{report_text, IsReportOf};
 
 use crate::error::{ReportError, ReportWhy};
 use crate::lines::first_line;
-use crate::report::{Report, Rows, Runs, Segments};
-use crate::request::{Request, requests_of};
-use crate::row::Row;
+use crate::request::requests_of;
 use crate::rows::row_at;
 use crate::tail::{played_at, run_at, segment_at};
 use crate::words::{expect_word, feed_of, space_of, word_of};
-use lab_script::Script;
+use lab_lines::{Report, Request, Row, Rows, Runs, Script, Segments};
 use snd_base::Segment;
 use std::alloc::Global;
 

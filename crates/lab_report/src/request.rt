@@ -1,21 +1,12 @@
 //! What the rows of a report are about: each line of a script once, in the order of the rows.
 ghost use Rattle.std.specs.Prelude.{◌≡◌, ℕ, ◌<◌, ◌∷◌, ◌++◌, [], true, false, IfOk, OnOk, length, map, slice_index_or};
 ghost use Rattle.std.specs.Bool.{OnFalse};
-ghost use Rattle.lab_script.specs.Limits.{IsScript};
-ghost use Rattle.lab_script.specs.Script.{phases_of};
+ghost use Rattle.lab_lines.specs.Limits.{IsScript};
+ghost use Rattle.lab_lines.specs.Script.{phases_of};
 ghost use Rattle.lab_report.specs.Requests.{place_of_actor, request_of, of_place, in_order, item_requests, requests_of};
 
-use lab_script::{Actor, Item, Line, Op, Script};
+use lab_lines::{Actor, Item, Line, Op, Request, Script};
 use std::alloc::{AllocError, Global};
-
-/// What a row is about: an actor was asked for something. The phase is counted from 1; for an opening or
-/// a closing it is the number of phases before it.
-#[derive(Clone, Copy, Debug, PartialEq, Eq)]
-pub struct Request {
-    pub phase: u32,
-    pub actor: Actor,
-    pub op: Op,
-}
 
 /// How many places actors can have in a phase: the card's, 64 of clients and 64 of readers.
 const PLACES: u64 = 129;

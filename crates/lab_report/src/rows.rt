@@ -1,7 +1,7 @@
 //! The lines of rows.
 ghost use Rattle.std.specs.Prelude.{◌≡◌, length};
 ghost use Rattle.std.specs.List.{slice_split};
-ghost use Rattle.lab_script.specs.Limits.{IsActor};
+ghost use Rattle.lab_lines.specs.Limits.{IsActor};
 ghost use Rattle.lab_report.specs.Causes.{Gives};
 ghost use Rattle.lab_report.specs.Reading.{row_after_front, row_of_line, row_end};
 ghost use Rattle.lab_report.specs.Text.{front_text};
@@ -10,11 +10,9 @@ ghost use Rattle.lab_report.specs.Words.{is_space, expect_words};
 use crate::answers::{answer_at, state_at};
 use crate::error::ReportWhy;
 use crate::numbers::number_or_dash_at;
-use crate::request::Request;
-use crate::row::Row;
 use crate::text::push_front;
 use crate::words::{expect_words, feed_of, space_of};
-use lab_script::Script;
+use lab_lines::{Request, Row, Script};
 use pcm_states::State;
 
 /// What is left of a line after the front of a row that is about this request. The front is printed in a text whose

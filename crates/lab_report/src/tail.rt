@@ -8,7 +8,7 @@ ghost use Rattle.lab_report.specs.Reading.{client_and_rest, reader_and_rest, seg
 use crate::error::ReportWhy;
 use crate::numbers::next_number;
 use crate::words::{feed_of, space_of, word_of};
-use lab_script::{ClientLine, ReaderLine, Script};
+use lab_lines::{ClientLine, ReaderLine, Script};
 use snd_base::Segment;
 
 /// The client of this name, counted from 0.

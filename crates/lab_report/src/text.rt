@@ -1,12 +1,11 @@
 //! The texts of a report's parts.
 ghost use Rattle.std.specs.Prelude.{◌≡◌, ◌++◌, ◌∷◌, [], ◌<◌, length, string_bytes, OnOk};
 ghost use Rattle.pcm_states.specs.States.{state_name};
-ghost use Rattle.lab_script.specs.Limits.{IsActor};
+ghost use Rattle.lab_lines.specs.Limits.{IsActor};
 ghost use Rattle.lab_report.specs.Text.{client_name, reader_name, actor_name, number_or_dash, xrun_text, error_front, error_rest, error_text, answer_text, front_text, row_line, segment_line, run_line, HasErrorText, HasText, IsRowOf};
 
-use crate::request::Request;
-use crate::row::{Answer, Row};
-use lab_script::{Actor, Script, push_op};
+use lab_lines::{Actor, Answer, Request, Row, Script};
+use lab_script::push_op;
 use pcm_states::State;
 use snd_base::{PcmError, Segment, XrunWhy};
 use std::alloc::AllocError;

@@ -1,10 +1,11 @@
 //! Reports that are printed and read.
 ghost use Rattle.lab_report.specs.Text.{IsReportOf};
-ghost use Rattle.lab_script.specs.Limits.{IsScript};
+ghost use Rattle.lab_lines.specs.Limits.{IsScript};
 ghost use Rattle.std.specs.Prelude.{IfOk};
 
-use lab_report::{Answer, Report, ReportWhy, print_report, print_row, print_tail, read_report};
-use lab_script::{Actor, Op, Script, read_script};
+use lab_lines::{Actor, Answer, Op, Report, Script};
+use lab_report::{ReportWhy, print_report, print_row, print_tail, read_report};
+use lab_script::read_script;
 use snd_base::{PcmError, XrunWhy};
 use std::alloc::{AllocError, Global};
 use std::test::*;

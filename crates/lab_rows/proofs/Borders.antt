@@ -9,17 +9,18 @@ use Rattle.snd_base.specs.declared.errors.PcmError.TheVariants as error
 use Rattle.dmix_client.specs.declared.stream.PlaybackStream.{PlaybackStream}
 use Rattle.dsnoop_client.specs.declared.stream.CaptureStream as reading
 use Rattle.dshare.specs.Owners as owners
-use Rattle.lab_script.specs.declared.line.Actor.{Actor}
-use Rattle.lab_script.specs.declared.line.Actor.TheVariants as actor
-use Rattle.lab_script.specs.declared.line.Op.TheVariants as op
-use Rattle.lab_script.specs.declared.script.Script.{Script}
-use Rattle.lab_script.specs.declared.script.Share.{Share}
-use Rattle.lab_script.specs.declared.script.Share.TheVariants as share
-use Rattle.lab_script.specs.Limits.{IsBorder}
-use Rattle.lab_report.specs.declared.request.Request.{Request}
-use Rattle.lab_report.specs.declared.row.Answer.TheVariants.{Failed}
-use Rattle.lab_report.specs.declared.row.Row.{Row}
-use Rattle.lab_report.specs.Text.{HasErrorText, IsRowOf, request_of_row}
+use Rattle.lab_lines.specs.declared.line.Actor.{Actor}
+use Rattle.lab_lines.specs.declared.line.Actor.TheVariants as actor
+use Rattle.lab_lines.specs.declared.line.Op.TheVariants as op
+use Rattle.lab_lines.specs.declared.script.Script.{Script}
+use Rattle.lab_lines.specs.declared.script.Share.{Share}
+use Rattle.lab_lines.specs.declared.script.Share.TheVariants as share
+use Rattle.lab_lines.specs.Limits.{IsBorder}
+use Rattle.lab_lines.specs.declared.request.Request.{Request}
+use Rattle.lab_lines.specs.declared.row.Answer.TheVariants.{Failed}
+use Rattle.lab_lines.specs.declared.row.Row.{Row}
+use Rattle.lab_lines.specs.Rows.{request_of_row}
+use Rattle.lab_report.specs.Text.{HasErrorText, IsRowOf}
 use Rattle.lab_run.specs.Claims.{claim_refusal, is_free_channel}
 use Rattle.lab_run.specs.Client.{Client}
 use Rattle.lab_run.specs.Places.{Lobby, after_attach, attached_by, is_free, is_silent}

@@ -5,17 +5,16 @@ use Rattle.std.proofs.lemmas.Bool.Decides.{nat_tests}
 use Rattle.std.proofs.lemmas.List.{append-nil}
 use Rattle.std.proofs.lemmas.List.Elements.{All-head, All-tail}
 use Rattle.std.specs.Prelude.{Bool, true, false, All}
-use Rattle.lab_script.specs.declared.line.Actor.{Actor}
-use Rattle.lab_script.specs.declared.line.Actor.TheVariants.{Card, Client, Reader}
-use Rattle.lab_script.specs.declared.line.Line.{Line}
-use Rattle.lab_script.specs.declared.line.Op.{Op}
-use Rattle.lab_script.specs.declared.line.Op.TheVariants as op
-use Rattle.lab_script.specs.Limits.{IsActor}
-use Rattle.lab_script.specs.Ops.{played_by}
-use Rattle.lab_script.specs.Script.{is_of_card}
-use Rattle.lab_report.specs.declared.request.Request.{Request}
+use Rattle.lab_lines.specs.declared.line.Actor.{Actor}
+use Rattle.lab_lines.specs.declared.line.Actor.TheVariants.{Card, Client, Reader}
+use Rattle.lab_lines.specs.declared.line.Line.{Line}
+use Rattle.lab_lines.specs.declared.line.Op.{Op}
+use Rattle.lab_lines.specs.declared.line.Op.TheVariants as op
+use Rattle.lab_lines.specs.Limits.{IsActor}
+use Rattle.lab_lines.specs.Script.{is_of_card, played_by}
+use Rattle.lab_lines.specs.declared.request.Request.{Request}
 use Rattle.lab_report.specs.Requests.{before_place, in_order, of_place, place_of_actor, request_of}
-use Rattle.lab_report.specs.Text.{request_of_row}
+use Rattle.lab_lines.specs.Rows.{request_of_row}
 use Rattle.lab_run.specs.Phases.{card_row, card_rows, is_client, is_reader, ops_by}
 
 -- an actor is asked for something in a phase

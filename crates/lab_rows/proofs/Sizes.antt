@@ -12,14 +12,14 @@ use Rattle.snd_base.specs.declared.errors.Why.TheVariants.{BindingsEmpty, Bindin
 use Rattle.bindings.specs.Answers.{answer_of, entry_defects, or_first}
 use Rattle.bindings.specs.Bound.{identity}
 use Rattle.wav_io.specs.Sound.{Sound}
-use Rattle.lab_script.specs.declared.line.Item.{Item}
-use Rattle.lab_script.specs.declared.line.Line.{Line}
-use Rattle.lab_script.specs.declared.script.CardLine.{CardLine}
-use Rattle.lab_script.specs.declared.script.ReaderLine.{ReaderLine}
-use Rattle.lab_script.specs.declared.script.Script.{Script}
-use Rattle.lab_script.specs.Limits.{IsBoundWhere, IsCardLine, IsReaderLine}
-use Rattle.lab_script.specs.Script.{first_frame, frames_played, phases_of}
-use Rattle.lab_script.specs.Script as scripts
+use Rattle.lab_lines.specs.declared.line.Item.{Item}
+use Rattle.lab_lines.specs.declared.line.Line.{Line}
+use Rattle.lab_lines.specs.declared.script.CardLine.{CardLine}
+use Rattle.lab_lines.specs.declared.script.ReaderLine.{ReaderLine}
+use Rattle.lab_lines.specs.declared.script.Script.{Script}
+use Rattle.lab_lines.specs.Limits.{IsBoundWhere, IsCardLine, IsReaderLine}
+use Rattle.lab_lines.specs.Script.{first_frame, frames_played, phases_of}
+use Rattle.lab_lines.specs.Script as scripts
 use Rattle.lab_run.specs.LabRun.{all_segments, bindings_of, captured_sample, entries_of, mixed_at, outcome_of, recorded_by, recorded_from, report_of}
 use Rattle.lab_run.specs.Openings.{AreReaderOpenings, IsReaderOpening, read_by}
 use Rattle.lab_run.specs.Reader.{Reader}

@@ -5,23 +5,23 @@ use Rattle.std.proofs.lemmas.List.Elements.{All-append, All-cons, All-head, All-
 use Rattle.std.specs.Prelude.{All, Bool, true, false, slice_index_or, suc}
 use Rattle.snd_base.specs.declared.geometry.Geometry.{Geometry}
 use Rattle.wav_io.specs.Sound.{Sound}
-use Rattle.lab_script.specs.declared.line.Actor.TheVariants as actor
-use Rattle.lab_script.specs.declared.line.Item.{Item}
-use Rattle.lab_script.specs.declared.line.Item.TheVariants as item
-use Rattle.lab_script.specs.declared.line.Line.{Line}
-use Rattle.lab_script.specs.declared.line.Op.{Op}
-use Rattle.lab_script.specs.declared.line.Op.TheVariants as op
-use Rattle.lab_script.specs.declared.script.CardLine.{CardLine}
-use Rattle.lab_script.specs.declared.script.ClientLine.{ClientLine}
-use Rattle.lab_script.specs.declared.script.ReaderLine.{ReaderLine}
-use Rattle.lab_script.specs.declared.script.Script.{Script}
-use Rattle.lab_script.specs.Limits.{IsActor, IsItem, IsPhase}
-use Rattle.lab_script.specs.Ops.{played_by}
-use Rattle.lab_script.specs.Script.{is_of_card, phases_of}
-use Rattle.lab_report.specs.declared.request.Request.{Request}
-use Rattle.lab_report.specs.declared.row.Row.{Row}
+use Rattle.lab_lines.specs.declared.line.Actor.TheVariants as actor
+use Rattle.lab_lines.specs.declared.line.Item.{Item}
+use Rattle.lab_lines.specs.declared.line.Item.TheVariants as item
+use Rattle.lab_lines.specs.declared.line.Line.{Line}
+use Rattle.lab_lines.specs.declared.line.Op.{Op}
+use Rattle.lab_lines.specs.declared.line.Op.TheVariants as op
+use Rattle.lab_lines.specs.declared.script.CardLine.{CardLine}
+use Rattle.lab_lines.specs.declared.script.ClientLine.{ClientLine}
+use Rattle.lab_lines.specs.declared.script.ReaderLine.{ReaderLine}
+use Rattle.lab_lines.specs.declared.script.Script.{Script}
+use Rattle.lab_lines.specs.Limits.{IsActor, IsItem, IsPhase}
+use Rattle.lab_lines.specs.Script.{is_of_card, phases_of, played_by}
+use Rattle.lab_lines.specs.declared.request.Request.{Request}
+use Rattle.lab_lines.specs.declared.row.Row.{Row}
 use Rattle.lab_report.specs.Requests.{in_order, item_requests, of_place, request_of, requests_from}
-use Rattle.lab_report.specs.Text.{IsRowOf, IsRunOf, IsTailOf, request_of_row}
+use Rattle.lab_lines.specs.Rows.{request_of_row}
+use Rattle.lab_report.specs.Text.{IsRowOf, IsRunOf, IsTailOf}
 use Rattle.lab_run.specs.Client.{Client, segments_of}
 use Rattle.lab_run.specs.Items.{ItemsMay, PhaseMay, client_kinds, is_reader_stopped, is_stopped, no_sound, reader_kinds, reaped_client, reaped_client_if, reaped_reader, reaped_reader_if, rules_of}
 use Rattle.lab_run.specs.LabRun.{with_numbers, report_of, runs_of}

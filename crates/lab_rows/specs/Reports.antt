@@ -1,11 +1,12 @@
 -- The reports of a script's runs: their rows are those of the script's lines, their segments and runs of its clients and readers.
 use Rattle.std.specs.Prelude.{◌≡◌, ℕ, List, map, All, Option}
 use Rattle.wav_io.specs.Sound.{Sound}
-use Rattle.lab_script.specs.declared.line.Item.{Item}
-use Rattle.lab_script.specs.declared.script.Script.{Script}
-use Rattle.lab_script.specs.Limits.{IsScript}
+use Rattle.lab_lines.specs.declared.line.Item.{Item}
+use Rattle.lab_lines.specs.declared.script.Script.{Script}
+use Rattle.lab_lines.specs.Limits.{IsScript}
 use Rattle.lab_report.specs.Requests.{requests_from}
-use Rattle.lab_report.specs.Text.{IsReportOf, IsRowOf, IsTailOf, request_of_row}
+use Rattle.lab_lines.specs.Rows.{request_of_row}
+use Rattle.lab_report.specs.Text.{IsReportOf, IsRowOf, IsTailOf}
 use Rattle.lab_run.specs.LabRun.{LabRun, Outcome, report_of}
 use Rattle.lab_run.specs.Openings.{IsSessionOf}
 use Rattle.lab_run.specs.ScriptWords.{IsReached}

@@ -1,10 +1,10 @@
 -- The samples that a run leaves: whole frames, and few enough for a WAV file.
 use Rattle.std.specs.Prelude.{◌≡◌, ℕ, ◌*◌, ◌%◌, ◌≤◌, ℤ, List, [], length, slice_get, slice_index_or, Option, Some}
 use Rattle.wav_io.specs.Sound.{Sound}
-use Rattle.lab_script.specs.declared.line.Item.{Item}
-use Rattle.lab_script.specs.declared.script.ReaderLine.{ReaderLine}
-use Rattle.lab_script.specs.declared.script.Script.{Script}
-use Rattle.lab_script.specs.Script.{first_frame}
+use Rattle.lab_lines.specs.declared.line.Item.{Item}
+use Rattle.lab_lines.specs.declared.script.ReaderLine.{ReaderLine}
+use Rattle.lab_lines.specs.declared.script.Script.{Script}
+use Rattle.lab_lines.specs.Script.{first_frame}
 use Rattle.lab_run.specs.LabRun.{Outcome, outcome_of}
 use Rattle.lab_run.specs.Openings.{read_by}
 use Rattle.lab_run.specs.ScriptWords.{IsReached}

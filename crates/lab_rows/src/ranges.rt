@@ -3,8 +3,7 @@ ghost use Rattle.std.specs.Prelude.{All, ℕ, ◌≤◌};
 ghost use Rattle.snd_base.specs.declared.places.Segment.{Segment};
 ghost use Rattle.lab_report.specs.Ranges.{IsAnswerInRange, IsErrorInRange, IsOpInRange, IsReportInRange, IsRowInRange, IsRunInRange, IsSegmentInRange, IsWide, IsWideWhere, IsXrunInRange};
 
-use lab_report::{Answer, Report, Row};
-use lab_script::Op;
+use lab_lines::{Answer, Op, Report, Row};
 use snd_base::{PcmError, Segment, XrunWhy};
 
 /// Reads a number.

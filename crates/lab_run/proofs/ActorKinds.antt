@@ -13,9 +13,9 @@ use Rattle.dmix_client.specs.Course.{if_admitted}
 use Rattle.dsnoop_client.specs.declared.stream.CaptureStream as reading
 use Rattle.dsnoop_client.specs.Calls as reading_calls
 use Rattle.dsnoop_client.specs.Course as reading_course
-use Rattle.lab_script.specs.declared.line.Op.{Op}
-use Rattle.lab_script.specs.declared.line.Op.TheVariants as op
-use Rattle.lab_report.specs.declared.row.Answer.{Answer}
+use Rattle.lab_lines.specs.declared.line.Op.{Op}
+use Rattle.lab_lines.specs.declared.line.Op.TheVariants as op
+use Rattle.lab_lines.specs.declared.row.Answer.{Answer}
 use Rattle.lab_run.specs.Client.{Client, after_call, call_answer, begins, call_of, client_kind, count_answer, dies_if, done_answer, frames_of, line_by, line_if}
 use Rattle.lab_run.specs.Lines.{Kind}
 use Rattle.lab_run.specs.Reader.{Reader, reader_kind}

@@ -23,7 +23,7 @@ use Rattle.dmix_client.specs.Course as client_calls
 use Rattle.dmix_client.specs.Rewind.{back_of, back_on, checks, rewind_left, rewind_course, rewind_on, rewindable_course, rewindable_of, rewinds, after_rewind, take_each, take_frames, takes_back, without_frames}
 use Rattle.dmix_client.specs.View.{ring_sample}
 use Rattle.dmix_client.specs.Writes.{count_with, frames_in, ring_with, starts_with}
-use Rattle.lab_report.specs.declared.row.Answer.{Answer}
+use Rattle.lab_lines.specs.declared.row.Answer.{Answer}
 use Rattle.lab_run.specs.Alike.{Alike, CallsAreAlike, IsFromOn, SameButMember, SameFrom}
 use Rattle.lab_run.specs.Client.{count_answer, done_answer, write_course}
 use Rattle.lab_run.specs.Members.{with_member}

@@ -20,9 +20,9 @@ use Rattle.dmix_client.specs.declared.stream.PlaybackStream.{PlaybackStream}
 use Rattle.dmix_client.specs.Calls.{Answered}
 use Rattle.dmix_client.specs.Course.{if_admitted}
 use Rattle.dmix_client.specs.Course as client_calls
-use Rattle.lab_script.specs.declared.line.Op.{Op}
-use Rattle.lab_script.specs.declared.line.Op.TheVariants as op
-use Rattle.lab_report.specs.declared.row.Answer.{Answer}
+use Rattle.lab_lines.specs.declared.line.Op.{Op}
+use Rattle.lab_lines.specs.declared.line.Op.TheVariants as op
+use Rattle.lab_lines.specs.declared.row.Answer.{Answer}
 use Rattle.lab_run.specs.ActorPart.{DoesGet, DoesLay, DoesLoad, Doing}
 use Rattle.lab_run.specs.Alike.{Alike, CallsAreAlike, SameButMember, SameFrom}
 use Rattle.lab_run.specs.Client.{Client, after_call, call_answer, begins, call_of, count_answer, dies_if, done_answer, line_by, line_if, write_course}

@@ -2,9 +2,9 @@
 -- no choice there is but one.
 use Rattle.std.proofs.Common.{◌≡◌, ℕ, ◌≤◌, ◌+◌, refl, sym, ◌∙◌, ap, subst, arith, inl, inr, ◌⊎◌}
 use Rattle.std.specs.Prelude.{false, List, [], ◌∷◌, ◌++◌, Contains, ⊤}
-use Rattle.lab_script.specs.declared.line.Op.{Op}
-use Rattle.lab_report.specs.declared.row.Answer.{Answer}
-use Rattle.lab_report.specs.declared.row.Row.{Row}
+use Rattle.lab_lines.specs.declared.line.Op.{Op}
+use Rattle.lab_lines.specs.declared.row.Answer.{Answer}
+use Rattle.lab_lines.specs.declared.row.Row.{Row}
 use Rattle.lab_run.specs.CourseText.{IsStill}
 use Rattle.lab_run.specs.Lines.{EachMay, Kind, LineMay, LinesMay, each_text, line_text, lines_text}
 use Rattle.lab_run.specs.Rules.{AtPort, CardEnd, Rules}

@@ -30,10 +30,10 @@ use Rattle.dmix_client.specs.Course.{if_admitted, admitted_by, commits, drain_co
 use Rattle.dmix_client.specs.Rewind.{checks, rewindable_course, rewindable_of}
 use Rattle.dmix_client.specs.View.{avail_of}
 use Rattle.dmix_client.specs.Writes.{count_with, ring_with, starts_with}
-use Rattle.lab_script.specs.declared.line.Op.{Op}
-use Rattle.lab_script.specs.declared.line.Op.TheVariants as op
-use Rattle.lab_report.specs.declared.row.Answer.{Answer}
-use Rattle.lab_report.specs.declared.row.Answer.TheVariants.{Done, Failed}
+use Rattle.lab_lines.specs.declared.line.Op.{Op}
+use Rattle.lab_lines.specs.declared.line.Op.TheVariants as op
+use Rattle.lab_lines.specs.declared.row.Answer.{Answer}
+use Rattle.lab_lines.specs.declared.row.Answer.TheVariants.{Done, Failed}
 use Rattle.lab_run.specs.Client.{after_call, call_answer, begins, call_of, count_answer, done_answer, line_by, line_if, reported_error, write_course}
 use Rattle.lab_run.specs.LateRows.{IsNextSample, LateRowsNameNext, NamesNext, is_rewind}
 use Rattle.lab_run.specs.Rules.{MayGet, MayLay, MayLoad, Rules}

@@ -22,9 +22,9 @@ use Rattle.dmix_client.specs.Calls.{Answered, committed_by, facts_of, found_at, 
 use Rattle.dmix_client.specs.Course.{if_admitted, admitted_by, nothing}
 use Rattle.dmix_client.specs.Rewind.{back_of, back_on, checks, last_channel, last_laid, rewind_left, rewind_course, rewind_on, rewindable_of, rewinds, after_rewind, take_each, take_frames, take_on, taken_back, takes_back, without_frames}
 use Rattle.dmix_client.specs.View.{ring_sample}
-use Rattle.lab_script.specs.declared.line.Op.{Op}
-use Rattle.lab_script.specs.declared.line.Op.TheVariants as op
-use Rattle.lab_report.specs.declared.row.Answer.{Answer}
+use Rattle.lab_lines.specs.declared.line.Op.{Op}
+use Rattle.lab_lines.specs.declared.line.Op.TheVariants as op
+use Rattle.lab_lines.specs.declared.row.Answer.{Answer}
 use Rattle.lab_run.specs.Client.{after_call, begins, call_of, count_answer, line_by, line_if}
 use Rattle.lab_run.specs.LateRows.{IsLastSample, LateRewindsNameLast, NamesLast}
 use Rattle.lab_run.specs.Rules.{MayGet, MayLay, MayLoad, Rules}

@@ -8,10 +8,10 @@ use Rattle.mix_core.specs.Laid.{is_at, sum_of_samples, value_of}
 use Rattle.bindings.specs.Bound.{rising}
 use Rattle.dmix_client.specs.declared.stream.PlaybackStream.{PlaybackStream}
 use Rattle.dmix_client.specs.Expansion.{frame_entries, run_entries, sample_at}
-use Rattle.lab_script.specs.declared.line.Op.{Op}
-use Rattle.lab_script.specs.declared.line.Op.TheVariants as op
-use Rattle.lab_report.specs.declared.row.Answer.{Answer}
-use Rattle.lab_report.specs.declared.row.Answer.TheVariants.{Done}
+use Rattle.lab_lines.specs.declared.line.Op.{Op}
+use Rattle.lab_lines.specs.declared.line.Op.TheVariants as op
+use Rattle.lab_lines.specs.declared.row.Answer.{Answer}
+use Rattle.lab_lines.specs.declared.row.Answer.TheVariants.{Done}
 use Rattle.lab_run.specs.Client.{ended_by}
 use Rattle.lab_run.specs.Members.{MembersAreUnreported, MembersLayAlike, of_member, with_member}
 

@@ -8,8 +8,8 @@ use Rattle.mix_core.specs.declared.port.Position.{Position}
 use Rattle.snoop_core.specs.declared.port.Got.{Got}
 use Rattle.snoop_core.specs.declared.port.Got.TheVariants as got
 use Rattle.course.specs.Course.{Course, Takes, ends, gets, lays, loads}
-use Rattle.lab_script.specs.declared.line.Op.{Op}
-use Rattle.lab_report.specs.declared.row.Row.{Row}
+use Rattle.lab_lines.specs.declared.line.Op.{Op}
+use Rattle.lab_lines.specs.declared.row.Row.{Row}
 use Rattle.lab_run.specs.ActorPart.{ActorPart, AreOf, DoesGet, DoesLay, DoesLoad, Each, Findings, PartsAreRuns, nothing_found, with_late, with_overtaken, with_position}
 use Rattle.lab_run.specs.Lines.{Kind, LinesMay}
 use Rattle.lab_run.specs.Rules.{AtPort, May, MayGet, MayLay, MayLoad, Rules}

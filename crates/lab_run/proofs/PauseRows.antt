@@ -8,11 +8,11 @@ use Rattle.pcm_states.specs.declared.states.State.TheVariants as state
 use Rattle.course.specs.Course.{◌>>=◌}
 use Rattle.dmix_client.specs.Course as client_calls
 use Rattle.dsnoop_client.specs.Course as reader_calls
-use Rattle.lab_script.specs.declared.line.Item.{Item}
-use Rattle.lab_script.specs.declared.line.Item.TheVariants as item
-use Rattle.lab_script.specs.declared.line.Op.TheVariants as op
-use Rattle.lab_script.specs.declared.script.Share.TheVariants as share
-use Rattle.lab_report.specs.declared.row.Answer.TheVariants.{Count, Done, Failed}
+use Rattle.lab_lines.specs.declared.line.Item.{Item}
+use Rattle.lab_lines.specs.declared.line.Item.TheVariants as item
+use Rattle.lab_lines.specs.declared.line.Op.TheVariants as op
+use Rattle.lab_lines.specs.declared.script.Share.TheVariants as share
+use Rattle.lab_lines.specs.declared.row.Answer.TheVariants.{Count, Done, Failed}
 use Rattle.lab_run.specs.CourseText.{course_text}
 use Rattle.lab_run.specs.LabRun.{lab_text}
 use Rattle.dmix_client.specs.Rewind as rewinding

@@ -15,9 +15,9 @@ use Rattle.course.specs.Course.{◌>>=◌, Course, Takes, ends}
 use Rattle.course.specs.CourseLaws.{Takes-map}
 use Rattle.dsnoop_client.specs.declared.stream.CaptureStream.{CaptureStream}
 use Rattle.dsnoop_client.specs.Calls.{Answered, in_state}
-use Rattle.lab_script.specs.declared.line.Op.{Op}
-use Rattle.lab_script.specs.declared.line.Op.TheVariants as op
-use Rattle.lab_report.specs.declared.row.Answer.{Answer}
+use Rattle.lab_lines.specs.declared.line.Op.{Op}
+use Rattle.lab_lines.specs.declared.line.Op.TheVariants as op
+use Rattle.lab_lines.specs.declared.row.Answer.{Answer}
 use Rattle.lab_run.specs.ActorPart.{DoesGet, DoesLay, DoesLoad, Doing}
 use Rattle.lab_run.specs.Alike.{Alike, SameAnswer}
 use Rattle.lab_run.specs.Client.{count_answer, dies_if, done_answer}

@@ -13,7 +13,7 @@ use Rattle.dsnoop_client.specs.declared.stream.CaptureStream.{CaptureStream}
 use Rattle.dsnoop_client.specs.Calls.{Answered, read_after, after_start, after_sync, taken_of, with_avail}
 use Rattle.dsnoop_client.specs.Course.{if_admitted, admitted_by, avail_course, counts, gets_frames, one_more, read_course, reads_first, reads_on, starts, sync_course, syncs, transfer_on, transfers}
 use Rattle.dsnoop_client.specs.View.{avail_of, is_running}
-use Rattle.lab_report.specs.declared.row.Answer.{Answer}
+use Rattle.lab_lines.specs.declared.row.Answer.{Answer}
 use Rattle.lab_run.specs.Alike.{Alike, ReadsAreAlike, SameAnswer}
 use Rattle.lab_run.specs.Client.{count_answer, done_answer}
 use Rattle.lab_run.proofs.AlikeLaws.{Alike-if, Alike-then, got_without_word}

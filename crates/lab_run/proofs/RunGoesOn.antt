@@ -10,11 +10,11 @@ use Rattle.mix_core.specs.declared.port.Position.{Position}
 use Rattle.snoop_core.specs.declared.port.Got.{Got}
 use Rattle.snoop_core.specs.declared.port.Got.TheVariants as got
 use Rattle.course.specs.Course.{Course, ends, gets, lays, loads}
-use Rattle.lab_script.specs.declared.line.Item.{Item}
-use Rattle.lab_script.specs.declared.line.Item.TheVariants as item
-use Rattle.lab_script.specs.declared.line.Line.{Line}
-use Rattle.lab_script.specs.declared.line.Op.{Op}
-use Rattle.lab_report.specs.declared.row.Row.{Row}
+use Rattle.lab_lines.specs.declared.line.Item.{Item}
+use Rattle.lab_lines.specs.declared.line.Item.TheVariants as item
+use Rattle.lab_lines.specs.declared.line.Line.{Line}
+use Rattle.lab_lines.specs.declared.line.Op.{Op}
+use Rattle.lab_lines.specs.declared.row.Row.{Row}
 use Rattle.lab_run.specs.Items.{ItemsMay, PhaseMay, client_kinds, items_text, reader_kinds, rules_of}
 use Rattle.lab_run.specs.LabRun.{AreWithin, CanGoOn}
 use Rattle.lab_run.specs.Lines.{EachMay, Kind, LinesMay}

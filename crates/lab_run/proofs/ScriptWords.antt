@@ -11,15 +11,15 @@ use Rattle.wav_io.specs.Sound.{Sound}
 use Rattle.snd_base.specs.declared.errors.PcmError.{PcmError}
 use Rattle.dmix_client.specs.declared.stream.PlaybackStream.{PlaybackStream}
 use Rattle.dsnoop_client.specs.declared.stream.CaptureStream as reading
-use Rattle.lab_script.specs.declared.line.Actor.{Actor}
-use Rattle.lab_script.specs.declared.line.Actor.TheVariants as actor
-use Rattle.lab_script.specs.declared.line.Item.{Item}
-use Rattle.lab_script.specs.declared.line.Item.TheVariants as item
-use Rattle.lab_script.specs.declared.line.Line.{Line}
-use Rattle.lab_script.specs.declared.script.Script.{Script}
-use Rattle.lab_script.specs.Limits.{IsItem, IsLine}
-use Rattle.lab_script.specs.Script.{IsCardPosition, first_frame, frames_played, is_gone, phase_at, phases_of, position_after_phases, unplugs}
-use Rattle.lab_script.specs.Script as script_words
+use Rattle.lab_lines.specs.declared.line.Actor.{Actor}
+use Rattle.lab_lines.specs.declared.line.Actor.TheVariants as actor
+use Rattle.lab_lines.specs.declared.line.Item.{Item}
+use Rattle.lab_lines.specs.declared.line.Item.TheVariants as item
+use Rattle.lab_lines.specs.declared.line.Line.{Line}
+use Rattle.lab_lines.specs.declared.script.Script.{Script}
+use Rattle.lab_lines.specs.Limits.{IsItem, IsLine}
+use Rattle.lab_lines.specs.Script.{IsCardPosition, first_frame, frames_played, is_gone, phase_at, phases_of, position_after_phases, unplugs}
+use Rattle.lab_lines.specs.Script as script_words
 use Rattle.lab_run.specs.Claims.{claim_refusal}
 use Rattle.lab_run.specs.Client.{Client}
 use Rattle.lab_run.specs.Items.{ItemsMay}

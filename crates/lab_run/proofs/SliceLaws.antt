@@ -17,10 +17,10 @@ use Rattle.dsnoop_client.specs.declared.stream.CaptureStream.{CaptureStream}
 use Rattle.dsnoop_client.specs.Calls.{Answered, facts_with, over_of, read_after, read_to, seen_at, with_outcome, after_sync, taken_of, with_avail}
 use Rattle.dsnoop_client.specs.View.{avail_of}
 use Rattle.dsnoop_client.specs.Course.{counts, gets_frames, reads_on, syncs, transfer_on, transfers}
-use Rattle.lab_script.specs.declared.line.Op.{Op}
-use Rattle.lab_script.specs.declared.line.Op.TheVariants as op
-use Rattle.lab_report.specs.declared.row.Answer.{Answer}
-use Rattle.lab_report.specs.declared.row.Answer.TheVariants.{Count, Done, Failed}
+use Rattle.lab_lines.specs.declared.line.Op.{Op}
+use Rattle.lab_lines.specs.declared.line.Op.TheVariants as op
+use Rattle.lab_lines.specs.declared.row.Answer.{Answer}
+use Rattle.lab_lines.specs.declared.row.Answer.TheVariants.{Count, Done, Failed}
 use Rattle.lab_run.specs.Client.{count_answer, done_answer, reported_error}
 use Rattle.lab_run.specs.Reader.{after_call, call_answer, begins, call_of, frames_by, line_by, line_if}
 use Rattle.lab_run.specs.Rules.{MayGet, MayLay, MayLoad, Rules}

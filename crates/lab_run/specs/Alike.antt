@@ -19,7 +19,7 @@ use Rattle.dmix_client.specs.Writes.{frames_in}
 use Rattle.dsnoop_client.specs.declared.stream.CaptureStream as reading
 use Rattle.dsnoop_client.specs.Course.{avail_course, read_course}
 use Rattle.dsnoop_client.specs.Course as reading_course
-use Rattle.lab_report.specs.declared.row.Answer.{Answer}
+use Rattle.lab_lines.specs.declared.row.Answer.{Answer}
 use Rattle.lab_run.specs.Client.{count_answer, done_answer, write_course}
 use Rattle.lab_run.specs.Members.{with_member}
 

@@ -3,8 +3,8 @@ use Rattle.std.specs.Prelude.{◌≡◌, ℕ, ◌&&◌, Bool, nat_lt, is_none, i
 use Rattle.std.specs.List.{list_all}
 use Rattle.snd_base.specs.declared.errors.PcmError.{PcmError}
 use Rattle.dshare.specs.Owners.{AreFree, ClaimRow, busy, claimed, last_frames, owner_of, released}
-use Rattle.lab_script.specs.declared.script.Share.{Share}
-use Rattle.lab_script.specs.declared.script.Share.TheVariants.{Dmix, Dshare}
+use Rattle.lab_lines.specs.declared.script.Share.{Share}
+use Rattle.lab_lines.specs.declared.script.Share.TheVariants.{Dmix, Dshare}
 
 -- a channel is free at a position: it has no owner, and each earlier owner's last frame is before the position
 abbrev pub is_free_channel : List ClaimRow → ℕ → ℕ → Bool

@@ -13,10 +13,10 @@ use Rattle.dmix_client.specs.Calls.{avail_answer, delay_answer, after_drop, afte
 use Rattle.dmix_client.specs.Course.{if_admitted, drain_course, number_course, pause_course, start_course, sync_course, write_course}
 use Rattle.dmix_client.specs.Rewind.{rewind_course, rewindable_course}
 use Rattle.dmix_client.specs.Writes.{frames_in}
-use Rattle.lab_script.specs.declared.line.Op.{Op}
-use Rattle.lab_script.specs.declared.line.Op.TheVariants as op
-use Rattle.lab_report.specs.declared.row.Answer.{Answer}
-use Rattle.lab_report.specs.declared.row.Answer.TheVariants.{Done, Failed}
+use Rattle.lab_lines.specs.declared.line.Op.{Op}
+use Rattle.lab_lines.specs.declared.line.Op.TheVariants as op
+use Rattle.lab_lines.specs.declared.row.Answer.{Answer}
+use Rattle.lab_lines.specs.declared.row.Answer.TheVariants.{Done, Failed}
 use Rattle.snd_base.specs.declared.errors.PcmError.TheVariants.{BadState, Stopped}
 use Rattle.lab_run.specs.ActorPart.{Doing, Findings, LineDone}
 use Rattle.lab_run.specs.Client.{Client, call_answer, client_kind, count_answer, done_answer, ended_by, frames_of}

@@ -8,10 +8,10 @@ use Rattle.mix_core.specs.Laid.{total}
 use Rattle.mix_core.specs.declared.port.Entry.{Entry}
 use Rattle.wav_io.specs.Sound.{Sound}
 use Rattle.dmix_client.specs.Expansion.{expand, sample_at}
-use Rattle.lab_script.specs.declared.line.Item.{Item}
-use Rattle.lab_script.specs.Script.{first_frame}
-use Rattle.lab_report.specs.declared.report.Report.{Report}
-use Rattle.lab_report.specs.declared.row.Row.{Row}
+use Rattle.lab_lines.specs.declared.line.Item.{Item}
+use Rattle.lab_lines.specs.Script.{first_frame}
+use Rattle.lab_lines.specs.declared.report.Report.{Report}
+use Rattle.lab_lines.specs.declared.row.Row.{Row}
 use Rattle.lab_run.specs.Client.{Client, segments_of}
 use Rattle.lab_run.specs.Items.{ItemsMay, items_text}
 use Rattle.lab_run.specs.Phases.{AreUnmixed}

@@ -6,10 +6,10 @@ use Rattle.bindings.specs.Bound.{rising}
 use Rattle.wav_io.specs.Sound.{Sound}
 use Rattle.dmix_client.specs.declared.stream.PlaybackStream.{PlaybackStream}
 use Rattle.dmix_client.specs.Rewind.{last_channel, last_laid}
-use Rattle.lab_script.specs.declared.line.Op.{Op}
-use Rattle.lab_script.specs.declared.line.Op.TheVariants as op
-use Rattle.lab_report.specs.declared.row.Answer.{Answer}
-use Rattle.lab_report.specs.declared.row.Answer.TheVariants.{Failed}
+use Rattle.lab_lines.specs.declared.line.Op.{Op}
+use Rattle.lab_lines.specs.declared.line.Op.TheVariants as op
+use Rattle.lab_lines.specs.declared.row.Answer.{Answer}
+use Rattle.lab_lines.specs.declared.row.Answer.TheVariants.{Failed}
 use Rattle.lab_run.specs.Client.{Client, client_kind}
 use Rattle.lab_run.specs.Lines.{LineMay}
 use Rattle.lab_run.specs.Rules.{AtPort, Rules}

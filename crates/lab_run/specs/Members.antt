@@ -7,8 +7,8 @@ use Rattle.mix_core.specs.declared.port.Entry.{Entry}
 use Rattle.mix_core.specs.Laid.{total}
 use Rattle.dmix_client.specs.declared.stream.PlaybackStream.{PlaybackStream}
 use Rattle.dmix_client.specs.Expansion.{expand, run_entries}
-use Rattle.lab_script.specs.declared.line.Op.{Op}
-use Rattle.lab_report.specs.declared.row.Answer.{Answer}
+use Rattle.lab_lines.specs.declared.line.Op.{Op}
+use Rattle.lab_lines.specs.declared.row.Answer.{Answer}
 use Rattle.lab_run.specs.Client.{ended_by, row_by, stretch_of}
 use Rattle.lab_run.specs.Stage.{Setup, opened_client}
 

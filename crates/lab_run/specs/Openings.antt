@@ -14,12 +14,12 @@ use Rattle.hw_space.specs.Widest.{widest}
 use Rattle.sw_limits.specs.declared.params.SwParams.{SwParams}
 use Rattle.sw_limits.specs.Boundary.{IsBoundary}
 use Rattle.wav_io.specs.Sound.{Sound}
-use Rattle.lab_script.specs.declared.script.CardLine.{CardLine}
-use Rattle.lab_script.specs.declared.script.ClientLine.{ClientLine}
-use Rattle.lab_script.specs.declared.script.ReaderLine.{ReaderLine}
-use Rattle.lab_script.specs.declared.script.Script.{Script}
-use Rattle.lab_script.specs.declared.script.Stop.{Stop}
-use Rattle.lab_script.specs.declared.script.Stop.TheVariants.{At, Never}
+use Rattle.lab_lines.specs.declared.script.CardLine.{CardLine}
+use Rattle.lab_lines.specs.declared.script.ClientLine.{ClientLine}
+use Rattle.lab_lines.specs.declared.script.ReaderLine.{ReaderLine}
+use Rattle.lab_lines.specs.declared.script.Script.{Script}
+use Rattle.lab_lines.specs.declared.script.Stop.{Stop}
+use Rattle.lab_lines.specs.declared.script.Stop.TheVariants.{At, Never}
 use Rattle.lab_run.specs.Stage.{Session, Setup}
 
 -- parameters with a value each

@@ -2,17 +2,16 @@
 use Rattle.std.specs.Prelude.{◌≡◌, ℕ, ◌+◌, ◌%◌, ◌==◌, nat_eq, Bool, false, if◌then◌else◌, List, [], ◌∷◌, ◌++◌, filter, sum_by, Some, ⊤}
 use Rattle.std.specs.List.{range_with_len}
 use Rattle.pcm_states.specs.declared.states.State.TheVariants as state
-use Rattle.lab_script.specs.declared.line.Actor.{Actor}
-use Rattle.lab_script.specs.declared.line.Actor.TheVariants.{Card, Client, Reader}
-use Rattle.lab_script.specs.declared.line.Item.{Item}
-use Rattle.lab_script.specs.declared.line.Item.TheVariants as item
-use Rattle.lab_script.specs.declared.line.Line.{Line}
-use Rattle.lab_script.specs.declared.line.Op.{Op}
-use Rattle.lab_script.specs.declared.line.Op.TheVariants as op
-use Rattle.lab_script.specs.Ops.{played_by}
-use Rattle.lab_script.specs.Script.{is_card_line, is_mixed}
-use Rattle.lab_report.specs.declared.row.Answer.TheVariants.{Count, Done}
-use Rattle.lab_report.specs.declared.row.Row.{Row}
+use Rattle.lab_lines.specs.declared.line.Actor.{Actor}
+use Rattle.lab_lines.specs.declared.line.Actor.TheVariants.{Card, Client, Reader}
+use Rattle.lab_lines.specs.declared.line.Item.{Item}
+use Rattle.lab_lines.specs.declared.line.Item.TheVariants as item
+use Rattle.lab_lines.specs.declared.line.Line.{Line}
+use Rattle.lab_lines.specs.declared.line.Op.{Op}
+use Rattle.lab_lines.specs.declared.line.Op.TheVariants as op
+use Rattle.lab_lines.specs.Script.{is_card_line, is_mixed, played_by}
+use Rattle.lab_lines.specs.declared.row.Answer.TheVariants.{Count, Done}
+use Rattle.lab_lines.specs.declared.row.Row.{Row}
 
 -- the frames that the card plays by a line, and by some lines; a line of another actor plays none
 abbrev pub played_at : Line → ℕ

@@ -7,10 +7,10 @@ use Rattle.snoop_core.specs.declared.port.SnoopPort as snoopport
 use Rattle.snoop_core.specs.Port.{IsPast}
 use Rattle.course.specs.AtSnoopPort.{TakesAtSnoop}
 use Rattle.dsnoop_client.specs.declared.stream.CaptureStream.{CaptureStream}
-use Rattle.lab_script.specs.declared.line.Op.{Op}
-use Rattle.lab_script.specs.declared.line.Op.TheVariants as op
-use Rattle.lab_report.specs.declared.row.Answer.{Answer}
-use Rattle.lab_report.specs.declared.row.Answer.TheVariants.{Done, Failed}
+use Rattle.lab_lines.specs.declared.line.Op.{Op}
+use Rattle.lab_lines.specs.declared.line.Op.TheVariants as op
+use Rattle.lab_lines.specs.declared.row.Answer.{Answer}
+use Rattle.lab_lines.specs.declared.row.Answer.TheVariants.{Done, Failed}
 use Rattle.lab_run.specs.ActorPart.{Doing, Each, Findings, LineDone}
 use Rattle.lab_run.specs.ClientAtPort.{is_die}
 use Rattle.lab_run.specs.Reader.{Reader, after_call, call_of, reader_kind}

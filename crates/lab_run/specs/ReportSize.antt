@@ -1,6 +1,6 @@
 -- How many segments and runs a report may have.
 use Rattle.std.specs.Prelude.{◌≤◌, List, length}
-use Rattle.lab_script.specs.declared.line.Item.{Item}
+use Rattle.lab_lines.specs.declared.line.Item.{Item}
 use Rattle.lab_run.specs.Items.{ItemsMay}
 use Rattle.lab_run.specs.LabRun.{all_runs, all_segments}
 use Rattle.lab_run.specs.Stage.{Session, Stage, first_stage}

@@ -1,12 +1,12 @@
 -- A stage of a run in the words of its script: how many phases are done, where the card is, and what it publishes in the next phase.
 use Rattle.std.specs.Prelude.{◌≡◌, ℕ, ◌+◌, List, ◌∷◌, ◌++◌, length, Contains}
 use Rattle.wav_io.specs.Sound.{Sound}
-use Rattle.lab_script.specs.declared.line.Item.{Item}
-use Rattle.lab_script.specs.declared.line.Item.TheVariants as item
-use Rattle.lab_script.specs.declared.line.Line.{Line}
-use Rattle.lab_script.specs.declared.script.Script.{Script}
-use Rattle.lab_script.specs.Limits.{IsScript}
-use Rattle.lab_script.specs.Script.{IsCardPosition, is_gone, phase_at, phases_of, position_after_phases}
+use Rattle.lab_lines.specs.declared.line.Item.{Item}
+use Rattle.lab_lines.specs.declared.line.Item.TheVariants as item
+use Rattle.lab_lines.specs.declared.line.Line.{Line}
+use Rattle.lab_lines.specs.declared.script.Script.{Script}
+use Rattle.lab_lines.specs.Limits.{IsScript}
+use Rattle.lab_lines.specs.Script.{IsCardPosition, is_gone, phase_at, phases_of, position_after_phases}
 use Rattle.lab_run.specs.Items.{ItemsMay, rules_of}
 use Rattle.lab_run.specs.Openings.{IsSessionOf}
 use Rattle.lab_run.specs.Rules.{Rules}

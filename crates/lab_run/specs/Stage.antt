@@ -15,15 +15,15 @@ use Rattle.dmix_client.specs.Calls.{configured_with, new_client, with_params}
 use Rattle.dsnoop_client.specs.declared.stream.CaptureStream as reading
 use Rattle.dsnoop_client.specs.Calls as reading_calls
 use Rattle.dshare.specs.Owners as owners
-use Rattle.lab_script.specs.declared.line.Actor.{Actor}
-use Rattle.lab_script.specs.declared.line.Actor.TheVariants as actor
-use Rattle.lab_script.specs.declared.line.Op.{Op}
-use Rattle.lab_script.specs.declared.line.Op.TheVariants as op
-use Rattle.lab_script.specs.declared.script.CardLine.{CardLine}
-use Rattle.lab_script.specs.Script.{first_frame}
-use Rattle.lab_report.specs.declared.row.Answer.{Answer}
-use Rattle.lab_report.specs.declared.row.Answer.TheVariants.{Done, Failed}
-use Rattle.lab_report.specs.declared.row.Row.{Row}
+use Rattle.lab_lines.specs.declared.line.Actor.{Actor}
+use Rattle.lab_lines.specs.declared.line.Actor.TheVariants as actor
+use Rattle.lab_lines.specs.declared.line.Op.{Op}
+use Rattle.lab_lines.specs.declared.line.Op.TheVariants as op
+use Rattle.lab_lines.specs.declared.script.CardLine.{CardLine}
+use Rattle.lab_lines.specs.Script.{first_frame}
+use Rattle.lab_lines.specs.declared.row.Answer.{Answer}
+use Rattle.lab_lines.specs.declared.row.Answer.TheVariants.{Done, Failed}
+use Rattle.lab_lines.specs.declared.row.Row.{Row}
 use Rattle.lab_run.specs.Claims.{claim_refusal, with_claim, with_release}
 use Rattle.lab_run.specs.Client.{Client, row_by, segments_of}
 use Rattle.lab_run.specs.Places.{Lobby, after_attach, left_by, new_lobby}

@@ -14,23 +14,23 @@ use Rattle.lab_script.specs.declared.error.ScriptWhy.{ScriptWhy}
 use Rattle.lab_script.specs.declared.error.ScriptWhy.TheVariants as why
 use Rattle.lab_script.specs.declared.keyword.Keyword.{Keyword}
 use Rattle.lab_script.specs.declared.keyword.Keyword.TheVariants as keyword
-use Rattle.lab_script.specs.declared.line.Actor.{Actor}
-use Rattle.lab_script.specs.declared.line.Actor.TheVariants.{Card, Client, Reader}
-use Rattle.lab_script.specs.declared.line.Item.{Item}
-use Rattle.lab_script.specs.declared.line.Item.TheVariants as item
-use Rattle.lab_script.specs.declared.line.Line.{Line}
-use Rattle.lab_script.specs.declared.script.CardLine.{CardLine}
-use Rattle.lab_script.specs.declared.script.ClientLine.{ClientLine}
-use Rattle.lab_script.specs.declared.script.ReaderLine.{ReaderLine}
-use Rattle.lab_script.specs.declared.script.Script.{Script}
+use Rattle.lab_lines.specs.declared.line.Actor.{Actor}
+use Rattle.lab_lines.specs.declared.line.Actor.TheVariants.{Card, Client, Reader}
+use Rattle.lab_lines.specs.declared.line.Item.{Item}
+use Rattle.lab_lines.specs.declared.line.Item.TheVariants as item
+use Rattle.lab_lines.specs.declared.line.Line.{Line}
+use Rattle.lab_lines.specs.declared.script.CardLine.{CardLine}
+use Rattle.lab_lines.specs.declared.script.ClientLine.{ClientLine}
+use Rattle.lab_lines.specs.declared.script.ReaderLine.{ReaderLine}
+use Rattle.lab_lines.specs.declared.script.Script.{Script}
 use Rattle.lab_script.specs.Causes.{refuse_if, some_or, word_and_rest, end_of}
 use Rattle.lab_script.specs.Draft.{State, card_alone, client_of, reader_of, border_of, actor_named, is_client, is_reader, or_else, is_beside, ends_lap, keywords, with_client, with_reader, with_open, with_close, with_phase, with_end, with_line, with_words, outside, inside, unknown_outside, unknown_inside, line_at}
 use Rattle.lab_script.specs.Keys.{row_of}
-use Rattle.lab_script.specs.Limits.{IsCardLine, IsClientLine, IsReaderLine, IsBorder, IsActor, IsLine, IsAlone, IsItem, IsGoneAfter, IsScript}
-use Rattle.lab_script.specs.Ops.{op_of, played_by}
+use Rattle.lab_lines.specs.Limits.{IsCardLine, IsClientLine, IsReaderLine, IsBorder, IsActor, IsLine, IsAlone, IsItem, IsGoneAfter, IsScript}
+use Rattle.lab_script.specs.Ops.{op_of}
 use Rattle.lab_script.specs.Reading.{on_line, card_line, first_by, after, script_at_end, script_at, script_of_lines, Answers}
 use Rattle.std.specs.Result.{IfOk}
-use Rattle.lab_script.specs.Script.{phases_of, played_in, frames_played, first_frame, is_card_line, is_of_card, is_unplug, unplugs}
+use Rattle.lab_lines.specs.Script.{phases_of, played_in, frames_played, first_frame, is_card_line, is_of_card, is_unplug, unplugs, played_by}
 use Rattle.lab_script.proofs.Ranges.{bind_ok, not_refused, some_is, below}
 use Rattle.lab_script.proofs.Kept.{card_of-ranges, IsNewClient, client_of-ranges, IsNewReader, reader_of-ranges, op_of-is}
 

@@ -16,7 +16,7 @@ use Rattle.std.proofs.lemmas.Option.{cond_some}
 use Rattle.std.proofs.lemmas.List.Sums.{fails_before_first}
 use Rattle.lab_script.specs.Draft.{keywords}
 use Rattle.lab_script.specs.Keys.{row_of}
-use Rattle.lab_script.specs.Word.{is_reserved, is_name, is_name_byte, is_file, is_file_byte}
+use Rattle.lab_lines.specs.Names.{is_reserved, is_name, is_name_byte, is_file, is_file_byte}
 
 -- digits, one by one
 pub all_digits : (ds : List ℕ) → list_all is_ascii_digit ds ≡ all_ascii_digits ds

@@ -7,19 +7,19 @@ use Rattle.lab_script.specs.declared.keyword.Keyword.TheVariants as keyword
 use Rattle.lab_script.specs.declared.error.ScriptWhy.{ScriptWhy}
 use Rattle.lab_script.specs.declared.error.ScriptWhy.TheVariants as why
 use Rattle.lab_script.specs.declared.keys.Kind.TheVariants as kind
-use Rattle.lab_script.specs.declared.line.Actor.{Actor}
-use Rattle.lab_script.specs.declared.line.Actor.TheVariants.{Card, Client, Reader}
-use Rattle.lab_script.specs.declared.line.Item.{Item}
-use Rattle.lab_script.specs.declared.line.Item.TheVariants as item
-use Rattle.lab_script.specs.declared.line.Line.{Line}
-use Rattle.lab_script.specs.declared.line.Op.{Op}
-use Rattle.lab_script.specs.declared.script.CardLine.{CardLine}
-use Rattle.lab_script.specs.declared.script.ClientLine.{ClientLine}
-use Rattle.lab_script.specs.declared.script.ReaderLine.{ReaderLine}
+use Rattle.lab_lines.specs.declared.line.Actor.{Actor}
+use Rattle.lab_lines.specs.declared.line.Actor.TheVariants.{Card, Client, Reader}
+use Rattle.lab_lines.specs.declared.line.Item.{Item}
+use Rattle.lab_lines.specs.declared.line.Item.TheVariants as item
+use Rattle.lab_lines.specs.declared.line.Line.{Line}
+use Rattle.lab_lines.specs.declared.line.Op.{Op}
+use Rattle.lab_lines.specs.declared.script.CardLine.{CardLine}
+use Rattle.lab_lines.specs.declared.script.ClientLine.{ClientLine}
+use Rattle.lab_lines.specs.declared.script.ReaderLine.{ReaderLine}
 use Rattle.lab_script.specs.Causes.{◌>>=◌, refuse_if, some_or, word_and_rest, end_of}
 use Rattle.lab_script.specs.Keys.{row_of, keys_from, word_after, number_given, byte_given, small_given, small_where, stop_given, share_given, name_of, file_of, file_where, bindings_where}
-use Rattle.lab_script.specs.Ops.{op_of, played_by}
-use Rattle.lab_script.specs.Script.{is_of_card, is_unplug}
+use Rattle.lab_script.specs.Ops.{op_of}
+use Rattle.lab_lines.specs.Script.{is_of_card, is_unplug, played_by}
 
 -- the lines that are read: the card, the clients, the readers, and the body; the number of the line of a phase that isn't
 -- ended, and its lines; how many phases there are, how many frames the card plays, and whether it is unplugged

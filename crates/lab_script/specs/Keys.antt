@@ -11,11 +11,12 @@ use Rattle.lab_script.specs.declared.keys.Kind.{Kind}
 use Rattle.lab_script.specs.declared.keys.Kind.TheVariants as kind
 use Rattle.lab_script.specs.declared.keys.Takes.{Takes}
 use Rattle.lab_script.specs.declared.keys.Takes.TheVariants as takes
-use Rattle.lab_script.specs.declared.script.Share.{Share}
-use Rattle.lab_script.specs.declared.script.Share.TheVariants as share
-use Rattle.lab_script.specs.declared.script.Stop.{Stop}
-use Rattle.lab_script.specs.declared.script.Stop.TheVariants as stop
-use Rattle.lab_script.specs.Word.{number_of_word, parts_of, is_name, is_file}
+use Rattle.lab_lines.specs.declared.script.Share.{Share}
+use Rattle.lab_lines.specs.declared.script.Share.TheVariants as share
+use Rattle.lab_lines.specs.declared.script.Stop.{Stop}
+use Rattle.lab_lines.specs.declared.script.Stop.TheVariants as stop
+use Rattle.lab_lines.specs.Names.{is_name, is_file}
+use Rattle.lab_script.specs.Word.{number_of_word, parts_of}
 use Rattle.lab_script.specs.Causes.{◌>>=◌, refuse_if, some_or}
 
 -- the keys of the card's line; a period above half the ring is no matter of its range

@@ -3,7 +3,5 @@ pub mod Lexing
 pub mod Causes
 pub mod Keys
 pub mod Ops
-pub mod Script
-pub mod Limits
 pub mod Draft
 pub mod Reading

@@ -3,10 +3,10 @@ use Rattle.std.specs.Prelude.{ℕ, List, [], ◌∷◌, ◌++◌, codes, Option,
 use Rattle.std.specs.Fmt.{decimal}
 use Rattle.lab_script.specs.declared.error.ScriptWhy.{ScriptWhy}
 use Rattle.lab_script.specs.declared.error.ScriptWhy.TheVariants as why
-use Rattle.lab_script.specs.declared.line.Actor.{Actor}
-use Rattle.lab_script.specs.declared.line.Actor.TheVariants.{Card, Client, Reader}
-use Rattle.lab_script.specs.declared.line.Op.{Op}
-use Rattle.lab_script.specs.declared.line.Op.TheVariants as op
+use Rattle.lab_lines.specs.declared.line.Actor.{Actor}
+use Rattle.lab_lines.specs.declared.line.Actor.TheVariants.{Card, Client, Reader}
+use Rattle.lab_lines.specs.declared.line.Op.{Op}
+use Rattle.lab_lines.specs.declared.line.Op.TheVariants as op
 use Rattle.lab_script.specs.declared.ops.Form.{Form}
 use Rattle.lab_script.specs.declared.ops.Form.TheVariants.{Plain, Counted}
 use Rattle.lab_script.specs.Causes.{◌>>=◌, some_or, word_and_rest, end_of}
@@ -77,11 +77,6 @@ op_of actor words = do
   word ← word_and_rest words
   form ← some_or why.Word (row_of (ops_of actor) word.0)
   op_with form word.1
-
--- the frames that the card plays by what is asked for
-abbrev pub played_by : Op → ℕ
-played_by (op.Play frames) = frames
-played_by other = 0
 
 -- a word and a number
 abbrev pub word_and_number : List ℕ → ℕ → List ℕ

@@ -5,8 +5,8 @@ use Rattle.lab_script.specs.declared.keyword.Keyword.TheVariants as keyword
 use Rattle.lab_script.specs.declared.error.ScriptError.{ScriptError}
 use Rattle.lab_script.specs.declared.error.ScriptWhy.{ScriptWhy}
 use Rattle.lab_script.specs.declared.error.ScriptWhy.TheVariants as why
-use Rattle.lab_script.specs.declared.script.CardLine.{CardLine}
-use Rattle.lab_script.specs.declared.script.Script.{Script}
+use Rattle.lab_lines.specs.declared.script.CardLine.{CardLine}
+use Rattle.lab_lines.specs.declared.script.Script.{Script}
 use Rattle.lab_script.specs.Draft.{State, card_alone, card_of, keywords, with_words}
 use Rattle.lab_script.specs.Keys.{row_of}
 use Rattle.lab_script.specs.Lexing.{word_lines}

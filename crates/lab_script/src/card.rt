@@ -6,8 +6,8 @@ ghost use Rattle.lab_script.specs.Lexing.{words_between};
 
 use crate::error::ScriptWhy;
 use crate::keys::{Kind, check_keys, given};
-use crate::script::CardLine;
 use crate::values::{byte_given, file_where, number_given, share_given, small_given};
+use lab_lines::CardLine;
 use std::alloc::Global;
 
 /// Whether a card's period divides its ring at least twice.

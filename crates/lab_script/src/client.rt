@@ -8,10 +8,9 @@ use crate::causes::{first_of, refuse_if};
 use crate::draft::Draft;
 use crate::error::ScriptWhy;
 use crate::keys::{Kind, check_keys, given};
-use crate::name::{FileName, Name};
 use crate::named::named;
-use crate::script::{CardLine, ClientLine, ReaderLine};
 use crate::values::{bindings_where, number_given, read_file, read_name, small_where, stop_given};
+use lab_lines::{CardLine, ClientLine, FileName, Name, ReaderLine};
 use std::alloc::Global;
 
 /// Checks the keys of a client's line, and that one more client of this name can be declared.

@@ -1,8 +1,7 @@
 //! A script that is read as far as some line.
 ghost use Rattle.std.specs.Prelude.{◌≤◌, vec_len};
 
-use crate::line::{Item, Line};
-use crate::script::{CardLine, ClientLine, ReaderLine};
+use lab_lines::{CardLine, ClientLine, Item, Line, ReaderLine};
 
 /// What is read of a script: its card, clients, readers and body; the number of the line of a phase
 /// that isn't ended, and its lines; how many phases there are, how many frames the card plays in all

@@ -9,23 +9,21 @@ mod error;
 mod keys;
 mod keyword;
 mod lexing;
-mod line;
-mod name;
 mod named;
 mod ops;
 mod reader;
-mod script;
 mod steps;
 mod table;
 mod values;
 mod word;
 
 pub use error::{ScriptError, ScriptWhy};
+pub use lab_lines::{
+    Actor, Body, CardLine, ClientLine, Clients, FileName, Item, Line, Name, Op, Phase, ReaderLine,
+    Readers, Script, Share, Stop,
+};
 pub use lexing::{TextLine, next_line, next_word};
-pub use line::{Actor, Item, Line, Op, Phase};
-pub use name::{FileName, Name};
 pub use ops::{print_op, push_op};
 pub use reader::read_script;
-pub use script::{Body, CardLine, ClientLine, Clients, ReaderLine, Readers, Script, Share, Stop};
 pub use table::row_of;
 pub use word::read_number;

@@ -4,8 +4,7 @@ ghost use Rattle.std.specs.List.{position};
 ghost use Rattle.lab_script.specs.Draft.{is_client, is_reader, actor_named, view};
 
 use crate::draft::Draft;
-use crate::line::Actor;
-use crate::script::{ClientLine, ReaderLine};
+use lab_lines::{Actor, ClientLine, ReaderLine};
 
 /// The client of this name, counted from 0.
 fn client_at(clients: &[ClientLine], name: &[u8]) -> Option<usize>

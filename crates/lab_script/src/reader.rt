@@ -3,7 +3,7 @@ ghost use Rattle.std.specs.Prelude.{◌≡◌, ◌≤◌, ◌+◌, ◌^◌, ◌<
 ghost use Rattle.lab_script.specs.Causes.{Gives};
 ghost use Rattle.lab_script.specs.Draft.{view, card_alone};
 ghost use Rattle.lab_script.specs.Lexing.{words_between, lines_from};
-ghost use Rattle.lab_script.specs.Limits.{IsScript};
+ghost use Rattle.lab_lines.specs.Limits.{IsScript};
 ghost use Rattle.lab_script.specs.Reading.{card_line, after, script_at_end, script_at, script_of, script_of_lines, Answers};
 
 use crate::card::read_card;
@@ -11,8 +11,8 @@ use crate::draft::Draft;
 use crate::error::{ScriptError, ScriptWhy};
 use crate::keyword::{Keyword, keyword_of};
 use crate::lexing::{next_line, next_word};
-use crate::script::{Body, CardLine, Clients, Readers, Script};
 use crate::steps::add_words;
+use lab_lines::{Body, CardLine, Clients, Readers, Script};
 use std::alloc::Global;
 
 /// The card's line, of this number.

@@ -10,10 +10,9 @@ ghost use Rattle.lab_script.specs.Word.{parts_of};
 use crate::causes::refuse_if;
 use crate::error::ScriptWhy;
 use crate::keys::{Takes, given};
-use crate::name::{FileName, Name};
-use crate::script::{Share, Stop};
 use crate::word::{is_file, is_name, read_number, split_part};
 use bindings::Bindings;
+use lab_lines::{FileName, Name, Share, Stop};
 use snd_base::Why;
 use std::alloc::{AllocError, Global};
 

@@ -3,7 +3,8 @@ ghost use Rattle.std.specs.Prelude.{◌≡◌, ◌≤◌, ◌<◌, ◌∷◌, []
 ghost use Rattle.std.specs.List.{list_all, position};
 ghost use Rattle.std.specs.Str.{all_ascii_digits};
 ghost use Rattle.std.specs.Str.Parse.{digits_value};
-ghost use Rattle.lab_script.specs.Word.{parts_of, number_of_word, is_name, is_name_byte, is_file, is_file_byte, begins_lower, is_reserved};
+ghost use Rattle.lab_lines.specs.Names.{is_name, is_name_byte, is_file, is_file_byte, begins_lower, is_reserved};
+ghost use Rattle.lab_script.specs.Word.{parts_of, number_of_word};
 
 use crate::keyword::keyword_of;
 

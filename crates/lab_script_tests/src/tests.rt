@@ -1,7 +1,6 @@
 //! Scripts that are read, and texts that are refused, each with its line.
-use lab_script::{
-    Actor, CardLine, ClientLine, Item, Op, ScriptWhy as Why, Share, Stop, print_op, read_script,
-};
+use lab_lines::{Actor, CardLine, ClientLine, Item, Op, Share, Stop};
+use lab_script::{ScriptWhy as Why, print_op, read_script};
 use std::alloc::{AllocError, Global};
 use std::process::Abort;
 use std::test::*;

@@ -5,7 +5,7 @@ use Rattle.std.specs.Prelude.{All, Option, Some, None, unwrap_or}
 use Rattle.std.specs.List.{range_with_len}
 use Rattle.bindings.specs.AnswerLaws.{All-below-answered}
 use Rattle.bindings.specs.Bound.{identity}
-use Rattle.lab_script.specs.Limits.{IsBoundWhere}
+use Rattle.lab_lines.specs.Limits.{IsBoundWhere}
 
 get_or-range : (a n k d : ℕ) → k < n → get_or (range_with_len a n) k d ≡ a + k
 get_or-range a zero k d within = absurd (omega arith)

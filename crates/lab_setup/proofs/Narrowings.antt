@@ -10,7 +10,7 @@ use Rattle.hw_space.specs.Choices.{IsChoice}
 use Rattle.hw_space.specs.Narrowings.{with_value}
 use Rattle.hw_space.specs.Settled.{Leaves, space_left}
 use Rattle.hw_space.specs.Widest.{widest}
-use Rattle.lab_script.specs.declared.script.CardLine.{CardLine}
+use Rattle.lab_lines.specs.declared.script.CardLine.{CardLine}
 use Rattle.lab_run.specs.Openings.{IsChosen, IsNarrowed, Values}
 
 -- a value leaves nothing, or the others narrow what it leaves

@@ -4,9 +4,9 @@ use Rattle.std.specs.Prelude.{Option, Some, None, Result, Ok, Err}
 use Rattle.pcm_interval.specs.declared.empty.Empty.{Empty}
 use Rattle.hw_space.specs.declared.config.Config.{Config}
 use Rattle.wav_io.specs.Sound.{Sound}
-use Rattle.lab_script.specs.declared.script.CardLine.{CardLine}
-use Rattle.lab_script.specs.declared.script.ClientLine.{ClientLine}
-use Rattle.lab_script.specs.declared.script.ReaderLine.{ReaderLine}
+use Rattle.lab_lines.specs.declared.script.CardLine.{CardLine}
+use Rattle.lab_lines.specs.declared.script.ClientLine.{ClientLine}
+use Rattle.lab_lines.specs.declared.script.ReaderLine.{ReaderLine}
 use Rattle.lab_run.specs.Openings.{AreParams, IsChosen, IsClientOpening, IsClientSetup, IsReaderOpening, IsReaderSetup, Values, client_values, reader_values}
 use Rattle.lab_run.specs.Stage.{Setup}
 use Rattle.lab_setup.proofs.Narrowings.{IsChosen-unique}

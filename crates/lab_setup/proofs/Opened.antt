@@ -5,10 +5,10 @@ use Rattle.bindings.specs.Bound.{identity}
 use Rattle.pcm_interval.specs.declared.empty.Empty.{Empty}
 use Rattle.hw_space.specs.declared.config.Config.{Config}
 use Rattle.wav_io.specs.Sound.{Sound}
-use Rattle.lab_script.specs.declared.script.CardLine.{CardLine}
-use Rattle.lab_script.specs.declared.script.ClientLine.{ClientLine}
-use Rattle.lab_script.specs.declared.script.Stop.{Stop}
-use Rattle.lab_script.specs.Limits.{IsBoundWhere, IsCardLine, IsIn, IsStopWhere}
+use Rattle.lab_lines.specs.declared.script.CardLine.{CardLine}
+use Rattle.lab_lines.specs.declared.script.ClientLine.{ClientLine}
+use Rattle.lab_lines.specs.declared.script.Stop.{Stop}
+use Rattle.lab_lines.specs.Limits.{IsBoundWhere, IsCardLine, IsIn, IsStopWhere}
 use Rattle.lab_run.specs.Openings.{AreParams, IsChosen, client_values, values_of}
 use Rattle.lab_run.specs.Stage.{Setup}
 use Rattle.lab_setup.specs.Usable.{IsConfigInRange, IsUsable}

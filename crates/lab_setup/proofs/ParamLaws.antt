@@ -6,9 +6,9 @@ use Rattle.sw_limits.specs.declared.params.SwParams.{SwParams}
 use Rattle.sw_limits.specs.Boundary.{IsBoundary}
 use Rattle.sw_limits.specs.BoundaryLaws.{IsBoundary-last, IsBoundary-unique}
 use Rattle.sw_limits.specs.Params.{IsInRange, IsValid}
-use Rattle.lab_script.specs.declared.script.Stop.{Stop}
-use Rattle.lab_script.specs.declared.script.Stop.TheVariants.{At, Never}
-use Rattle.lab_script.specs.Limits.{IsIn, IsStopWhere}
+use Rattle.lab_lines.specs.declared.script.Stop.{Stop}
+use Rattle.lab_lines.specs.declared.script.Stop.TheVariants.{At, Never}
+use Rattle.lab_lines.specs.Limits.{IsIn, IsStopWhere}
 use Rattle.lab_run.specs.Openings.{AreParams, IsStop}
 
 IsStop-unique : (config : Config) (o : Option Stop) (a b : ℕ) → IsStop config o a → IsStop config o b → a ≡ b

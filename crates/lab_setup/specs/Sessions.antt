@@ -2,7 +2,7 @@
 use Rattle.std.specs.Prelude.{ℕ, List, Option, All, IfSome}
 use Rattle.wav_io.specs.Sound.{Sound}
 use Rattle.lab_run.specs.Stage.{Session, Setup}
-use Rattle.lab_script.specs.declared.script.Script.{Script}
+use Rattle.lab_lines.specs.declared.script.Script.{Script}
 use Rattle.lab_setup.specs.declared.session.Openings.{Openings}
 use Rattle.lab_setup.specs.Usable.{IsUsable}
 

@@ -2,10 +2,10 @@
 ghost use Rattle.std.specs.Prelude.{◌≡◌, ◌≢◌, ◌<◌, ◌≤◌, All, IfSome, IfNone, length};
 ghost use Rattle.bindings.specs.Bound.{AreBindings};
 ghost use Rattle.lab_run.specs.Openings.{bound_by, read_by};
-ghost use Rattle.lab_script.specs.Limits.{IsCardLine, IsClientLine, IsReaderLine};
+ghost use Rattle.lab_lines.specs.Limits.{IsCardLine, IsClientLine, IsReaderLine};
 
 use bindings::Bindings;
-use lab_script::{CardLine, ClientLine, ReaderLine};
+use lab_lines::{CardLine, ClientLine, ReaderLine};
 use wav_io::Wav;
 
 /// The bindings of a client: those of its line, if they are as many as its file has channels; without them each channel goes

@@ -3,11 +3,11 @@ ghost use Rattle.std.specs.Prelude.{◌≡◌, IfOk};
 ghost use Rattle.hw_space.specs.Params.{HasInterval};
 ghost use Rattle.hw_space.specs.Settled.{space_left};
 ghost use Rattle.lab_run.specs.Openings.{IsChosen, IsNarrowed, value_if, values_of};
-ghost use Rattle.lab_script.specs.Limits.{IsCardLine};
+ghost use Rattle.lab_lines.specs.Limits.{IsCardLine};
 ghost use Rattle.lab_setup.specs.Usable.{IsConfigInRange};
 
 use hw_space::{Config, Param, Slave, Space};
-use lab_script::CardLine;
+use lab_lines::CardLine;
 use pcm_interval::Empty;
 
 /// What a stream asks of its configuration: its channels and its rate in Hz, and its period and buffer in frames where its line

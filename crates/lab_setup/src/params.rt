@@ -3,7 +3,7 @@ ghost use Rattle.std.specs.Prelude.{◌≤◌};
 ghost use Rattle.lab_run.specs.Openings.{AreParams};
 
 use hw_space::Config;
-use lab_script::Stop;
+use lab_lines::Stop;
 use sw_limits::{SwParams, boundary};
 
 /// The software parameters that a line leaves with a configuration: its start threshold; its stop threshold, the boundary where

@@ -1,8 +1,8 @@
 //! The ring of a script's card.
 ghost use Rattle.lab_run.specs.Openings.{IsRingOf};
-ghost use Rattle.lab_script.specs.Limits.{IsCardLine};
+ghost use Rattle.lab_lines.specs.Limits.{IsCardLine};
 
-use lab_script::CardLine;
+use lab_lines::CardLine;
 use snd_base::Geometry;
 
 /// The shape of the ring of a card: its frames, its channels, and the lap on which it begins.

@@ -1,12 +1,12 @@
 //! With what all clients and readers of a script are opened.
 ghost use Rattle.std.specs.Prelude.{◌≡◌, All, IfErr, IfOk, length};
 ghost use Rattle.lab_run.specs.Openings.{AreClientOpenings, AreReaderOpenings, IsSessionOf};
-ghost use Rattle.lab_script.specs.Limits.{IsCardLine, IsClientLine, IsReaderLine, IsScript};
+ghost use Rattle.lab_lines.specs.Limits.{IsCardLine, IsClientLine, IsReaderLine, IsScript};
 ghost use Rattle.lab_setup.specs.Sessions.{AreUsable, session_with};
 
 use crate::opening::{Opening, client_opening, reader_opening};
 use crate::ring::ring_of;
-use lab_script::{CardLine, ClientLine, ReaderLine, Script};
+use lab_lines::{CardLine, ClientLine, ReaderLine, Script};
 use snd_base::{Geometry, PcmError};
 use std::alloc::Global;
 use wav_io::Wav;

@@ -1,10 +1,11 @@
 //! The openings are worked out by hand, from the rules of the parameter space and the keys of the lines.
-ghost use Rattle.lab_script.specs.Limits.{IsScript};
+ghost use Rattle.lab_lines.specs.Limits.{IsScript};
 ghost use Rattle.std.specs.Prelude.{◌≤◌, IfOk, length};
 
 use super::*;
 use bindings::Bindings;
-use lab_script::{Script, read_script};
+use lab_lines::Script;
+use lab_script::read_script;
 use std::alloc::Global;
 use std::fmt::Write;
 use std::test::*;

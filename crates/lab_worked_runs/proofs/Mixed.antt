@@ -4,11 +4,11 @@ use Rattle.std.proofs.Common.{◌≡◌, ℕ, refl, Option, None}
 use Rattle.std.specs.Prelude.{List, [], ◌∷◌, ◌++◌, codes, false, Ok}
 use Rattle.wav_io.specs.Sound.{Sound}
 use Rattle.snd_base.specs.declared.geometry.Geometry.{Geometry}
-use Rattle.lab_script.specs.declared.line.Actor.TheVariants.{Card, Client}
-use Rattle.lab_script.specs.declared.line.Item.TheVariants as item
-use Rattle.lab_script.specs.declared.line.Op.TheVariants as op
-use Rattle.lab_script.specs.declared.script.Script.{Script}
-use Rattle.lab_script.specs.declared.script.Share.TheVariants as share
+use Rattle.lab_lines.specs.declared.line.Actor.TheVariants.{Card, Client}
+use Rattle.lab_lines.specs.declared.line.Item.TheVariants as item
+use Rattle.lab_lines.specs.declared.line.Op.TheVariants as op
+use Rattle.lab_lines.specs.declared.script.Script.{Script}
+use Rattle.lab_lines.specs.declared.script.Share.TheVariants as share
 use Rattle.lab_script.specs.Reading.{script_of}
 use Rattle.lab_run.specs.LabRun.{LabRun, Outcome, lab_text}
 use Rattle.lab_run.proofs.RunExists.{text-LabRun}

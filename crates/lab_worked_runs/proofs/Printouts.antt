@@ -13,12 +13,12 @@ use Rattle.hw_space.specs.declared.config.Config.{Config}
 use Rattle.sw_limits.specs.declared.params.SwParams.{SwParams}
 use Rattle.wav_io.specs.Sound.{Sound}
 use Rattle.lab_script.specs.declared.error.ScriptError.{ScriptError}
-use Rattle.lab_script.specs.declared.script.CardLine.{CardLine}
-use Rattle.lab_script.specs.declared.script.ClientLine.{ClientLine}
-use Rattle.lab_script.specs.declared.script.ReaderLine.{ReaderLine}
-use Rattle.lab_script.specs.declared.script.Script.{Script}
-use Rattle.lab_script.specs.declared.script.Stop.{Stop}
-use Rattle.lab_script.specs.declared.script.Stop.TheVariants.{At, Never}
+use Rattle.lab_lines.specs.declared.script.CardLine.{CardLine}
+use Rattle.lab_lines.specs.declared.script.ClientLine.{ClientLine}
+use Rattle.lab_lines.specs.declared.script.ReaderLine.{ReaderLine}
+use Rattle.lab_lines.specs.declared.script.Script.{Script}
+use Rattle.lab_lines.specs.declared.script.Stop.{Stop}
+use Rattle.lab_lines.specs.declared.script.Stop.TheVariants.{At, Never}
 use Rattle.lab_script.specs.Draft as draft
 use Rattle.lab_script.specs.Keys as keys
 use Rattle.lab_script.specs.Ops as ops

@@ -5,11 +5,11 @@ use Rattle.std.specs.List.{range_with_len}
 use Rattle.snd_base.specs.declared.geometry.Geometry.{Geometry}
 use Rattle.lap_word.specs.Word.{count_of, lap_of, sum_of}
 use Rattle.lab_script.specs.declared.error.ScriptWhy.TheVariants as why
-use Rattle.lab_script.specs.declared.line.Actor.TheVariants.{Card, Client}
-use Rattle.lab_script.specs.declared.line.Item.{Item}
-use Rattle.lab_script.specs.declared.line.Item.TheVariants as item
-use Rattle.lab_script.specs.declared.line.Op.TheVariants as op
-use Rattle.lab_script.specs.declared.script.Share.TheVariants as share
+use Rattle.lab_lines.specs.declared.line.Actor.TheVariants.{Card, Client}
+use Rattle.lab_lines.specs.declared.line.Item.{Item}
+use Rattle.lab_lines.specs.declared.line.Item.TheVariants as item
+use Rattle.lab_lines.specs.declared.line.Op.TheVariants as op
+use Rattle.lab_lines.specs.declared.script.Share.TheVariants as share
 use Rattle.lab_run.specs.LabRun.{lab_text}
 use Rattle.lab_run.specs.Stage.{Session}
 use Rattle.lab_run.proofs.Sessions.{card, line, setup, some}

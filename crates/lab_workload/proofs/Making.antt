@@ -20,9 +20,9 @@ use Rattle.lab_report.specs.Text.{report_text}
 use Rattle.lab_run.specs.LabRun.{Outcome}
 use Rattle.lab_run.specs.Openings.{IsSessionOf}
 use Rattle.lab_run.specs.Stage.{Session}
-use Rattle.lab_script.specs.declared.line.Item.{Item}
-use Rattle.lab_script.specs.declared.script.Script.{Script}
-use Rattle.lab_script.specs.Limits.{IsScript}
+use Rattle.lab_lines.specs.declared.line.Item.{Item}
+use Rattle.lab_lines.specs.declared.script.Script.{Script}
+use Rattle.lab_lines.specs.Limits.{IsScript}
 use Rattle.lab_script.specs.Reading.{script_of}
 use Rattle.lab_shelf.specs.Files.{Files, IsPartWritten, TookPart, with_file}
 use Rattle.lab_workload.specs.Stored.{InputInPart, IsReadBack, made_input, script_name, with_input, with_workload}

@@ -15,8 +15,8 @@ use Rattle.lab_input.specs.Plug.{sound_file}
 use Rattle.wav_io.specs.Sound.{Sound}
 use Rattle.lab_shelf.specs.Files.{Files, bytes_under, with_file, bytes_under-with_file, bytes_under-with_file_same, bytes_under-with_file_other}
 use Rattle.lab_script.specs.declared.error.ScriptError.{ScriptError}
-use Rattle.lab_script.specs.declared.script.CardLine.{CardLine}
-use Rattle.lab_script.specs.declared.script.Script.{Script}
+use Rattle.lab_lines.specs.declared.script.CardLine.{CardLine}
+use Rattle.lab_lines.specs.declared.script.Script.{Script}
 use Rattle.lab_script.specs.Reading.{script_of}
 use Rattle.lab_stop.specs.Causes.{Cause, content_in, first_bytes, bytes_or_cause, ◌>>=◌}
 use Rattle.lab_input.specs.Input.{RunInput, as_script, capture_in, with_byte_count, input_in, most_of_run, script_in, sound_in, sounds_in, wav_in, with_weight, within_run}

@@ -4,7 +4,7 @@ ghost use Rattle.lab_input.specs.Read.{input_of};
 ghost use Rattle.lab_make.specs.Files.{IsMadeSound};
 ghost use Rattle.lab_make.specs.Lines.{made_text};
 ghost use Rattle.lab_make.specs.Workload.{IsWorkload};
-ghost use Rattle.lab_script.specs.Limits.{IsScript};
+ghost use Rattle.lab_lines.specs.Limits.{IsScript};
 ghost use Rattle.lab_script.specs.Reading.{script_of};
 ghost use Rattle.lab_stop.specs.declared.stop.Stop.TheVariants as stops;
 ghost use Rattle.lab_workload.specs.Stored.{made_input};

@@ -4,7 +4,7 @@ ghost use Rattle.lab_input.specs.Read.{input_of};
 ghost use Rattle.lab_phase.specs.Ended.{outcome_in};
 ghost use Rattle.lab_phase.specs.PhaseRuns.{stops_by};
 ghost use Rattle.lab_play.specs.Played.{HasPlayed, HasPlayedPart, rises};
-ghost use Rattle.lab_script.specs.Limits.{IsScript};
+ghost use Rattle.lab_lines.specs.Limits.{IsScript};
 ghost use Rattle.lab_shelf.specs.Counts.{Rose};
 ghost use Rattle.lab_stop.specs.Stops.{IsWriteStop};
 ghost use Rattle.lab_stop.specs.declared.stop.Stop.TheVariants as stops;

@@ -1,6 +1,6 @@
 use Rattle.std.proofs.Common.{sym, subst, ◌∙◌}
-use Rattle.lab_script.specs.declared.line.Op.{Op}
-use Rattle.lab_report.specs.declared.row.Answer.TheVariants.{Done}
+use Rattle.lab_lines.specs.declared.line.Op.{Op}
+use Rattle.lab_lines.specs.declared.row.Answer.TheVariants.{Done}
 use Rattle.lab_actor.specs.ClientLines.{HasClientAnswered}
 use Rattle.lab_actor.specs.Countdown.{by_gate_of, left_of}
 use Rattle.lab_actor.proofs.Gates.{both}

@@ -2,8 +2,8 @@ use Rattle.std.proofs.Common.{◌≡◌, ℕ, ◌≤◌, [], refl, arith, subst,
 use Rattle.course.specs.AtPort.{LaysAt, LoadsAt, NoGet}
 use Rattle.dmix_client.specs.Growth.{AnySamples}
 use Rattle.dmix_client.specs.StandingLaws.{IsBacked-held}
-use Rattle.lab_script.specs.declared.line.Op.{Op}
-use Rattle.lab_script.specs.declared.line.Op.TheVariants as op
+use Rattle.lab_lines.specs.declared.line.Op.{Op}
+use Rattle.lab_lines.specs.declared.line.Op.TheVariants as op
 use Rattle.lab_run.specs.Client.{count_answer, done_answer, frames_of}
 use Rattle.lab_actor.specs.ClientLines.{HasClientCalled, IsFew}
 use Rattle.lab_actor.proofs.Gates.{both}

@@ -6,7 +6,7 @@ use Rattle.course.specs.AtPort.{LaysAt, LoadsAt, NoGet}
 use Rattle.dmix_client.specs.declared.stream.PlaybackStream.{PlaybackStream}
 use Rattle.dmix_client.specs.Growth.{Follows}
 use Rattle.dmix_client.specs.Writes.{IsOffer, frames_in}
-use Rattle.lab_script.specs.declared.line.Op.TheVariants as op
+use Rattle.lab_lines.specs.declared.line.Op.TheVariants as op
 use Rattle.lab_run.specs.Client.{count_answer, frames_of}
 use Rattle.lab_actor.proofs.Called.{answer-taken, called-keeps}
 use Rattle.lab_actor.proofs.Fed.{IsFed, write-fed}

@@ -1,5 +1,5 @@
 use Rattle.std.proofs.Common.{subst, sym}
-use Rattle.lab_script.specs.declared.line.Op.{Op}
+use Rattle.lab_lines.specs.declared.line.Op.{Op}
 use Rattle.lab_actor.specs.Room.{HasSpace, samples_wanted}
 use Rattle.lab_actor.proofs.Rooms.{fitting-fits}
 use Rattle.lab_actor.proofs.reader_calls.call_fitting.Goals as goal

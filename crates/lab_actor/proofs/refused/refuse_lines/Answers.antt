@@ -1,8 +1,8 @@
 use Rattle.std.proofs.Common.{◌≡◌, ◌<◌, ◌++◌, List, arith, get_or, length, subst, sym, vec_capacity, vec_len}
 use Rattle.std.proofs.lemmas.List.{append-nil, get_or_default, take_all}
-use Rattle.lab_script.specs.declared.line.Actor.TheVariants as actor
-use Rattle.lab_script.specs.declared.line.Line.{Line}
-use Rattle.lab_script.specs.declared.line.Op.TheVariants as op
+use Rattle.lab_lines.specs.declared.line.Actor.TheVariants as actor
+use Rattle.lab_lines.specs.declared.line.Line.{Line}
+use Rattle.lab_lines.specs.declared.line.Op.TheVariants as op
 use Rattle.lab_run.specs.Phases.{ops_by}
 use Rattle.lab_actor.specs.Refused.{refused_rows}
 use Rattle.lab_actor.specs.Room.{is_actor}

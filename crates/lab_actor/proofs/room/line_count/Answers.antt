@@ -1,9 +1,9 @@
 use Rattle.std.proofs.Common.{◌<◌, ◌+◌, ap, arith, get_or, length, sym, ◌∙◌}
 use mir.Val.{bool_byte}
 use Rattle.std.proofs.lemmas.List.{get_or_default}
-use Rattle.lab_script.specs.declared.line.Actor.TheVariants as actor
-use Rattle.lab_script.specs.declared.line.Line.{Line}
-use Rattle.lab_script.specs.declared.line.Op.TheVariants as op
+use Rattle.lab_lines.specs.declared.line.Actor.TheVariants as actor
+use Rattle.lab_lines.specs.declared.line.Line.{Line}
+use Rattle.lab_lines.specs.declared.line.Op.TheVariants as op
 use Rattle.lab_actor.specs.Room.{is_actor}
 use Rattle.lab_actor.proofs.Parts.{bool_byte-most, counted-next}
 use Rattle.lab_actor.proofs.room.line_count.Goals as goal

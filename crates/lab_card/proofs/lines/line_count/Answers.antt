@@ -1,8 +1,8 @@
 use Rattle.std.proofs.Common.{◌<◌, arith, get_or, length, sym}
 use Rattle.std.proofs.lemmas.List.{get_or_default}
-use Rattle.lab_script.specs.declared.line.Actor.TheVariants as actor
-use Rattle.lab_script.specs.declared.line.Line.{Line}
-use Rattle.lab_script.specs.declared.line.Op.TheVariants as op
+use Rattle.lab_lines.specs.declared.line.Actor.TheVariants as actor
+use Rattle.lab_lines.specs.declared.line.Line.{Line}
+use Rattle.lab_lines.specs.declared.line.Op.TheVariants as op
 use Rattle.lab_card.proofs.OwnLines.{bool_byte-most, count-next, own-count}
 use Rattle.lab_card.proofs.lines.line_count.Goals as goal
 

@@ -1,5 +1,5 @@
 use Rattle.std.proofs.Common.{◌≡◌, ◌≤◌, length, take}
-use Rattle.lab_script.specs.Script.{is_of_card}
+use Rattle.lab_lines.specs.Script.{is_of_card}
 use Rattle.lab_run.specs.Phases.{ops_by}
 use Rattle.lab_card.proofs.lines.line_count.Given as goal
 

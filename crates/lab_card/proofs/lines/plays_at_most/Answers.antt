@@ -1,9 +1,9 @@
 use Rattle.std.proofs.Common.{◌<◌, ◌+◌, arith, get_or, length, sym}
 use Rattle.std.proofs.lemmas.Bool.{false≢true}
 use Rattle.std.proofs.lemmas.List.{get_or_default}
-use Rattle.lab_script.specs.declared.line.Actor.TheVariants as actor
-use Rattle.lab_script.specs.declared.line.Line.{Line}
-use Rattle.lab_script.specs.declared.line.Op.TheVariants as op
+use Rattle.lab_lines.specs.declared.line.Actor.TheVariants as actor
+use Rattle.lab_lines.specs.declared.line.Line.{Line}
+use Rattle.lab_lines.specs.declared.line.Op.TheVariants as op
 use Rattle.lab_card.proofs.OwnLines.{frames-most, frames-next}
 use Rattle.lab_card.proofs.lines.plays_at_most.Goals as goal
 

@@ -1,7 +1,7 @@
 use Rattle.std.proofs.Common.{subst, sym, All}
 use Rattle.std.specs.Prelude.{List}
 use Rattle.std.proofs.lemmas.List.Elements.{All-take}
-use Rattle.lab_report.specs.declared.row.Row.{Row}
+use Rattle.lab_lines.specs.declared.row.Row.{Row}
 use Rattle.lab_report.specs.Text.{IsRowOf}
 use Rattle.lab_output_tests.proofs.tests.the_text_is_put_in_four_pieces.Goals as goal
 

@@ -1,8 +1,8 @@
 use Rattle.std.proofs.Common.{◌≡◌, ◌≤◌, ◌+◌, ◌++◌, ◌∙◌, ℕ, Bool, if◌then◌else◌, List, [], ap, arith, length, refl, vec_len}
 use Rattle.std.specs.Global.{Vec}
-use Rattle.lab_script.specs.declared.line.Line.{Line}
-use Rattle.lab_script.specs.Script.{is_of_card}
-use Rattle.lab_report.specs.declared.row.Row.{Row}
+use Rattle.lab_lines.specs.declared.line.Line.{Line}
+use Rattle.lab_lines.specs.Script.{is_of_card}
+use Rattle.lab_lines.specs.declared.row.Row.{Row}
 use Rattle.lab_run.specs.Phases.{card_rows, ops_by}
 use Rattle.lab_card.specs.Moves.{frame_of_card}
 use Rattle.lab_phase.specs.Alone.{own-at-most}

@@ -1,5 +1,5 @@
 use Rattle.std.proofs.Common.{List, ap, arith, length, refl, subst}
-use Rattle.lab_report.specs.declared.row.Row.{Row}
+use Rattle.lab_lines.specs.declared.row.Row.{Row}
 use Rattle.lab_phase.specs.BorderLaws.{OnErr-always}
 use Rattle.lab_phase.specs.PhaseSteps.{HaveGivenRows, length-given}
 use Rattle.lab_phase.proofs.phase.run_together.Goals as goal

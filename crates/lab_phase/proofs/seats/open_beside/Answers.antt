@@ -3,7 +3,7 @@ use Rattle.std.specs.Option.{option_copied}
 use Rattle.sum_table.specs.declared.seats.player.PlayerSeat.{PlayerSeat}
 use Rattle.sum_table.specs.Joins.{OneRing}
 use Rattle.sum_table.specs.Players.{player_key, player_ring, position_of_player}
-use Rattle.lab_script.specs.declared.line.Actor.TheVariants as whose
+use Rattle.lab_lines.specs.declared.line.Actor.TheVariants as whose
 use Rattle.lab_run.specs.Stage.{Session, Stage, after_open}
 use Rattle.lab_card.specs.Moves.{frame_of_card}
 use Rattle.lab_places.specs.Held.{key_of_places, ring_of_places}

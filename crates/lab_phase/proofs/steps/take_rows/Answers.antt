@@ -2,7 +2,7 @@ use Rattle.std.specs.Prelude.{◌≡◌, ◌+◌, ◌++◌, Bool, if◌then◌el
 use Rattle.std.specs.List.{flat_map}
 use Rattle.std.proofs.Common.{ap, arith, refl, ◌∙◌}
 use Rattle.std.proofs.lemmas.List.{length-append}
-use Rattle.lab_report.specs.declared.row.Row.{Row}
+use Rattle.lab_lines.specs.declared.row.Row.{Row}
 use Rattle.lab_card.specs.declared.card.CardActor.{CardActor}
 use Rattle.lab_client.specs.Clients as client
 use Rattle.lab_clients.specs.AtStage.{clients_of}

@@ -1,7 +1,7 @@
 use Rattle.std.specs.Prelude.{ℕ, ◌+◌, List, length, slice_get}
 use Rattle.std.proofs.Common.{refl, sym, ap, ◌∙◌}
 use Rattle.std.proofs.lemmas.Option.{slice_get_read}
-use Rattle.lab_script.specs.declared.line.Item.{Item}
+use Rattle.lab_lines.specs.declared.line.Item.{Item}
 use Rattle.lab_phase.specs.AtStage.{IsNextItem-at}
 use Rattle.lab_phase.specs.PhaseRuns.{stops_by}
 use Rattle.lab_play.specs.Playing.{Scene, StopsAt, scene}

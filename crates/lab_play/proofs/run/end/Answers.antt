@@ -4,7 +4,7 @@ use Rattle.std.proofs.Common.{ap, subst, sym, ◌∙◌}
 use Rattle.lab_output.specs.Text.{tail_from}
 use Rattle.lab_phase.specs.AtStage.{items_done}
 use Rattle.lab_report.specs.Text.{IsReportOf}
-use Rattle.lab_script.specs.declared.script.Script.{Script}
+use Rattle.lab_lines.specs.declared.script.Script.{Script}
 use Rattle.lab_shelf.specs.Files.{TookPart}
 use Rattle.lab_stop.specs.declared.stop.Stop.TheVariants as stop
 use Rattle.lab_play.specs.Ends.{StopsAtEnd}

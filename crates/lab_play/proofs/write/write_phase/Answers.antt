@@ -1,6 +1,6 @@
 use Rattle.std.proofs.Common.{◌≡◌, ◌++◌, List, ℕ, length, option_map, ◌∙◌}
 use Rattle.std.specs.Prelude.{Option}
-use Rattle.lab_report.specs.declared.row.Row.{Row}
+use Rattle.lab_lines.specs.declared.row.Row.{Row}
 use Rattle.lab_phase.specs.declared.lab.Lab.{Lab}
 use Rattle.lab_output.specs.Text.{rows_text}
 use Rattle.lab_shelf.specs.Files.{Files, TookPart}

@@ -1,6 +1,6 @@
 use Rattle.std.proofs.Common.{List, length, subst, sym, ◌∙◌}
 use Rattle.std.specs.List.{All}
-use Rattle.lab_report.specs.declared.request.Request.{Request}
+use Rattle.lab_lines.specs.declared.request.Request.{Request}
 use Rattle.lab_report.proofs.Actors.{IsAsked, requests_of-asked}
 use Rattle.lab_report.specs.Reading.{nothing, lines_after, Answers}
 use Rattle.lab_report.specs.Words.{lines_of}

@@ -1,5 +1,5 @@
 use Rattle.std.proofs.Common.{◌≡◌, ◌+◌, ◌++◌, drop, length}
-use Rattle.lab_script.specs.Script.{phases_of}
+use Rattle.lab_lines.specs.Script.{phases_of}
 use Rattle.lab_report.specs.Requests.{requests_from}
 use Rattle.lab_report.proofs.request.requests_of.Given as goal
 

@@ -9,7 +9,7 @@ use Rattle.lab_make.specs.Files.{IsMadeSound}
 use Rattle.lab_phase.specs.Ended.{outcome_in}
 use Rattle.lab_phase.specs.PhaseRuns.{Stops, stops_by}
 use Rattle.lab_play.specs.Played.{rises}
-use Rattle.lab_script.specs.Limits.{IsScript}
+use Rattle.lab_lines.specs.Limits.{IsScript}
 use Rattle.lab_shelf.specs.Files.{Files, IsPartWritten, with_file}
 use Rattle.lab_workload.specs.Made.{report_name}
 use Rattle.lab_workload.specs.Stored.{IsReadBack}

@@ -4,7 +4,7 @@ use Rattle.lab_actor.specs.ClientLines.{IsReady}
 use Rattle.lab_actor.specs.ClientPart.{ClientPart}
 use Rattle.lab_actor.specs.Countdown.{IsSameGate, by_gate_of, left_of}
 use Rattle.lab_actor.specs.Room.{line_count}
-use Rattle.lab_script.specs.declared.line.Actor.TheVariants as actor
+use Rattle.lab_lines.specs.declared.line.Actor.TheVariants as actor
 use Rattle.lab_actor.proofs.client.ClientActor.do_lines.Given as goal
 
 abbrev pub invariant-loop-index : goal.invariant-loop-index

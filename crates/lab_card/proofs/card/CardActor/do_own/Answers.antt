@@ -1,6 +1,6 @@
 use Rattle.std.proofs.Common.{sym, subst, ◌∙◌, List}
 use Rattle.std.specs.Option.{option_copied}
-use Rattle.lab_script.specs.declared.line.Op.{Op}
+use Rattle.lab_lines.specs.declared.line.Op.{Op}
 use Rattle.lab_card.specs.CardLines.{CardPart}
 use Rattle.lab_card.specs.MovesLaws.{CardPart-none}
 use Rattle.lab_card.proofs.OwnLines.{ops-other}

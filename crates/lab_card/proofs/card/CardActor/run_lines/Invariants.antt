@@ -1,6 +1,6 @@
 use Rattle.std.proofs.Common.{length, take}
 use Rattle.std.specs.Option.{option_copied}
-use Rattle.lab_script.specs.Script.{is_of_card}
+use Rattle.lab_lines.specs.Script.{is_of_card}
 use Rattle.lab_run.specs.Phases.{ops_by}
 use Rattle.lab_card.specs.CardLines.{CardPart, frames_by}
 use Rattle.lab_card.specs.Room.{KeepsRoom}

@@ -1,5 +1,5 @@
 use Rattle.std.proofs.Common.{ℕ, sym, subst}
-use Rattle.lab_script.specs.declared.line.Actor.TheVariants as actor
+use Rattle.lab_lines.specs.declared.line.Actor.TheVariants as actor
 use Rattle.lab_actor.specs.Room.{HasSpace, line_count}
 use Rattle.lab_client.specs.Clients.{HasRoomAt}
 use Rattle.lab_client.specs.declared.open_client.OpenClient.{OpenClient}

@@ -1,7 +1,7 @@
 use Rattle.std.proofs.Common.{◌≡◌, true, false, arith, sym, subst}
 use Rattle.std.proofs.lemmas.Bool.Decides.{nat_tests}
-use Rattle.lab_script.specs.declared.line.Actor.TheVariants as actor
-use Rattle.lab_report.specs.declared.row.Row.{Row}
+use Rattle.lab_lines.specs.declared.line.Actor.TheVariants as actor
+use Rattle.lab_lines.specs.declared.row.Row.{Row}
 use Rattle.lab_run.specs.Items.{held_of}
 use Rattle.lab_run.specs.Stage.{after_close}
 use Rattle.lab_client.specs.Clients.{is_open}

@@ -4,8 +4,8 @@ use Rattle.sum_table.specs.declared.seats.mix.MixSeat.{MixSeat}
 use Rattle.sum_table.specs.declared.view.Key.{Key}
 use Rattle.sum_table.specs.Players.{position_of_player}
 use Rattle.sum_table.specs.Seats.{member_of}
-use Rattle.lab_script.specs.declared.line.Actor.TheVariants as actor
-use Rattle.lab_report.specs.declared.row.Row.{Row}
+use Rattle.lab_lines.specs.declared.line.Actor.TheVariants as actor
+use Rattle.lab_lines.specs.declared.row.Row.{Row}
 use Rattle.lab_run.specs.Items.{held_of}
 use Rattle.lab_run.specs.Stage.{Setup, after_open, opened_client}
 use Rattle.lab_places.specs.Held.{Opens, share_of}

@@ -1,7 +1,7 @@
 use Rattle.std.proofs.Common.{◌≡◌, List, ℕ, ◌++◌, ◌-◌, ap, ◌∙◌, drop, take, length}
 use Rattle.std.proofs.lemmas.List.Elements.{All-drop, All-same, All-take}
 use Rattle.std.specs.List.{flat_map}
-use Rattle.lab_report.specs.declared.row.Row.{Row}
+use Rattle.lab_lines.specs.declared.row.Row.{Row}
 use Rattle.lab_report.specs.Text.{IsRowOf, row_line, tail_text}
 use Rattle.lab_output.specs.Text.{tail_from}
 use Rattle.lab_output.proofs.Rows.{rows_text-slice}

@@ -1,5 +1,5 @@
 use Rattle.std.proofs.Common.{◌∙◌, ◌≡◌}
-use Rattle.lab_script.specs.declared.line.Item.{Item}
+use Rattle.lab_lines.specs.declared.line.Item.{Item}
 use Rattle.lab_phase.specs.declared.lab.Lab.{Lab}
 use Rattle.lab_phase.specs.AtStage.{DoesItem, played_of}
 use Rattle.lab_phase.specs.BorderLaws.{OnErr-always, OnErr-both, OnOk-more}

@@ -1,7 +1,7 @@
 use Rattle.std.proofs.Common.{arith, refl, sym, subst, ◌<◌, length, ℕ}
-use Rattle.lab_script.specs.declared.line.Actor.{Actor}
-use Rattle.lab_script.specs.declared.line.Actor.TheVariants as whose
-use Rattle.lab_script.specs.Limits.{IsBorder}
+use Rattle.lab_lines.specs.declared.line.Actor.{Actor}
+use Rattle.lab_lines.specs.declared.line.Actor.TheVariants as whose
+use Rattle.lab_lines.specs.Limits.{IsBorder}
 use Rattle.lab_run.specs.Stage.{after_close}
 use Rattle.lab_phase.specs.declared.lab.Lab.{Lab}
 use Rattle.lab_phase.specs.AtStage.{DoesRow, capture_of, session_of}

@@ -1,7 +1,7 @@
 use Rattle.std.proofs.Common.{sym, subst}
 use Rattle.std.specs.Prelude.{IfOk, length}
-use Rattle.lab_script.specs.Limits.{IsItem}
-use Rattle.lab_script.specs.declared.line.Item.{Item}
+use Rattle.lab_lines.specs.Limits.{IsItem}
+use Rattle.lab_lines.specs.declared.line.Item.{Item}
 use Rattle.lab_phase.specs.declared.lab.Lab.{Lab}
 use Rattle.lab_phase.specs.AtStage.{DoesRow, border_after, session_of}
 use Rattle.lab_phase.proofs.Numbers.{IsItem-next}

@@ -1,6 +1,6 @@
 use Rattle.std.proofs.Common.{sym, subst}
 use Rattle.std.specs.Prelude.{IfOk}
-use Rattle.lab_script.specs.declared.line.Actor.{Actor}
+use Rattle.lab_lines.specs.declared.line.Actor.{Actor}
 use Rattle.lab_run.specs.Stage.{after_open}
 use Rattle.lab_phase.specs.declared.lab.Lab.{Lab}
 use Rattle.lab_phase.specs.AtStage.{DoesRow, session_of}

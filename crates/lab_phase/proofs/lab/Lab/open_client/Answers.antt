@@ -1,7 +1,7 @@
 use Rattle.std.specs.Prelude.{Some, Option, IsSomeAnd}
 use Rattle.std.proofs.Common.{rules, arith, refl, sym, ap, subst, ◌∙◌, ◌≡◌, ℕ}
 use Rattle.std.specs.Option.{option_copied}
-use Rattle.lab_script.specs.declared.line.Actor.TheVariants as whose
+use Rattle.lab_lines.specs.declared.line.Actor.TheVariants as whose
 use Rattle.lab_run.specs.Stage.{Session, Stage, after_open}
 use Rattle.lab_card.specs.declared.card.CardActor.{CardActor}
 use Rattle.lab_card.specs.Moves.{frame_of_card}

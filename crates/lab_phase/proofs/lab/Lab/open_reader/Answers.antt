@@ -2,7 +2,7 @@ use Rattle.std.specs.Prelude.{List, None, Option}
 use Rattle.std.proofs.Common.{rules, arith, refl, ◌≡◌, ℕ, slice_index_or}
 use Rattle.std.specs.Option.{option_copied}
 use Rattle.wav_io.specs.Sound.{Sound}
-use Rattle.lab_script.specs.declared.line.Actor.TheVariants as whose
+use Rattle.lab_lines.specs.declared.line.Actor.TheVariants as whose
 use Rattle.lab_run.specs.Reader.{Reader}
 use Rattle.lab_run.specs.Rules.{AtPort}
 use Rattle.lab_run.specs.Stage.{Session, Stage, after_open}

@@ -1,8 +1,8 @@
 use Rattle.std.proofs.Common.{arith, subst, sym, ◌+◌, ◌<◌, length, ℕ}
 use Rattle.std.specs.Global.{Vec}
-use Rattle.lab_script.specs.declared.line.Item.TheVariants as item
-use Rattle.lab_script.specs.declared.script.Script.{Script}
-use Rattle.lab_report.specs.declared.row.Row.{Row}
+use Rattle.lab_lines.specs.declared.line.Item.TheVariants as item
+use Rattle.lab_lines.specs.declared.script.Script.{Script}
+use Rattle.lab_lines.specs.declared.row.Row.{Row}
 use Rattle.lab_phase.specs.declared.lab.Lab.{Lab}
 use Rattle.lab_phase.specs.AtStage.{HasEndRoom}
 use Rattle.lab_phase.specs.BorderLaws.{OnErr-always, next-inside}

@@ -69,7 +69,7 @@ pub struct Phase {
 
 impl Model for Phase {
     ghost use Rattle.std.specs.Prelude.{List};
-    ghost use Rattle.lab_script.specs.declared.line.Line.{Line};
+    ghost use Rattle.lab_lines.specs.declared.line.Line.{Line};
 
     ghost Value = { List Line };
 

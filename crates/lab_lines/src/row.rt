@@ -1,9 +1,9 @@
 //! A row of a report: what one line of a script was answered.
 ghost use Rattle.std.specs.Prelude.{◌≡◌};
-ghost use Rattle.lab_report.specs.Text.{request_of_row};
+ghost use Rattle.lab_lines.specs.Rows.{request_of_row};
 
+use crate::line::{Actor, Op};
 use crate::request::Request;
-use lab_script::{Actor, Op};
 use pcm_states::State;
 use snd_base::PcmError;
 

@@ -79,7 +79,7 @@ pub struct Clients {
 
 impl Model for Clients {
     ghost use Rattle.std.specs.Prelude.{List};
-    ghost use Rattle.lab_script.specs.declared.script.ClientLine.{ClientLine};
+    ghost use Rattle.lab_lines.specs.declared.script.ClientLine.{ClientLine};
 
     ghost Value = { List ClientLine };
 
@@ -124,7 +124,7 @@ pub struct Readers {
 
 impl Model for Readers {
     ghost use Rattle.std.specs.Prelude.{List};
-    ghost use Rattle.lab_script.specs.declared.script.ReaderLine.{ReaderLine};
+    ghost use Rattle.lab_lines.specs.declared.script.ReaderLine.{ReaderLine};
 
     ghost Value = { List ReaderLine };
 
@@ -169,7 +169,7 @@ pub struct Body {
 
 impl Model for Body {
     ghost use Rattle.std.specs.Prelude.{List};
-    ghost use Rattle.lab_script.specs.declared.line.Item.{Item};
+    ghost use Rattle.lab_lines.specs.declared.line.Item.{Item};
 
     ghost Value = { List Item };
 

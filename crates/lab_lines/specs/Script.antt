@@ -1,16 +1,20 @@
 -- What a script says: its phases, the frames that the card plays in them, and the positions that it publishes.
 use Rattle.std.specs.Prelude.{◌≡◌, ℕ, ◌+◌, ◌-◌, ◌*◌, ◌<◌, ◌≤◌, ◌⊎◌, Bool, true, false, ◌&&◌, not, List, [], ◌∷◌, take, length, sum_by, slice_index_or}
 use Rattle.std.specs.List.{list_any}
-use Rattle.lab_script.specs.declared.line.Actor.{Actor}
-use Rattle.lab_script.specs.declared.line.Actor.TheVariants.{Card, Client, Reader}
-use Rattle.lab_script.specs.declared.line.Item.{Item}
-use Rattle.lab_script.specs.declared.line.Item.TheVariants as item
-use Rattle.lab_script.specs.declared.line.Line.{Line}
-use Rattle.lab_script.specs.declared.line.Op.{Op}
-use Rattle.lab_script.specs.declared.line.Op.TheVariants as op
-use Rattle.lab_script.specs.declared.script.CardLine.{CardLine}
-use Rattle.lab_script.specs.declared.script.Script.{Script}
-use Rattle.lab_script.specs.Ops.{played_by}
+use Rattle.lab_lines.specs.declared.line.Actor.{Actor}
+use Rattle.lab_lines.specs.declared.line.Actor.TheVariants.{Card, Client, Reader}
+use Rattle.lab_lines.specs.declared.line.Item.{Item}
+use Rattle.lab_lines.specs.declared.line.Item.TheVariants as item
+use Rattle.lab_lines.specs.declared.line.Line.{Line}
+use Rattle.lab_lines.specs.declared.line.Op.{Op}
+use Rattle.lab_lines.specs.declared.line.Op.TheVariants as op
+use Rattle.lab_lines.specs.declared.script.CardLine.{CardLine}
+use Rattle.lab_lines.specs.declared.script.Script.{Script}
+
+-- the frames that the card plays by what is asked for
+abbrev pub played_by : Op → ℕ
+played_by (op.Play frames) = frames
+played_by other = 0
 
 -- the phases of a body, in order
 abbrev pub phases_of : List Item → List (List Line)

@@ -13,7 +13,7 @@ pub struct Rows {
 
 impl Model for Rows {
     ghost use Rattle.std.specs.Prelude.{List};
-    ghost use Rattle.lab_report.specs.declared.row.Row.{Row};
+    ghost use Rattle.lab_lines.specs.declared.row.Row.{Row};
 
     ghost Value = { List Row };
 

@@ -1,0 +1,4 @@
+pub mod Names
+pub mod Script
+pub mod Limits
+pub mod Rows
