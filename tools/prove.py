@@ -24,9 +24,9 @@ PROGRAM, ROOM = "dmixlab", "build-"
 NOT_PROVED, UNKNOWN_RT = 1, 3
 USED_OF_RT = ("KIT", "Kept", "clear", "crates_of", "free", "handles_of", "processors", "rtlib")
 # what a crate states that another uses is read in the time in which so many bytes of functions are proved
-LIBRARY_SIZE = 1000
+LIBRARY_SIZE = 400
 # a chain of crates is long that has so much of the longest one's work; the crate that begins it is proved by so many jobs
-LONG, JOBS_OF_LONG = 0.8, 2
+LONG, JOBS_OF_LONG = 0.95, 2
 # the most bytes that the proof of a crate holds at once, small or large, and those of each further job, which shares most of them
 A_PROOF, A_FURTHER_JOB = 2_500_000_000, 250_000_000
 # the rest of the memory is left to others
@@ -215,7 +215,7 @@ def prove_all(build, uses, length, lanes, memory):
             jobs = max(share, JOBS_OF_LONG) if part >= LONG else share
             jobs = next((it for it in range(jobs, 1, -1) if memory_of(it) <= room), 1)
             if idle > 0 and (not running or memory_of(jobs) <= room):
-                niceness = min(19, int(40 * (1 - part)))
+                niceness = min(19, int(20 * (1 - part)))
                 running[in_thread(build.prove, name, jobs, niceness)] = name, memory_of(jobs)
                 left.remove(name)
         if not running:
