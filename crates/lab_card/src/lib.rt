@@ -10,6 +10,3 @@ mod meets;
 pub use card::CardActor;
 pub use lines::{frame_count, line_count};
 pub use meets::{hear_client, hear_reader, inform_client, inform_reader};
-
-#[cfg(test)]
-mod tests;

@@ -1,5 +1,5 @@
 -- Valid software parameters aren't refused.
-use Rattle.std.specs.Prelude.{ℕ, ◌<◌, Ok, Err}
+use Rattle.std.specs.Prelude.{ℕ, Err}
 use Rattle.std.proofs.Common.{arith}
 use Rattle.snd_base.specs.declared.errors.PcmError.{PcmError}
 use Rattle.snd_base.specs.declared.errors.PcmError.TheVariants.{Invalid}

@@ -1,6 +1,6 @@
 -- The segments of a client, in two parts.
 use Rattle.std.specs.Prelude.{◌≡◌, ◌+◌, ◌++◌, Option, Some, None, length}
-use Rattle.std.proofs.Common.{refl, sym, ap, ◌∙◌}
+use Rattle.std.proofs.Common.{refl, ap, ◌∙◌}
 use Rattle.std.proofs.lemmas.List.{append-nil, length-append}
 use Rattle.lab_run.specs.Client.{segments_of}
 use Rattle.lab_client.specs.Clients.{client_by, client_in, ended_of, ended_segments, last_by, open_of}

@@ -39,7 +39,7 @@ use Rattle.lab_card.specs.declared.card.CardActor.{CardActor}
 use Rattle.lab_card.specs.Findings.{CardPhase, client-found, rules_between}
 use Rattle.lab_client.specs.declared.open_client.OpenClient.{OpenClient}
 use Rattle.lab_client.specs.declared.client.LabClient.{LabClient}
-use Rattle.lab_client.specs.Clients.{AllRefused, HasLaidBy, IsAt, IsAtBy, IsCardOf, IsClientHeard, IsClientInformed, IsSameRest, RunsLines, GoesOrRests, client_by, client_in, ended_of, number_of, open_of, rows_by, rows_of}
+use Rattle.lab_client.specs.Clients.{AllRefused, HasLaidBy, IsAt, IsAtBy, IsCardOf, IsClientHeard, IsClientInformed, RunsLines, GoesOrRests, client_by, client_in, ended_of, number_of, open_of, rows_by, rows_of}
 use Rattle.lab_client.specs.OpenClients.{HasLaidPhase, HasRun, IsHeard, IsInformed, IsOpenAt, IsSameOpening, stream_of}
 use Rattle.lab_client.specs.SeatLaws.{IsPlace-same, IsReady-same, IsSameSeat, IsSameSeat-informed, IsSameSeat-same}
 use Rattle.lab_client.specs.SeatPort.{seat_port}

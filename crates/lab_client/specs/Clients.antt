@@ -1,5 +1,5 @@
 -- A client of the lab, open or not: which client of a run it is, and what each of its calls makes of it.
-use Rattle.std.specs.Prelude.{◌≡◌, ℕ, ◌++◌, ℤ, List, [], ◌∷◌, Option, Some, None, IfSome, is_some, Bool, vec_capacity, vec_len, ◌+◌, ◌≤◌, ⊤}
+use Rattle.std.specs.Prelude.{◌≡◌, ℕ, ◌++◌, List, Option, Some, None, IfSome, is_some, Bool, ◌+◌, ⊤}
 use Rattle.std.specs.Option.{option_to_list}
 use Rattle.snd_base.specs.declared.places.Segment.{Segment}
 use Rattle.sum_table.specs.declared.view.Key.{Key}

@@ -5,7 +5,7 @@ use Rattle.mix_core.specs.declared.port.Entry.{Entry}
 use Rattle.mix_core.specs.Laid.{standing, total}
 use Rattle.mix_core.specs.Marks.{high_frame}
 use Rattle.sum_table.specs.declared.view.Key.{Key}
-use Rattle.sum_table.specs.Seats.{TableId, marks_of_seat, member_of, seen_of, view_of}
+use Rattle.sum_table.specs.Seats.{TableId, marks_of_seat, member_of, seen_of}
 use Rattle.lobby.specs.Seats.{IsPlace}
 use Rattle.wav_io.specs.Sound.{Sound}
 use Rattle.dmix_client.specs.declared.stream.PlaybackStream.{PlaybackStream}

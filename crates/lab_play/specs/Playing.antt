@@ -5,7 +5,7 @@
 --     HasUnwrittenPhase      a phase is done of which nothing is written yet
 --     HasStopped      what is left of a run that stopped
 --     IsStoppedAt      a run stopped at the stage of a lab, whose rings aren't closed yet
-use Rattle.std.specs.Prelude.{◌≡◌, ℕ, ◌-◌, ◌*◌, ◌≤◌, ℤ, List, [], ◌∷◌, ◌++◌, length, take, Option, Some}
+use Rattle.std.specs.Prelude.{◌≡◌, ℕ, ◌-◌, ◌*◌, ◌≤◌, ℤ, List, [], ◌∷◌, ◌++◌, length, take, Option}
 use Rattle.std.specs.Option.{option_map}
 use Rattle.lab_lines.specs.declared.line.Item.{Item}
 use Rattle.lab_lines.specs.declared.script.Script.{Script}

@@ -24,6 +24,7 @@ use Rattle.lab_lines.specs.declared.row.Answer.{Answer}
 use Rattle.lab_lines.specs.declared.row.Answer.TheVariants.{Done, Count, Failed}
 use Rattle.lab_lines.specs.declared.row.Row.{Row}
 use Rattle.lab_lines.specs.declared.report.Report.{Report}
+use Rattle.lab_lines.specs.Rows.{request_of_row}
 use Rattle.lab_report.specs.Requests.{requests_of}
 
 -- the name of the client of this number

@@ -1,8 +1,7 @@
--- Which words are numbers, names and files, and the parts of a list.
-use Rattle.std.specs.Prelude.{ℕ, Bool, false, ◌&&◌, ◌||◌, not, List, [], ◌∷◌, length, codes, bytes_eq, Option, Some, None, ◌==◌, nat_le, if◌then◌else◌}
-use Rattle.std.specs.List.{slice_split, list_all}
+-- Which words are numbers, and the parts of a list.
+use Rattle.std.specs.Prelude.{ℕ, Bool, ◌&&◌, List, length, Option, Some, None, ◌==◌, nat_le, if◌then◌else◌}
+use Rattle.std.specs.List.{slice_split}
 use Rattle.std.specs.Str.{all_ascii_digits}
-use Rattle.std.specs.Char.{is_ascii_digit}
 use Rattle.std.specs.Str.Parse.{digits_value}
 
 -- a line feed

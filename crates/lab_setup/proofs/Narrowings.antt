@@ -1,6 +1,6 @@
 -- Laws of narrowings: values narrow one after the other, and what they leave is one space, or nothing.
-use Rattle.std.specs.Prelude.{◌≡◌, ◌⊎◌, ℕ, List, [], ◌∷◌, ◌++◌, Option, Some, None, Result, Ok, Err, refl}
-use Rattle.std.proofs.Common.{subst, ap, ◌∙◌, sym, inl, inr}
+use Rattle.std.specs.Prelude.{◌≡◌, ℕ, [], ◌∷◌, ◌++◌, Option, Some, None, Result, Ok, Err, refl}
+use Rattle.std.proofs.Common.{subst, ◌∙◌, sym, inl, inr}
 use Rattle.pcm_interval.specs.declared.empty.Empty.{Empty}
 use Rattle.hw_space.specs.declared.config.Config.{Config}
 use Rattle.hw_space.specs.declared.param.Param.{Param}

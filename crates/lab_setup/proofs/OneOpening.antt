@@ -1,6 +1,6 @@
 -- With what an actor is opened is settled by the card, its line and its file.
-use Rattle.std.proofs.Common.{◌≡◌, ℕ, ◌∙◌, refl, sym, ap, subst, inl, inr, length}
-use Rattle.std.specs.Prelude.{Option, Some, None, Result, Ok, Err}
+use Rattle.std.proofs.Common.{◌≡◌, ◌∙◌, refl, sym, ap, subst, inl, inr, length}
+use Rattle.std.specs.Prelude.{Option, Some, None, Ok, Err}
 use Rattle.pcm_interval.specs.declared.empty.Empty.{Empty}
 use Rattle.hw_space.specs.declared.config.Config.{Config}
 use Rattle.wav_io.specs.Sound.{Sound}

@@ -1,5 +1,5 @@
 -- The software parameters of a line: there is one value of them, and it is valid.
-use Rattle.std.proofs.Common.{◌≡◌, ℕ, ◌≤◌, ◌∙◌, arith, sym, subst}
+use Rattle.std.proofs.Common.{◌≡◌, ℕ, ◌≤◌, ◌∙◌, arith, sym}
 use Rattle.std.specs.Prelude.{Option, Some, None}
 use Rattle.hw_space.specs.declared.config.Config.{Config}
 use Rattle.sw_limits.specs.declared.params.SwParams.{SwParams}

@@ -9,7 +9,6 @@ use Rattle.pcm_interval.specs.MaskLaws.{common_mask-IsMaskWithin_left}
 use Rattle.hw_space.specs.declared.choice.Choice.{Choice}
 use Rattle.hw_space.specs.declared.choice.Choice.TheVariants.{Settle, FirstAccess, FirstFormat, First, Last, Near}
 use Rattle.hw_space.specs.declared.config.Config.{Config}
-use Rattle.hw_space.specs.declared.param.Param.{Param}
 use Rattle.hw_space.specs.declared.param.Param.TheVariants as param
 use Rattle.hw_space.specs.declared.param.ParamKind.{ParamKind}
 use Rattle.hw_space.specs.declared.param.ParamKind.TheVariants as kind

@@ -12,6 +12,3 @@ mod session;
 pub use opening::{Opening, client_opening, openings_are_one, reader_opening};
 pub use ring::ring_of;
 pub use session::{Openings, openings_of};
-
-#[cfg(test)]
-mod tests;

@@ -1,4 +1,4 @@
-use Rattle.std.proofs.Common.{◌≡◌, ◌∙◌, refl, sym, ap, subst, arith, inl}
+use Rattle.std.proofs.Common.{◌≡◌, ◌∙◌, refl, sym, ap, arith, inl}
 use Rattle.std.specs.Prelude.{Err, Ok}
 use Rattle.wav_io.specs.Sound.{Sound}
 use Rattle.lab_setup.proofs.Opened.{IsChosen-file, IsUsable-opened}

@@ -1,4 +1,4 @@
-use Rattle.std.proofs.Common.{◌≡◌, ◌∙◌, refl, sym, ap, subst, arith, length}
+use Rattle.std.proofs.Common.{◌≡◌, ◌∙◌, sym, ap, subst, arith, length}
 use Rattle.std.specs.Prelude.{ℕ, Err}
 use Rattle.lab_run.specs.Openings.{IsChosen, read_by, values_of}
 use Rattle.lab_setup.proofs.Opened.{IsUsable-opened}

@@ -1,4 +1,4 @@
-use Rattle.std.proofs.Common.{◌≡◌, ℕ, ◌+◌, ◌<◌, sym, subst, arith, length, List, take}
+use Rattle.std.proofs.Common.{◌+◌, ◌<◌, sym, subst, arith, length, List, take}
 use Rattle.std.proofs.lemmas.List.Elements.{All-push}
 use Rattle.std.specs.Prelude.{IfSome, Option}
 use Rattle.lab_run.specs.Openings.{AreClientOpenings}

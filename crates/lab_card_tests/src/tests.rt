@@ -3,9 +3,9 @@ ghost use Rattle.std.specs.Prelude.{IfOk};
 ghost use Rattle.sum_table.specs.Rings.{GaveNone};
 ghost use Rattle.snoop_table.specs.Rings.{GaveNone as SnoopGaveNone};
 
-use super::*;
 use card_player::CardPlayer;
 use card_sim::Card;
+use lab_card::CardActor;
 use lab_lines::{Actor, Answer, Line, Op};
 use mix_core::{MixPort, NeverStops, Placed};
 use pcm_states::State;

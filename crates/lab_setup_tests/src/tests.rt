@@ -2,10 +2,10 @@
 ghost use Rattle.lab_lines.specs.Limits.{IsScript};
 ghost use Rattle.std.specs.Prelude.{◌≤◌, IfOk, length};
 
-use super::*;
 use bindings::Bindings;
 use lab_lines::Script;
 use lab_script::read_script;
+use lab_setup::{Opening, openings_of};
 use std::alloc::Global;
 use std::fmt::Write;
 use std::test::*;

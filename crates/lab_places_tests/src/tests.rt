@@ -7,9 +7,9 @@ ghost use Rattle.sum_table.specs.Rings.{GaveNone, key_of_ring};
 ghost use Rattle.sum_table.specs.Seats.{IsLaterSeat, key_of, ring_of};
 ghost use Rattle.lab_places.specs.Held.{key_of_places, ring_of_places, shares_of};
 
-use super::*;
 use bindings::Bindings;
 use lab_lines::Share;
+use lab_places::Places;
 use mix_core::{MixPort, NeverStops, Placed};
 use snd_base::{Geometry, PcmError};
 use std::alloc::Global;
