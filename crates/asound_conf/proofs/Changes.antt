@@ -7,7 +7,7 @@ use Rattle.std.proofs.lemmas.Bool.{cases_eq, cases_lt, false≢true}
 use Rattle.std.proofs.lemmas.Bool.Decides.{nat_tests, same_from_decides}
 use Rattle.std.proofs.lemmas.Fmt.{decimal_injective}
 use Rattle.std.proofs.lemmas.Grind.{get_or-set_at}
-use Rattle.std.proofs.lemmas.List.{get_or-set_other, get_or_read, length-map}
+use Rattle.std.proofs.lemmas.List.{get_or-set_other, get_or_default, get_or_read, length-map}
 use Rattle.std.proofs.lemmas.Slice.Eq.{bytes_eq-Decides}
 use Rattle.asound_conf.specs.declared.cell.Span.{Span}
 use Rattle.asound_conf.specs.declared.cell.Name.{Name}
@@ -229,6 +229,18 @@ IsTable-forget text cells heads n b e some gone bucket within at before_it is =
       };
       below = is.below;
     }
+
+-- the same, of what is read: the cell, the bucket of its name, and the bucket's last cell
+pub IsTable-forgot : (text : List ℕ) (cells : List Cell) (heads : List ℕ) (n b wide last : ℕ) (beside : Cell) (name : List ℕ) → IsTable text cells heads → n < length cells → 0 < n → is_live (cell_at cells n).content ≡ false
+    → wide ≡ length heads → b < wide → b ≡ bucket_of wide (get_or cells n beside).parent name → name ≡ name_in text (get_or cells n beside).name → last ≡ get_or heads b last → last ≡ n
+    → IsTable text cells (set heads b (get_or cells n beside).earlier)
+IsTable-forgot text cells heads n b wide last beside name is inside some gone width within bucket named read at =
+    let cell = get_or cells n beside in
+    let same : cell ≡ cell_at cells n = get_or_default cells n beside no_cell inside in
+    let bucket_is : b ≡ bucket_at (length heads) text cells n =
+    bucket ∙ ap (λ w. bucket_of w cell.parent name) width ∙ ap (bucket_of (length heads) cell.parent) named ∙ ap (λ (c : Cell). bucket_of (length heads) c.parent (name_in text c.name)) same in
+    let low : b < length heads = omega (arith, within, width) in
+    IsTable-forget text cells heads n b cell.earlier some gone bucket_is low (sym (get_or_read heads b last low read 0) ∙ at) (ap (λ (c : Cell). c.earlier) same) is
 
 -- the cell that was changed
 pub gone-changed : (cells : List Cell) (n : ℕ) (new : Cell) → IsChanged cells n contents.Removed new → is_live (cell_at (set cells n new) n).content ≡ false

@@ -1,7 +1,9 @@
 -- A device that is read in steps is read as field by field.
-use Rattle.std.proofs.Common.{◌≡◌, ℕ, List, codes, refl, Result, Ok, Err}
+use Rattle.std.proofs.Common.{◌≡◌, ℕ, List, codes, refl, Option, Result, Ok, Err}
 use Rattle.asound_conf.specs.declared.error.ConfWhy.{ConfWhy}
-use Rattle.asound_conf.specs.Device.{◌>>=◌, definition_of, device_slave, device_kind, format_of, field, field_pair, slave_numbers, slave_card, device_in, device_by}
+use Rattle.asound_conf.specs.declared.plugin.Card.{Card}
+use Rattle.asound_conf.specs.declared.plugin.DeviceKind.{DeviceKind}
+use Rattle.asound_conf.specs.Device.{◌>>=◌, definition_of, device_bindings, device_slave, device_kind, format_of, field, field_pair, slave_numbers, slave_card, device_in, device_by}
 use Rattle.asound_conf.specs.Tree.{Entries, get}
 
 -- after a value, what follows may be said in another way
@@ -74,3 +76,30 @@ device_by_definition root name =
     same_after (device_slave root (get (codes "slave") definition)) _ _ (λ slave.
     same_after (device_kind (get (codes "type") definition)) _ _ (λ kind.
     apart_after (format_of (get (codes "format") slave)) _ _ _ (λ fits. apart_after (slave_numbers slave) _ _ _ (λ numbers. refl)))))
+
+-- a device whose slave, kind, card or bindings are refused
+pub device_in-slave : (root definition : Entries) (e : ConfWhy) → Err e ≡ device_slave root (get (codes "slave") definition) → Err e ≡ device_in root definition
+unfolding device_in
+device_in-slave root definition e slaves = rw (← slaves) refl
+
+pub device_in-kind : (root definition slave : Entries) (e : ConfWhy) → Ok slave ≡ device_slave root (get (codes "slave") definition) → Err e ≡ device_kind (get (codes "type") definition)
+    → Err e ≡ device_in root definition
+unfolding device_in
+device_in-kind root definition slave e slaves kinds = rw (← slaves, ← kinds) refl
+
+pub device_in-card : (root definition slave : Entries) (kind : DeviceKind) (e : ConfWhy) → Ok slave ≡ device_slave root (get (codes "slave") definition) → Ok kind ≡ device_kind (get (codes "type") definition)
+    → Err e ≡ slave_card slave → Err e ≡ device_in root definition
+unfolding device_in
+device_in-card root definition slave kind e slaves kinds cards = rw (← slaves, ← kinds, ← cards) refl
+
+pub device_in-bindings : (root definition slave : Entries) (kind : DeviceKind) (card : Card) (e : ConfWhy) → Ok slave ≡ device_slave root (get (codes "slave") definition) → Ok kind ≡ device_kind (get (codes "type") definition)
+    → Ok card ≡ slave_card slave → Err e ≡ device_bindings (get (codes "bindings") definition) card.channels → Err e ≡ device_in root definition
+unfolding device_in
+device_in-bindings root definition slave kind card e slaves kinds cards bound = rw (← slaves, ← kinds, ← cards, ← bound) refl
+
+-- a device of which all are given
+pub device_in-whole : (root definition slave : Entries) (kind : DeviceKind) (card : Card) (bindings : Option (List ℕ)) → Ok slave ≡ device_slave root (get (codes "slave") definition) → Ok kind ≡ device_kind (get (codes "type") definition)
+    → Ok card ≡ slave_card slave → Ok bindings ≡ device_bindings (get (codes "bindings") definition) card.channels
+    → Ok (record { kind = kind; channels = card.channels; rate = card.rate; period = card.period; ring = card.ring; bindings = bindings }) ≡ device_in root definition
+unfolding device_in
+device_in-whole root definition slave kind card bindings slaves kinds cards bound = rw (← slaves, ← kinds, ← cards, ← bound) refl

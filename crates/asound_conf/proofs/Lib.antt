@@ -3,6 +3,7 @@ pub mod Changes
 pub mod Counts
 pub mod Downs
 pub mod Fields
+pub mod FirstBytes
 pub mod Fronts
 pub mod Groups
 pub mod Joined

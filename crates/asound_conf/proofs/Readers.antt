@@ -3,6 +3,7 @@ use Rattle.std.proofs.Common.{◌≡◌, ℕ, zero, suc, ◌+◌, ◌<◌, ◌�
 use Rattle.std.proofs.lemmas.Bool.Decides.{nat_tests}
 use Rattle.std.proofs.lemmas.List.{append-nil, drop-append-le, drop-map, drop_at, take-append-le}
 use Rattle.std.specs.Fmt.{decimal}
+use Rattle.std.specs.Prelude.{reverse}
 use Rattle.asound_conf.specs.declared.bracket.Awaits.{Awaits}
 use Rattle.asound_conf.specs.declared.bracket.Awaits.TheVariants.{Item, Value}
 use Rattle.asound_conf.specs.declared.bracket.Bracket as code
@@ -11,12 +12,12 @@ use Rattle.asound_conf.specs.declared.error.ConfWhy.{ConfWhy}
 use Rattle.asound_conf.specs.declared.error.ConfWhy.TheVariants as why
 use Rattle.asound_conf.specs.declared.part.Part as part
 use Rattle.asound_conf.specs.Answer.{Leads, Refuses, answer_view}
-use Rattle.asound_conf.specs.Grammar.{State, after_item, at_key, at_number, close_to, open_group, put_key, put_text, in_group}
+use Rattle.asound_conf.specs.Grammar.{State, after_item, at_key, at_number, close_to, open_group, put_key, put_text, in_group, start}
 use Rattle.asound_conf.specs.Key.{Part, key_defect, part_named, without_marks}
 use Rattle.asound_conf.specs.Parts.{part_in, parts_in}
 use Rattle.asound_conf.specs.Place.{meets_text, put_or_clash}
 use Rattle.asound_conf.specs.Opening.{AreAround, IsHere, IsOpen, bracket_of, key_cause, or_cause, state_in}
-use Rattle.asound_conf.specs.Rows.{Contents, group_of}
+use Rattle.asound_conf.specs.Rows.{Contents, group_of, no_row}
 use Rattle.asound_conf.specs.Tree.{Entries}
 use Rattle.asound_conf.specs.Way.{IsWay}
 use Rattle.asound_conf.proofs.Below.{meets_text-below}
@@ -384,3 +385,13 @@ take-kept n parts new low kept = sym (take-take n (length parts) new low) ∙ ap
 pub parts_in-added : (text : List ℕ) (n : ℕ) (parts new : List part.Part) (added : List Part) → length parts ≡ n → parts_in text new ≡ parts_in text parts ++ added → parts_in text (drop n new) ≡ added
 parts_in-added text n parts new added count is =
     sym (drop-map (part_in text) n new) ∙ ap (drop n) is ∙ drop_at (parts_in text parts) added n (length-parts_in text parts ∙ count)
+
+-- a reader before the first token of a text
+pub new-start : (c : Contents) (text : List ℕ) (path : List part.Part) (outer : List code.Bracket) → c ≡ record { text = text; rows = no_row ∷ [] } → path ≡ [] → outer ≡ []
+    → state_in c [] path (record { line = 0; array = false; values = 0; names = 0; group = 0 }) (reverse outer) (Item false) ≡ start
+new-start c text path outer table parts around = rw (table, parts, around) refl
+
+pub new-open : (c : Contents) (text : List ℕ) (path : List part.Part) (outer : List code.Bracket) → c ≡ record { text = text; rows = no_row ∷ [] } → path ≡ [] → outer ≡ []
+    → IsOpen c [] path (record { line = 0; array = false; values = 0; names = 0; group = 0 }) (reverse outer) (Item false)
+new-open c text path outer table parts around =
+    rw (table, parts, around) (record { keyed = refl; innermost = record { inside = omega arith; depth = refl; way = refl }; around = tt })

@@ -61,7 +61,7 @@ AreAt-before text rest after bytes start small at before = record {
 }
 
 -- what is_word_byte says of a byte
-is_word_byte-35 : (b : ℕ) → is_word_byte b ≡ true → (b == 35) ≡ false
+pub is_word_byte-35 : (b : ℕ) → is_word_byte b ≡ true → (b == 35) ≡ false
 is_word_byte-35 b is = by (b == 35) refl
   where
     by : (t : Bool) → (b == 35) ≡ t → t ≡ false
@@ -106,7 +106,7 @@ pub record IsQuotedFirst (text q : List ℕ) : Type 0 where
   pub is : q ≡ take (quoted_end (slice_index text 0) (drop 1 text)) (drop 1 text)
 
 -- a byte that is no quote, or no mark and a quote, isn't a `#`
-is_quote-35 : (b : ℕ) → is_quote b ≡ true → (b == 35) ≡ false
+pub is_quote-35 : (b : ℕ) → is_quote b ≡ true → (b == 35) ≡ false
 is_quote-35 b is = by (b == 35) refl
   where
     by : (t : Bool) → (b == 35) ≡ t → t ≡ false

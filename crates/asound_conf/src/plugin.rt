@@ -314,7 +314,6 @@ fn device_in<'a>(root: Group<'a>, definition: Group<'a>) -> Result<Device, ConfW
 }
 
 /// The device of this name, or why there is none.
-#[tactic(auto, using(crate::proofs::Fields::device_by_definition))]
 pub fn device_by(root: Group<'_>, name: &[u8]) -> Result<Device, ConfWhy>
     ensures value { result ≡ device_by (entries_in root.entry) name.now }
     ensures card { IfOk result (λ d. IsCard d.channels d.rate d.period d.ring) }

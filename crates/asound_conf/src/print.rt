@@ -1,8 +1,6 @@
 //! The text of a device.
-ghost use Rattle.std.specs.Prelude.{◌≡◌, ◌++◌, IfOk, OnOk, string_bytes, map};
-ghost use Rattle.std.specs.List.{join_with_byte};
-ghost use Rattle.std.specs.Fmt.{decimal};
-ghost use Rattle.asound_conf.specs.Text.{bindings_line, card_line, device_text, field_text, kind_text, type_line};
+ghost use Rattle.std.specs.Prelude.{◌≡◌, ◌++◌, IfOk, OnOk, string_bytes};
+ghost use Rattle.asound_conf.specs.Text.{card_line, channels_line, device_text, kind_text, type_line};
 
 use crate::plugin::{Device, DeviceKind};
 use bindings::Bindings;
@@ -19,61 +17,34 @@ fn kind_text(kind: DeviceKind) -> &'static str
     }
 }
 
-/// Appends the line of a device's type.
-fn push_type(text: &mut String, kind: DeviceKind) -> Result<(), AllocError>
-    ensures { OnOk result (string_bytes text.new ≡ string_bytes text.old ++ type_line kind) }
+/// The lines of a device's type and card.
+fn first_lines(alloc: Global, device: &Device) -> Result<String, AllocError>
+    ensures { IfOk result (λ text. string_bytes text
+        ≡ type_line device.now.kind ++ card_line device.now) }
 {
-    let name = kind_text(kind);
-    write!(text, "type {name}\n")
+    let kind = kind_text(device.kind);
+    let channels = device.channels;
+    let rate = device.rate;
+    let period = device.period;
+    let ring = device.ring;
+    format!(in alloc;
+        "type {kind}\ncard channels {channels} rate {rate} period {period} ring {ring}\n"
+    )
 }
 
-/// Appends a word and a number.
-fn push_field(text: &mut String, word: &str, number: u32) -> Result<(), AllocError>
+/// Appends the line of a device's bindings: their card channels, joined by commas.
+fn push_bindings(text: &mut String, bindings: &Bindings) -> Result<(), AllocError>
     ensures { OnOk result (string_bytes text.new
-        ≡ string_bytes text.old ++ field_text word.now number) }
-{
-    text.push_str(word)?;
-    write!(text, "{number}")
-}
-
-/// Appends the line of a device's card.
-fn push_card(text: &mut String, device: &Device) -> Result<(), AllocError>
-    ensures { OnOk result (string_bytes text.new ≡ string_bytes text.old ++ card_line device.now) }
-{
-    push_field(text, "card channels ", u32::from(device.channels))?;
-    push_field(text, " rate ", device.rate)?;
-    push_field(text, " period ", device.period)?;
-    push_field(text, " ring ", device.ring)?;
-    text.push_str("\n")?;
-    Ok(())
-}
-
-/// Appends the card channels of bindings, joined by commas.
-fn push_channels(text: &mut String, bindings: &Bindings) -> Result<(), AllocError>
-    ensures { OnOk result (string_bytes text.new
-        ≡ string_bytes text.old ++ join_with_byte 44 (map decimal bindings.now)) }
+        ≡ string_bytes text.old ++ channels_line bindings.now) }
 {
     let channels = bindings.len();
     let first = bindings.card_channel(0);
-    write!(text, "{first}")?;
+    write!(text, "bindings {first}")?;
     for client in 1..channels {
         let channel = bindings.card_channel(client);
         write!(text, ",{channel}")?;
     }
-    Ok(())
-}
-
-/// Appends the line of a device's bindings, where it has any.
-fn push_bindings(text: &mut String, bindings: Option<Bindings>) -> Result<(), AllocError>
-    ensures { OnOk result (string_bytes text.new ≡ string_bytes text.old
-        ++ bindings_line bindings) }
-{
-    if let Some(bindings) = bindings {
-        text.push_str("bindings ")?;
-        push_channels(text, &bindings)?;
-        text.push_str("\n")?;
-    }
-    Ok(())
+    text.push_str("\n")
 }
 
 /// The text of a device, in lines that each end with a line feed: `type KIND`, with dmix, dsnoop or dshare;
@@ -82,9 +53,9 @@ fn push_bindings(text: &mut String, bindings: Option<Bindings>) -> Result<(), Al
 pub fn print_device(alloc: Global, device: &Device) -> Result<String, AllocError>
     ensures { IfOk result (λ text. string_bytes text ≡ device_text device.now) }
 {
-    let mut text = String::new(alloc);
-    push_type(&mut text, device.kind)?;
-    push_card(&mut text, device)?;
-    push_bindings(&mut text, device.bindings)?;
+    let mut text = first_lines(alloc, device)?;
+    if let Some(bindings) = device.bindings {
+        push_bindings(&mut text, &bindings)?;
+    }
     Ok(text)
 }

@@ -1,7 +1,8 @@
 use Rattle.std.proofs.Common.{ℕ, List, None, sym, ◌∙◌, subst}
 use Rattle.asound_conf.specs.Rows.{IsAbsent, IsNode}
 use Rattle.asound_conf.specs.Table.{name_in}
-use Rattle.asound_conf.proofs.Puts.{group-Kind, group-same, push-Alters, push-Leads, IsKeyStep-push, IsKeyStep-IsNode}
+use Rattle.asound_conf.proofs.Groups.{Alters-same}
+use Rattle.asound_conf.proofs.Puts.{push-text, group-Kind, group-same, push-Alters, push-Leads, IsKeyStep-push, IsKeyStep-IsNode}
 use Rattle.asound_conf.proofs.group.put_group.Goals as goal
 
 pub returns-in_default-clause-value : goal.returns-in_default-clause-value
@@ -44,3 +45,14 @@ returns-else-is_group-clause-value c =
     let n = c.in-Some.number in
     let is : IsNode rows c.args.group name n = subst (λ (b : List ℕ). IsNode rows c.args.group b n) c.key.ensures c.in-Some.ensures.some in
     group-Kind rows c.args.group name n is (sym c.is_group.ensures ∙ c.if-is_group.false)
+
+pub returns-in_default-clause-text : goal.returns-in_default-clause-text
+returns-in_default-clause-text c =
+    let old = c.args.table.now in
+    push-text c.push.result c.args.group (name_in old.text c.args.name) None old c.push.new.self c.push.ensures.rows c.push.ensures.kept
+
+pub returns-then-is_group-clause-alters : goal.returns-then-is_group-clause-alters
+returns-then-is_group-clause-alters c = Alters-same c.args.group c.args.table.now.rows
+
+pub returns-else-is_group-clause-alters : goal.returns-else-is_group-clause-alters
+returns-else-is_group-clause-alters c = Alters-same c.args.group c.args.table.now.rows

@@ -1,7 +1,9 @@
 use Rattle.std.proofs.Common.{ℕ, List, Some, sym, ap, ◌∙◌, subst}
-use Rattle.asound_conf.specs.Rows.{Contents, IsAbsent, IsNode}
+use Rattle.asound_conf.specs.Rows.{Alters, ConfRow, row_at, Contents, IsAbsent, IsNode}
 use Rattle.asound_conf.specs.Table.{name_in, span_in}
-use Rattle.asound_conf.proofs.Puts.{push-Alters, push-Leads, text-Kind, text-set}
+use Rattle.asound_conf.proofs.Rows.{Alters-set, only-Some}
+use Rattle.asound_conf.proofs.Groups.{Alters-same}
+use Rattle.asound_conf.proofs.Puts.{push-text, push-Alters, push-Leads, text-Kind, text-set}
 use Rattle.asound_conf.proofs.group.put_text.Goals as goal
 
 pub returns-in_default-clause-value : goal.returns-in_default-clause-value
@@ -31,3 +33,29 @@ returns-clause-value c =
     let n = c.in-Some.number in
     let is : IsNode rows c.args.group name n = subst (λ (b : List ℕ). IsNode rows c.args.group b n) c.key.ensures c.in-Some.ensures.some in
     text-set rows c.set_text.new.self.rows c.args.group name n (span_in c.args.table.now.text c.args.text) is (sym c.is_group.ensures ∙ c.if-is_group.false) (ap (λ (x : Contents). x.rows) c.set_text.ensures)
+
+pub returns-in_default-clause-text : goal.returns-in_default-clause-text
+returns-in_default-clause-text c =
+    let old = c.args.table.now in
+    push-text c.push.result c.args.group (name_in old.text c.args.name) (Some (span_in old.text c.args.text)) old c.push.new.self c.push.ensures.rows c.push.ensures.kept
+
+pub returns-then-is_group-clause-alters : goal.returns-then-is_group-clause-alters
+returns-then-is_group-clause-alters c = Alters-same c.args.group c.args.table.now.rows
+
+pub set_text-requires-clause-inside : goal.set_text-requires-clause-inside
+set_text-requires-clause-inside c = c.in-Some.ensures.some.inside
+
+pub set_text-requires-clause-text : goal.set_text-requires-clause-text
+set_text-requires-clause-text c = sym c.is_group.ensures ∙ c.if-is_group.false
+
+pub returns-clause-text : goal.returns-clause-text
+returns-clause-text c = ap (λ (x : Contents). x.text) c.set_text.ensures
+
+pub returns-clause-alters : goal.returns-clause-alters
+returns-clause-alters c =
+    let rows = c.args.table.now.rows in
+    let q = c.args.group in
+    let n = c.in-Some.number in
+    let parent = c.in-Some.ensures.some.parent in
+    let new = record (row_at rows n) { value = Some (span_in c.args.table.now.text c.args.text) } in
+    subst (λ (r : List ConfRow). Alters q rows r) (sym (ap (λ (x : Contents). x.rows) c.set_text.ensures)) (Alters-set q n new rows parent (only-Some q new parent))

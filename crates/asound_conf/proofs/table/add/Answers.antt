@@ -1,5 +1,7 @@
-use Rattle.std.proofs.Common.{◌≡◌, ◌<◌, length, refl, arith}
-use Rattle.asound_conf.specs.Table.{key_bytes}
+use Rattle.std.proofs.Common.{List, subst, sym, ◌≡◌, ◌<◌, length, refl, arith}
+use Rattle.std.proofs.lemmas.Result.{err_from_is_err_and}
+use Rattle.asound_conf.specs.declared.cell.Cell.{Cell}
+use Rattle.asound_conf.specs.Table.{IsTable, key_bytes}
 use Rattle.asound_conf.proofs.Changes.{IsAdded-steps, IsTable-added, contents-added}
 use Rattle.asound_conf.proofs.table.add.Goals as goal
 
@@ -32,3 +34,34 @@ returns-clause-rows c =
     refl c.in_ok-push.ensures.items c.index-2.ensures c.noted-content.ensures c.index-3.ensures c.with_content.ensures in
     contents-added c.args.text.now c.args.cells.now.items c.push.new.self.items c.args.heads.now.items c.args.parent c.args.name c.args.value c.len-number.result c.bucket_of-bucket.result c.index.result.now
     (record { parent = c.args.parent; name = c.args.name; content = c.content_of.result; earlier = c.index.result.now }) c.with_content.result it
+
+pub returns-in_err-push-clause-table : goal.returns-in_err-push-clause-table
+returns-in_err-push-clause-table c =
+    subst (λ (cells : List Cell). IsTable c.args.text.now cells c.args.heads.now.items) (sym c.in_err-push.ensures.items) c.requires.table
+
+pub returns-in_err-push-clause-rows : goal.returns-in_err-push-clause-rows
+returns-in_err-push-clause-rows c =
+    let p = err_from_is_err_and c.from_residual.result c.from_residual.ensures.1 in
+    rw p.1 tt
+
+pub returns-in_err-push-clause-kept : goal.returns-in_err-push-clause-kept
+returns-in_err-push-clause-kept c =
+    let p = err_from_is_err_and c.from_residual.result c.from_residual.ensures.1 in
+    rw p.1 c.in_err-push.ensures.items
+
+pub returns-in_err-push-clause-memory : goal.returns-in_err-push-clause-memory
+returns-in_err-push-clause-memory c =
+    let p = err_from_is_err_and c.from_residual.result c.from_residual.ensures.1 in
+    rw p.1 p.2
+
+pub bucket_of-bucket-requires : goal.bucket_of-bucket-requires
+bucket_of-bucket-requires c = omega (arith, c.requires.table.indexed.buckets, c.len.ensures, c.args.heads.now.ok)
+
+pub index-requires : goal.index-requires
+index-requires c = omega (arith, c.bucket_of-bucket.ensures.within, c.len.ensures)
+
+pub index_mut-requires : goal.index_mut-requires
+index_mut-requires c = omega (arith, c.bucket_of-bucket.ensures.within, c.len.ensures)
+
+pub returns-clause-number : goal.returns-clause-number
+returns-clause-number c = c.len-number.ensures

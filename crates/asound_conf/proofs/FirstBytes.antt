@@ -1,0 +1,80 @@
+-- What the first byte of a text says of the token there, and of its end.
+use Rattle.std.proofs.Common.{◌≡◌, ℕ, true, false, List, take, drop, Option, Some, None, refl, ap, ◌∙◌, arith, inl, inr}
+use Rattle.std.specs.Prelude.{Bool, ◌==◌, is_none, not, slice_index}
+use Rattle.std.proofs.lemmas.Bool.{and_parts, cond-true, cond-false, or_cases, or_parts}
+use Rattle.std.proofs.lemmas.Bool.Decides.{nat_tests}
+use Rattle.asound_conf.specs.declared.error.ConfWhy.TheVariants as why
+use Rattle.asound_conf.specs.declared.token.Mark.{Mark}
+use Rattle.asound_conf.specs.Token.{Token, word, mark, bad, end_at, ends_word, is_quote, is_skipped, is_word_byte, mark_of, mark_or, quoted_size, quoted_token, token_at, token_end}
+use Rattle.asound_conf.proofs.Starts.{is_quote-35, is_word_byte-35}
+
+not-true : (t : Bool) → not t ≡ true → t ≡ false
+not-true false is = refl
+not-true true is = cc
+
+is_none-true : (m : Option Mark) → is_none m ≡ true → m ≡ None
+is_none-true None is = refl
+is_none-true (Some m) is = cc
+
+-- a byte of a word is no quote and no mark
+is_word_byte-quote : (b : ℕ) → is_word_byte b ≡ true → is_quote b ≡ false
+is_word_byte-quote b is = not-true (is_quote b) (and_parts _ _ ((and_parts _ _ is).0)).1
+
+is_word_byte-mark : (b : ℕ) → is_word_byte b ≡ true → mark_of b ≡ None
+is_word_byte-mark b is = is_none-true (mark_of b) (and_parts _ _ is).1
+
+-- a quote is no mark
+is_quote-mark : (b : ℕ) → is_quote b ≡ true → mark_of b ≡ None
+is_quote-mark b is = elim (or_cases (b == 34) (b == 39) is) [
+  | inl e ↦ let at : b ≡ 34 = grind (arith, nat_tests, e) in ap mark_of at
+  | inr e ↦ let at : b ≡ 39 = grind (arith, nat_tests, e) in ap mark_of at
+]
+
+mark_or-None : (m : Option Mark) (other : Token) → m ≡ None → mark_or m other ≡ other
+mark_or-None m other is = ap (λ (o : Option Mark). mark_or o other) is
+
+mark_or-Some : (m : Option Mark) (n : Mark) (other : Token) → m ≡ Some n → mark_or m other ≡ mark n
+mark_or-Some m n other is = ap (λ (o : Option Mark). mark_or o other) is
+
+-- a word
+pub token_at-word : (text : List ℕ) → is_word_byte (slice_index text 0) ≡ true → token_at text ≡ word (take (end_at ends_word text) text)
+unfolding token_at
+token_at-word text is =
+    let b = slice_index text 0 in
+    mark_or-None (mark_of b) _ (is_word_byte-mark b is) ∙ cond-false (is_quote b) _ _ (is_word_byte-quote b is) ∙ cond-true (is_word_byte b) _ _ is
+
+pub token_end-word : (text : List ℕ) → is_word_byte (slice_index text 0) ≡ true → token_end text ≡ end_at ends_word text
+unfolding token_end
+token_end-word text is =
+    let b = slice_index text 0 in
+    cond-false (b == 35) _ _ (is_word_byte-35 b is) ∙ cond-false (is_quote b) _ _ (is_word_byte-quote b is) ∙ cond-true (is_word_byte b) _ _ is
+
+-- a quoted text
+pub token_at-quote : (text : List ℕ) → is_quote (slice_index text 0) ≡ true → token_at text ≡ quoted_token (slice_index text 0) (drop 1 text)
+unfolding token_at
+token_at-quote text is =
+    let b = slice_index text 0 in
+    mark_or-None (mark_of b) _ (is_quote-mark b is) ∙ cond-true (is_quote b) _ _ is
+
+pub token_end-quote : (text : List ℕ) → is_quote (slice_index text 0) ≡ true → token_end text ≡ quoted_size (slice_index text 0) (drop 1 text)
+unfolding token_end
+token_end-quote text is =
+    let b = slice_index text 0 in
+    cond-false (b == 35) _ _ (is_quote-35 b is) ∙ cond-true (is_quote b) _ _ is
+
+-- a mark, or a byte that begins no token
+pub token_at-mark : (text : List ℕ) (m : Mark) → mark_of (slice_index text 0) ≡ Some m → token_at text ≡ mark m
+unfolding token_at
+token_at-mark text m is = mark_or-Some (mark_of (slice_index text 0)) m _ is
+
+pub token_at-bad : (text : List ℕ) → mark_of (slice_index text 0) ≡ None → is_quote (slice_index text 0) ≡ false → is_word_byte (slice_index text 0) ≡ false → token_at text ≡ bad why.Byte
+unfolding token_at
+token_at-bad text marks quotes words =
+    let b = slice_index text 0 in
+    mark_or-None (mark_of b) _ marks ∙ cond-false (is_quote b) _ _ quotes ∙ cond-false (is_word_byte b) _ _ words
+
+pub token_end-one : (text : List ℕ) → is_skipped (slice_index text 0) ≡ false → is_quote (slice_index text 0) ≡ false → is_word_byte (slice_index text 0) ≡ false → token_end text ≡ 1
+unfolding token_end
+token_end-one text kept quotes words =
+    let b = slice_index text 0 in
+    cond-false (b == 35) _ _ (or_parts _ _ kept).1 ∙ cond-false (is_quote b) _ _ quotes ∙ cond-false (is_word_byte b) _ _ words
