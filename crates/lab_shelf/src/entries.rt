@@ -87,7 +87,7 @@ pub(crate) fn put_file(
 }
 
 /// Adds bytes at the end of what an entry holds. Nothing changes where there is no memory for it.
-fn extend(content: &mut Vec<u8>, bytes: &[u8]) -> Result<(), ShelfFault>
+pub(crate) fn extend(content: &mut Vec<u8>, bytes: &[u8]) -> Result<(), ShelfFault>
     ensures ok { OnOk result (content.new.items ≡ content.old.items ++ bytes.now) }
     ensures err { OnErr result (content.new.items ≡ content.old.items) }
     ensures memory { IfErr result (λ fault. fault ≡ ShelfFault.Memory) }

@@ -1,11 +1,11 @@
 //! The forms in memory, whose calls fail where the caller lists their numbers.
-ghost use Rattle.std.specs.Prelude.{◌≡◌, ◌≢◌, ◌≤◌, ◌↔◌, ◌++◌, [], None, Some, Err, IsErrOf, IsTrue, IfOk, OnOk, OnErr, vec_len};
+ghost use Rattle.std.specs.Prelude.{◌≡◌, ◌≢◌, ◌≤◌, ◌↔◌, ◌++◌, ◌&&◌, [], not, is_some, None, Some, Err, IsErrOf, IsTrue, IfOk, OnOk, OnErr, vec_len};
 ghost use Rattle.std.specs.Option.{option_copied};
 ghost use Rattle.lab_shelf.specs.Files.{bytes_under, with_file, with_change, with_first_bytes, piece, IsPartWritten, IsPartAppended, IsPartFinished, HasFileNamed, HasRoom, TookPart};
-ghost use Rattle.lab_shelf.specs.Counts.{IsFaultCount, IsAsForeseen};
+ghost use Rattle.lab_shelf.specs.Counts.{IsFaultCount, IsAsForeseen, count_more};
 ghost use Rattle.lab_shelf.specs.States.{files_of, fetch_answers, write_answers, after_fetch, after_store, after_change, after_put};
 
-use crate::entries::{append_to, content_of, cut, overwrite, put_file};
+use crate::entries::{append_to, content_of, cut, extend, overwrite, put_file};
 use crate::fault::{ShelfFault, count_fault};
 use crate::traits::{Shelf, Sink};
 use std::alloc::Global;
@@ -112,15 +112,10 @@ impl Shelf for MemoryShelf {
         ensures missing { self.old.failing ≡ [] → IsErrOf result ShelfFault.Failed
             → bytes_under self.old.files name.now ≡ None }
     {
-        self.calls = self.calls.saturating_add(1);
-        let is_listed = self.failing.contains(&self.calls);
-        match content_of(&self.entries, name) {
-            Some(content) if !is_listed => Ok(Vec::from_slice(alloc, cut(content, from, most))?),
-            _ => {
-                self.fetch_faults = self.fetch_faults.saturating_add(1);
-                Err(ShelfFault::Failed)
-            }
-        }
+        let is_listed = count_call(&mut self.calls, &self.failing);
+        let outcome = piece_unless(is_listed, &self.entries, alloc, name, from, most);
+        count_fault(&outcome, &mut self.fetch_faults);
+        outcome
     }
 
     fn store(&mut self, name: &[u8], bytes: &[u8]) -> Result<(), ShelfFault>
@@ -136,13 +131,10 @@ impl Shelf for MemoryShelf {
         ensures reliable { self.old.failing ≡ [] → self.new.failing ≡ [] }
         ensures stores { self.old.failing ≡ [] → result ≢ Err ShelfFault.Failed }
     {
-        self.calls = self.calls.saturating_add(1);
-        if self.failing.contains(&self.calls) {
-            self.write_faults = self.write_faults.saturating_add(1);
-            return Err(ShelfFault::Failed);
-        }
-        put_file(&mut self.entries, name, bytes)?;
-        Ok(())
+        let is_listed = count_call(&mut self.calls, &self.failing);
+        let outcome = store_unless(is_listed, &mut self.entries, name, bytes);
+        count_fault(&outcome, &mut self.write_faults);
+        outcome
     }
 
     fn begin(&mut self, name: &[u8], head: &[u8]) -> Result<(), ShelfFault>
@@ -176,12 +168,8 @@ impl Shelf for MemoryShelf {
         ensures missing { self.old.failing ≡ [] → IsErrOf result ShelfFault.Failed
             → bytes_under self.old.files name.now ≡ None }
     {
-        self.calls = self.calls.saturating_add(1);
-        if self.failing.contains(&self.calls) {
-            self.write_faults = self.write_faults.saturating_add(1);
-            return Err(ShelfFault::Failed);
-        }
-        let outcome = append_to(&mut self.entries, name, bytes);
+        let is_listed = count_call(&mut self.calls, &self.failing);
+        let outcome = append_unless(is_listed, &mut self.entries, name, bytes);
         count_fault(&outcome, &mut self.write_faults);
         outcome
     }
@@ -203,12 +191,8 @@ impl Shelf for MemoryShelf {
         ensures missing { self.old.failing ≡ [] → IsErrOf result ShelfFault.Failed
             → bytes_under self.old.files name.now ≡ None }
     {
-        self.calls = self.calls.saturating_add(1);
-        if self.failing.contains(&self.calls) {
-            self.write_faults = self.write_faults.saturating_add(1);
-            return Err(ShelfFault::Failed);
-        }
-        let outcome = overwrite(&mut self.entries, name, head);
+        let is_listed = count_call(&mut self.calls, &self.failing);
+        let outcome = finish_unless(is_listed, &mut self.entries, name, head);
         count_fault(&outcome, &mut self.write_faults);
         outcome
     }
@@ -281,12 +265,115 @@ impl Sink for MemorySink {
         ensures reliable { self.old.failing ≡ [] → self.new.failing ≡ [] }
         ensures puts { self.old.failing ≡ [] → result ≢ Err ShelfFault.Failed }
     {
-        self.calls = self.calls.saturating_add(1);
-        if self.failing.contains(&self.calls) {
-            self.faults = self.faults.saturating_add(1);
-            return Err(ShelfFault::Failed);
-        }
-        self.bytes.extend_from_slice(bytes)?;
-        Ok(())
+        let is_listed = count_call(&mut self.calls, &self.failing);
+        let outcome = put_unless(is_listed, &mut self.bytes, bytes);
+        count_fault(&outcome, &mut self.faults);
+        outcome
     }
+}
+
+/// Counts a call, and gives whether its number is listed, so that it fails.
+fn count_call(calls: &mut u64, failing: &[u64]) -> bool
+    ensures listed { not result ≡ write_answers failing.now calls.old }
+    ensures calls { calls.new ≡ count_more calls.old }
+{
+    *calls = calls.saturating_add(1);
+    failing.contains(calls)
+}
+
+/// A copy of the file's bytes from the byte `from` on: `most` of them, or as many as there are. It
+/// fails where the call is listed or there is no such file.
+fn piece_unless(
+    is_listed: bool,
+    entries: &[(Vec<u8>, Vec<u8>)],
+    alloc: Global,
+    name: &[u8],
+    from: u64,
+    most: u64,
+) -> Result<Vec<u8>, ShelfFault>
+    ensures piece { IfOk result (λ bytes.
+        piece (files_of entries.now) name.now from most ≡ Some bytes.items) }
+    ensures foreseen { IsAsForeseen result
+        (Some (not is_listed && is_some (bytes_under (files_of entries.now) name.now))) }
+{
+    match content_of(entries, name) {
+        Some(content) if !is_listed => Ok(Vec::from_slice(alloc, cut(content, from, most))?),
+        _ => Err(ShelfFault::Failed),
+    }
+}
+
+/// Makes the file hold these bytes. It fails where the call is listed, and changes nothing where it
+/// fails.
+fn store_unless(
+    is_listed: bool,
+    entries: &mut Vec<(Vec<u8>, Vec<u8>)>,
+    name: &[u8],
+    bytes: &[u8],
+) -> Result<(), ShelfFault>
+    ensures ok { OnOk result
+        (files_of entries.new.items ≡ with_file (files_of entries.old.items) name.now bytes.now) }
+    ensures err { OnErr result (files_of entries.new.items ≡ files_of entries.old.items) }
+    ensures foreseen { IsAsForeseen result (Some (not is_listed)) }
+{
+    if is_listed {
+        return Err(ShelfFault::Failed);
+    }
+    put_file(entries, name, bytes)?;
+    Ok(())
+}
+
+/// Adds bytes at the end of the file. It fails where the call is listed or there is no such file, and
+/// changes nothing where it fails.
+fn append_unless(
+    is_listed: bool,
+    entries: &mut Vec<(Vec<u8>, Vec<u8>)>,
+    name: &[u8],
+    bytes: &[u8],
+) -> Result<(), ShelfFault>
+    ensures ok { OnOk result
+        (files_of entries.new.items ≡ with_change (λ content. content ++ bytes.now)
+        (files_of entries.old.items) name.now) }
+    ensures err { OnErr result (files_of entries.new.items ≡ files_of entries.old.items) }
+    ensures foreseen { IsAsForeseen result
+        (Some (not is_listed && is_some (bytes_under (files_of entries.old.items) name.now))) }
+{
+    if is_listed {
+        return Err(ShelfFault::Failed);
+    }
+    append_to(entries, name, bytes)
+}
+
+/// Replaces the first bytes of the file, which are there, by as many others. It fails where the call
+/// is listed or there is no such file, and changes nothing where it fails.
+fn finish_unless(
+    is_listed: bool,
+    entries: &mut Vec<(Vec<u8>, Vec<u8>)>,
+    name: &[u8],
+    head: &[u8],
+) -> Result<(), ShelfFault>
+    requires room { HasRoom (Some (files_of entries.old.items)) name.now head.now }
+    ensures ok { OnOk result
+        (files_of entries.new.items ≡ with_change (with_first_bytes head.now)
+        (files_of entries.old.items) name.now) }
+    ensures err { OnErr result (files_of entries.new.items ≡ files_of entries.old.items) }
+    ensures foreseen { IsAsForeseen result
+        (Some (not is_listed && is_some (bytes_under (files_of entries.old.items) name.now))) }
+{
+    if is_listed {
+        return Err(ShelfFault::Failed);
+    }
+    overwrite(entries, name, head)
+}
+
+/// Adds bytes at the end of those that were taken. It fails where the call is listed, and changes
+/// nothing where it fails.
+fn put_unless(is_listed: bool, taken: &mut Vec<u8>, bytes: &[u8]) -> Result<(), ShelfFault>
+    ensures ok { OnOk result (taken.new.items ≡ taken.old.items ++ bytes.now) }
+    ensures err { OnErr result (taken.new.items ≡ taken.old.items) }
+    ensures foreseen { IsAsForeseen result (Some (not is_listed)) }
+{
+    if is_listed {
+        return Err(ShelfFault::Failed);
+    }
+    extend(taken, bytes)
 }
