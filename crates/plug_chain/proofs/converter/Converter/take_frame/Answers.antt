@@ -1,4 +1,5 @@
-use Rattle.std.proofs.Common.{◌≡◌, ap, sym, subst, ◌∙◌, length, [], ◌∷◌, List, ℤ, ℕ}
+use Rattle.std.proofs.Common.{◌≡◌, ap, sym, subst, ◌∙◌, length, [], ◌∷◌, List, ℤ, ℕ, pos}
+use Rattle.std.proofs.lemmas.List.{length-replicate}
 use Rattle.std.specs.Prelude.{OnOk}
 use Rattle.plug_chain.specs.Courses.{Advances}
 use Rattle.plug_chain.specs.Frames.{frame_from_bytes}
@@ -8,6 +9,24 @@ use Rattle.plug_chain.specs.Tables.{output_samples}
 use Rattle.plug_chain.specs.Views.{conversion_of}
 use Rattle.plug_chain.proofs.Stages.{length-output_samples, length-samples_in}
 use Rattle.plug_chain.proofs.converter.Converter.take_frame.Goals as goal
+
+pub silent-samples-requires : goal.silent-samples-requires
+silent-samples-requires c = rw c.inputs.ensures.value c.inputs.ensures.bound.few_inputs
+
+pub read-requires-clause-bytes : goal.read-requires-clause-bytes
+read-requires-clause-bytes c = c.requires.bytes
+
+pub read-requires-clause-channels : goal.read-requires-clause-channels
+read-requires-clause-channels c = ap length c.silent-samples.ensures ∙ length-replicate c.inputs.result (pos 0) ∙ c.inputs.ensures.value
+
+pub silent-frame-requires : goal.silent-frame-requires
+silent-frame-requires c = rw c.outputs.ensures.value c.outputs.ensures.bound.few_outputs
+
+pub returns-clause-grows : goal.returns-clause-grows
+returns-clause-grows c = c.advance.ensures.grows
+
+pub mix-requires-clause-channels : goal.mix-requires-clause-channels
+mix-requires-clause-channels c = ap length c.silent-frame.ensures ∙ length-replicate c.outputs.result (pos 0) ∙ c.outputs.ensures.value
 
 pub mix-requires-clause-samples : goal.mix-requires-clause-samples
 mix-requires-clause-samples c = ap length (c.as_slice.ensures ∙ c.read.ensures) ∙ length-samples_in c.args.self.now.from c.args.self.now.table.inputs c.args.bytes.now

@@ -1,4 +1,5 @@
 use Rattle.std.proofs.Common.{◌≡◌, ◌≤◌, ◌<◌, ap, sym, subst, ◌∙◌, arith, length, take, drop, [], ◌∷◌, List, ℕ}
+use Rattle.std.proofs.lemmas.Result.{err_from_is_err_and}
 use Rattle.plug_chain.specs.Courses.{Advances}
 use Rattle.plug_chain.specs.Frames.{frame_bytes, frame_from_bytes, rest_of}
 use Rattle.plug_chain.specs.Views.{conversion_of}
@@ -6,6 +7,28 @@ use Rattle.plug_chain.proofs.Courses.{Extends-trans}
 use Rattle.plug_chain.proofs.Cuts.{rest_of-more, rest_of-short}
 use Rattle.plug_chain.proofs.Reached.{HasReached, HasReached-end, HasReached-more}
 use Rattle.plug_chain.proofs.converter.Converter.take_frames.Goals as goal
+
+pub take_frame-requires-clause-bytes : goal.take_frame-requires-clause-bytes
+take_frame-requires-clause-bytes c = omega (arith, ap length c.split_at.ensures.front, c.frame_bytes-width.ensures.value)
+
+pub returns-in_err-take_frame-clause-course : goal.returns-in_err-take_frame-clause-course
+returns-in_err-take_frame-clause-course c =
+    let p = err_from_is_err_and c.from_residual.result c.from_residual.ensures.1 in
+    rw p.1 tt
+
+pub returns-in_err-take_frame-clause-ok : goal.returns-in_err-take_frame-clause-ok
+returns-in_err-take_frame-clause-ok c =
+    let p = err_from_is_err_and c.from_residual.result c.from_residual.ensures.1 in
+    rw p.1 tt
+
+pub returns-in_err-take_frame-clause-rest : goal.returns-in_err-take_frame-clause-rest
+returns-in_err-take_frame-clause-rest c =
+    let p = err_from_is_err_and c.from_residual.result c.from_residual.ensures.1 in
+    rw p.1 tt
+
+pub returns-in_err-take_frame-clause-grows : goal.returns-in_err-take_frame-clause-grows
+returns-in_err-take_frame-clause-grows c =
+    Extends-trans c.args.out.now.items c.loop-rest.out.items c.take_frame.new.out.items c.loop-rest.invariant.grows c.in_err-take_frame.ensures.grows
 
 pub loop-rest-preserved : goal.loop-rest-preserved
 loop-rest-preserved c =

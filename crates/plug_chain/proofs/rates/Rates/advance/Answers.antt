@@ -1,4 +1,5 @@
 use Rattle.std.proofs.Common.{◌≡◌, ◌≤◌, ◌+◌, ◌-◌, ◌++◌, [], ◌∷◌, refl, ap, ◌∙◌, arith, length}
+use Rattle.std.proofs.lemmas.Result.{err_from_is_err_and}
 use Rattle.plug_chain.specs.Held.{samples_of}
 use Rattle.plug_chain.specs.Rates.{frame_between}
 use Rattle.plug_chain.proofs.Courses.{Extends-refl, Extends-trans, IsAdvance-one, IsUnderway-more, IsUnderway-start}
@@ -34,6 +35,20 @@ loop-course-preserved c =
           grown (omega arith);
       grows = Extends-trans c.args.out.now.items c.loop-course.out.items c.push_frame.new.out.items c.loop-course.invariant.grows c.in_ok-push_frame.ensures.grows;
     }
+
+pub returns-in_err-push_frame-clause-course : goal.returns-in_err-push_frame-clause-course
+returns-in_err-push_frame-clause-course c =
+    let p = err_from_is_err_and c.from_residual.result c.from_residual.ensures.1 in
+    rw p.1 tt
+
+pub returns-in_err-push_frame-clause-ok : goal.returns-in_err-push_frame-clause-ok
+returns-in_err-push_frame-clause-ok c =
+    let p = err_from_is_err_and c.from_residual.result c.from_residual.ensures.1 in
+    rw p.1 tt
+
+pub returns-in_err-push_frame-clause-grows : goal.returns-in_err-push_frame-clause-grows
+returns-in_err-push_frame-clause-grows c =
+    Extends-trans c.args.out.now.items c.loop-course.out.items c.push_frame.new.out.items c.loop-course.invariant.grows c.in_err-push_frame.ensures.grows
 
 pub returns-clause-ok : goal.returns-clause-ok
 returns-clause-ok c = λ frames at.

@@ -1,7 +1,8 @@
-use Rattle.std.proofs.Common.{◌≡◌, ℕ, ℤ, ap, sym, subst, ◌∙◌, arith, rules, length, map, All, [], ◌∷◌, ◌++◌, ◌/◌, ◌%◌, FitsSigned}
+use Rattle.std.proofs.Common.{◌≡◌, ◌*◌, ℕ, ℤ, ap, sym, subst, ◌∙◌, arith, rules, length, map, All, [], ◌∷◌, ◌++◌, ◌/◌, ◌%◌, FitsSigned}
 use Rattle.std.proofs.lemmas.Int.{to_z-of_z}
 use Rattle.std.proofs.lemmas.List.Elements.{All-append, All-cons, All-nil}
 use Rattle.std.proofs.lemmas.List.FromFn.{length-map-range_with_len, map-range_with_len_more}
+use Rattle.std.proofs.lemmas.Result.{err_from_is_err_and}
 use Rattle.std.specs.Int.{w32}
 use Rattle.std.specs.List.{range_with_len}
 use Rattle.plug_chain.specs.Tables.{IsWeight, usual_weight}
@@ -31,3 +32,22 @@ invariant_of-result c = record {
   each_pair = omega (arith, ap length c.loop-place.invariant.weights, length-map-range_with_len (weight_at c.args.inputs c.args.outputs) 0 c.loop-place.place);
   each_weight = c.loop-place.invariant.each;
 }
+
+pub usual_weight-requires : goal.usual_weight-requires
+usual_weight-requires c = c.requires.some_input
+
+pub returns-in_err-push-clause-ok : goal.returns-in_err-push-clause-ok
+returns-in_err-push-clause-ok c =
+    let p = err_from_is_err_and c.from_residual.result c.from_residual.ensures.1 in
+    rw p.1 tt
+
+pub returns-in_err-push-clause-only_memory : goal.returns-in_err-push-clause-only_memory
+returns-in_err-push-clause-only_memory c =
+    let p = err_from_is_err_and c.from_residual.result c.from_residual.ensures.1 in
+    rw p.1 p.2
+
+pub returns-clause-ok : goal.returns-clause-ok
+returns-clause-ok c =
+    let all : c.loop-place.place ≡ c.args.inputs * c.args.outputs = omega arith in
+    ap (λ weights. record { inputs = c.args.inputs; outputs = c.args.outputs; weights = weights })
+    (c.loop-place.invariant.weights ∙ ap (λ n. map (weight_at c.args.inputs c.args.outputs) (range_with_len 0 n)) all)
