@@ -39,19 +39,25 @@ lines_text-push_all f i first old new before lines =
     ∙ flat_map-append line_text all (f (i + 1)) in
     lines ∙ ap (λ t. t ++ lines_text (f (i + 1))) before ∙ append_assoc first (lines_text all) (lines_text (f (i + 1))) ∙ ap (λ t. first ++ t) (sym more)
 
--- the card's line, the clients, their openings and the turns are the whole text
-pub made_text-parts : (clients turns : ℕ) (first second third whole : List ℕ) → first ≡ line_text card_words → second ≡ first ++ lines_text (client_lines clients)
-    → third ≡ second ++ lines_text (open_lines clients) → whole ≡ third ++ lines_text (all_turn_lines clients turns) → whole ≡ made_text clients turns
-unfolding made_text
-made_text-parts clients turns first second third whole card declared opened played =
-    let a = line_text card_words in
+-- the clients, their openings and the turns are the lines behind the card's
+pub lines_text-parts : (clients turns : ℕ) (first second third whole : List ℕ) → second ≡ first ++ lines_text (client_lines clients)
+    → third ≡ second ++ lines_text (open_lines clients) → whole ≡ third ++ lines_text (all_turn_lines clients turns)
+    → whole ≡ first ++ lines_text (client_lines clients ++ (open_lines clients ++ all_turn_lines clients turns))
+lines_text-parts clients turns first second third whole declared opened played =
     let b = lines_text (client_lines clients) in
     let d = lines_text (open_lines clients) in
     let e = lines_text (all_turn_lines clients turns) in
     let tail = flat_map-append line_text (client_lines clients) (open_lines clients ++ all_turn_lines clients turns)
     ∙ ap (λ t. b ++ t) (flat_map-append line_text (open_lines clients) (all_turn_lines clients turns)) in
     played
-    ∙ ap (λ t. t ++ e) (opened ∙ ap (λ t. t ++ d) (declared ∙ ap (λ t. t ++ b) card))
-    ∙ append_assoc (a ++ b) d e
-    ∙ append_assoc a b (d ++ e)
-    ∙ ap (λ t. a ++ t) (sym tail)
+    ∙ ap (λ t. t ++ e) (opened ∙ ap (λ t. t ++ d) declared)
+    ∙ append_assoc (first ++ b) d e
+    ∙ append_assoc first b (d ++ e)
+    ∙ ap (λ t. first ++ t) (sym tail)
+
+-- the card's line and those behind it are the whole text
+pub made_text-parts : (clients turns : ℕ) (first whole : List ℕ) → first ≡ line_text card_words
+    → whole ≡ first ++ lines_text (client_lines clients ++ (open_lines clients ++ all_turn_lines clients turns)) → whole ≡ made_text clients turns
+unfolding made_text
+made_text-parts clients turns first whole card behind =
+    behind ∙ ap (λ t. t ++ lines_text (client_lines clients ++ (open_lines clients ++ all_turn_lines clients turns))) card

@@ -9,3 +9,4 @@ pub mod Sizes
 pub mod LineSteps
 pub mod Reading
 pub mod Turns
+pub mod Refused

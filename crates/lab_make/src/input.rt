@@ -30,7 +30,7 @@ pub fn make(alloc: Global, seed: u64, clients: u32, turns: u32) -> Result<Made, 
     ensures each { IfOk result (λ made. All IsMadeSound made.wavs.items) }
     ensures only { IfErr result (λ error. error ≡ PcmError.Memory) }
 {
-    let wavs = made_files(alloc, seed, clients)?;
     let script = made_text(alloc, clients, turns)?.into_bytes();
+    let wavs = made_files(alloc, seed, clients)?;
     Ok(Made { script, wavs })
 }

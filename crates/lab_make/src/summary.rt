@@ -35,20 +35,17 @@ impl fmt::Display for Summary {
     ghost output = { λ summary. Some (summary_text summary) };
 
     fn fmt<W: fmt::Write>(&self, f: &mut fmt::Formatter<W>) -> fmt::Result {
-        let Summary {
-            seed,
-            clients,
-            phases,
-            played,
-            segments,
-            laid,
-            xruns,
-            sum,
-        } = *self;
-        write!(f, "made {seed} {clients} {phases}\nplayed {played}\n")?;
         write!(
             f,
-            "segments {segments}\nlaid {laid}\nxruns {xruns}\nsum {sum}\n"
+            "made {} {} {}\nplayed {}\nsegments {}\nlaid {}\nxruns {}\nsum {}\n",
+            self.seed,
+            self.clients,
+            self.phases,
+            self.played,
+            self.segments,
+            self.laid,
+            self.xruns,
+            self.sum
         )
     }
 }
@@ -67,7 +64,13 @@ fn is_pipe(answer: Answer) -> bool
 fn xrun_count(rows: &[Row]) -> usize
     ensures { result ≡ xrun_count rows.now }
 {
-    rows.iter().filter(|row| is_pipe(row.answer)).count()
+    let mut xruns = 0;
+    for row in rows {
+        if is_pipe(row.answer) {
+            xruns += 1;
+        }
+    }
+    xruns
 }
 
 /// How many words of the ring a segment of a stereo card filled: two for each whole frame, and the

@@ -92,6 +92,17 @@ fn push_turns(text: &mut String, clients: u32, turns: u32) -> Result<(), AllocEr
     Ok(())
 }
 
+/// Appends the lines after the card's: those of the clients, of their openings and of the turns.
+fn push_lines(text: &mut String, clients: u32, turns: u32) -> Result<(), AllocError>
+    ensures { OnOk result (string_bytes text.new ≡ string_bytes text.old
+        ++ lines_text (client_lines clients ++ (open_lines clients
+        ++ all_turn_lines clients turns))) }
+{
+    push_clients(text, clients)?;
+    push_opens(text, clients)?;
+    push_turns(text, clients, turns)
+}
+
 /// The text of the script of so many clients and turns, as `made.script` has it.
 ///
 /// The card is stereo, at 48,000 Hz, with a period of 64 frames and a ring of 1,024. Each client is
@@ -106,8 +117,6 @@ pub fn made_text(alloc: Global, clients: u32, turns: u32) -> Result<String, Allo
         alloc,
         "card channels 2 rate 48000 period 64 ring 1024 places 64\n",
     )?;
-    push_clients(&mut text, clients)?;
-    push_opens(&mut text, clients)?;
-    push_turns(&mut text, clients, turns)?;
+    push_lines(&mut text, clients, turns)?;
     Ok(text)
 }

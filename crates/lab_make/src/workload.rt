@@ -4,6 +4,7 @@ ghost use Rattle.std.specs.Str.{all_ascii_digits};
 ghost use Rattle.std.specs.Str.Parse.{digits_value};
 ghost use Rattle.lab_make.specs.Workload.{IsWorkload, is_numeral, number_in, within, workload_of};
 
+use std::fmt;
 use thiserror::Error;
 
 /// What a workload is made from: the seed of its samples, how many clients it has, and in how many
@@ -22,14 +23,28 @@ pub struct Workload {
 #[derive(Clone, Copy, Debug, PartialEq, Eq, Error)]
 pub enum WorkloadError {
     /// The seed isn't a decimal number of 1 to 20 digits below `2^64`.
-    #[error("seed")]
     Seed,
     /// The number of clients isn't a decimal number of 1 to 20 digits from 1 to 64.
-    #[error("clients")]
     Clients,
     /// The number of phases isn't a decimal number of 1 to 20 digits from 1 to 1,000.
-    #[error("phases")]
     Phases,
+}
+
+impl WorkloadError {
+    /// The name of the word that is refused, by which it is printed.
+    fn name(&self) -> &'static str {
+        match self {
+            WorkloadError::Seed => "seed",
+            WorkloadError::Clients => "clients",
+            WorkloadError::Phases => "phases",
+        }
+    }
+}
+
+impl fmt::Display for WorkloadError {
+    fn fmt<W: fmt::Write>(&self, f: &mut fmt::Formatter<W>) -> fmt::Result {
+        f.write_str(self.name())
+    }
 }
 
 /// Whether each byte of a word is a decimal digit.

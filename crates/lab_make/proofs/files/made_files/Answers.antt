@@ -7,6 +7,7 @@ use Rattle.rand_pcg.specs.Pcg.{multiplier_64}
 use Rattle.rand_pcg.proofs.LcgLemmas.{advance_zero}
 use Rattle.lab_make.specs.Files.{IsMadeSound, after_words, generator_of, made_sound, made_sounds, next_sample}
 use Rattle.lab_make.proofs.Generator.{after_words-file, files-push}
+use Rattle.lab_make.proofs.Refused.{IfOk-err}
 use Rattle.lab_make.proofs.files.made_files.Goals as goal
 
 pub loop-client-init : goal.loop-client-init
@@ -21,6 +22,24 @@ loop-client-preserved c = record {
   files = files-push _ _ _ _ _ _ c.loop-client.invariant.files c.loop-client.invariant.next c.in_ok-made_file.ensures.file c.in_ok-push.ensures.items;
   next = after_words-file _ _ _ _ c.loop-client.invariant.next c.in_ok-made_file.ensures.next;
 }
+
+pub returns-in_err-made_file-clause-files : goal.returns-in_err-made_file-clause-files
+returns-in_err-made_file-clause-files c = IfOk-err _ _ c.from_residual.result c.from_residual.ensures.1
+
+pub returns-in_err-made_file-clause-count : goal.returns-in_err-made_file-clause-count
+returns-in_err-made_file-clause-count c = IfOk-err _ _ c.from_residual.result c.from_residual.ensures.1
+
+pub returns-in_err-made_file-clause-each : goal.returns-in_err-made_file-clause-each
+returns-in_err-made_file-clause-each c = IfOk-err _ _ c.from_residual.result c.from_residual.ensures.1
+
+pub returns-in_err-push-clause-files : goal.returns-in_err-push-clause-files
+returns-in_err-push-clause-files c = IfOk-err _ _ c.from_residual-in_err-push.result c.from_residual-in_err-push.ensures.1
+
+pub returns-in_err-push-clause-count : goal.returns-in_err-push-clause-count
+returns-in_err-push-clause-count c = IfOk-err _ _ c.from_residual-in_err-push.result c.from_residual-in_err-push.ensures.1
+
+pub returns-in_err-push-clause-each : goal.returns-in_err-push-clause-each
+returns-in_err-push-clause-each c = IfOk-err _ _ c.from_residual-in_err-push.result c.from_residual-in_err-push.ensures.1
 
 -- each file has as many samples as words are drawn for it
 made_sound-is : (seed client : ℕ) → IsMadeSound (made_sound seed client)

@@ -9,6 +9,7 @@ use Rattle.lab_script.specs.Reading.{RefusesAt, script_of}
 use Rattle.lab_make.specs.Lines.{made_text}
 use Rattle.lab_make.specs.Script.{made_client, made_script}
 use Rattle.lab_make.proofs.Turns.{script_of-made_text}
+use Rattle.lab_make.proofs.Refused.{IfOk-err}
 use Rattle.lab_make.proofs.script.made_script.Goals as goal
 
 -- the script of an answer, where there is one
@@ -46,3 +47,15 @@ unreachable-requires c =
     accepted c.in-Err.error.why c.in-Err.error _ _
     (spelled c.args.clients c.args.turns _ _ c.as_bytes.ensures.value c.in_ok-text.ensures c.requires.clients c.requires.turns)
     c.in_default.not-Memory c.in-Err.ensures.exact
+
+pub returns-in_err-text-clause-script : goal.returns-in_err-text-clause-script
+returns-in_err-text-clause-script c = IfOk-err _ _ c.from_residual.result c.from_residual.ensures.1
+
+pub returns-in_err-text-clause-read : goal.returns-in_err-text-clause-read
+returns-in_err-text-clause-read c = IfOk-err _ _ c.from_residual.result c.from_residual.ensures.1
+
+pub returns-in_err-text-clause-valid : goal.returns-in_err-text-clause-valid
+returns-in_err-text-clause-valid c = IfOk-err _ _ c.from_residual.result c.from_residual.ensures.1
+
+pub returns-in_err-text-clause-count : goal.returns-in_err-text-clause-count
+returns-in_err-text-clause-count c = IfOk-err _ _ c.from_residual.result c.from_residual.ensures.1
