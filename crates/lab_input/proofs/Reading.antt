@@ -2,6 +2,7 @@
 use Rattle.std.proofs.Common.{◌≡◌, ◌≢◌, ℕ, ◌+◌, ◌<◌, ◌≤◌, ◌⊎◌, true, false, List, [], ◌++◌, length, sym, ap, subst, refl, inl, inr, ◌∙◌, arith, append_assoc, append-nil}
 use Rattle.std.proofs.lemmas.List.{length-append}
 use Rattle.std.specs.Prelude.{Bool, Option, Some, Result, Ok, Err}
+use Rattle.std.specs.Global.{Vec}
 use Rattle.std.specs.Option.{ForSome}
 use Rattle.lab_shelf.specs.Files.{Files}
 use Rattle.lab_stop.specs.declared.stop.Stop.{Stop}
@@ -9,7 +10,7 @@ use Rattle.lab_stop.specs.declared.stop.Stop.TheVariants.{Words, Script, Conf, W
 use Rattle.lab_stop.specs.Causes.{Cause, missing, wav_refused, content_in, fetched_from, piece_bytes, ◌>>=◌}
 use Rattle.lab_stop.specs.Passing.{IsCauseOf-passed, Misses-passed}
 use Rattle.lab_stop.specs.Pieces.{IsFetched, IsBegun, IsFetched-next, IsFetched-rest, whole_refused}
-use Rattle.lab_stop.specs.Stops.{IsCauseOf, IsWavStop, Misses, NamesWav}
+use Rattle.lab_stop.specs.Stops.{FetchFaults, IsCauseOf, IsWavStop, Misses, NamesWav}
 use Rattle.wav_io.specs.declared.error.WavError.{WavError}
 use Rattle.wav_io.specs.declared.error.WavError.TheVariants as wav_whys
 use Rattle.wav_io.specs.Reading.{IsRefusal, most_bytes}
@@ -92,6 +93,45 @@ IsCauseOf-refusal (wav_whys.Channels n) name stop sound given so refusal is = na
 IsCauseOf-refusal wav_whys.RateZero name stop sound given so refusal is = named_cause wav_whys.RateZero name stop given (so wav_whys.RateZero refusal) is
 IsCauseOf-refusal wav_whys.NoData name stop sound given so refusal is = named_cause wav_whys.NoData name stop given (so wav_whys.NoData refusal) is
 IsCauseOf-refusal wav_whys.TooLong name stop sound given so refusal is = named_cause wav_whys.TooLong name stop given (so wav_whys.TooLong refusal) is
+
+-- what holds of a stop that names a file, and of one for memory, holds of each stop at a WAV file that is refused
+NamesWav-only : (holds : Stop → Type 0) (why : WavError) (name : List ℕ) (stop : Stop)
+    → ((file : Vec ℕ) (because : WavError) → holds (Wav file because)) → holds Memory → NamesWav why name stop → holds stop
+NamesWav-only holds why name (Wav file because) wav memory is = wav file because
+NamesWav-only holds why name Memory wav memory is = memory
+NamesWav-only holds why name Words wav memory is = absurd is
+NamesWav-only holds why name (Script error) wav memory is = absurd is
+NamesWav-only holds why name (Conf error) wav memory is = absurd is
+NamesWav-only holds why name (Read file) wav memory is = absurd is
+NamesWav-only holds why name Write wav memory is = absurd is
+
+IsWavStop-only : (holds : Stop → Type 0) (why : WavError) (name : List ℕ) (stop : Stop)
+    → ((file : Vec ℕ) (because : WavError) → holds (Wav file because)) → holds Memory → IsWavStop why name stop → holds stop
+IsWavStop-only holds wav_whys.Memory name stop wav memory is = subst holds (sym is) memory
+IsWavStop-only holds wav_whys.NotRiff name stop wav memory is = NamesWav-only holds wav_whys.NotRiff name stop wav memory is
+IsWavStop-only holds wav_whys.NotWave name stop wav memory is = NamesWav-only holds wav_whys.NotWave name stop wav memory is
+IsWavStop-only holds wav_whys.NoFormat name stop wav memory is = NamesWav-only holds wav_whys.NoFormat name stop wav memory is
+IsWavStop-only holds wav_whys.FormatTwice name stop wav memory is = NamesWav-only holds wav_whys.FormatTwice name stop wav memory is
+IsWavStop-only holds wav_whys.ShortFormat name stop wav memory is = NamesWav-only holds wav_whys.ShortFormat name stop wav memory is
+IsWavStop-only holds (wav_whys.Tag n) name stop wav memory is = NamesWav-only holds (wav_whys.Tag n) name stop wav memory is
+IsWavStop-only holds (wav_whys.Bits n) name stop wav memory is = NamesWav-only holds (wav_whys.Bits n) name stop wav memory is
+IsWavStop-only holds (wav_whys.Channels n) name stop wav memory is = NamesWav-only holds (wav_whys.Channels n) name stop wav memory is
+IsWavStop-only holds wav_whys.RateZero name stop wav memory is = NamesWav-only holds wav_whys.RateZero name stop wav memory is
+IsWavStop-only holds wav_whys.NoData name stop wav memory is = NamesWav-only holds wav_whys.NoData name stop wav memory is
+IsWavStop-only holds wav_whys.TooLong name stop wav memory is = NamesWav-only holds wav_whys.TooLong name stop wav memory is
+
+-- it counts no fault of a fetch
+pub FetchFaults-wav : (why : WavError) (name : List ℕ) (stop : Stop) (before now : ℕ) → IsWavStop why name stop
+    → now ≡ before → FetchFaults {X = Unit {0}} (Err stop) before now
+FetchFaults-wav why name stop before now is same =
+    let few : before ≤ now = omega (arith, same) in
+    IsWavStop-only (λ (s : Stop). FetchFaults {X = Unit {0}} (Err s) before now) why name stop (λ file because. few) few is
+
+-- it is at no missing file
+pub Misses-wav : {Y : Type 0} (why : WavError) (name : List ℕ) (stop : Stop) (given : Result Y Cause) → IsWavStop why name stop
+    → Misses {X = Unit {0}} (Err stop) given
+Misses-wav {Y} why name stop given is =
+    IsWavStop-only (λ (s : Stop). Misses {X = Unit {0}} (Err s) given) why name stop (λ file because. tt) tt is
 
 -- ---- the loop
 

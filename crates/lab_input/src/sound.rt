@@ -62,10 +62,19 @@ impl SoundReader {
 }
 
 /// A WAV file that comes in pieces, as it is or converted.
-#[derive(Drop)]
 enum FileReader {
     Plain(SoundReader),
     Plugged(PlugReader),
+}
+
+// One call wherever a reader is let go. A derive drops each part in turn there, and the proof goes through all of them.
+impl Drop for FileReader {
+    fn drop(self) {
+        match self {
+            FileReader::Plain(_) => (),
+            FileReader::Plugged(_) => (),
+        }
+    }
 }
 
 impl FileReader {

@@ -1,9 +1,11 @@
-use Rattle.std.proofs.Common.{◌≡◌, ℕ, ◌<◌, ◌⊎◌, ◌++◌, true, length, Ok, ap, sym, inl, inr, ◌∙◌, arith}
+use Rattle.std.proofs.Common.{◌≡◌, ℕ, subst, ◌<◌, ◌⊎◌, ◌++◌, true, length, Ok, ap, sym, inl, inr, ◌∙◌, arith}
 use Rattle.std.proofs.lemmas.Bool.Decides.{nat_tests}
 use Rattle.std.proofs.lemmas.List.{length-append}
 use Rattle.std.proofs.lemmas.Result.{err_from_is_err_and}
+use Rattle.std.specs.Prelude.{Err}
+use Rattle.lab_stop.specs.Stops.{FetchFaults}
 use Rattle.lab_input.proofs.Plugging.{sound_file-short}
-use Rattle.lab_input.proofs.Reading.{reading-stop, reading-missing, reading-next, reading-refused, reading-ok, reading-err}
+use Rattle.lab_input.proofs.Reading.{FetchFaults-wav, Misses-wav, reading-stop, reading-missing, reading-next, reading-refused, reading-ok, reading-err}
 use Rattle.lab_input.proofs.sound.read_sound.Goals as goal
 use Rattle.lab_input.proofs.sound.read_sound.Goals.{then-loop-is_last-test+else-length-le-WAV_MOST, else-loop-is_last-test}
 
@@ -17,6 +19,26 @@ returns-in_err-piece-clause-missing g c =
     let p = err_from_is_err_and c.from_residual.result c.from_residual.ensures.1 in
     rw (p.1, p.2)
     (λ is. reading-missing _ _ _ _ _ _ c.loop-is_last.invariant.same_files (c.in_err-piece.ensures.missing (c.loop-is_last.invariant.reliable is)))
+
+pub returns-in_err-piece-clause-faults : goal.returns-in_err-piece-clause-faults
+returns-in_err-piece-clause-faults g c =
+    let p = err_from_is_err_and c.from_residual.result c.from_residual.ensures.1 in
+    rw (p.1, p.2)
+    (subst (λ (before : ℕ). FetchFaults {X = Unit {0}} (Err c.in_err-piece.field-0.0) before (g.S.Shelf.fetch_faults c.fetch_piece.new.shelf)) c.loop-is_last.invariant.no_fault c.in_err-piece.ensures.faults)
+
+pub returns-in-Err-clause-faults : goal.returns-in-Err-clause-faults
+returns-in-Err-clause-faults g c =
+    FetchFaults-wav _ _ _ _ _ c.wav_stop.ensures (c.in_ok-piece.ensures.faults ∙ c.loop-is_last.invariant.no_fault)
+
+pub returns-in-Err-clause-missing : goal.returns-in-Err-clause-missing
+returns-in-Err-clause-missing g c reliable m told = Misses-wav _ _ _ _ c.wav_stop.ensures
+
+pub returns-in-Err-finish-clause-faults : goal.returns-in-Err-finish-clause-faults
+returns-in-Err-finish-clause-faults g c =
+    FetchFaults-wav _ _ _ _ _ c.wav_stop-in-Err-finish.ensures c.loop-is_last.invariant.no_fault
+
+pub returns-in-Err-finish-clause-missing : goal.returns-in-Err-finish-clause-missing
+returns-in-Err-finish-clause-missing g c reliable m told = Misses-wav _ _ _ _ c.wav_stop-in-Err-finish.ensures
 
 pub returns-in-Err-clause-sound : goal.returns-in-Err-clause-sound
 returns-in-Err-clause-sound g c =

@@ -62,6 +62,21 @@ returns-in_err-piece-clause-faults g c =
     rw (p.1, p.2)
     (subst (λ (before : ℕ). FetchFaults {X = Unit {0}} (Err c.in_err-piece.field-0.0) before (g.S.Shelf.fetch_faults c.fetch_piece-in-loop-is_last.new.shelf)) c.loop-is_last.invariant.no_fault c.in_err-piece.ensures.faults)
 
+pub returns-in_err-extend_from_slice-clause-bytes : goal.returns-in_err-extend_from_slice-clause-bytes
+returns-in_err-extend_from_slice-clause-bytes g c =
+    let p = err_from_is_err_and c.from_residual-in_err-extend_from_slice.result c.from_residual-in_err-extend_from_slice.ensures.1 in
+    rw (p.1, p.2) (λ m told. tt)
+
+pub returns-in_err-extend_from_slice-clause-missing : goal.returns-in_err-extend_from_slice-clause-missing
+returns-in_err-extend_from_slice-clause-missing g c reliable =
+    let p = err_from_is_err_and c.from_residual-in_err-extend_from_slice.result c.from_residual-in_err-extend_from_slice.ensures.1 in
+    rw (p.1, p.2) (λ m told. tt)
+
+pub returns-in_err-extend_from_slice-clause-faults : goal.returns-in_err-extend_from_slice-clause-faults
+returns-in_err-extend_from_slice-clause-faults g c =
+    let p = err_from_is_err_and c.from_residual-in_err-extend_from_slice.result c.from_residual-in_err-extend_from_slice.ensures.1 in
+    rw (p.1, p.2) (omega (arith, c.in_ok-piece.ensures.faults, c.loop-is_last.invariant.no_fault))
+
 pub returns-clause-bytes : goal.returns-clause-bytes
 returns-clause-bytes g c = fetched-most _ _ _ _ _ _ c.loop-is_last.invariant.so_far
     (elim c.loop-is_last-test.branch [

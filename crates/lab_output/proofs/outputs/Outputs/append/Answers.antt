@@ -1,5 +1,6 @@
 use Rattle.std.proofs.Common.{◌≡◌, ◌-◌, ℕ, List, length, get_or, take, drop, arith, ap, ◌∙◌}
 use Rattle.std.proofs.lemmas.List.{get_or_default, take_all, length-drop}
+use Rattle.std.proofs.lemmas.Result.{err_from_is_err_and}
 use Rattle.lab_output.proofs.Going.{append-going_on, append-Changes, append_part-Changes}
 use Rattle.lab_output.proofs.Held.{IsGoingOn-there, file-at, no-write}
 use Rattle.lab_output.proofs.outputs.Outputs.append.Goals as goal
@@ -43,3 +44,18 @@ returns-in_err-append_new-clause-never g c before sounds going told reliable =
     (c.in_err-append_new.ensures.never reliable
     (file-at _ _ c.args.number c.index.result.now (IsGoingOn-there _ _ sounds before _ c.requires.outputs.apart going told)
     c.requires.number c.index.ensures))
+
+pub returns-in_err-append_new-clause-going_on : goal.returns-in_err-append_new-clause-going_on
+returns-in_err-append_new-clause-going_on g c before sounds going first =
+    let p = err_from_is_err_and c.from_residual.result c.from_residual.ensures.1 in
+    rw p.1 tt
+
+pub returns-in_err-append_new-clause-only : goal.returns-in_err-append_new-clause-only
+returns-in_err-append_new-clause-only g c =
+    let p = err_from_is_err_and c.from_residual.result c.from_residual.ensures.1 in
+    rw (p.1, p.2) c.in_err-append_new.ensures.only
+
+pub returns-in_err-append_new-clause-faults : goal.returns-in_err-append_new-clause-faults
+returns-in_err-append_new-clause-faults g c =
+    let p = err_from_is_err_and c.from_residual.result c.from_residual.ensures.1 in
+    rw (p.1, p.2) c.in_err-append_new.ensures.faults
