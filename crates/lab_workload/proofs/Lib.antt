@@ -1,4 +1,5 @@
 mod Making
+mod MemoryStops
 mod Reading
 mod Sizes
 mod Storing

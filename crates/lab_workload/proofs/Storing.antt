@@ -9,7 +9,7 @@ use Rattle.wav_io.specs.Canonical.{canonical}
 use Rattle.wav_io.specs.Sound.{Sound}
 use Rattle.lab_shelf.specs.Files.{Files, IsPartWritten, with_file}
 use Rattle.lab_make.specs.Files.{file_name}
-use Rattle.lab_workload.specs.Stored.{IsReadBack, NamedFile, StoredInPart, sound_files, with_files}
+use Rattle.lab_workload.specs.Stored.{IsReadBack, NamedFile, StoredInPart, script_name, sound_files, with_files, with_input}
 
 -- the first files are stored, and what is left to do does all
 pub record Storing (before now : Option Files) (sounds : List Sound) (n : ℕ) (fetches fetches_now writes writes_now : ℕ) (steady steady_now : Type 0) : Type 0 where
@@ -33,6 +33,13 @@ with_files-joined : (file : NamedFile) (files : List NamedFile) (now : Option Fi
     → option_map (with_files files) (option_map (λ m. with_file m file.name file.bytes) now) ≡ option_map (with_files (file ∷ files)) now
 with_files-joined file files None = refl
 with_files-joined file files (Some m) = refl
+
+-- the files of the sounds are stored, and then the script
+pub with_input-joined : (sounds : List Sound) (text : List ℕ) (now : Option Files)
+    → option_map (λ files. with_file files script_name text) (option_map (with_files (sound_files 0 sounds)) now)
+    ≡ option_map (with_input sounds text) now
+with_input-joined sounds text None = refl
+with_input-joined sounds text (Some m) = refl
 
 -- no file is left to store
 with_files-none : (now : Option Files) → option_map (with_files []) now ≡ now

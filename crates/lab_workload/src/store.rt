@@ -9,8 +9,8 @@ ghost use Rattle.lab_make.specs.Files.{IsMadeSound, file_name};
 ghost use Rattle.lab_workload.specs.Stored.{InputInPart, IsReadBack, StoredInPart, sound_files, with_files, with_input};
 
 use lab_make::file_name;
-use lab_shelf::{Shelf, ShelfFault};
-use lab_stop::Stop;
+use lab_shelf::Shelf;
+use lab_stop::{Stop, written};
 use std::alloc::Global;
 use wav_io::{Wav, write_wav};
 
@@ -28,11 +28,7 @@ pub(crate) fn store<S: Shelf>(shelf: &mut S, name: &[u8], bytes: &[u8]) -> Resul
     ensures reliable { S.is_reliable shelf.old → S.is_reliable shelf.new }
     ensures never { S.is_reliable shelf.old → result ≢ Err stops.Write }
 {
-    match shelf.store(name, bytes) {
-        Ok(()) => Ok(()),
-        Err(ShelfFault::Failed) => Err(Stop::Write),
-        Err(ShelfFault::Memory) => Err(Stop::Memory),
-    }
+    written(shelf.store(name, bytes))
 }
 
 /// The bytes of the WAV file of a client.

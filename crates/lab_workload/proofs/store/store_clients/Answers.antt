@@ -1,4 +1,4 @@
-use Rattle.std.proofs.Common.{refl}
+use Rattle.std.proofs.Common.{refl, sym}
 use Rattle.std.proofs.lemmas.List.Elements.{All-nil}
 use Rattle.std.proofs.lemmas.Result.{err_from_is_err_and}
 use Rattle.lab_workload.specs.Stored.{IsReadBack}
@@ -20,6 +20,31 @@ returns-in_err-store_client-clause-part g c =
     rw p.1
     (Storing-stop _ _ _ _ _ c.index-wavs-client.result _ _ _ _ _ _ c.loop-client.invariant c.loop-client-test.true c.index-wavs-client.is
     c.in_err-store_client.ensures.part)
+
+pub returns-in_err-store_client-clause-stored : goal.returns-in_err-store_client-clause-stored
+returns-in_err-store_client-clause-stored g c =
+    let p = err_from_is_err_and c.from_residual.result c.from_residual.ensures.1 in
+    rw p.1 tt
+
+pub returns-in_err-store_client-clause-read : goal.returns-in_err-store_client-clause-read
+returns-in_err-store_client-clause-read g c =
+    let p = err_from_is_err_and c.from_residual.result c.from_residual.ensures.1 in
+    rw p.1 tt
+
+pub returns-in_err-store_client-clause-only : goal.returns-in_err-store_client-clause-only
+returns-in_err-store_client-clause-only g c =
+    let p = err_from_is_err_and c.from_residual.result c.from_residual.ensures.1 in
+    rw (p.1, p.2) c.in_err-store_client.ensures.only
+
+pub returns-in_err-store_client-clause-faults : goal.returns-in_err-store_client-clause-faults
+returns-in_err-store_client-clause-faults g c =
+    let p = err_from_is_err_and c.from_residual.result c.from_residual.ensures.1 in
+    rw (p.1, p.2, sym c.loop-client.invariant.write_faults) c.in_err-store_client.ensures.faults
+
+pub returns-in_err-store_client-clause-never : goal.returns-in_err-store_client-clause-never
+returns-in_err-store_client-clause-never g c reliable =
+    let p = err_from_is_err_and c.from_residual.result c.from_residual.ensures.1 in
+    rw (p.1, p.2) (c.in_err-store_client.ensures.never (c.loop-client.invariant.reliable reliable))
 
 pub returns-clause-stored : goal.returns-clause-stored
 returns-clause-stored g c = Storing-all _ _ _ _ _ _ _ _ _ _ c.loop-client.invariant c.loop-client-test.false
