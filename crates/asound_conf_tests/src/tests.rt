@@ -1,5 +1,6 @@
 //! Files as users have them, and the line of each refusal.
 use asound_conf::{device, print_device, read_conf};
+use assertions::assert_same;
 use std::alloc::Global;
 use std::test::Fail;
 
@@ -107,7 +108,7 @@ fn devices_are_read_from_files_as_users_have_them(rt: HostRuntime) -> Result<(),
     ];
     for (text, name, lines) in rows {
         let answer = read(rt.alloc(), text, name)?;
-        assert_eq!(rt; answer.as_str(), lines);
+        assert_same(&rt, &answer.as_str(), &lines);
     }
     Ok(())
 }
@@ -148,7 +149,7 @@ fn each_cause_of_a_refused_text_has_its_line(rt: HostRuntime) -> Result<(), Fail
     ];
     for (text, lines) in rows {
         let answer = read(rt.alloc(), text, "x")?;
-        assert_eq!(rt; answer.as_str(), lines);
+        assert_same(&rt, &answer.as_str(), &lines);
     }
     Ok(())
 }
@@ -192,7 +193,7 @@ fn each_cause_of_a_refused_device_is_told(rt: HostRuntime) -> Result<(), Fail> {
     ];
     for (text, lines) in rows {
         let answer = read(rt.alloc(), text, "x")?;
-        assert_eq!(rt; answer.as_str(), lines);
+        assert_same(&rt, &answer.as_str(), &lines);
     }
     Ok(())
 }
@@ -204,6 +205,6 @@ fn a_text_of_more_than_a_mebibyte_is_too_long(rt: HostRuntime) -> Result<(), Fai
         text.push(b' ')?;
     }
     let answer = read(rt.alloc(), text.as_slice(), "x")?;
-    assert_eq!(rt; answer.as_str(), "line 0: TooLong");
+    assert_same(&rt, &answer.as_str(), &"line 0: TooLong");
     Ok(())
 }

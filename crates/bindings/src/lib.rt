@@ -5,6 +5,3 @@ mod channels;
 mod reading;
 
 pub use channels::Bindings;
-
-#[cfg(test)]
-mod tests;

@@ -4,6 +4,3 @@
 mod player;
 
 pub use player::CardPlayer;
-
-#[cfg(test)]
-mod tests;

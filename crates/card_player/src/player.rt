@@ -9,11 +9,17 @@ use sum_table::{PlayerSeat, SeatNote};
 /// `snd_pcm_period_elapsed`).
 ///
 /// Its meaning is its seat and its period, in frames.
-#[derive(Drop)]
 pub struct CardPlayer<'a> {
     seat: PlayerSeat<'a>,
     period: u32,
     ghost period_least: { 1 ≤ period },
+}
+
+// One call wherever it is let go. A derive drops each part in turn there, and the proof goes through all of them.
+impl<'a> Drop for CardPlayer<'a> {
+    fn drop(self) {
+        let CardPlayer { seat: _, period: _ } = self;
+    }
 }
 
 impl<'a> CardPlayer<'a> {
@@ -214,7 +220,8 @@ impl<'a> CardPlayer<'a> {
     pub fn into_seat(self) -> PlayerSeat<'a>
         ensures { result ≡ seat_of self.entry }
     {
-        self.seat
+        let CardPlayer { seat, period: _ } = self;
+        seat
     }
 
     // Plays so many frames, which the ring still has and `out` has room for.

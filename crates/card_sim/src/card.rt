@@ -15,7 +15,6 @@ use sum_table::{PlayerSeat, SeatNote};
 /// borrow of the sum ring, and `'w` that of the snoop ring.
 ///
 /// Its meaning is its player, its writer, its period, in frames, and whether it records.
-#[derive(Drop)]
 pub struct Card<'p, 'w> {
     player: CardPlayer<'p>,
     writer: WriterSeat<'w>,
@@ -24,6 +23,18 @@ pub struct Card<'p, 'w> {
     ghost period_least: { 1 ≤ period },
     ghost in_step: { AreSeatsOfCard records player writer },
     ghost published: { IsAtPublished player },
+}
+
+// One call wherever it is let go. A derive drops each part in turn there, and the proof goes through all of them.
+impl<'p, 'w> Drop for Card<'p, 'w> {
+    fn drop(self) {
+        let Card {
+            player: _,
+            writer: _,
+            period: _,
+            records: _,
+        } = self;
+    }
 }
 
 impl<'p, 'w> Card<'p, 'w> {
@@ -247,6 +258,12 @@ impl<'p, 'w> Card<'p, 'w> {
         ensures player { result.0 ≡ seat_of (player_of self.entry) }
         ensures writer { result.1 ≡ writer_of self.entry }
     {
-        (self.player.into_seat(), self.writer)
+        let Card {
+            player,
+            writer,
+            period: _,
+            records: _,
+        } = self;
+        (player.into_seat(), writer)
     }
 }

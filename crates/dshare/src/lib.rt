@@ -4,6 +4,3 @@
 mod shares;
 
 pub use shares::Shares;
-
-#[cfg(test)]
-mod tests;

@@ -1,5 +1,6 @@
 //! Calls of a reader at a core.
 
+use assertions::assert_same;
 use bindings::Bindings;
 use dsnoop_client::Reader;
 use hw_space::Config;
@@ -50,7 +51,7 @@ fn capture(rt: &impl Abort, core: &mut SnoopCore, from: i16, frames: i16) -> Res
             first.wrapping_add(7),
         ];
         assert!(rt; channels <= 8);
-        assert_eq!(rt; core.geometry().channels as usize, channels);
+        assert_same(&rt, &(core.geometry().channels as usize), &channels);
         core.store(&samples[..channels])?;
     }
     core.publish();
@@ -149,9 +150,9 @@ fn count_up_from(samples: &[i16], frames: usize, first: i16) -> bool {
 fn a_reader_that_waits_too_long_is_an_xrun(rt: HostRuntime) -> Result<(), Fail> {
     let (mut core, mut reader) = opened(&rt, rt.alloc())?;
     let mut out = [0; 64];
-    assert_eq!(rt; start(&rt, &mut core, &mut reader), Ok(()));
+    assert_same(&rt, &start(&rt, &mut core, &mut reader), &Ok(()));
     capture(&rt, &mut core, 0, 64)?;
-    assert_eq!(rt; read(&rt, &mut core, &mut reader, &mut out), Ok(64));
+    assert_same(&rt, &read(&rt, &mut core, &mut reader, &mut out), &Ok(64));
     assert!(rt; count_up_from(&out, 64, 0));
     capture(&rt, &mut core, 64, 320)?;
     let over = XrunWhy::Avail {
@@ -159,20 +160,21 @@ fn a_reader_that_waits_too_long_is_an_xrun(rt: HostRuntime) -> Result<(), Fail> 
         seen: 384,
     };
     let late = read(&rt, &mut core, &mut reader, &mut out);
-    assert_eq!(rt; late, Err(PcmError::Xrun(over)));
-    assert_eq!(rt; reader.state(), State::Xrun);
+    assert_same(&rt, &late, &Err(PcmError::Xrun(over)));
+    assert_same(&rt, &reader.state(), &State::Xrun);
     let again = sync(&rt, &mut core, &mut reader);
-    assert_eq!(rt; again, Err(PcmError::Xrun(XrunWhy::Already)));
-    assert_eq!(rt; reader.prepare(), Ok(()));
-    assert_eq!(rt;
-        read(&rt, &mut core, &mut reader, &mut out),
-        Err(PcmError::Again)
+    assert_same(&rt, &again, &Err(PcmError::Xrun(XrunWhy::Already)));
+    assert_same(&rt, &reader.prepare(), &Ok(()));
+    assert_same(
+        &rt,
+        &read(&rt, &mut core, &mut reader, &mut out),
+        &Err(PcmError::Again),
     );
-    assert_eq!(rt; reader.state(), State::Running);
+    assert_same(&rt, &reader.state(), &State::Running);
     capture(&rt, &mut core, 384, 64)?;
-    assert_eq!(rt; read(&rt, &mut core, &mut reader, &mut out), Ok(64));
+    assert_same(&rt, &read(&rt, &mut core, &mut reader, &mut out), &Ok(64));
     assert!(rt; count_up_from(&out, 64, 384));
-    assert_eq!(rt; reader.seen(), Some(448));
+    assert_same(&rt, &reader.seen(), &Some(448));
     Ok(())
 }
 
@@ -181,23 +183,25 @@ fn a_reader_that_waits_too_long_is_an_xrun(rt: HostRuntime) -> Result<(), Fail> 
 fn a_reader_restarts_at_the_position(rt: HostRuntime) -> Result<(), Fail> {
     let (mut core, mut reader) = opened(&rt, rt.alloc())?;
     let mut out = [0; 64];
-    assert_eq!(rt; start(&rt, &mut core, &mut reader), Ok(()));
+    assert_same(&rt, &start(&rt, &mut core, &mut reader), &Ok(()));
     capture(&rt, &mut core, 0, 64)?;
-    assert_eq!(rt;
-        read_frames(&rt, &mut core, &mut reader, &mut out, 32),
-        Ok(32)
+    assert_same(
+        &rt,
+        &read_frames(&rt, &mut core, &mut reader, &mut out, 32),
+        &Ok(32),
     );
-    assert_eq!(rt; reader.drop_pending(), Ok(()));
-    assert_eq!(rt; reader.state(), State::Setup);
-    assert_eq!(rt; reader.prepare(), Ok(()));
-    assert_eq!(rt; start(&rt, &mut core, &mut reader), Ok(()));
-    assert_eq!(rt;
-        read_frames(&rt, &mut core, &mut reader, &mut out, 1),
-        Err(PcmError::Again)
+    assert_same(&rt, &reader.drop_pending(), &Ok(()));
+    assert_same(&rt, &reader.state(), &State::Setup);
+    assert_same(&rt, &reader.prepare(), &Ok(()));
+    assert_same(&rt, &start(&rt, &mut core, &mut reader), &Ok(()));
+    assert_same(
+        &rt,
+        &read_frames(&rt, &mut core, &mut reader, &mut out, 1),
+        &Err(PcmError::Again),
     );
     capture(&rt, &mut core, 64, 16)?;
-    assert_eq!(rt; avail_update(&rt, &mut core, &mut reader), Ok(16));
-    assert_eq!(rt; read(&rt, &mut core, &mut reader, &mut out), Ok(16));
+    assert_same(&rt, &avail_update(&rt, &mut core, &mut reader), &Ok(16));
+    assert_same(&rt, &read(&rt, &mut core, &mut reader, &mut out), &Ok(16));
     assert!(rt; count_up_from(&out, 16, 64));
     Ok(())
 }
@@ -208,13 +212,13 @@ fn a_reader_restarts_at_the_position(rt: HostRuntime) -> Result<(), Fail> {
 fn a_late_reader_misses_a_frame(rt: HostRuntime) -> Result<(), Fail> {
     for (waits, missed) in [(256i16, false), (257, true), (300, true), (512, true)] {
         let (mut core, mut reader) = opened(&rt, rt.alloc())?;
-        assert_eq!(rt; reader.sw_params(NEVER_OVER), Ok(()));
-        assert_eq!(rt; start(&rt, &mut core, &mut reader), Ok(()));
+        assert_same(&rt, &reader.sw_params(NEVER_OVER), &Ok(()));
+        assert_same(&rt, &start(&rt, &mut core, &mut reader), &Ok(()));
         capture(&rt, &mut core, 0, waits)?;
         let mut out = [0; 32];
         let answer = read(&rt, &mut core, &mut reader, &mut out);
         if !missed {
-            assert_eq!(rt; answer, Ok(32));
+            assert_same(&rt, &answer, &Ok(32));
             assert!(rt; count_up_from(&out, 32, 0));
             continue;
         }
@@ -224,11 +228,11 @@ fn a_late_reader_misses_a_frame(rt: HostRuntime) -> Result<(), Fail> {
             channel: 0,
             seen: laps * 4294967296 + sample + 32768,
         };
-        assert_eq!(rt; answer, Err(PcmError::Xrun(why)));
-        assert_eq!(rt; reader.state(), State::Xrun);
-        assert_eq!(rt; reader.prepare(), Ok(()));
+        assert_same(&rt, &answer, &Err(PcmError::Xrun(why)));
+        assert_same(&rt, &reader.state(), &State::Xrun);
+        assert_same(&rt, &reader.prepare(), &Ok(()));
         let next = read(&rt, &mut core, &mut reader, &mut out);
-        assert_eq!(rt; next, Err(PcmError::Again));
+        assert_same(&rt, &next, &Err(PcmError::Again));
     }
     Ok(())
 }
@@ -281,7 +285,7 @@ fn a_read_that_is_stopped_asks_nothing_more(rt: HostRuntime) -> Result<(), Fail>
         let mut core = SnoopCore::new(rt.alloc(), stereo)?;
         let mut reader = Reader::new(rt.alloc(), stereo);
         configure(&rt, rt.alloc(), &mut reader, config, Bindings::identity(2))?;
-        assert_eq!(rt; start(&rt, &mut core, &mut reader), Ok(()));
+        assert_same(&rt, &start(&rt, &mut core, &mut reader), &Ok(()));
         capture(&rt, &mut core, 0, 3)?;
         let mut gate = StopsOnce {
             left: passed,
@@ -291,18 +295,18 @@ fn a_read_that_is_stopped_asks_nothing_more(rt: HostRuntime) -> Result<(), Fail>
         let mut out = [0; 6];
         let answer = read_by(&rt, &mut core, &mut reader, &mut gate, &mut out);
         if passed == 7 {
-            assert_eq!(rt; answer, Ok(3));
-            assert_eq!(rt; gate.asks, 7);
-            assert_eq!(rt; out, [0, 1, 10, 11, 20, 21]);
+            assert_same(&rt, &answer, &Ok(3));
+            assert_same(&rt, &gate.asks, &7);
+            assert_same(&rt, &out, &[0, 1, 10, 11, 20, 21]);
             continue;
         }
-        assert_eq!(rt; answer, Err(PcmError::Stopped));
-        assert_eq!(rt; gate.asks, passed.wrapping_add(1));
+        assert_same(&rt, &answer, &Err(PcmError::Stopped));
+        assert_same(&rt, &gate.asks, &passed.wrapping_add(1));
         assert!(rt; reader.is_stopped());
         let seen = if passed == 0 { 0 } else { 3 };
-        assert_eq!(rt; reader.seen(), Some(seen));
-        assert_eq!(rt; reader.prepare(), Err(PcmError::Stopped));
-        assert_eq!(rt; reader.pause(true), Err(PcmError::NotSupported));
+        assert_same(&rt, &reader.seen(), &Some(seen));
+        assert_same(&rt, &reader.prepare(), &Err(PcmError::Stopped));
+        assert_same(&rt, &reader.pause(true), &Err(PcmError::NotSupported));
     }
     Ok(())
 }
@@ -315,34 +319,38 @@ fn a_read_starts_at_its_threshold(rt: HostRuntime) -> Result<(), Fail> {
         start_threshold: 8,
         ..NEVER_OVER
     };
-    assert_eq!(rt; reader.sw_params(from_eight), Ok(()));
+    assert_same(&rt, &reader.sw_params(from_eight), &Ok(()));
     capture(&rt, &mut core, 0, 100)?;
     let mut out = [0; 16];
-    assert_eq!(rt;
-        read_frames(&rt, &mut core, &mut reader, &mut out, 7),
-        Err(PcmError::Again)
+    assert_same(
+        &rt,
+        &read_frames(&rt, &mut core, &mut reader, &mut out, 7),
+        &Err(PcmError::Again),
     );
-    assert_eq!(rt;
-        read_frames(&rt, &mut core, &mut reader, &mut out, 0),
-        Ok(0)
+    assert_same(
+        &rt,
+        &read_frames(&rt, &mut core, &mut reader, &mut out, 0),
+        &Ok(0),
     );
-    assert_eq!(rt; avail_update(&rt, &mut core, &mut reader), Ok(0));
-    assert_eq!(rt; sync(&rt, &mut core, &mut reader), Ok(()));
-    assert_eq!(rt; reader.seen(), None);
-    assert_eq!(rt;
-        read_frames(&rt, &mut core, &mut reader, &mut out, 8),
-        Err(PcmError::Again)
+    assert_same(&rt, &avail_update(&rt, &mut core, &mut reader), &Ok(0));
+    assert_same(&rt, &sync(&rt, &mut core, &mut reader), &Ok(()));
+    assert_same(&rt, &reader.seen(), &None);
+    assert_same(
+        &rt,
+        &read_frames(&rt, &mut core, &mut reader, &mut out, 8),
+        &Err(PcmError::Again),
     );
-    assert_eq!(rt; reader.state(), State::Running);
-    assert_eq!(rt; reader.seen(), Some(100));
+    assert_same(&rt, &reader.state(), &State::Running);
+    assert_same(&rt, &reader.seen(), &Some(100));
     capture(&rt, &mut core, 100, 8)?;
-    assert_eq!(rt;
-        read_frames(&rt, &mut core, &mut reader, &mut out, 0),
-        Ok(0)
+    assert_same(
+        &rt,
+        &read_frames(&rt, &mut core, &mut reader, &mut out, 0),
+        &Ok(0),
     );
-    assert_eq!(rt; read(&rt, &mut core, &mut reader, &mut out), Ok(8));
+    assert_same(&rt, &read(&rt, &mut core, &mut reader, &mut out), &Ok(8));
     assert!(rt; count_up_from(&out, 8, 100));
-    assert_eq!(rt; out[8], 0);
+    assert_same(&rt, &out[8], &0);
     Ok(())
 }
 
@@ -350,21 +358,26 @@ fn a_read_starts_at_its_threshold(rt: HostRuntime) -> Result<(), Fail> {
 #[test]
 fn an_unplugged_card_disconnects_its_readers(rt: HostRuntime) -> Result<(), Fail> {
     let (mut core, mut reader) = opened(&rt, rt.alloc())?;
-    assert_eq!(rt; start(&rt, &mut core, &mut reader), Ok(()));
+    assert_same(&rt, &start(&rt, &mut core, &mut reader), &Ok(()));
     capture(&rt, &mut core, 0, 10)?;
     core.unplug();
     let mut out = [0; 4];
-    assert_eq!(rt;
-        read(&rt, &mut core, &mut reader, &mut out),
-        Err(PcmError::NoDevice)
+    assert_same(
+        &rt,
+        &read(&rt, &mut core, &mut reader, &mut out),
+        &Err(PcmError::NoDevice),
     );
-    assert_eq!(rt; reader.state(), State::Disconnected);
-    assert_eq!(rt; reader.seen(), Some(10));
-    assert_eq!(rt; reader.prepare(), Err(PcmError::NoDevice));
+    assert_same(&rt, &reader.state(), &State::Disconnected);
+    assert_same(&rt, &reader.seen(), &Some(10));
+    assert_same(&rt, &reader.prepare(), &Err(PcmError::NoDevice));
     let mut other = Reader::new(rt.alloc(), RING);
     configure(&rt, rt.alloc(), &mut other, MONO, Bindings::identity(1))?;
-    assert_eq!(rt; start(&rt, &mut core, &mut other), Err(PcmError::NoDevice));
-    assert_eq!(rt; other.state(), State::Disconnected);
+    assert_same(
+        &rt,
+        &start(&rt, &mut core, &mut other),
+        &Err(PcmError::NoDevice),
+    );
+    assert_same(&rt, &other.state(), &State::Disconnected);
     Ok(())
 }
 
@@ -384,12 +397,12 @@ fn bindings_leave_channels_out(rt: HostRuntime) -> Result<(), Fail> {
     let mut reader = Reader::new(rt.alloc(), card);
     let bindings = Bindings::read(&[2, 0], 3).ok().ok_or("bindings")?;
     configure(&rt, rt.alloc(), &mut reader, config, bindings)?;
-    assert_eq!(rt; start(&rt, &mut core, &mut reader), Ok(()));
+    assert_same(&rt, &start(&rt, &mut core, &mut reader), &Ok(()));
     capture(&rt, &mut core, 0, 2)?;
     let mut out = [-1; 6];
     assert!(rt; !reader.can_read(&[0; 5]));
-    assert_eq!(rt; read(&rt, &mut core, &mut reader, &mut out), Ok(2));
-    assert_eq!(rt; out, [2, 0, 12, 10, -1, -1]);
+    assert_same(&rt, &read(&rt, &mut core, &mut reader, &mut out), &Ok(2));
+    assert_same(&rt, &out, &[2, 0, 12, 10, -1, -1]);
     Ok(())
 }
 
@@ -398,24 +411,29 @@ fn bindings_leave_channels_out(rt: HostRuntime) -> Result<(), Fail> {
 fn a_reader_is_configured_and_freed(rt: HostRuntime) -> Result<(), Fail> {
     let mut core = SnoopCore::new(rt.alloc(), RING)?;
     let mut reader = Reader::new(rt.alloc(), RING);
-    assert_eq!(rt; reader.state(), State::Open);
-    assert_eq!(rt; reader.config(), None);
-    assert_eq!(rt; start(&rt, &mut core, &mut reader), Err(PcmError::BadState));
+    assert_same(&rt, &reader.state(), &State::Open);
+    assert_same(&rt, &reader.config(), &None);
+    assert_same(
+        &rt,
+        &start(&rt, &mut core, &mut reader),
+        &Err(PcmError::BadState),
+    );
     let mut out = [0; 1];
-    assert_eq!(rt;
-        read(&rt, &mut core, &mut reader, &mut out),
-        Err(PcmError::BadState)
+    assert_same(
+        &rt,
+        &read(&rt, &mut core, &mut reader, &mut out),
+        &Err(PcmError::BadState),
     );
     configure(&rt, rt.alloc(), &mut reader, MONO, Bindings::identity(1))?;
-    assert_eq!(rt; reader.config(), Some(MONO));
+    assert_same(&rt, &reader.config(), &Some(MONO));
     let invalid = SwParams {
         avail_min: 0,
         ..NEVER_OVER
     };
     let answer = reader.sw_params(invalid);
-    assert_eq!(rt; answer, Err(PcmError::Invalid(Why::AvailMinZero)));
-    assert_eq!(rt; reader.hw_free(), Ok(()));
-    assert_eq!(rt; reader.state(), State::Open);
-    assert_eq!(rt; reader.config(), None);
+    assert_same(&rt, &answer, &Err(PcmError::Invalid(Why::AvailMinZero)));
+    assert_same(&rt, &reader.hw_free(), &Ok(()));
+    assert_same(&rt, &reader.state(), &State::Open);
+    assert_same(&rt, &reader.config(), &None);
     Ok(())
 }

@@ -22,6 +22,3 @@ pub use config::Config;
 pub use param::Param;
 pub use slave::Slave;
 pub use space::Space;
-
-#[cfg(test)]
-mod tests;

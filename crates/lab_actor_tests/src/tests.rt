@@ -1,5 +1,6 @@
 //! Lines of one client or reader.
 
+use assertions::assert_same;
 use bindings::Bindings;
 use dsnoop_client::Reader;
 use hw_space::Config;
@@ -46,7 +47,7 @@ fn opened(rt: &impl Abort, alloc: Global) -> Result<ReaderActor, PcmError> {
 /// The card captures frames, each with its own number as its sample, and then publishes its position.
 fn capture(rt: &impl Abort, core: &mut SnoopCore, from: i16, frames: i16) -> Result<(), PcmError> {
     for frame in 0..frames {
-        assert_eq!(rt; core.geometry().channels, 1);
+        assert_same(&rt, &core.geometry().channels, &1);
         core.store(&[from.wrapping_add(frame)])?;
     }
     core.publish();
@@ -131,11 +132,16 @@ fn a_reader_that_came_too_late_reads_on_behind_the_gap(rt: HostRuntime) -> Resul
         ),
         row(7, Op::Read(64), Answer::Count(64), State::Running, 448),
     ];
-    assert_eq!(rt; actor.rows.as_slice(), rows.as_slice());
-    assert_eq!(rt; actor.frames.as_slice(), [(0, 64), (384, 64)].as_slice());
-    assert_eq!(rt;
-        actor.samples.as_slice(),
-        two_runs(rt.alloc(), 0, 384)?.as_slice()
+    assert_same(&rt, &actor.rows.as_slice(), &rows.as_slice());
+    assert_same(
+        &rt,
+        &actor.frames.as_slice(),
+        &[(0, 64), (384, 64)].as_slice(),
+    );
+    assert_same(
+        &rt,
+        &actor.samples.as_slice(),
+        &two_runs(rt.alloc(), 0, 384)?.as_slice(),
     );
     Ok(())
 }
@@ -151,8 +157,8 @@ fn a_read_takes_no_more_room_than_for_frames_that_come(rt: HostRuntime) -> Resul
         row(1, Op::Start, Answer::Done, State::Running, 0),
         row(3, Op::Read(4194304), Answer::Count(64), State::Running, 64),
     ];
-    assert_eq!(rt; actor.rows.as_slice(), rows.as_slice());
-    assert_eq!(rt; actor.frames.as_slice(), [(0, 64)].as_slice());
+    assert_same(&rt, &actor.rows.as_slice(), &rows.as_slice());
+    assert_same(&rt, &actor.frames.as_slice(), &[(0, 64)].as_slice());
     assert!(rt; actor.samples.capacity() < 100_000);
     Ok(())
 }
@@ -203,10 +209,10 @@ fn a_reader_that_dies_in_a_read_reads_nothing_more(rt: HostRuntime) -> Result<()
         row(3, Op::Read(4), stopped, State::Running, 64),
         row(3, Op::Drop, stopped, State::Running, 64),
     ];
-    assert_eq!(rt; actor.rows.as_slice(), rows.as_slice());
-    assert_eq!(rt; actor.frames.as_slice(), [(0, 2)].as_slice());
-    assert_eq!(rt; actor.samples.as_slice(), [0, 1].as_slice());
-    assert_eq!(rt; actor.left, Some(0));
+    assert_same(&rt, &actor.rows.as_slice(), &rows.as_slice());
+    assert_same(&rt, &actor.frames.as_slice(), &[(0, 2)].as_slice());
+    assert_same(&rt, &actor.samples.as_slice(), &[0, 1].as_slice());
+    assert_same(&rt, &actor.left, &Some(0));
     Ok(())
 }
 
@@ -229,9 +235,10 @@ fn lines_of_an_actor_that_is_not_open_are_refused(rt: HostRuntime) -> Result<(),
         state: State::Open,
         seen: None,
     };
-    assert_eq!(rt;
-        rows.as_slice(),
-        [refused(Op::Start), refused(Op::Die(3))].as_slice()
+    assert_same(
+        &rt,
+        &rows.as_slice(),
+        &[refused(Op::Start), refused(Op::Die(3))].as_slice(),
     );
     Ok(())
 }

@@ -5,6 +5,3 @@
 mod pairs;
 
 pub use pairs::for_each_pair;
-
-#[cfg(test)]
-mod tests;

@@ -3,6 +3,7 @@ ghost use Rattle.std.specs.Prelude.{IfOk};
 ghost use Rattle.sum_table.specs.Rings.{GaveNone};
 ghost use Rattle.snoop_table.specs.Rings.{GaveNone as SnoopGaveNone};
 
+use assertions::assert_same;
 use card_player::CardPlayer;
 use card_sim::Card;
 use lab_card::CardActor;
@@ -115,18 +116,19 @@ fn the_card_plays_on_from_line_to_line(rt: HostRuntime) -> Result<(), Fail> {
     let (player, mut mix) = ring.seats();
     let (writer, _reader) = snoop.seats();
     let mut card = new_card(rt.alloc(), player, writer)?;
-    assert_eq!(rt; place(&mut mix, 19, 9)?, Placed::In);
+    assert_same(&rt, &place(&mut mix, 19, 9)?, &Placed::In);
     run(&mut card, None, 1, [Op::Play(10), Op::Play(30)])?;
-    assert_eq!(rt; card.played.len(), 40);
-    assert_eq!(rt;
-        [card.played[18], card.played[19], card.played[20]],
-        [0, 9, 0]
+    assert_same(&rt, &card.played.len(), &40);
+    assert_same(
+        &rt,
+        &[card.played[18], card.played[19], card.played[20]],
+        &[0, 9, 0],
     );
-    assert_eq!(rt; card.rows.len(), 2);
-    assert_eq!(rt; card.rows[1].answer, Answer::Count(30));
-    assert_eq!(rt; card.rows[1].state, State::Running);
-    assert_eq!(rt; card.rows[1].seen, Some(40));
-    assert_eq!(rt; mix.position(&mut NeverStops)?.frame, 40);
+    assert_same(&rt, &card.rows.len(), &2);
+    assert_same(&rt, &card.rows[1].answer, &Answer::Count(30));
+    assert_same(&rt, &card.rows[1].state, &State::Running);
+    assert_same(&rt, &card.rows[1].seen, &Some(40));
+    assert_same(&rt, &mix.position(&mut NeverStops)?.frame, &40);
     Ok(())
 }
 
@@ -144,10 +146,10 @@ fn silence_is_captured_past_the_files_end(rt: HostRuntime) -> Result<(), Fail> {
         samples: Samples::from_vec(vec![in rt.alloc(); 5i16, 6, 7, 8]?),
     };
     run(&mut card, Some(&file), 1, [Op::Play(1), Op::Play(3)])?;
-    assert_eq!(rt; reader.position(&mut NeverStops)?.frame, 4);
-    assert_eq!(rt; load(&mut reader, 0)?, (Loaded::Got, 5));
-    assert_eq!(rt; load(&mut reader, 1)?, (Loaded::Got, 7));
-    assert_eq!(rt; load(&mut reader, 2)?, (Loaded::Got, 0));
+    assert_same(&rt, &reader.position(&mut NeverStops)?.frame, &4);
+    assert_same(&rt, &load(&mut reader, 0)?, &(Loaded::Got, 5));
+    assert_same(&rt, &load(&mut reader, 1)?, &(Loaded::Got, 7));
+    assert_same(&rt, &load(&mut reader, 2)?, &(Loaded::Got, 0));
     Ok(())
 }
 
@@ -159,9 +161,9 @@ fn an_unplugged_card_is_gone_from_both_rings(rt: HostRuntime) -> Result<(), Fail
     let (writer, mut reader) = snoop.seats();
     let mut card = new_card(rt.alloc(), player, writer)?;
     run(&mut card, None, 2, [Op::Play(0), Op::Unplug])?;
-    assert_eq!(rt; card.rows.len(), 2);
-    assert_eq!(rt; card.rows[1].answer, Answer::Done);
-    assert_eq!(rt; card.rows[1].state, State::Disconnected);
+    assert_same(&rt, &card.rows.len(), &2);
+    assert_same(&rt, &card.rows[1].answer, &Answer::Done);
+    assert_same(&rt, &card.rows[1].state, &State::Disconnected);
     assert!(rt; mix.position(&mut NeverStops)?.gone);
     assert!(rt; reader.position(&mut NeverStops)?.gone);
     Ok(())

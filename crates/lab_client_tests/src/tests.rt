@@ -12,6 +12,7 @@ ghost use Rattle.sum_table.specs.Players.{player_key, player_ring};
 ghost use Rattle.sum_table.specs.Rings.{GaveNone, key_of_ring};
 ghost use Rattle.sum_table.specs.Seats.{geometry_of, key_of, places_of_seat, ring_of};
 
+use assertions::assert_same;
 use card_player::CardPlayer;
 use card_sim::Card;
 use lab_card::CardActor;
@@ -222,12 +223,17 @@ fn a_client_plays_from_phase_to_phase(rt: HostRuntime) -> Result<(), Fail> {
         row(1, Op::Avail, Answer::Count(192), State::Running, Some(0)),
         row(3, Op::Delay, Answer::Count(32), State::Running, Some(96)),
     ];
-    assert_eq!(rt; taken(rt.alloc(), &mut client)?.as_slice(), rows.as_slice());
-    assert_eq!(rt; client.rows().len(), 0);
-    assert_eq!(rt; card.played.len(), 96);
-    assert_eq!(rt;
-        [card.played[63], card.played[64], card.played[95]],
-        [0, 1, 32]
+    assert_same(
+        &rt,
+        &taken(rt.alloc(), &mut client)?.as_slice(),
+        &rows.as_slice(),
+    );
+    assert_same(&rt, &client.rows().len(), &0);
+    assert_same(&rt, &card.played.len(), &96);
+    assert_same(
+        &rt,
+        &[card.played[63], card.played[64], card.played[95]],
+        &[0, 1, 32],
     );
     Ok(())
 }
@@ -244,8 +250,8 @@ fn a_closed_client_keeps_its_segments(rt: HostRuntime) -> Result<(), Fail> {
     let mut card = new_card(rt.alloc(), player, writer)?;
     let mut client = opened(rt.alloc(), mix, &opening, &wav)?;
     run(&mut card, &mut client, &wav, 1, &[line(Op::Write(40))])?;
-    assert_eq!(rt; client.seen(), Some(0));
-    assert_eq!(rt; close(&mut client)?, 0);
+    assert_same(&rt, &client.seen(), &Some(0));
+    assert_same(&rt, &close(&mut client)?, &0);
     run(&mut card, &mut client, &wav, 2, &[line(Op::Write(24))])?;
     let placed = Segment {
         source: 0,
@@ -256,16 +262,17 @@ fn a_closed_client_keeps_its_segments(rt: HostRuntime) -> Result<(), Fail> {
     let mut segments = Vec::new(rt.alloc());
     segments.reserve(client.segment_count())?;
     client.segments_into(&mut segments);
-    assert_eq!(rt; segments.as_slice(), [(0, placed)].as_slice());
+    assert_same(&rt, &segments.as_slice(), &[(0, placed)].as_slice());
     let refused = Answer::Failed(PcmError::BadState);
     let rows = [
         row(1, Op::Write(40), Answer::Count(40), State::Running, Some(0)),
         row(2, Op::Write(24), refused, State::Open, None),
     ];
-    assert_eq!(rt; client.rows(), rows.as_slice());
-    assert_eq!(rt;
-        client.row(2, Op::Closes, refused),
-        row(2, Op::Closes, refused, State::Open, None)
+    assert_same(&rt, &client.rows(), &rows.as_slice());
+    assert_same(
+        &rt,
+        &client.row(2, Op::Closes, refused),
+        &row(2, Op::Closes, refused, State::Open, None),
     );
     Ok(())
 }
@@ -287,9 +294,9 @@ fn a_client_that_dies_is_stopped(rt: HostRuntime) -> Result<(), Fail> {
     run(&mut card, &mut client, &wav, 1, &lines)?;
     assert!(rt; client.is_stopped());
     let rows = taken(rt.alloc(), &mut client)?;
-    assert_eq!(rt; rows.len(), 3);
-    assert_eq!(rt; rows[0].answer, Answer::Done);
-    assert_eq!(rt; rows[1].answer, Answer::Failed(PcmError::Stopped));
-    assert_eq!(rt; rows[2].answer, Answer::Failed(PcmError::Stopped));
+    assert_same(&rt, &rows.len(), &3);
+    assert_same(&rt, &rows[0].answer, &Answer::Done);
+    assert_same(&rt, &rows[1].answer, &Answer::Failed(PcmError::Stopped));
+    assert_same(&rt, &rows[2].answer, &Answer::Failed(PcmError::Stopped));
     Ok(())
 }

@@ -5,6 +5,7 @@ mod refine;
 mod refusals;
 mod workloads;
 
+use assertions::assert_same;
 use lab_calls::call;
 use std::test::Fail;
 
@@ -26,7 +27,7 @@ fn commands_that_read_no_file_put_their_text(rt: HostRuntime) -> Result<(), Fail
     ];
     for (words, first, last) in table {
         let left = call(&rt, alloc, words, Vec::new(alloc), (&[], &[]))?;
-        assert_eq!(rt; left.status, 0);
+        assert_same(&rt, &left.status, &0);
         assert!(rt; left.out.bytes().starts_with(first.as_bytes()));
         assert!(rt; left.out.bytes().ends_with(last.as_bytes()));
     }

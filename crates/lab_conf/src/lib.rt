@@ -5,6 +5,3 @@
 mod describe;
 
 pub use describe::describe_device;
-
-#[cfg(test)]
-mod tests;

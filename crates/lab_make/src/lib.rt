@@ -15,6 +15,3 @@ pub use script::made_script;
 pub use summary::{Summary, summary_of};
 pub use text::made_text;
 pub use workload::{Workload, WorkloadError, read_workload};
-
-#[cfg(test)]
-mod tests;

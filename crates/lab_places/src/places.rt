@@ -21,11 +21,21 @@ use sum_table::{MixSeat, PlayerSeat};
 /// channels (alsa-lib's `dshare`), the card's channels of its bindings.
 ///
 /// Its meaning is what a run of the script has of it: `IsHeldBy`.
-#[derive(Drop)]
 pub struct Places<'a> {
     lobby: Lobby<'a>,
     share: Share,
     shares: Shares,
+}
+
+// One call wherever it is let go. A derive drops each part in turn there, and the proof goes through all of them.
+impl<'a> Drop for Places<'a> {
+    fn drop(self) {
+        let Places {
+            lobby: _,
+            share: _,
+            shares: _,
+        } = self;
+    }
 }
 
 impl<'a> Places<'a> {
@@ -163,7 +173,12 @@ impl<'a> Places<'a> {
     pub fn into_lobby(self) -> Lobby<'a>
         ensures { result ≡ lobby_of self.entry }
     {
-        self.lobby
+        let Places {
+            lobby,
+            share: _,
+            shares: _,
+        } = self;
+        lobby
     }
 
     // Whether the card's channels of the bindings can be released, where clients share the card by channels.

@@ -32,7 +32,6 @@ use std::alloc::Global;
 /// opening, and nothing is done with it.
 ///
 /// Its meaning is what a run of the script has of it: `reader_in`.
-#[derive(Drop)]
 #[repr(C)]
 pub struct LabReader<'r> {
     actor: ReaderActor,
@@ -42,6 +41,18 @@ pub struct LabReader<'r> {
     // So that no two readers of a list have a cache line in common while each is used by a thread of its own: processors fetch two
     // lines of 64 bytes at once.
     apart: [u64; 16],
+}
+
+// One call wherever it is let go. A derive drops each part in turn there, and the proof goes through all of them.
+impl<'r> Drop for LabReader<'r> {
+    fn drop(self) {
+        let LabReader {
+            actor: _,
+            seat: _,
+            read_before: _,
+            apart: _,
+        } = self;
+    }
 }
 
 /// A new stream at a ring, set up with an opening that fits it. It refuses for memory alone.
@@ -145,7 +156,13 @@ impl<'r> LabReader<'r> {
     pub fn into_samples(self) -> Vec<i16>
         ensures { result ≡ (actor_of self.entry).samples }
     {
-        self.actor.samples
+        let LabReader {
+            actor,
+            seat: _,
+            read_before: _,
+            apart: _,
+        } = self;
+        actor.samples
     }
 
     /// All frames that it read, as runs: each by its first frame and how many frames it has. They are the runs that a report has

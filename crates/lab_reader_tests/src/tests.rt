@@ -8,6 +8,7 @@ ghost use Rattle.snoop_table.specs.Writers.{writer_geometry, writer_ring};
 ghost use Rattle.lab_setup.specs.Usable.{IsUsable};
 ghost use Rattle.lab_reader.specs.Readers.{IsOf, seat_of};
 
+use assertions::assert_same;
 use bindings::Bindings;
 use card_player::CardPlayer;
 use card_sim::Card;
@@ -121,7 +122,7 @@ fn reopen<'a>(
     let count = reader.samples().len();
     let seat = reader.close();
     assert!(rt; !reader.is_open());
-    assert_eq!(rt; reader.samples().len(), count);
+    assert_same(&rt, &reader.samples().len(), &count);
     open(alloc, reader, seat)
 }
 
@@ -215,15 +216,16 @@ fn a_reader_reads_what_the_card_captured(rt: HostRuntime) -> Result<(), Fail> {
         row(1, Op::Start, Answer::Done, State::Running, Some(0)),
         row(2, Op::Read(20), Answer::Count(20), State::Running, Some(32)),
     ];
-    assert_eq!(rt;
-        rows_of(rt.alloc(), &mut reader)?.as_slice(),
-        rows.as_slice()
+    assert_same(
+        &rt,
+        &rows_of(rt.alloc(), &mut reader)?.as_slice(),
+        &rows.as_slice(),
     );
-    assert_eq!(rt; reader.rows().len(), 0);
-    assert_eq!(rt; reader.runs(), [(0, 20)].as_slice());
-    assert_eq!(rt; reader.samples().len(), 20);
-    assert_eq!(rt; reader.samples().first(), Some(&0));
-    assert_eq!(rt; reader.samples().last(), Some(&19));
+    assert_same(&rt, &reader.rows().len(), &0);
+    assert_same(&rt, &reader.runs(), &[(0, 20)].as_slice());
+    assert_same(&rt, &reader.samples().len(), &20);
+    assert_same(&rt, &reader.samples().first(), &Some(&0));
+    assert_same(&rt, &reader.samples().last(), &Some(&19));
     Ok(())
 }
 
@@ -243,8 +245,8 @@ fn lines_of_a_reader_that_is_not_open_are_refused(rt: HostRuntime) -> Result<(),
         row(3, Op::Start, refused, State::Open, None),
         row(3, Op::Read(8), refused, State::Open, None),
     ];
-    assert_eq!(rt; reader.rows(), rows.as_slice());
-    assert_eq!(rt; reader.samples().len(), 0);
+    assert_same(&rt, &reader.rows(), &rows.as_slice());
+    assert_same(&rt, &reader.samples().len(), &0);
     assert!(rt; !reader.is_open());
     assert!(rt; !reader.is_stopped());
     assert!(rt; !reader.has_lines(&[of_card(Op::Play(8))]));
@@ -266,10 +268,10 @@ fn a_reader_that_is_opened_again_keeps_what_it_read(rt: HostRuntime) -> Result<(
     run(&mut card, &mut reader, &file, 3, &[of_reader(Op::Start)])?;
     let lines = [of_card(Op::Play(16)), of_reader(Op::Read(16))];
     run(&mut card, &mut reader, &file, 4, &lines)?;
-    assert_eq!(rt; reader.runs(), [(0, 20), (32, 16)].as_slice());
-    assert_eq!(rt; reader.samples().len(), 36);
-    assert_eq!(rt; reader.samples().get(19), Some(&19));
-    assert_eq!(rt; reader.samples().get(20), Some(&32));
+    assert_same(&rt, &reader.runs(), &[(0, 20), (32, 16)].as_slice());
+    assert_same(&rt, &reader.samples().len(), &36);
+    assert_same(&rt, &reader.samples().get(19), &Some(&19));
+    assert_same(&rt, &reader.samples().get(20), &Some(&32));
     Ok(())
 }
 
@@ -293,7 +295,7 @@ fn a_reader_that_dies_is_stopped(rt: HostRuntime) -> Result<(), Fail> {
         row(1, Op::Start, stopped, State::Prepared, None),
         row(1, Op::Drop, stopped, State::Prepared, None),
     ];
-    assert_eq!(rt; reader.rows(), rows.as_slice());
+    assert_same(&rt, &reader.rows(), &rows.as_slice());
     assert!(rt; reader.is_stopped());
     Ok(())
 }

@@ -16,6 +16,3 @@ pub use answers::answer_request;
 pub use file::refine_file;
 pub use reader::read_request;
 pub use request::{Ask, Asks, Request, SlaveLine};
-
-#[cfg(test)]
-mod tests;

@@ -3,6 +3,7 @@ ghost use Rattle.lab_report.specs.Text.{IsReportOf};
 ghost use Rattle.lab_lines.specs.Limits.{IsScript};
 ghost use Rattle.std.specs.Prelude.{IfOk};
 
+use assertions::assert_same;
 use lab_lines::{Actor, Answer, Op, Report, Script};
 use lab_report::{ReportWhy, print_report, print_row, print_tail, read_report};
 use lab_script::read_script;
@@ -125,14 +126,14 @@ fn reads_a_report(rt: HostRuntime) -> Result<(), Fail> {
     let script = script(alloc)?;
     let text = format!(in alloc; "{ROWS}{TAIL}")?;
     let report = report_of(alloc, text.as_str(), &script)?;
-    assert_eq!(rt; report.rows.as_slice().len(), 8);
-    assert_eq!(rt; (report.first, report.frames), (0, 7));
+    assert_same(&rt, &report.rows.as_slice().len(), &8);
+    assert_same(&rt, &(report.first, report.frames), &(0, 7));
     for (row, (phase, actor, op, answer)) in report.rows.as_slice().iter().zip(ANSWERS.iter()) {
-        assert_eq!(rt; (row.phase, row.actor, row.op), (*phase, *actor, *op));
-        assert_eq!(rt; row.answer, *answer);
+        assert_same(&rt, &(row.phase, row.actor, row.op), &(*phase, *actor, *op));
+        assert_same(&rt, &row.answer, answer);
     }
-    assert_eq!(rt; report.segments.as_slice().len(), 2);
-    assert_eq!(rt; report.runs.as_slice(), [(0, 0, 5)].as_slice());
+    assert_same(&rt, &report.segments.as_slice().len(), &2);
+    assert_same(&rt, &report.runs.as_slice(), &[(0, 0, 5)].as_slice());
     Ok(())
 }
 
@@ -211,7 +212,7 @@ fn prints_rows_and_tail_apart(rt: HostRuntime) -> Result<(), Fail> {
         print_row(row, &script, &mut bytes)?;
     }
     print_tail(&report, &script, &mut bytes)?;
-    assert_eq!(rt; bytes.as_slice(), text.as_bytes());
+    assert_same(&rt, &bytes.as_slice(), &text.as_bytes());
     Ok(())
 }
 

@@ -7,6 +7,7 @@ mod readers;
 mod runs;
 mod sessions;
 
+use assertions::assert_same;
 use lab_calls::{MONO, call, files_of, steps_of, text_in, wav_around, wav_of};
 use readers::READERS;
 use runs::RUNS;
@@ -131,11 +132,15 @@ fn sixty_four_clients_are_saturated_once(rt: HostRuntime) -> Result<(), Fail> {
         &[("a.wav", MONO, &[(64, -32768)])],
     )?;
     let left = call(&rt, alloc, &["run", "s", "o"], files, (&[], &[]))?;
-    assert_eq!(rt; left.status, 0);
+    assert_same(&rt, &left.status, &0);
     let report = format!(in alloc; "dmixlab 1\n{rows}played 0 128\nend\n")?;
-    assert_eq!(rt; left.out.bytes(), report.as_bytes());
+    assert_same(&rt, &left.out.bytes(), &report.as_bytes());
     let file = wav_of(alloc, MONO, &[(64, 0), (64, -32768)])?;
-    assert_eq!(rt; left.shelf.file(b"o.wav").unwrap_or(&[]), file.as_slice());
+    assert_same(
+        &rt,
+        &left.shelf.file(b"o.wav").unwrap_or(&[]),
+        &file.as_slice(),
+    );
     Ok(())
 }
 
@@ -151,13 +156,17 @@ fn a_script_has_4096_phases(rt: HostRuntime) -> Result<(), Fail> {
     }
     let files = files_of(alloc, lines.into_bytes(), &[("a.wav", MONO, &[(1, 5)])])?;
     let left = call(&rt, alloc, &["run", "s", "o"], files, (&[], &[]))?;
-    assert_eq!(rt; left.status, 0);
+    assert_same(&rt, &left.status, &0);
     let report = format!(in alloc;
         "dmixlab 1\n0 a open = ok PREPARED -\n{rows}played 0 4096\nend\n"
     )?;
-    assert_eq!(rt; text_in(left.out.bytes()), text_in(report.as_bytes()));
+    assert_same(&rt, &text_in(left.out.bytes()), &text_in(report.as_bytes()));
     let file = wav_of(alloc, MONO, &[(4096, 0)])?;
-    assert_eq!(rt; left.shelf.file(b"o.wav").unwrap_or(&[]), file.as_slice());
+    assert_same(
+        &rt,
+        &left.shelf.file(b"o.wav").unwrap_or(&[]),
+        &file.as_slice(),
+    );
     Ok(())
 }
 

@@ -7,8 +7,6 @@ mod edge;
 mod entries;
 mod fault;
 mod memory;
-#[cfg(test)]
-mod tests;
 mod traits;
 
 pub use edge::{FileShelf, StdSink};

@@ -5,8 +5,6 @@
 
 mod calls;
 mod stop;
-#[cfg(test)]
-mod tests;
 
 pub use calls::{PIECE_BYTES, fetch_most, fetch_piece, put, written};
 pub use stop::{Stop, status, tell, wav_stop};

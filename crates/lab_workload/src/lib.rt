@@ -9,6 +9,3 @@ mod store;
 mod summary;
 
 pub use make::make_workload;
-
-#[cfg(test)]
-mod tests;

@@ -19,7 +19,6 @@ use sum_table::{MixSeat, PlayerSeat};
 /// saw last, and the number of clients that were reaped.
 ///
 /// All positions and frames are absolute frame numbers of the ring.
-#[derive(Drop)]
 pub struct Lobby<'a> {
     // The seat that the places were split from. It has none left, and shows of which ring the lobby is.
     base: MixSeat<'a>,
@@ -29,6 +28,18 @@ pub struct Lobby<'a> {
     ghost no_places: { places_of_seat base ≡ 0 },
     ghost laid_nothing: { (view_of base).laid ≡ [] },
     ghost placed: { ArePlaces (ring_of base) (key_of base) seats.items },
+}
+
+// One call wherever it is let go. A derive drops each part in turn there, and the proof goes through all of them.
+impl<'a> Drop for Lobby<'a> {
+    fn drop(self) {
+        let Lobby {
+            base: _,
+            seats: _,
+            seen: _,
+            reaped: _,
+        } = self;
+    }
 }
 
 impl<'a> Lobby<'a> {

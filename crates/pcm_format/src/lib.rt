@@ -21,6 +21,3 @@ pub use laws::{
 };
 pub use sample::{print_sample, read_sample};
 pub use silencing::silence_frames;
-
-#[cfg(test)]
-mod tests;

@@ -15,6 +15,3 @@ pub use arithmetic::{div, mul, muldivk, mulkdiv};
 pub use empty::Empty;
 pub use interval::Interval;
 pub use mask::Mask;
-
-#[cfg(test)]
-mod tests;

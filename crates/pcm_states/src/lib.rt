@@ -8,6 +8,3 @@ mod table;
 pub use calls::{Call, Facts, Outcome};
 pub use states::State;
 pub use table::next;
-
-#[cfg(test)]
-mod tests;

@@ -11,6 +11,3 @@ pub use direction::Direction;
 pub use ring_shape::is_same_ring;
 pub use setup::{Setup, can_run_with};
 pub use status::Status;
-
-#[cfg(test)]
-mod tests;

@@ -2,4 +2,6 @@
 #![tactic(auto)]
 
 #[cfg(test)]
+mod formats;
+#[cfg(test)]
 mod tests;

@@ -4,6 +4,3 @@
 mod pointers;
 
 pub use pointers::Pointers;
-
-#[cfg(test)]
-mod tests;

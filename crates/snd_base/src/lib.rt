@@ -11,6 +11,3 @@ pub use errors::{PcmError, Why, XrunWhy};
 pub use geometry::Geometry;
 pub use places::{Cursor, Segment};
 pub use steps::Steps;
-
-#[cfg(test)]
-mod tests;

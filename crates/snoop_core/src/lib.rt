@@ -13,6 +13,3 @@ pub use port::{Frame, Got, Loaded, SnoopPort};
 pub use turn::SnoopTurn;
 pub use usable::can_load;
 pub use word::{laps, sample, snoop_word};
-
-#[cfg(test)]
-mod tests;

@@ -13,6 +13,3 @@ pub use ring::SnoopRing;
 pub use rule::Captured;
 pub use seats::{ReaderSeat, SnoopNote, WriterSeat};
 pub use view::{Track, View};
-
-#[cfg(test)]
-mod tests;

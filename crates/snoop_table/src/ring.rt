@@ -17,7 +17,6 @@ use std::alloc::Global;
 /// the card's position. Here sample and lap are one word, so that a reader sees by itself where it was overtaken.
 ///
 /// A ring gives its seats once. All seats borrow it.
-#[derive(Drop)]
 pub struct SnoopRing {
     table: Table<(), View, Geometry, Captured, Global>,
     first: Option<Seat>,
@@ -25,6 +24,17 @@ pub struct SnoopRing {
     ghost same_geometry: { geometry ≡ table.shared.key },
     ghost room: { table.shared.table_id.words ≡ words_of geometry },
     ghost unused: { ForSome first (λ s. IsFirst s.table_id table.shared.table_id s.me geometry) },
+}
+
+// One call wherever it is let go. A derive drops each part in turn there, and the proof goes through all of them.
+impl Drop for SnoopRing {
+    fn drop(self) {
+        let SnoopRing {
+            table: _,
+            first: _,
+            geometry: _,
+        } = self;
+    }
 }
 
 impl SnoopRing {

@@ -17,7 +17,6 @@ use std::alloc::Global;
 /// there and their sum, and one word for the card's position. Here sum and lap are one word, so that one exchange adds.
 ///
 /// A ring gives its seats once. All seats borrow it.
-#[derive(Drop)]
 pub struct SumRing {
     table: Table<Entry, View, Key, Exactly, Global>,
     first: Option<Seat>,
@@ -25,6 +24,17 @@ pub struct SumRing {
     ghost same_key: { key ≡ table.shared.key },
     ghost room: { table.shared.table_id.words ≡ words_of key.geometry },
     ghost unused: { ForSome first (λ s. IsFirst s.table_id table.shared.table_id s.me key) },
+}
+
+// One call wherever it is let go. A derive drops each part in turn there, and the proof goes through all of them.
+impl Drop for SumRing {
+    fn drop(self) {
+        let SumRing {
+            table: _,
+            first: _,
+            key: _,
+        } = self;
+    }
 }
 
 impl SumRing {

@@ -8,6 +8,7 @@ ghost use Rattle.sum_table.specs.Seats.{CanAdd, IsLaterSeat, SeatLaid, member_of
 
 mod threads;
 
+use assertions::assert_same;
 use mix_core::{MixPort, NeverStops, Placed, Position};
 use snd_base::{Cursor, Geometry, Steps};
 use std::alloc::Global;
@@ -96,18 +97,22 @@ fn lose_once<L: Ledger, A: Abort>(rt: &A, alloc: Global, blank: Blank) -> Result
     let (mut player, mut a) = ring.seats();
     let mut b = a.split(1, 1);
     let word = a.load_word(5, 0, &mut steps);
-    assert_eq!(rt; word, 8388608);
-    assert_eq!(rt; try_place(&mut b, 5, 0, 10000)?, Placed::In);
+    assert_same(&rt, &word, &8388608);
+    assert_same(&rt, &try_place(&mut b, 5, 0, 10000)?, &Placed::In);
     let Err(found) = try_exchange(&mut a, 5, word, 30000, &mut steps)? else {
         return Err("the exchange was won".into());
     };
-    assert_eq!(rt; found, 25175824);
-    assert_eq!(rt; try_exchange(&mut a, 5, found, 30000, &mut steps)?, Ok(()));
-    assert_eq!(rt; a.load_word(5, 0, &mut steps), 41983040);
+    assert_same(&rt, &found, &25175824);
+    assert_same(
+        &rt,
+        &try_exchange(&mut a, 5, found, 30000, &mut steps)?,
+        &Ok(()),
+    );
+    assert_same(&rt, &a.load_word(5, 0, &mut steps), &41983040);
     for _ in 0..5 {
-        assert_eq!(rt; player.take_word()?.value, 0);
+        assert_same(&rt, &player.take_word()?.value, &0);
     }
-    assert_eq!(rt; player.take_word()?.value, 32767);
+    assert_same(&rt, &player.take_word()?.value, &32767);
     Ok(())
 }
 
@@ -122,7 +127,7 @@ fn a_place_at_a_taken_frame_is_late(rt: HostRuntime) -> Result<(), Fail> {
     let mut ring = new_ring(rt.alloc(), 1, 1)?;
     let (mut player, mut a) = ring.seats();
     for _ in 0..10 {
-        assert_eq!(rt; player.take_word()?.value, 0);
+        assert_same(&rt, &player.take_word()?.value, &0);
     }
     player.publish();
     let position = Position {
@@ -130,11 +135,11 @@ fn a_place_at_a_taken_frame_is_late(rt: HostRuntime) -> Result<(), Fail> {
         gone: false,
     };
     let before = a.cursor();
-    assert_eq!(rt; a.position(&mut NeverStops)?, position);
+    assert_same(&rt, &a.position(&mut NeverStops)?, &position);
     let late = Placed::Late { seen: 4303355904 };
-    assert_eq!(rt; try_place(&mut a, 7, 0, 1)?, late);
-    assert_eq!(rt; a.cursor(), before);
-    assert_eq!(rt; a.last(), None);
+    assert_same(&rt, &try_place(&mut a, 7, 0, 1)?, &late);
+    assert_same(&rt, &a.cursor(), &before);
+    assert_same(&rt, &a.last(), &None);
     player.unplug();
     assert!(rt; a.position(&mut NeverStops)?.gone);
     Ok(())
@@ -148,10 +153,10 @@ fn lay_anew<L: Ledger, A: Abort>(rt: &A, alloc: Global, blank: Blank) -> Result<
     let mut steps: Steps<L> = Steps::open(blank);
     let mut ring = new_ring(alloc, 1, 1)?;
     let (mut player, mut a) = ring.seats();
-    assert_eq!(rt; place_and_withdraw(&mut a, 0, 30000)?, Placed::In);
-    assert_eq!(rt; try_place(&mut a, 0, 0, 7)?, Placed::In);
-    assert_eq!(rt; a.load_word(0, 0, &mut steps), 58720263);
-    assert_eq!(rt; player.take_word()?.value, 7);
+    assert_same(&rt, &place_and_withdraw(&mut a, 0, 30000)?, &Placed::In);
+    assert_same(&rt, &try_place(&mut a, 0, 0, 7)?, &Placed::In);
+    assert_same(&rt, &a.load_word(0, 0, &mut steps), &58720263);
+    assert_same(&rt, &player.take_word()?.value, &7);
     Ok(())
 }
 
@@ -171,9 +176,9 @@ fn the_largest_ring_is_made(rt: HostRuntime) -> Result<(), Fail> {
     };
     let mut ring = SumRing::new(rt.alloc(), geometry, 64)?;
     let (mut player, mut seat) = ring.seats();
-    assert_eq!(rt; seat.places(), 64);
-    assert_eq!(rt; try_place(&mut seat, 16383, 7, 5)?, Placed::In);
-    assert_eq!(rt; player.take_word()?.value, 0);
+    assert_same(&rt, &seat.places(), &64);
+    assert_same(&rt, &try_place(&mut seat, 16383, 7, 5)?, &Placed::In);
+    assert_same(&rt, &player.take_word()?.value, &0);
     Ok(())
 }
 
@@ -187,11 +192,11 @@ fn sum_three<L: Ledger, A: Abort>(rt: &A, alloc: Global, blank: Blank) -> Result
     let (mut player, mut a) = ring.seats();
     let mut b = a.split(1, 1);
     let mut c = a.split(1, 2);
-    assert_eq!(rt; try_place(&mut a, 0, 0, 30000)?, Placed::In);
-    assert_eq!(rt; try_place(&mut b, 0, 0, 10000)?, Placed::In);
-    assert_eq!(rt; try_place(&mut c, 0, 0, -20000)?, Placed::In);
-    assert_eq!(rt; a.load_word(0, 0, &mut steps), 58740256);
-    assert_eq!(rt; player.take_word()?.value, 20000);
+    assert_same(&rt, &try_place(&mut a, 0, 0, 30000)?, &Placed::In);
+    assert_same(&rt, &try_place(&mut b, 0, 0, 10000)?, &Placed::In);
+    assert_same(&rt, &try_place(&mut c, 0, 0, -20000)?, &Placed::In);
+    assert_same(&rt, &a.load_word(0, 0, &mut steps), &58740256);
+    assert_same(&rt, &player.take_word()?.value, &20000);
     Ok(())
 }
 
@@ -207,22 +212,22 @@ fn seats_end_where_they_began(rt: HostRuntime) -> Result<(), Fail> {
     let mut ring = new_ring(rt.alloc(), 2, 3)?;
     let (mut player, mut mix) = ring.seats();
     let mut a = mix.split(2, 7);
-    assert_eq!(rt; a.member(), 7);
-    assert_eq!(rt; try_place(&mut a, 0, 1, -32768)?, Placed::In);
-    assert_eq!(rt; player.take_word()?.value, 0);
-    assert_eq!(rt; player.take_word()?.value, -32768);
+    assert_same(&rt, &a.member(), &7);
+    assert_same(&rt, &try_place(&mut a, 0, 1, -32768)?, &Placed::In);
+    assert_same(&rt, &player.take_word()?.value, &0);
+    assert_same(&rt, &player.take_word()?.value, &-32768);
     player.publish();
     a.meet(player.note());
-    assert_eq!(rt; a.seen(), 1);
+    assert_same(&rt, &a.seen(), &1);
     player.meet(a.note());
-    assert_eq!(rt; try_place(&mut a, 3, 0, 5)?, Placed::In);
+    assert_same(&rt, &try_place(&mut a, 3, 0, 5)?, &Placed::In);
     mix.join(a);
-    assert_eq!(rt; mix.places(), 3);
-    assert_eq!(rt; mix.last(), Some(3));
+    assert_same(&rt, &mix.places(), &3);
+    assert_same(&rt, &mix.last(), &Some(3));
     let next = Cursor {
         frame: 1,
         channel: 0,
     };
-    assert_eq!(rt; mix.close(player), Closed { position: 1, next });
+    assert_same(&rt, &mix.close(player), &Closed { position: 1, next });
     Ok(())
 }

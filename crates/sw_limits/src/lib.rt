@@ -6,6 +6,3 @@ mod params;
 
 pub use boundaries::boundary;
 pub use params::SwParams;
-
-#[cfg(test)]
-mod tests;

@@ -30,6 +30,3 @@ pub use reading::read_wav;
 pub use samples::Samples;
 pub use wav::Wav;
 pub use writing::{append_samples, write_wav};
-
-#[cfg(test)]
-mod tests;

@@ -1,5 +1,6 @@
 //! What no clause says of `conf`: its lines byte for byte, the line on the errors' stream for each kind of
 //! refusal, and what a fault leaves.
+use assertions::assert_same;
 use lab_calls::{Left, call};
 use lab_script::read_script;
 use std::alloc::{AllocError, Global};
@@ -144,7 +145,7 @@ fn faults_leave_no_line(rt: HostRuntime) -> Result<(), Fail> {
     ] {
         let left = conf(&rt, alloc, (file, "dmixer"), DMIXER.as_bytes(), failing)?;
         assert_eq!(rt; left.status, status, "{line}");
-        assert_eq!(rt; left.errors.bytes(), line.as_bytes());
+        assert_same(&rt, &left.errors.bytes(), &line.as_bytes());
         assert!(rt; left.out.bytes().is_empty());
     }
     Ok(())

@@ -1,5 +1,6 @@
 //! What no clause says of the call of `refine`: that it is done where there is memory, the line on the errors' stream for each
 //! status, and what a fault leaves.
+use assertions::assert_same;
 use lab_calls::{Left, call};
 use std::alloc::{AllocError, Global};
 use std::test::Fail;
@@ -88,7 +89,7 @@ fn faults_leave_no_answer(rt: HostRuntime) -> Result<(), Fail> {
     ] {
         let left = refine(&rt, alloc, name, text.as_bytes(), failing)?;
         assert_eq!(rt; left.status, status, "{line}");
-        assert_eq!(rt; left.errors.bytes(), line.as_bytes());
+        assert_same(&rt, &left.errors.bytes(), &line.as_bytes());
         assert!(rt; left.out.bytes().is_empty());
     }
     Ok(())

@@ -1,4 +1,5 @@
 //! Calls that aren't done: the status, the line on `errors`, and that no file changed.
+use assertions::assert_same;
 use lab_calls::{MONO, call, files_of};
 use std::alloc::{AllocError, Global};
 use std::test::Fail;
@@ -89,10 +90,10 @@ fn calls_that_are_not_done_say_why(rt: HostRuntime) -> Result<(), Fail> {
         files.push((Vec::from_slice(alloc, b"none")?, Vec::new(alloc)))?;
         let left = call(&rt, alloc, refusal.words, files, refusal.failing)?;
         assert_eq!(rt; left.status, refusal.status, "{}", refusal.line);
-        assert_eq!(rt; left.errors.bytes(), refusal.line.as_bytes());
+        assert_same(&rt, &left.errors.bytes(), &refusal.line.as_bytes());
         assert!(rt; left.out.bytes().is_empty());
         let stored = left.shelf.file(b"o.wav").is_some();
-        assert_eq!(rt; stored, !refusal.failing.1.is_empty());
+        assert_same(&rt, &stored, &!refusal.failing.1.is_empty());
     }
     Ok(())
 }
@@ -201,7 +202,7 @@ fn a_script_has_64_clients_64_readers_and_a_mebibyte(rt: HostRuntime) -> Result<
         let files = files_of(alloc, script, CLIENTS)?;
         let left = call(&rt, alloc, &["run", "s", "o"], files, (&[], &[]))?;
         assert_eq!(rt; left.status, 2, "{line}");
-        assert_eq!(rt; left.errors.bytes(), line.as_bytes());
+        assert_same(&rt, &left.errors.bytes(), &line.as_bytes());
     }
     Ok(())
 }
@@ -239,7 +240,7 @@ fn files_that_end_too_early_are_named(rt: HostRuntime) -> Result<(), Fail> {
                 format!(in alloc; "dmixlab: wav a.wav: {why}\n")?
             };
             assert_eq!(rt; left.errors.bytes(), line.as_bytes(), "{length}");
-            assert_eq!(rt; left.status, if why.is_empty() { 0 } else { 3 });
+            assert_same(&rt, &left.status, &if why.is_empty() { 0 } else { 3 });
         }
         first = end;
     }
@@ -287,7 +288,7 @@ fn files_of_other_formats_are_named(rt: HostRuntime) -> Result<(), Fail> {
             let files = files_of(alloc, Vec::from_slice(alloc, script.as_bytes())?, &wavs)?;
             let left = call(&rt, alloc, &["run", "s", "o"], files, (&[], &[]))?;
             let line = format!(in alloc; "dmixlab: wav {name}: {why}\n")?;
-            assert_eq!(rt; left.errors.bytes(), line.as_bytes());
+            assert_same(&rt, &left.errors.bytes(), &line.as_bytes());
             assert_eq!(rt; left.status, 3, "{why}");
             assert!(rt; left.out.bytes().is_empty());
         }

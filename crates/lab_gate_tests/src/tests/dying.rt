@@ -1,4 +1,5 @@
 //! A client that stops before each of its steps, by its own `die` and by the gate that is handed in.
+use assertions::assert_same;
 use lab_calls::{MONO, STEREO, call, call_gated, files_of, text_in, wav_around, wav_of};
 use mix_core::{Gate, Pass, StepKind};
 use std::alloc::{AllocError, Global};
@@ -83,7 +84,7 @@ fn a_client_that_stops_leaves_what_it_placed(rt: HostRuntime) -> Result<(), Fail
             files_with(alloc, &line)?,
             (&[], &[]),
         )?;
-        assert_eq!(rt; left.status, 0);
+        assert_same(&rt, &left.status, &0);
         assert_eq!(rt; text_in(left.out.bytes()), report.as_str(), "{steps}");
         assert_eq!(rt;
             left.shelf.file(b"o.wav").unwrap_or(&[]),
@@ -142,15 +143,15 @@ fn a_gate_stops_its_client_alone(rt: HostRuntime) -> Result<(), Fail> {
             (&[], &[]),
             &mut gates,
         )?;
-        assert_eq!(rt; left.status, 0);
+        assert_same(&rt, &left.status, &0);
         assert_eq!(rt; text_in(left.out.bytes()), report.as_str(), "{steps}");
         assert_eq!(rt;
             left.shelf.file(b"o.wav").unwrap_or(&[]),
             file.as_slice(),
             "{steps}"
         );
-        assert_eq!(rt; gates[0].stops, if steps < ALL { 1 } else { 0 });
-        assert_eq!(rt; gates[1].stops, 0);
+        assert_same(&rt, &gates[0].stops, &if steps < ALL { 1 } else { 0 });
+        assert_same(&rt, &gates[1].stops, &0);
     }
     Ok(())
 }
@@ -181,16 +182,16 @@ fn a_gate_stops_its_reader_alone(rt: HostRuntime) -> Result<(), Fail> {
     )?;
     let report =
         "dmixlab 1\n0 r open = ok PREPARED -\n0 q open = ok PREPARED -\n1 r start = ok RUNNING 0\n1 q start = ok RUNNING 0\n2 card play 4 = 4 RUNNING 4\n3 r read 4 = 4 RUNNING 4\n3 q read 4 = stopped RUNNING 4\n3 q sync = stopped RUNNING 4\n3 q open = ok PREPARED -\nrun r 0 4\nplayed 0 4\nend\n";
-    assert_eq!(rt; left.status, 0);
-    assert_eq!(rt; text_in(left.out.bytes()), report);
+    assert_same(&rt, &left.status, &0);
+    assert_same(&rt, &text_in(left.out.bytes()), &report);
     for (name, runs) in [
         (b"o.wav".as_slice(), [(4, 0)].as_slice()),
         (b"o.r.wav".as_slice(), [(3, 7), (1, 8)].as_slice()),
         (b"o.q.wav".as_slice(), [].as_slice()),
     ] {
         let file = wav_of(alloc, MONO, runs)?;
-        assert_eq!(rt; left.shelf.file(name).unwrap_or(&[]), file.as_slice());
+        assert_same(&rt, &left.shelf.file(name).unwrap_or(&[]), &file.as_slice());
     }
-    assert_eq!(rt; gates[65].stops, 1);
+    assert_same(&rt, &gates[65].stops, &1);
     Ok(())
 }

@@ -1,4 +1,5 @@
 //! The calls that a run makes: the shelf's and the output's, counted by letting one of them fail.
+use assertions::assert_same;
 use lab_calls::{Left, MONO, call, files_of, text_in, wav_of};
 use std::alloc::{AllocError, Global};
 use std::marker::Sync;
@@ -90,15 +91,15 @@ fn a_run_puts_its_report_in_four_pieces(rt: HostRuntime) -> Result<(), Fail> {
     for piece in PIECES {
         number = number.wrapping_add(1);
         let left = run(&rt, alloc, SCRIPT, 64, (&[], &[number]))?;
-        assert_eq!(rt; left.status, 5);
-        assert_eq!(rt; left.errors.bytes(), b"dmixlab: write\n".as_slice());
+        assert_same(&rt, &left.status, &5);
+        assert_same(&rt, &left.errors.bytes(), &b"dmixlab: write\n".as_slice());
         assert_eq!(rt; left.out.bytes(), taken.as_bytes(), "{number}");
         taken.push_str(piece)?;
     }
     let left = run(&rt, alloc, SCRIPT, 64, (&[], &[5]))?;
-    assert_eq!(rt; left.status, 0);
-    assert_eq!(rt; left.out.bytes(), taken.as_bytes());
-    assert_eq!(rt; taken.len(), 134);
+    assert_same(&rt, &left.status, &0);
+    assert_same(&rt, &left.out.bytes(), &taken.as_bytes());
+    assert_same(&rt, &taken.len(), &134);
     Ok(())
 }
 
@@ -281,10 +282,10 @@ fn expect_left<R: Abort>(
 ) -> Result<(), AllocError> {
     let card = left.shelf.file(b"o.wav").unwrap_or(&[]);
     let reader = left.shelf.file(b"o.r.wav");
-    assert_eq!(rt; text_in(left.errors.bytes()), message);
-    assert_eq!(rt; text_in(left.out.bytes()), text_in(&expected.text));
+    assert_same(&rt, &text_in(left.errors.bytes()), &message);
+    assert_same(&rt, &text_in(left.out.bytes()), &text_in(&expected.text));
     assert_eq!(rt; card, expected.card.as_slice(), "o.wav");
-    assert_eq!(rt; reader.is_some(), !expected.reader.is_empty());
+    assert_same(&rt, &reader.is_some(), &!expected.reader.is_empty());
     assert_eq!(rt;
         reader.unwrap_or(&[]),
         expected.reader.as_slice(),
@@ -292,11 +293,20 @@ fn expect_left<R: Abort>(
     );
     let client = wav_of(alloc, MONO, &[(64, 1000)])?;
     let captured = wav_of(alloc, MONO, &[(300, 7)])?;
-    assert_eq!(rt; left.shelf.file(b"s").unwrap_or(&[]), SESSION.as_bytes());
-    assert_eq!(rt; left.shelf.file(b"a.wav").unwrap_or(&[]), client.as_slice());
-    assert_eq!(rt;
-        left.shelf.file(b"c.wav").unwrap_or(&[]),
-        captured.as_slice()
+    assert_same(
+        &rt,
+        &left.shelf.file(b"s").unwrap_or(&[]),
+        &SESSION.as_bytes(),
+    );
+    assert_same(
+        &rt,
+        &left.shelf.file(b"a.wav").unwrap_or(&[]),
+        &client.as_slice(),
+    );
+    assert_same(
+        &rt,
+        &left.shelf.file(b"c.wav").unwrap_or(&[]),
+        &captured.as_slice(),
     );
     Ok(())
 }
@@ -334,7 +344,7 @@ fn a_call_that_fails_leaves_what_the_calls_before_it_left(rt: HostRuntime) -> Re
     }
     // A call behind the last one isn't made.
     let left = run_session(&rt, alloc, (&[calls], &[puts]))?;
-    assert_eq!(rt; left.status, 0);
+    assert_same(&rt, &left.status, &0);
     expect_left(&rt, alloc, &left, &expected, "")?;
     Ok(())
 }
