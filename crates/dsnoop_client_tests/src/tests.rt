@@ -51,7 +51,7 @@ fn capture(rt: &impl Abort, core: &mut SnoopCore, from: i16, frames: i16) -> Res
             first.wrapping_add(7),
         ];
         assert!(rt; channels <= 8);
-        assert_same(&rt, &(core.geometry().channels as usize), &channels);
+        assert!(rt; core.geometry().channels as usize == channels);
         core.store(&samples[..channels])?;
     }
     core.publish();

@@ -47,7 +47,7 @@ fn opened(rt: &impl Abort, alloc: Global) -> Result<ReaderActor, PcmError> {
 /// The card captures frames, each with its own number as its sample, and then publishes its position.
 fn capture(rt: &impl Abort, core: &mut SnoopCore, from: i16, frames: i16) -> Result<(), PcmError> {
     for frame in 0..frames {
-        assert_same(&rt, &core.geometry().channels, &1);
+        assert!(rt; core.geometry().channels == 1);
         core.store(&[from.wrapping_add(frame)])?;
     }
     core.publish();

@@ -14,6 +14,7 @@ use snd_base::Geometry;
 use snoop_core::{Loaded, SnoopPort};
 use snoop_table::{ReaderSeat, SnoopRing, WriterSeat};
 use std::alloc::Global;
+use std::process::Abort;
 use std::test::Fail;
 use sum_table::{MixSeat, PlayerSeat, SumRing};
 use wav_io::{Samples, Wav};
@@ -108,63 +109,96 @@ fn load(seat: &mut ReaderSeat<'_>, frame: u64) -> Result<(Loaded, i16), Fail> {
     Ok((loaded, out[0]))
 }
 
-// The second line plays on where the first one ended, past a period's end on the way, and its row has the position after it.
-#[test]
-fn the_card_plays_on_from_line_to_line(rt: HostRuntime) -> Result<(), Fail> {
-    let mut ring = new_ring(rt.alloc())?;
-    let mut snoop = new_snoop_ring(rt.alloc())?;
+/// What is done with the card of a test.
+#[derive(Clone, Copy)]
+enum Course {
+    PlaysOn,
+    Captures,
+    Unplugs,
+}
+
+// Makes a card over rings of its own, and goes the course. The rings, the seats and the card are let go here alone, and not wherever
+// the course ends.
+fn over_rings(rt: &impl Abort, alloc: Global, course: Course) -> Result<(), Fail> {
+    let mut ring = new_ring(alloc)?;
+    let mut snoop = new_snoop_ring(alloc)?;
     let (player, mut mix) = ring.seats();
-    let (writer, _reader) = snoop.seats();
-    let mut card = new_card(rt.alloc(), player, writer)?;
-    assert_same(&rt, &place(&mut mix, 19, 9)?, &Placed::In);
-    run(&mut card, None, 1, [Op::Play(10), Op::Play(30)])?;
-    assert_same(&rt, &card.played.len(), &40);
+    let (writer, mut reader) = snoop.seats();
+    let mut card = new_card(alloc, player, writer)?;
+    match course {
+        Course::PlaysOn => play_on(rt, &mut card, &mut mix),
+        Course::Captures => capture(rt, alloc, &mut card, &mut reader),
+        Course::Unplugs => unplug(rt, &mut card, &mut mix, &mut reader),
+    }
+}
+
+// Two lines of a phase that play.
+fn play_on(rt: &impl Abort, card: &mut CardActor<'_>, mix: &mut MixSeat<'_>) -> Result<(), Fail> {
+    assert_same(rt, &place(mix, 19, 9)?, &Placed::In);
+    run(card, None, 1, [Op::Play(10), Op::Play(30)])?;
+    assert!(rt; card.played.len() == 40);
     assert_same(
-        &rt,
+        rt,
         &[card.played[18], card.played[19], card.played[20]],
         &[0, 9, 0],
     );
-    assert_same(&rt, &card.rows.len(), &2);
-    assert_same(&rt, &card.rows[1].answer, &Answer::Count(30));
-    assert_same(&rt, &card.rows[1].state, &State::Running);
-    assert_same(&rt, &card.rows[1].seen, &Some(40));
-    assert_same(&rt, &mix.position(&mut NeverStops)?.frame, &40);
+    assert!(rt; card.rows.len() == 2);
+    assert_same(rt, &card.rows[1].answer, &Answer::Count(30));
+    assert_same(rt, &card.rows[1].state, &State::Running);
+    assert_same(rt, &card.rows[1].seen, &Some(40));
+    assert_same(rt, &mix.position(&mut NeverStops)?.frame, &40);
     Ok(())
 }
 
-// A stereo file of two frames: the mono card captures its first channel, and then silence.
-#[test]
-fn silence_is_captured_past_the_files_end(rt: HostRuntime) -> Result<(), Fail> {
-    let mut ring = new_ring(rt.alloc())?;
-    let mut snoop = new_snoop_ring(rt.alloc())?;
-    let (player, _mix) = ring.seats();
-    let (writer, mut reader) = snoop.seats();
-    let mut card = new_card(rt.alloc(), player, writer)?;
+// A stereo file of two frames, beside a mono card.
+fn capture(
+    rt: &impl Abort,
+    alloc: Global,
+    card: &mut CardActor<'_>,
+    reader: &mut ReaderSeat<'_>,
+) -> Result<(), Fail> {
     let file = Wav {
         channels: 2,
         rate: 48000,
-        samples: Samples::from_vec(vec![in rt.alloc(); 5i16, 6, 7, 8]?),
+        samples: Samples::from_vec(vec![in alloc; 5i16, 6, 7, 8]?),
     };
-    run(&mut card, Some(&file), 1, [Op::Play(1), Op::Play(3)])?;
-    assert_same(&rt, &reader.position(&mut NeverStops)?.frame, &4);
-    assert_same(&rt, &load(&mut reader, 0)?, &(Loaded::Got, 5));
-    assert_same(&rt, &load(&mut reader, 1)?, &(Loaded::Got, 7));
-    assert_same(&rt, &load(&mut reader, 2)?, &(Loaded::Got, 0));
+    run(card, Some(&file), 1, [Op::Play(1), Op::Play(3)])?;
+    assert_same(rt, &reader.position(&mut NeverStops)?.frame, &4);
+    assert_same(rt, &load(reader, 0)?, &(Loaded::Got, 5));
+    assert_same(rt, &load(reader, 1)?, &(Loaded::Got, 7));
+    assert_same(rt, &load(reader, 2)?, &(Loaded::Got, 0));
     Ok(())
+}
+
+// The end of a card.
+fn unplug(
+    rt: &impl Abort,
+    card: &mut CardActor<'_>,
+    mix: &mut MixSeat<'_>,
+    reader: &mut ReaderSeat<'_>,
+) -> Result<(), Fail> {
+    run(card, None, 2, [Op::Play(0), Op::Unplug])?;
+    assert!(rt; card.rows.len() == 2);
+    assert_same(rt, &card.rows[1].answer, &Answer::Done);
+    assert_same(rt, &card.rows[1].state, &State::Disconnected);
+    assert!(rt; mix.position(&mut NeverStops)?.gone);
+    assert!(rt; reader.position(&mut NeverStops)?.gone);
+    Ok(())
+}
+
+// The second line plays on where the first one ended, past a period's end on the way, and its row has the position after it.
+#[test]
+fn the_card_plays_on_from_line_to_line(rt: HostRuntime) -> Result<(), Fail> {
+    over_rings(&rt, rt.alloc(), Course::PlaysOn)
+}
+
+// The mono card captures the first channel of a stereo file, and then silence.
+#[test]
+fn silence_is_captured_past_the_files_end(rt: HostRuntime) -> Result<(), Fail> {
+    over_rings(&rt, rt.alloc(), Course::Captures)
 }
 
 #[test]
 fn an_unplugged_card_is_gone_from_both_rings(rt: HostRuntime) -> Result<(), Fail> {
-    let mut ring = new_ring(rt.alloc())?;
-    let mut snoop = new_snoop_ring(rt.alloc())?;
-    let (player, mut mix) = ring.seats();
-    let (writer, mut reader) = snoop.seats();
-    let mut card = new_card(rt.alloc(), player, writer)?;
-    run(&mut card, None, 2, [Op::Play(0), Op::Unplug])?;
-    assert_same(&rt, &card.rows.len(), &2);
-    assert_same(&rt, &card.rows[1].answer, &Answer::Done);
-    assert_same(&rt, &card.rows[1].state, &State::Disconnected);
-    assert!(rt; mix.position(&mut NeverStops)?.gone);
-    assert!(rt; reader.position(&mut NeverStops)?.gone);
-    Ok(())
+    over_rings(&rt, rt.alloc(), Course::Unplugs)
 }

@@ -20,7 +20,6 @@ use wav_io::Wav;
 /// rows are here; else they are the open client's.
 ///
 /// Its meaning is the client that it is in a run (`client_in`), and how it is at its port there (`IsAt`).
-#[derive(Drop)]
 #[repr(C)]
 pub struct LabClient<'r> {
     number: u32,
@@ -32,6 +31,20 @@ pub struct LabClient<'r> {
     // So that no two clients of a list have a cache line in common while each is used by a thread of its own: processors fetch two
     // lines of 64 bytes at once.
     apart: [u64; 16],
+}
+
+// One call wherever it is let go. A derive drops each part in turn there, and the proof goes through all of them.
+impl<'r> Drop for LabClient<'r> {
+    fn drop(self) {
+        let LabClient {
+            number: _,
+            own: _,
+            ended: _,
+            last: _,
+            rows: _,
+            apart: _,
+        } = self;
+    }
 }
 
 impl<'r> LabClient<'r> {

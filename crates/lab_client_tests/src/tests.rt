@@ -25,6 +25,7 @@ use pcm_states::State;
 use snd_base::{Geometry, PcmError, Segment};
 use snoop_table::{SnoopRing, WriterSeat};
 use std::alloc::Global;
+use std::process::Abort;
 use std::test::Fail;
 use sum_table::{MixSeat, PlayerSeat, SumRing};
 use wav_io::{Samples, Wav};
@@ -203,100 +204,140 @@ fn taken(alloc: Global, client: &mut LabClient<'_>) -> Result<Vec<Row>, Fail> {
     Ok(rows)
 }
 
-// The frames are placed from the first one past the position by the lead, and the card plays them; the client sees each new position.
-#[test]
-fn a_client_plays_from_phase_to_phase(rt: HostRuntime) -> Result<(), Fail> {
-    let wav = file(rt.alloc())?;
-    let (shape, opening) = opening_of(rt.alloc(), &wav)?;
-    let mut ring = new_ring(rt.alloc(), shape)?;
-    let mut snoop = new_snoop_ring(rt.alloc(), shape)?;
+/// What is done with the client of a test.
+#[derive(Clone, Copy)]
+enum Course {
+    Plays,
+    Closes,
+    Dies,
+}
+
+/// Opens the client at a ring of its own, beside a card, and goes the course. The rings, the seats and the client are let go here
+/// alone, and not wherever the course ends.
+fn beside_a_card(rt: &impl Abort, alloc: Global, course: Course) -> Result<(), Fail> {
+    let wav = file(alloc)?;
+    let (shape, opening) = opening_of(alloc, &wav)?;
+    let mut ring = new_ring(alloc, shape)?;
+    let mut snoop = new_snoop_ring(alloc, shape)?;
     let (player, mix) = ring.seats();
     let (writer, _reader) = snoop.seats();
-    let mut card = new_card(rt.alloc(), player, writer)?;
-    let mut client = opened(rt.alloc(), mix, &opening, &wav)?;
+    let mut card = new_card(alloc, player, writer)?;
+    let mut client = opened(alloc, mix, &opening, &wav)?;
+    match course {
+        Course::Plays => play_phases(rt, alloc, &mut card, &mut client, &wav),
+        Course::Closes => play_and_close(rt, alloc, &mut card, &mut client, &wav),
+        Course::Dies => die(rt, alloc, &mut card, &mut client, &wav),
+    }
+}
+
+/// A write and two numbers, with the card in between.
+fn play_phases(
+    rt: &impl Abort,
+    alloc: Global,
+    card: &mut CardActor<'_>,
+    client: &mut LabClient<'_>,
+    wav: &Wav,
+) -> Result<(), Fail>
+    requires of_card { IsOfCard card.old.card client.old }
+    requires can { CanRun wav.now client.old }
+{
     let first = [line(Op::Write(64)), line(Op::Avail)];
-    run(&mut card, &mut client, &wav, 1, &first)?;
-    run(&mut card, &mut client, &wav, 2, &[play(96)])?;
-    run(&mut card, &mut client, &wav, 3, &[line(Op::Delay)])?;
+    run(card, client, wav, 1, &first)?;
+    run(card, client, wav, 2, &[play(96)])?;
+    run(card, client, wav, 3, &[line(Op::Delay)])?;
     let rows = [
         row(1, Op::Write(64), Answer::Count(64), State::Running, Some(0)),
         row(1, Op::Avail, Answer::Count(192), State::Running, Some(0)),
         row(3, Op::Delay, Answer::Count(32), State::Running, Some(96)),
     ];
+    assert_same(rt, &taken(alloc, client)?.as_slice(), &rows.as_slice());
+    assert_same(rt, &client.rows().len(), &0);
+    assert!(rt; card.played.len() == 96);
     assert_same(
-        &rt,
-        &taken(rt.alloc(), &mut client)?.as_slice(),
-        &rows.as_slice(),
-    );
-    assert_same(&rt, &client.rows().len(), &0);
-    assert_same(&rt, &card.played.len(), &96);
-    assert_same(
-        &rt,
+        rt,
         &[card.played[63], card.played[64], card.played[95]],
         &[0, 1, 32],
     );
     Ok(())
 }
 
-// What was placed before a closing is a segment afterwards, and each later line is refused.
-#[test]
-fn a_closed_client_keeps_its_segments(rt: HostRuntime) -> Result<(), Fail> {
-    let wav = file(rt.alloc())?;
-    let (shape, opening) = opening_of(rt.alloc(), &wav)?;
-    let mut ring = new_ring(rt.alloc(), shape)?;
-    let mut snoop = new_snoop_ring(rt.alloc(), shape)?;
-    let (player, mix) = ring.seats();
-    let (writer, _reader) = snoop.seats();
-    let mut card = new_card(rt.alloc(), player, writer)?;
-    let mut client = opened(rt.alloc(), mix, &opening, &wav)?;
-    run(&mut card, &mut client, &wav, 1, &[line(Op::Write(40))])?;
-    assert_same(&rt, &client.seen(), &Some(0));
-    assert_same(&rt, &close(&mut client)?, &0);
-    run(&mut card, &mut client, &wav, 2, &[line(Op::Write(24))])?;
+/// A write, the closing, and a write that is refused.
+fn play_and_close(
+    rt: &impl Abort,
+    alloc: Global,
+    card: &mut CardActor<'_>,
+    client: &mut LabClient<'_>,
+    wav: &Wav,
+) -> Result<(), Fail>
+    requires of_card { IsOfCard card.old.card client.old }
+    requires can { CanRun wav.now client.old }
+{
+    run(card, client, wav, 1, &[line(Op::Write(40))])?;
+    assert_same(rt, &client.seen(), &Some(0));
+    assert_same(rt, &close(client)?, &0);
+    run(card, client, wav, 2, &[line(Op::Write(24))])?;
     let placed = Segment {
         source: 0,
         card: 64,
         whole: 40,
         part: 0,
     };
-    let mut segments = Vec::new(rt.alloc());
+    let mut segments = Vec::new(alloc);
     segments.reserve(client.segment_count())?;
     client.segments_into(&mut segments);
-    assert_same(&rt, &segments.as_slice(), &[(0, placed)].as_slice());
+    assert_same(rt, &segments.as_slice(), &[(0, placed)].as_slice());
     let refused = Answer::Failed(PcmError::BadState);
     let rows = [
         row(1, Op::Write(40), Answer::Count(40), State::Running, Some(0)),
         row(2, Op::Write(24), refused, State::Open, None),
     ];
-    assert_same(&rt, &client.rows(), &rows.as_slice());
+    assert_same(rt, &client.rows(), &rows.as_slice());
     assert_same(
-        &rt,
+        rt,
         &client.row(2, Op::Closes, refused),
         &row(2, Op::Closes, refused, State::Open, None),
     );
     Ok(())
 }
 
-// A `die` lets the load pass and stops the client at the first frame.
-#[test]
-fn a_client_that_dies_is_stopped(rt: HostRuntime) -> Result<(), Fail> {
-    let wav = file(rt.alloc())?;
-    let (shape, opening) = opening_of(rt.alloc(), &wav)?;
-    let mut ring = new_ring(rt.alloc(), shape)?;
-    let mut snoop = new_snoop_ring(rt.alloc(), shape)?;
-    let (player, mix) = ring.seats();
-    let (writer, _reader) = snoop.seats();
-    let mut card = new_card(rt.alloc(), player, writer)?;
-    let mut client = opened(rt.alloc(), mix, &opening, &wav)?;
+/// A `die` before two calls.
+fn die(
+    rt: &impl Abort,
+    alloc: Global,
+    card: &mut CardActor<'_>,
+    client: &mut LabClient<'_>,
+    wav: &Wav,
+) -> Result<(), Fail>
+    requires of_card { IsOfCard card.old.card client.old }
+    requires can { CanRun wav.now client.old }
+{
     let lines = [line(Op::Die(1)), line(Op::Write(8)), line(Op::Drop)];
     assert!(rt; client.has_lines(&lines));
     assert!(rt; !client.is_stopped());
-    run(&mut card, &mut client, &wav, 1, &lines)?;
+    run(card, client, wav, 1, &lines)?;
     assert!(rt; client.is_stopped());
-    let rows = taken(rt.alloc(), &mut client)?;
-    assert_same(&rt, &rows.len(), &3);
-    assert_same(&rt, &rows[0].answer, &Answer::Done);
-    assert_same(&rt, &rows[1].answer, &Answer::Failed(PcmError::Stopped));
-    assert_same(&rt, &rows[2].answer, &Answer::Failed(PcmError::Stopped));
+    let rows = taken(alloc, client)?;
+    assert!(rt; rows.len() == 3);
+    assert_same(rt, &rows[0].answer, &Answer::Done);
+    assert_same(rt, &rows[1].answer, &Answer::Failed(PcmError::Stopped));
+    assert_same(rt, &rows[2].answer, &Answer::Failed(PcmError::Stopped));
     Ok(())
+}
+
+// The frames are placed from the first one past the position by the lead, and the card plays them; the client sees each new position.
+#[test]
+fn a_client_plays_from_phase_to_phase(rt: HostRuntime) -> Result<(), Fail> {
+    beside_a_card(&rt, rt.alloc(), Course::Plays)
+}
+
+// What was placed before a closing is a segment afterwards, and each later line is refused.
+#[test]
+fn a_closed_client_keeps_its_segments(rt: HostRuntime) -> Result<(), Fail> {
+    beside_a_card(&rt, rt.alloc(), Course::Closes)
+}
+
+// A `die` lets the load pass and stops the client at the first frame.
+#[test]
+fn a_client_that_dies_is_stopped(rt: HostRuntime) -> Result<(), Fail> {
+    beside_a_card(&rt, rt.alloc(), Course::Dies)
 }

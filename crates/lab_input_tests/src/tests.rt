@@ -88,7 +88,7 @@ fn the_capture_file_is_read_and_then_each_client_s(rt: HostRuntime) -> Result<()
         &capture.samples.as_slice(),
         &[30i16, 30, 30].as_slice(),
     );
-    assert_same(&rt, &read.wavs.len(), &2);
+    assert!(rt; read.wavs.len() == 2);
     assert_same(&rt, &read.wavs[0].samples.as_slice(), &[10i16].as_slice());
     assert_same(
         &rt,

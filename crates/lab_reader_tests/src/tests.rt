@@ -200,33 +200,110 @@ fn rows_of(alloc: Global, reader: &mut LabReader<'_>) -> Result<Vec<Row>, Fail> 
     Ok(rows)
 }
 
-#[test]
-fn a_reader_reads_what_the_card_captured(rt: HostRuntime) -> Result<(), Fail> {
-    let file = numbers(rt.alloc())?;
-    let mut ring = new_ring(rt.alloc())?;
-    let mut snoop = new_snoop_ring(rt.alloc())?;
+/// What is done with the reader of a test.
+#[derive(Clone, Copy)]
+enum Course {
+    Reads,
+    OpensAgain,
+    Dies,
+}
+
+// Opens the reader at a ring of its own, beside a card that captures numbers, and goes the course. The rings, the seats and the reader
+// are let go here alone, and not wherever the course ends.
+fn beside_a_card(rt: &impl Abort, alloc: Global, course: Course) -> Result<(), Fail> {
+    let file = numbers(alloc)?;
+    let mut ring = new_ring(alloc)?;
+    let mut snoop = new_snoop_ring(alloc)?;
     let (player, _mix) = ring.seats();
     let (writer, seat) = snoop.seats();
-    let (mut card, mut reader) = begin(rt.alloc(), player, writer, seat)?;
-    run(&mut card, &mut reader, &file, 1, &[of_reader(Op::Start)])?;
+    let (mut card, mut reader) = begin(alloc, player, writer, seat)?;
+    match course {
+        Course::Reads => read(rt, alloc, &mut card, &mut reader, &file),
+        Course::OpensAgain => read_twice(rt, alloc, &mut card, &mut reader, &file),
+        Course::Dies => die(rt, &mut card, &mut reader, &file),
+    }
+}
+
+// A start, and a read of less than the card captured.
+fn read<'a>(
+    rt: &impl Abort,
+    alloc: Global,
+    card: &mut CardActor<'a>,
+    reader: &mut LabReader<'a>,
+    file: &Wav,
+) -> Result<(), Fail>
+    requires { IsOf card.old.card reader.old }
+{
+    run(card, reader, file, 1, &[of_reader(Op::Start)])?;
     let lines = [of_card(Op::Play(32)), of_reader(Op::Read(20))];
     assert!(rt; reader.has_lines(&lines));
-    run(&mut card, &mut reader, &file, 2, &lines)?;
+    run(card, reader, file, 2, &lines)?;
     let rows = [
         row(1, Op::Start, Answer::Done, State::Running, Some(0)),
         row(2, Op::Read(20), Answer::Count(20), State::Running, Some(32)),
     ];
-    assert_same(
-        &rt,
-        &rows_of(rt.alloc(), &mut reader)?.as_slice(),
-        &rows.as_slice(),
-    );
-    assert_same(&rt, &reader.rows().len(), &0);
-    assert_same(&rt, &reader.runs(), &[(0, 20)].as_slice());
-    assert_same(&rt, &reader.samples().len(), &20);
-    assert_same(&rt, &reader.samples().first(), &Some(&0));
-    assert_same(&rt, &reader.samples().last(), &Some(&19));
+    assert_same(rt, &rows_of(alloc, reader)?.as_slice(), &rows.as_slice());
+    assert_same(rt, &reader.rows().len(), &0);
+    assert_same(rt, &reader.runs(), &[(0, 20)].as_slice());
+    assert_same(rt, &reader.samples().len(), &20);
+    assert_same(rt, &reader.samples().first(), &Some(&0));
+    assert_same(rt, &reader.samples().last(), &Some(&19));
     Ok(())
+}
+
+// A read, a closing and an opening, and another read.
+fn read_twice<'a>(
+    rt: &impl Abort,
+    alloc: Global,
+    card: &mut CardActor<'a>,
+    reader: &mut LabReader<'a>,
+    file: &Wav,
+) -> Result<(), Fail>
+    requires { IsOf card.old.card reader.old }
+{
+    run(card, reader, file, 1, &[of_reader(Op::Start)])?;
+    let lines = [of_card(Op::Play(32)), of_reader(Op::Read(20))];
+    run(card, reader, file, 2, &lines)?;
+    reopen(rt, alloc, &card.card, reader)?;
+    run(card, reader, file, 3, &[of_reader(Op::Start)])?;
+    let lines = [of_card(Op::Play(16)), of_reader(Op::Read(16))];
+    run(card, reader, file, 4, &lines)?;
+    assert_same(rt, &reader.runs(), &[(0, 20), (32, 16)].as_slice());
+    assert_same(rt, &reader.samples().len(), &36);
+    assert_same(rt, &reader.samples().get(19), &Some(&19));
+    assert_same(rt, &reader.samples().get(20), &Some(&32));
+    Ok(())
+}
+
+// A `die` before two calls.
+fn die<'a>(
+    rt: &impl Abort,
+    card: &mut CardActor<'a>,
+    reader: &mut LabReader<'a>,
+    file: &Wav,
+) -> Result<(), Fail>
+    requires { IsOf card.old.card reader.old }
+{
+    let lines = [
+        of_reader(Op::Die(0)),
+        of_reader(Op::Start),
+        of_reader(Op::Drop),
+    ];
+    run(card, reader, file, 1, &lines)?;
+    let stopped = Answer::Failed(PcmError::Stopped);
+    let rows = [
+        row(1, Op::Die(0), Answer::Done, State::Prepared, None),
+        row(1, Op::Start, stopped, State::Prepared, None),
+        row(1, Op::Drop, stopped, State::Prepared, None),
+    ];
+    assert_same(rt, &reader.rows(), &rows.as_slice());
+    assert!(rt; reader.is_stopped());
+    Ok(())
+}
+
+#[test]
+fn a_reader_reads_what_the_card_captured(rt: HostRuntime) -> Result<(), Fail> {
+    beside_a_card(&rt, rt.alloc(), Course::Reads)
 }
 
 #[test]
@@ -255,47 +332,10 @@ fn lines_of_a_reader_that_is_not_open_are_refused(rt: HostRuntime) -> Result<(),
 
 #[test]
 fn a_reader_that_is_opened_again_keeps_what_it_read(rt: HostRuntime) -> Result<(), Fail> {
-    let file = numbers(rt.alloc())?;
-    let mut ring = new_ring(rt.alloc())?;
-    let mut snoop = new_snoop_ring(rt.alloc())?;
-    let (player, _mix) = ring.seats();
-    let (writer, seat) = snoop.seats();
-    let (mut card, mut reader) = begin(rt.alloc(), player, writer, seat)?;
-    run(&mut card, &mut reader, &file, 1, &[of_reader(Op::Start)])?;
-    let lines = [of_card(Op::Play(32)), of_reader(Op::Read(20))];
-    run(&mut card, &mut reader, &file, 2, &lines)?;
-    reopen(&rt, rt.alloc(), &card.card, &mut reader)?;
-    run(&mut card, &mut reader, &file, 3, &[of_reader(Op::Start)])?;
-    let lines = [of_card(Op::Play(16)), of_reader(Op::Read(16))];
-    run(&mut card, &mut reader, &file, 4, &lines)?;
-    assert_same(&rt, &reader.runs(), &[(0, 20), (32, 16)].as_slice());
-    assert_same(&rt, &reader.samples().len(), &36);
-    assert_same(&rt, &reader.samples().get(19), &Some(&19));
-    assert_same(&rt, &reader.samples().get(20), &Some(&32));
-    Ok(())
+    beside_a_card(&rt, rt.alloc(), Course::OpensAgain)
 }
 
 #[test]
 fn a_reader_that_dies_is_stopped(rt: HostRuntime) -> Result<(), Fail> {
-    let file = numbers(rt.alloc())?;
-    let mut ring = new_ring(rt.alloc())?;
-    let mut snoop = new_snoop_ring(rt.alloc())?;
-    let (player, _mix) = ring.seats();
-    let (writer, seat) = snoop.seats();
-    let (mut card, mut reader) = begin(rt.alloc(), player, writer, seat)?;
-    let lines = [
-        of_reader(Op::Die(0)),
-        of_reader(Op::Start),
-        of_reader(Op::Drop),
-    ];
-    run(&mut card, &mut reader, &file, 1, &lines)?;
-    let stopped = Answer::Failed(PcmError::Stopped);
-    let rows = [
-        row(1, Op::Die(0), Answer::Done, State::Prepared, None),
-        row(1, Op::Start, stopped, State::Prepared, None),
-        row(1, Op::Drop, stopped, State::Prepared, None),
-    ];
-    assert_same(&rt, &reader.rows(), &rows.as_slice());
-    assert!(rt; reader.is_stopped());
-    Ok(())
+    beside_a_card(&rt, rt.alloc(), Course::Dies)
 }

@@ -12,7 +12,7 @@ fn a_channel_of_a_stereo_card_is_bound_once(rt: HostRuntime) {
 #[test]
 fn exchanged_channels_rise_by_the_cards(rt: HostRuntime) -> Result<(), Why> {
     let bindings = Bindings::read(&[1, 0], 2)?;
-    assert_same(&rt, &bindings.len(), &2);
+    assert!(rt; bindings.len() == 2);
     assert_same(&rt, &bindings.card_channel(0), &1);
     assert_same(&rt, &bindings.card_channel(1), &0);
     assert_same(&rt, &bindings.rising(0), &1);
@@ -66,7 +66,7 @@ fn bindings_may_leave_channels_of_the_card_out(rt: HostRuntime) -> Result<(), Wh
 #[test]
 fn a_card_of_255_channels_has_channels_up_to_254(rt: HostRuntime) -> Result<(), Why> {
     let bindings = Bindings::read(&[254, 8, 0, 200], 255)?;
-    assert_same(&rt, &bindings.len(), &4);
+    assert!(rt; bindings.len() == 4);
     assert_same(&rt, &bindings.card_channel(0), &254);
     assert_same(&rt, &bindings.card_channel(3), &200);
     let order = [
