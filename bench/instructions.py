@@ -9,7 +9,7 @@ usage: bench/instructions.py [PROGRAM]     from the top of the repository; build
   a script in which it plays one frame.
 
 The counts don't vary with the load of the machine. The C library copies and fills long pieces by single instructions, which
-callgrind counts once a byte: so it is told to do so in loops.
+callgrind counts once a byte: so the script has it do so in loops.
 """
 import array
 import os
