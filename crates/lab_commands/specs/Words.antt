@@ -115,7 +115,7 @@ help_text = text_of_lines (codes "usage: dmixlab run SCRIPT OUT"
     ∷ codes "and the file of each client, stores what the card plays as OUT.wav and what each"
     ∷ codes "reader records as OUT.READER.wav, and prints a report. OUT is without an ending;"
     ∷ codes "files of these names are overwritten. WAV files are of 16-bit PCM; the file of a"
-    ∷ codes "client with plug linear may have 8, 24 or 32 bits too, and any rate and channels."
+    ∷ codes "client with plug linear may have 8, 24 or 32 bits, and any rate and channels."
     ∷ []
     ∷ codes "refine narrows the hardware parameters that a card leaves to a client, as the"
     ∷ codes "lines of TEXT ask, and prints what is left of them."
@@ -128,7 +128,8 @@ help_text = text_of_lines (codes "usage: dmixlab run SCRIPT OUT"
     ∷ codes "report (made.report), and prints a summary. SEED is below 2^64, CLIENTS 1 to 64,"
     ∷ codes "PHASES 1 to 1000."
     ∷ []
-    ∷ codes "Files are named from the folder in which the program runs. A pipe has at most 65,535 bytes."
+    ∷ codes "Files are named from the folder in which the program runs. A pipe has at most"
+    ∷ codes "65,535 bytes."
     ∷ []
     ∷ codes "A script, in which # begins a comment and keys may be left out:"
     ∷ []

@@ -160,7 +160,7 @@ mixes them as ALSA's dmix does. It reads SCRIPT, the file that the card captures
 and the file of each client, stores what the card plays as OUT.wav and what each
 reader records as OUT.READER.wav, and prints a report. OUT is without an ending;
 files of these names are overwritten. WAV files are of 16-bit PCM; the file of a
-client with plug linear may have 8, 24 or 32 bits too, and any rate and channels.
+client with plug linear may have 8, 24 or 32 bits, and any rate and channels.
 
 refine narrows the hardware parameters that a card leaves to a client, as the
 lines of TEXT ask, and prints what is left of them.
@@ -173,7 +173,8 @@ which they write in PHASES turns, what the card plays of it (made.wav) and its
 report (made.report), and prints a summary. SEED is below 2^64, CLIENTS 1 to 64,
 PHASES 1 to 1000.
 
-Files are named from the folder in which the program runs. A pipe has at most 65,535 bytes.
+Files are named from the folder in which the program runs. A pipe has at most
+65,535 bytes.
 
 A script, in which # begins a comment and keys may be left out:
 

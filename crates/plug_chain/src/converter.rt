@@ -1,4 +1,4 @@
-//! Bytes cut into frames, and frames made into output frames.
+//! Bytes divided into frames, and frames made into output frames.
 ghost use Rattle.std.specs.Prelude.{◌≡◌, ◌<◌, ◌≤◌, [], ◌∷◌, ◌++◌, length, OnOk, IfOk};
 ghost use Rattle.plug_chain.specs.Held.{part_bytes, samples_of};
 ghost use Rattle.plug_chain.specs.Growth.{Extends};

@@ -74,7 +74,7 @@ impl Plug {
     }
 
     /// Takes the next bytes, and appends the interleaved samples of each output frame that is known now: that lies at the
-    /// last whole frame or before it. However the bytes are cut, all that was appended is what the conversion of all bytes
+    /// last whole frame or before it. However the bytes are divided, all that was appended is what the conversion of all bytes
     /// so far has up to there. It refuses, with `Memory`, only where no memory is left; then plug and `out` are as before.
     pub fn feed(&mut self, bytes: &[u8], out: &mut Vec<i16>) -> Result<(), PcmError>
         ensures ok { OnOk result (Continues self.old self.new

@@ -63,7 +63,7 @@ impl<'r> Lab<'r, '_> {
         }
     }
 
-    /// Ends the run before its script's end: closes what is still open and both rings. Only closed rings tell that the card played the
+    /// Ends the run before its script's end: closes what is still open and both rings. Only closed rings show that the card played the
     /// mix of the segments so far. It takes no memory.
     pub fn stop(self)
         requires at { IsLab self }
