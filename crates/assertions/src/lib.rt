@@ -3,4 +3,4 @@
 
 mod same;
 
-pub use same::assert_same;
+pub use same::{assert_same, assert_same_at};

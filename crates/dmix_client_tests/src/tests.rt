@@ -3,7 +3,7 @@
 ghost use Rattle.std.specs.Prelude.{◌≡◌, []};
 ghost use Rattle.dmix_client.specs.Growth.{IsBacked};
 
-use assertions::assert_same;
+use assertions::{assert_same, assert_same_at};
 use bindings::Bindings;
 use dmix_client::Client;
 use hw_space::Config;
@@ -274,7 +274,7 @@ fn a_late_write_accepts_nothing(rt: HostRuntime) -> Result<(), Fail> {
             assert_same(&rt, &frame, &128);
             assert_same(&rt, &channel, &0);
         }
-        other => assert_eq!(rt; other, Ok(0), "not late"),
+        other => assert_same_at(&rt, &"not late", &other, &Ok(0)),
     }
     assert_same(&rt, &client.state(), &State::Xrun);
     assert_same(&rt, &client.fed(), &64);

@@ -3,7 +3,7 @@ mod large;
 
 ghost use Rattle.std.specs.Prelude.{◌<◌, ◌≤◌};
 
-use assertions::assert_same;
+use assertions::{assert_same, assert_same_at};
 use lab_input::{Input, read_input};
 use lab_shelf::{MemoryShelf, MemorySink, Shelf};
 use lab_stop::tell;
@@ -190,7 +190,7 @@ fn the_file_of_a_client_with_plug_is_converted(rt: HostRuntime) -> Result<(), Fa
         let read = input(alloc, &[(b"s", PLUGGED), (b"a.wav", &file)])?;
         let wav = read.wavs.first().ok_or("there is a client")?;
         assert_same(&rt, &(wav.channels, wav.rate), &(1, 48_000));
-        assert_eq!(rt; wav.samples.as_slice(), samples, "{bits} bits");
+        assert_same_at(&rt, &bits, &wav.samples.as_slice(), &samples);
     }
     // What is long on a mono card is too long on a faster one of eight channels; and no file has 12 bits.
     let long = raw(alloc, 1, 8, &[0; 250])?;
@@ -214,12 +214,13 @@ fn a_file_of_one_full_piece_takes_two_fetches(rt: HostRuntime) -> Result<(), Fai
         let file = mono(alloc, frames, 7)?;
         let files: [(&[u8], &[u8]); 2] = [(b"s", script), (b"a.wav", &file)];
         let next = line(alloc, &files, &[fetches + 1])?;
-        assert_eq!(rt; next.as_slice(), b"".as_slice(), "{frames} frames");
+        assert_same_at(&rt, &frames, &next.as_slice(), &b"".as_slice());
         let last = line(alloc, &files, &[fetches])?;
-        assert_eq!(rt;
-            last.as_slice(),
-            b"dmixlab: read a.wav\n".as_slice(),
-            "{frames} frames"
+        assert_same_at(
+            &rt,
+            &frames,
+            &last.as_slice(),
+            &b"dmixlab: read a.wav\n".as_slice(),
         );
         let read = input(alloc, &files)?;
         assert_same(&rt, &first_len(&read), &frames);

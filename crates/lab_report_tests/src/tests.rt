@@ -3,7 +3,7 @@ ghost use Rattle.lab_report.specs.Text.{IsReportOf};
 ghost use Rattle.lab_lines.specs.Limits.{IsScript};
 ghost use Rattle.std.specs.Prelude.{IfOk};
 
-use assertions::assert_same;
+use assertions::{assert_same, assert_same_at};
 use lab_lines::{Actor, Answer, Op, Report, Script};
 use lab_report::{ReportWhy, print_report, print_row, print_tail, read_report};
 use lab_script::read_script;
@@ -195,7 +195,7 @@ fn prints_what_it_read(rt: HostRuntime) -> Result<(), Fail> {
     for (answer, state, seen) in &ANSWER_WORDS {
         let text = answered(alloc, answer, state, seen)?;
         let bytes = printed_again(alloc, text.as_str(), &script)?;
-        assert_eq!(rt; bytes.as_slice(), text.as_bytes(), "at {answer}");
+        assert_same_at(&rt, &answer, &bytes.as_slice(), &text.as_bytes());
     }
     Ok(())
 }
@@ -299,10 +299,11 @@ fn refuses_each_defect_at_its_line(rt: HostRuntime) -> Result<(), Fail> {
     let alloc = rt.alloc();
     let script = script(alloc)?;
     for (text, line, why) in &REFUSED {
-        assert_eq!(rt;
-            refusal(alloc, text, &script),
-            Some((*line, *why)),
-            "at {text}"
+        assert_same_at(
+            &rt,
+            &text,
+            &refusal(alloc, text, &script),
+            &Some((*line, *why)),
         );
     }
     Ok(())
@@ -344,10 +345,11 @@ fn refuses_each_defect_below_the_rows(rt: HostRuntime) -> Result<(), Fail> {
     let script = script(alloc)?;
     for (tail, line, why) in &REFUSED_TAILS {
         let text = format!(in alloc; "{ROWS}{tail}")?;
-        assert_eq!(rt;
-            refusal(alloc, text.as_str(), &script),
-            Some((*line, *why)),
-            "at {tail}"
+        assert_same_at(
+            &rt,
+            &tail,
+            &refusal(alloc, text.as_str(), &script),
+            &Some((*line, *why)),
         );
     }
     Ok(())

@@ -1,5 +1,5 @@
 //! Scripts that are read, and texts that are refused, each with its line.
-use assertions::assert_same;
+use assertions::{assert_same, assert_same_at};
 use lab_lines::{Actor, CardLine, ClientLine, Item, Op, Share, Stop};
 use lab_script::{ScriptWhy as Why, print_op, read_script};
 use std::alloc::{AllocError, Global};
@@ -115,10 +115,11 @@ const REFUSED: [(&str, u32, Why); 69] = [
 #[test]
 fn refuses_each_line_of_its_own(rt: HostRuntime) -> Result<(), Fail> {
     for (text, line, why) in &REFUSED {
-        assert_eq!(rt;
-            refusal(rt.alloc(), text.as_bytes()),
-            Some((*line, *why)),
-            "at {text}"
+        assert_same_at(
+            &rt,
+            &text,
+            &refusal(rt.alloc(), text.as_bytes()),
+            &Some((*line, *why)),
         );
     }
     assert_same(

@@ -7,7 +7,7 @@ mod readers;
 mod runs;
 mod sessions;
 
-use assertions::assert_same;
+use assertions::{assert_same, assert_same_at};
 use lab_calls::{MONO, call, files_of, steps_of, text_in, wav_around, wav_of};
 use readers::READERS;
 use runs::RUNS;
@@ -90,13 +90,13 @@ fn sessions_leave_their_report_and_file(rt: HostRuntime) -> Result<(), Fail> {
         let left = call(&rt, alloc, &["run", "s", "o"], files, (&[], &[]))?;
         let text = text_in(left.out.bytes());
         let wanted = text_in(&report);
-        assert_eq!(rt; left.status, 0, "{}", session.name);
-        assert_eq!(rt; text, wanted, "{}", session.name);
-        assert_eq!(rt;
-            left.shelf.file(b"o.wav").unwrap_or(&[]),
-            file.as_slice(),
-            "{}",
-            session.name
+        assert_same_at(&rt, &session.name, &left.status, &0);
+        assert_same_at(&rt, &session.name, &text, &wanted);
+        assert_same_at(
+            &rt,
+            &session.name,
+            &left.shelf.file(b"o.wav").unwrap_or(&[]),
+            &file.as_slice(),
         );
         assert!(rt; left.errors.bytes().is_empty());
     }
@@ -255,9 +255,14 @@ fn runs_leave_their_report_and_files(rt: HostRuntime) -> Result<(), Fail> {
         let report = report_of_run(alloc, run)?;
         let files = files_of_run(alloc, run, "")?;
         let left = call(&rt, alloc, &["run", "s", "o"], files, (&[], &[]))?;
-        assert_eq!(rt; text_in(left.errors.bytes()), "", "{}", run.name);
-        assert_eq!(rt; left.status, 0, "{}", run.name);
-        assert_eq!(rt; text_in(left.out.bytes()), text_in(&report), "{}", run.name);
+        assert_same_at(&rt, &run.name, &text_in(left.errors.bytes()), &"");
+        assert_same_at(&rt, &run.name, &left.status, &0);
+        assert_same_at(
+            &rt,
+            &run.name,
+            &text_in(left.out.bytes()),
+            &text_in(&report),
+        );
         for (name, head, runs) in run.stored {
             let samples = steps_of(alloc, runs)?;
             let file = wav_around(alloc, head, &samples)?;

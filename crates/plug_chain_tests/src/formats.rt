@@ -1,7 +1,7 @@
 //! Formats, places, and frames that are copied and silenced.
 ghost use Rattle.std.specs.Prelude.{◌≡◌};
 
-use assertions::assert_same;
+use assertions::{assert_same, assert_same_at};
 use pcm_format::{Areas, Format, copy_frames, print_sample, read_sample, silence_frames};
 
 #[test]
@@ -106,10 +106,11 @@ fn a_buffer_holds_the_frames_whose_places_it_has(rt: HostRuntime) {
         (true, 4, 3, 0, false),
         (false, 0, 2, 0, true),
     ] {
-        assert_eq!(rt;
-            two_by_two(interleaved).holds(samples, first, count),
-            holds,
-            "at {samples}"
+        assert_same_at(
+            &rt,
+            &samples,
+            &two_by_two(interleaved).holds(samples, first, count),
+            &holds,
         );
     }
 }

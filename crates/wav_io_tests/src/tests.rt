@@ -2,7 +2,7 @@
 mod pieces;
 mod real_files;
 
-use assertions::assert_same;
+use assertions::{assert_same, assert_same_at};
 use pieces::{in_pieces, is_alike_in_pieces};
 use std::alloc::{AllocError, Global};
 use std::test::*;
@@ -174,8 +174,8 @@ fn one_frame_cut_after_each_byte(rt: HostRuntime) -> Result<(), Fail> {
     for (from, to, want) in table {
         for n in from..to {
             let cut = whole.get(..n).ok_or("the file has so many bytes")?;
-            assert_eq!(rt; refusal(read_wav(alloc, cut)), want, "at {n}");
-            assert_eq!(rt; refusal(in_pieces(alloc, cut, 1)), want, "at {n}");
+            assert_same_at(&rt, &n, &refusal(read_wav(alloc, cut)), &want);
+            assert_same_at(&rt, &n, &refusal(in_pieces(alloc, cut, 1)), &want);
         }
     }
     let cut = whole.get(..45).ok_or("the file has so many bytes")?;
@@ -201,7 +201,7 @@ fn refusals_of_the_format(rt: HostRuntime) -> Result<(), Fail> {
         if let Some(place) = bytes.get_mut(at) {
             *place = byte;
         }
-        assert_eq!(rt; refusal(read_wav(alloc, &bytes)), Some(want), "at {at}");
+        assert_same_at(&rt, &at, &refusal(read_wav(alloc, &bytes)), &Some(want));
     }
     let twice = joined(alloc, &[&BEGIN, &BEGIN[12..], &DATA])?;
     assert_same(

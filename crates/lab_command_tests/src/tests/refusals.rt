@@ -1,5 +1,5 @@
 //! Calls that aren't done: the status, the line on `errors`, and that no file changed.
-use assertions::assert_same;
+use assertions::{assert_same, assert_same_at};
 use lab_calls::{MONO, call, files_of};
 use std::alloc::{AllocError, Global};
 use std::test::Fail;
@@ -89,7 +89,7 @@ fn calls_that_are_not_done_say_why(rt: HostRuntime) -> Result<(), Fail> {
         let mut files = files_of(alloc, script, CLIENTS)?;
         files.push((Vec::from_slice(alloc, b"none")?, Vec::new(alloc)))?;
         let left = call(&rt, alloc, refusal.words, files, refusal.failing)?;
-        assert_eq!(rt; left.status, refusal.status, "{}", refusal.line);
+        assert_same_at(&rt, &refusal.line, &left.status, &refusal.status);
         assert_same(&rt, &left.errors.bytes(), &refusal.line.as_bytes());
         assert!(rt; left.out.bytes().is_empty());
         let stored = left.shelf.file(b"o.wav").is_some();
@@ -160,8 +160,8 @@ fn refused_scripts_are_named(rt: HostRuntime) -> Result<(), Fail> {
         let line = format!(in alloc; "dmixlab: script {why}\n")?;
         let files = files_of(alloc, Vec::from_slice(alloc, script.as_bytes())?, CLIENTS)?;
         let left = call(&rt, alloc, &["run", "s", "o"], files, (&[], &[]))?;
-        assert_eq!(rt; left.status, 2, "{why}");
-        assert_eq!(rt; left.errors.bytes(), line.as_bytes(), "{why}");
+        assert_same_at(&rt, &why, &left.status, &2);
+        assert_same_at(&rt, &why, &left.errors.bytes(), &line.as_bytes());
         assert!(rt; left.out.bytes().is_empty());
         assert!(rt; left.shelf.file(b"o.wav").is_none());
     }
@@ -201,7 +201,7 @@ fn a_script_has_64_clients_64_readers_and_a_mebibyte(rt: HostRuntime) -> Result<
     ] {
         let files = files_of(alloc, script, CLIENTS)?;
         let left = call(&rt, alloc, &["run", "s", "o"], files, (&[], &[]))?;
-        assert_eq!(rt; left.status, 2, "{line}");
+        assert_same_at(&rt, &line, &left.status, &2);
         assert_same(&rt, &left.errors.bytes(), &line.as_bytes());
     }
     Ok(())
@@ -239,7 +239,7 @@ fn files_that_end_too_early_are_named(rt: HostRuntime) -> Result<(), Fail> {
             } else {
                 format!(in alloc; "dmixlab: wav a.wav: {why}\n")?
             };
-            assert_eq!(rt; left.errors.bytes(), line.as_bytes(), "{length}");
+            assert_same_at(&rt, &length, &left.errors.bytes(), &line.as_bytes());
             assert_same(&rt, &left.status, &if why.is_empty() { 0 } else { 3 });
         }
         first = end;
@@ -289,7 +289,7 @@ fn files_of_other_formats_are_named(rt: HostRuntime) -> Result<(), Fail> {
             let left = call(&rt, alloc, &["run", "s", "o"], files, (&[], &[]))?;
             let line = format!(in alloc; "dmixlab: wav {name}: {why}\n")?;
             assert_same(&rt, &left.errors.bytes(), &line.as_bytes());
-            assert_eq!(rt; left.status, 3, "{why}");
+            assert_same_at(&rt, &why, &left.status, &3);
             assert!(rt; left.out.bytes().is_empty());
         }
     }

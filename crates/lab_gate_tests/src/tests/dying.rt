@@ -1,5 +1,5 @@
 //! A client that stops before each of its steps, by its own `die` and by the gate that is handed in.
-use assertions::assert_same;
+use assertions::{assert_same, assert_same_at};
 use lab_calls::{MONO, STEREO, call, call_gated, files_of, text_in, wav_around, wav_of};
 use mix_core::{Gate, Pass, StepKind};
 use std::alloc::{AllocError, Global};
@@ -85,11 +85,12 @@ fn a_client_that_stops_leaves_what_it_placed(rt: HostRuntime) -> Result<(), Fail
             (&[], &[]),
         )?;
         assert_same(&rt, &left.status, &0);
-        assert_eq!(rt; text_in(left.out.bytes()), report.as_str(), "{steps}");
-        assert_eq!(rt;
-            left.shelf.file(b"o.wav").unwrap_or(&[]),
-            file.as_slice(),
-            "{steps}"
+        assert_same_at(&rt, &steps, &text_in(left.out.bytes()), &report.as_str());
+        assert_same_at(
+            &rt,
+            &steps,
+            &left.shelf.file(b"o.wav").unwrap_or(&[]),
+            &file.as_slice(),
         );
     }
     Ok(())
@@ -144,11 +145,12 @@ fn a_gate_stops_its_client_alone(rt: HostRuntime) -> Result<(), Fail> {
             &mut gates,
         )?;
         assert_same(&rt, &left.status, &0);
-        assert_eq!(rt; text_in(left.out.bytes()), report.as_str(), "{steps}");
-        assert_eq!(rt;
-            left.shelf.file(b"o.wav").unwrap_or(&[]),
-            file.as_slice(),
-            "{steps}"
+        assert_same_at(&rt, &steps, &text_in(left.out.bytes()), &report.as_str());
+        assert_same_at(
+            &rt,
+            &steps,
+            &left.shelf.file(b"o.wav").unwrap_or(&[]),
+            &file.as_slice(),
         );
         assert_same(&rt, &gates[0].stops, &if steps < ALL { 1 } else { 0 });
         assert_same(&rt, &gates[1].stops, &0);

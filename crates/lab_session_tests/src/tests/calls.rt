@@ -1,5 +1,5 @@
 //! The calls that a run makes: the shelf's and the output's, counted by letting one of them fail.
-use assertions::assert_same;
+use assertions::{assert_same, assert_same_at};
 use lab_calls::{Left, MONO, call, files_of, text_in, wav_of};
 use std::alloc::{AllocError, Global};
 use std::marker::Sync;
@@ -73,11 +73,12 @@ fn a_run_makes_five_calls_of_the_shelf(rt: HostRuntime) -> Result<(), Fail> {
             3..=5 => 5,
             _ => 0,
         };
-        assert_eq!(rt; left.status, status, "{failing}");
-        assert_eq!(rt;
-            left.shelf.file(b"o.wav").unwrap_or(&[]),
-            held.as_slice(),
-            "{failing}"
+        assert_same_at(&rt, &failing, &left.status, &status);
+        assert_same_at(
+            &rt,
+            &failing,
+            &left.shelf.file(b"o.wav").unwrap_or(&[]),
+            &held.as_slice(),
         );
     }
     Ok(())
@@ -93,7 +94,7 @@ fn a_run_puts_its_report_in_four_pieces(rt: HostRuntime) -> Result<(), Fail> {
         let left = run(&rt, alloc, SCRIPT, 64, (&[], &[number]))?;
         assert_same(&rt, &left.status, &5);
         assert_same(&rt, &left.errors.bytes(), &b"dmixlab: write\n".as_slice());
-        assert_eq!(rt; left.out.bytes(), taken.as_bytes(), "{number}");
+        assert_same_at(&rt, &number, &left.out.bytes(), &taken.as_bytes());
         taken.push_str(piece)?;
     }
     let left = run(&rt, alloc, SCRIPT, 64, (&[], &[5]))?;
@@ -119,7 +120,7 @@ fn a_file_is_fetched_in_pieces(rt: HostRuntime) -> Result<(), Fail> {
         (8, 0),
     ] {
         let left = run(&rt, alloc, IN_TWO, 32746, (&[failing], &[]))?;
-        assert_eq!(rt; left.status, status, "{failing}");
+        assert_same_at(&rt, &failing, &left.status, &status);
         let held = left.shelf.file(b"o.wav").unwrap_or(&[]).len();
         let wanted = match failing {
             1..=4 => 3,
@@ -127,7 +128,7 @@ fn a_file_is_fetched_in_pieces(rt: HostRuntime) -> Result<(), Fail> {
             6 => 300,
             _ => 556,
         };
-        assert_eq!(rt; held, wanted, "{failing}");
+        assert_same_at(&rt, &failing, &held, &wanted);
     }
     Ok(())
 }
@@ -154,16 +155,18 @@ fn the_files_of_readers_follow_the_cards(rt: HostRuntime) -> Result<(), Fail> {
             2..=7 => 5,
             _ => 0,
         };
-        assert_eq!(rt; left.status, status, "{failing}");
-        assert_eq!(rt;
-            left.shelf.file(b"o.wav").unwrap_or(&[]).len(),
-            played,
-            "{failing}"
+        assert_same_at(&rt, &failing, &left.status, &status);
+        assert_same_at(
+            &rt,
+            &failing,
+            &left.shelf.file(b"o.wav").unwrap_or(&[]).len(),
+            &played,
         );
-        assert_eq!(rt;
-            left.shelf.file(b"o.r.wav").unwrap_or(&[]).len(),
-            recorded,
-            "{failing}"
+        assert_same_at(
+            &rt,
+            &failing,
+            &left.shelf.file(b"o.r.wav").unwrap_or(&[]).len(),
+            &recorded,
         );
     }
     Ok(())
@@ -284,12 +287,13 @@ fn expect_left<R: Abort>(
     let reader = left.shelf.file(b"o.r.wav");
     assert_same(&rt, &text_in(left.errors.bytes()), &message);
     assert_same(&rt, &text_in(left.out.bytes()), &text_in(&expected.text));
-    assert_eq!(rt; card, expected.card.as_slice(), "o.wav");
+    assert_same_at(&rt, &"o.wav", &card, &expected.card.as_slice());
     assert_same(&rt, &reader.is_some(), &!expected.reader.is_empty());
-    assert_eq!(rt;
-        reader.unwrap_or(&[]),
-        expected.reader.as_slice(),
-        "o.r.wav"
+    assert_same_at(
+        &rt,
+        &"o.r.wav",
+        &reader.unwrap_or(&[]),
+        &expected.reader.as_slice(),
     );
     let client = wav_of(alloc, MONO, &[(64, 1000)])?;
     let captured = wav_of(alloc, MONO, &[(300, 7)])?;
@@ -334,7 +338,7 @@ fn a_call_that_fails_leaves_what_the_calls_before_it_left(rt: HostRuntime) -> Re
             _ => run_session(&rt, alloc, (&[calls], &[]))?,
         };
         let (status, message) = refusal_of(alloc, step)?;
-        assert_eq!(rt; left.status, status, "{message}");
+        assert_same_at(&rt, &message, &left.status, &status);
         expect_left(&rt, alloc, &left, &expected, &message)?;
         expected.advance(alloc, step)?;
         match step {

@@ -1,6 +1,6 @@
 //! What no clause says: the lines of a device byte for byte, worked out by hand, that the card's line is
 //! read as a whole script, the cause of each refusal, and how a failed fetch ends.
-use assertions::assert_same;
+use assertions::{assert_same, assert_same_at};
 use lab_conf::describe_device;
 use lab_lines::{Script, Share};
 use lab_script::read_script;
@@ -69,7 +69,7 @@ fn devices_are_described_line_by_line(rt: HostRuntime) -> Result<(), Fail> {
     for (text, name, kind, card, bindings) in &DESCRIBED {
         let lines = format!(in alloc; "{kind}{card}{bindings}")?;
         match describe(alloc, ("c", name), text.as_bytes(), &[])? {
-            Ok(described) => assert_eq!(rt; described, lines, "{name}"),
+            Ok(described) => assert_same_at(&rt, &name, &described, &lines),
             Err(_) => return Err("the device was refused")?,
         }
         assert!(rt; read_script(alloc, card.as_bytes()).is_ok(), "{name}");
@@ -143,7 +143,7 @@ fn refusal(alloc: Global, text: &[u8]) -> Result<String, AllocError> {
 fn refused_configurations_are_named(rt: HostRuntime) -> Result<(), Fail> {
     for (text, why) in &REFUSED {
         let refused = refusal(rt.alloc(), text.as_bytes())?;
-        assert_eq!(rt; refused.as_str(), *why, "{text}");
+        assert_same_at(&rt, &text, &refused.as_str(), why);
     }
     Ok(())
 }

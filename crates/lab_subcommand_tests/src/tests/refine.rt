@@ -1,6 +1,6 @@
 //! What no clause says: answers byte for byte, worked out by hand, the cause of each refusal, and how
 //! a failed fetch ends.
-use assertions::assert_same;
+use assertions::{assert_same, assert_same_at};
 use lab_refine::refine_file;
 use lab_shelf::MemoryShelf;
 use lab_stop::Stop;
@@ -67,7 +67,7 @@ const ANSWERED: [(&str, &str); 6] = [
 fn texts_are_answered_line_by_line(rt: HostRuntime) -> Result<(), Fail> {
     for (text, answers) in &ANSWERED {
         match refine(rt.alloc(), "t", text, &[])? {
-            Ok(answered) => assert_eq!(rt; answered.as_str(), *answers, "{text}"),
+            Ok(answered) => assert_same_at(&rt, &text, &answered.as_str(), answers),
             Err(_) => return Err("the text was refused")?,
         }
     }
@@ -112,7 +112,7 @@ fn refused_lines_are_named(rt: HostRuntime) -> Result<(), Fail> {
     for (line, why) in &REFUSED {
         let text = format!(in alloc; "{SLAVE}{line}\nfoo\n")?;
         let named = format!(in alloc; "line 2: {why}")?;
-        assert_eq!(rt; refusal(alloc, &text)?, named, "{line}");
+        assert_same_at(&rt, &line, &refusal(alloc, &text)?, &named);
     }
     Ok(())
 }
@@ -194,7 +194,7 @@ const REFUSED_SLAVES: [(&str, &str); 25] = [
 #[test]
 fn refused_slaves_are_named(rt: HostRuntime) -> Result<(), Fail> {
     for (text, why) in &REFUSED_SLAVES {
-        assert_eq!(rt; refusal(rt.alloc(), text)?.as_str(), *why, "{text}");
+        assert_same_at(&rt, &text, &refusal(rt.alloc(), text)?.as_str(), why);
     }
     Ok(())
 }

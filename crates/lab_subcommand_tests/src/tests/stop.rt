@@ -1,6 +1,6 @@
 //! The line and the status of each stop, and pieces of files.
 use asound_conf::{ConfError, ConfWhy};
-use assertions::assert_same;
+use assertions::{assert_same, assert_same_at};
 use lab_script::{ScriptError, ScriptWhy};
 use lab_shelf::{MemoryShelf, MemorySink};
 use lab_stop::{Stop, fetch_most, status, tell, wav_stop};
@@ -50,7 +50,7 @@ fn each_stop_has_its_line_and_status(rt: HostRuntime) -> Result<(), Fail> {
     ]?;
     for (stop, text, number) in table {
         let end = Err(stop);
-        assert_eq!(rt; status(&end), number, "{text}");
+        assert_same_at(&rt, &text, &status(&end), &number);
         if let Err(stop) = end {
             let errors = line(alloc, stop, Vec::new(alloc));
             assert_same(&rt, &errors.bytes(), &text.as_bytes());
@@ -107,12 +107,13 @@ fn a_file_is_fetched_up_to_a_short_piece(rt: HostRuntime) -> Result<(), Fail> {
         (200_000, 1_000_000, 200_000, 4),
     ];
     for (bytes, most, count, fetches) in table {
-        assert_eq!(rt;
-            given(alloc, bytes, most, fetches + 1)?,
-            Some(count),
-            "{bytes} bytes"
+        assert_same_at(
+            &rt,
+            &bytes,
+            &(given(alloc, bytes, most, fetches + 1)?),
+            &Some(count),
         );
-        assert_eq!(rt; given(alloc, bytes, most, fetches)?, None, "{bytes} bytes");
+        assert_same_at(&rt, &bytes, &given(alloc, bytes, most, fetches)?, &None);
     }
     Ok(())
 }

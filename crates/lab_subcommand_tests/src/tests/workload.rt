@@ -1,5 +1,5 @@
 //! What no clause says: that a workload is done where there is memory, and how many calls it makes.
-use assertions::assert_same;
+use assertions::{assert_same, assert_same_at};
 use lab_make::read_workload;
 use lab_shelf::{MemoryShelf, MemorySink};
 use lab_workload::make_workload;
@@ -75,7 +75,7 @@ fn the_smallest_workload_makes_six_calls_of_the_shelf(rt: HostRuntime) -> Result
     for (failing, sizes) in table {
         let left = make(&rt, alloc, ["7", "1", "1"], (&[failing], &[]))?;
         assert!(rt; !left.is_done, "{failing}");
-        assert_eq!(rt; left.sizes(), sizes, "{failing}");
+        assert_same_at(&rt, &failing, &left.sizes(), &sizes);
         assert!(rt; left.out.bytes().is_empty(), "{failing}");
     }
     let left = make(&rt, alloc, ["7", "1", "1"], (&[7], &[2]))?;

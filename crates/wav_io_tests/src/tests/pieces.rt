@@ -3,7 +3,7 @@ ghost use Rattle.std.specs.Prelude.{◌<◌};
 ghost use Rattle.wav_io.specs.Reading.{wav_file, Reads};
 
 use super::{BEGIN, DATA, joined};
-use assertions::assert_same;
+use assertions::{assert_same, assert_same_at};
 use std::alloc::Global;
 use std::test::*;
 use wav_io::{RawReader, Samples, Wav, WavError, WavReader, read_wav};
@@ -108,7 +108,7 @@ fn bytes_of_other_depths_are_read(rt: HostRuntime) -> Result<(), Fail> {
         let mut body = Vec::new(alloc);
         assert!(rt; reader.head().is_none(), "no bytes came");
         for piece in file.chunks(3) {
-            assert_eq!(rt; reader.feed(piece, &mut body), Ok(()), "{bits} bits");
+            assert_same_at(&rt, &bits, &reader.feed(piece, &mut body), &Ok(()));
         }
         let head = reader.head().ok_or("the data began")?;
         assert_same(
@@ -116,7 +116,7 @@ fn bytes_of_other_depths_are_read(rt: HostRuntime) -> Result<(), Fail> {
             &(head.channels, head.rate, head.bits),
             &(1, 48_000, u16::from(bits)),
         );
-        assert_eq!(rt; body.as_slice(), &[1u8, 2, 3, 4, 5][..count], "{bits} bits");
+        assert_same_at(&rt, &bits, &body.as_slice(), &&[1u8, 2, 3, 4, 5][..count]);
         let head = reader.finish().ok().ok_or("the file is read")?;
         assert_same(&rt, &head.bits, &u16::from(bits));
     }
