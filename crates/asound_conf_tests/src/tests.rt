@@ -1,6 +1,5 @@
 //! Files as users have them, and the line of each refusal.
 use asound_conf::{device, print_device, read_conf};
-use assertions::assert_same;
 use std::alloc::Global;
 use std::test::Fail;
 
@@ -108,7 +107,7 @@ fn devices_are_read_from_files_as_users_have_them(rt: HostRuntime) -> Result<(),
     ];
     for (text, name, lines) in rows {
         let answer = read(rt.alloc(), text, name)?;
-        assert_same(&rt, &answer.as_str(), &lines);
+        assert!(rt; answer.as_str() == lines);
     }
     Ok(())
 }
@@ -149,7 +148,7 @@ fn each_cause_of_a_refused_text_has_its_line(rt: HostRuntime) -> Result<(), Fail
     ];
     for (text, lines) in rows {
         let answer = read(rt.alloc(), text, "x")?;
-        assert_same(&rt, &answer.as_str(), &lines);
+        assert!(rt; answer.as_str() == lines);
     }
     Ok(())
 }
@@ -193,7 +192,7 @@ fn each_cause_of_a_refused_device_is_told(rt: HostRuntime) -> Result<(), Fail> {
     ];
     for (text, lines) in rows {
         let answer = read(rt.alloc(), text, "x")?;
-        assert_same(&rt, &answer.as_str(), &lines);
+        assert!(rt; answer.as_str() == lines);
     }
     Ok(())
 }
@@ -205,6 +204,6 @@ fn a_text_of_more_than_a_mebibyte_is_too_long(rt: HostRuntime) -> Result<(), Fai
         text.push(b' ')?;
     }
     let answer = read(rt.alloc(), text.as_slice(), "x")?;
-    assert_same(&rt, &answer.as_str(), &"line 0: TooLong");
+    assert!(rt; answer.as_str() == "line 0: TooLong");
     Ok(())
 }

@@ -7,7 +7,6 @@ mod capturing;
 mod dice;
 mod mixing;
 
-use assertions::assert_same;
 use card_player::CardPlayer;
 use card_sim::{Card, Watch};
 use mix_core::{MixPort, NeverStops, Placed};
@@ -179,11 +178,7 @@ fn a_frame_is_stored_and_then_taken(rt: HostRuntime) -> Result<(), Fail> {
     if card.channels() != 1 {
         return Err("not mono".into());
     }
-    assert_same(
-        &rt,
-        &card.run_watched(&[7i16; 3], &mut out, &mut watch),
-        &Ok(()),
-    );
+    assert!(rt; card.run_watched(&[7i16; 3], &mut out, &mut watch) == Ok(()));
     let rows = [
         [1, 0, 0, 0],
         [1, 1, 0, 0],
@@ -196,7 +191,7 @@ fn a_frame_is_stored_and_then_taken(rt: HostRuntime) -> Result<(), Fail> {
         [3, 3, 3, 2],
         [3, 3, 3, 3],
     ];
-    assert_same(&rt, &watch.rows, &rows);
+    assert!(rt; watch.rows == rows);
     Ok(())
 }
 
@@ -207,19 +202,19 @@ fn captured_frames_are_stored_and_played_ones_taken(rt: HostRuntime) -> Result<(
     let (player, mut mix) = ring.seats();
     let (writer, mut reader) = snoop.seats();
     let mut card = new_card(CardPlayer::new(player, 16), writer, 16)?;
-    assert_same(&rt, &place(&mut mix, 19, 9)?, &Placed::In);
+    assert!(rt; place(&mut mix, 19, 9)? == Placed::In);
     let mut out = [1i16; 20];
-    assert_same(&rt, &run(&mut card, &[7i16; 20], &mut out)?, &Ok(()));
-    assert_same(&rt, &[out[0], out[18], out[19]], &[0, 0, 9]);
-    assert_same(&rt, &card.position(), &20);
-    assert_same(&rt, &mix.position(&mut NeverStops)?.frame, &20);
-    assert_same(&rt, &reader.position(&mut NeverStops)?.frame, &20);
-    assert_same(&rt, &load(&mut reader, 19)?, &(Loaded::Got, 7));
+    assert!(rt; run(&mut card, &[7i16; 20], &mut out)? == Ok(()));
+    assert!(rt; [out[0], out[18], out[19]] == [0, 0, 9]);
+    assert!(rt; card.position() == 20);
+    assert!(rt; mix.position(&mut NeverStops)?.frame == 20);
+    assert!(rt; reader.position(&mut NeverStops)?.frame == 20);
+    assert!(rt; load(&mut reader, 19)? == (Loaded::Got, 7));
     card.unplug();
     assert!(rt; mix.position(&mut NeverStops)?.gone);
     assert!(rt; reader.position(&mut NeverStops)?.gone);
     let (player, writer) = card.into_seats();
-    assert_same(&rt, &[player.next().frame, writer.next()], &[20, 20]);
+    assert!(rt; [player.next().frame, writer.next()] == [20, 20]);
     Ok(())
 }
 
@@ -232,18 +227,18 @@ fn a_card_that_does_not_record_plays_alone(rt: HostRuntime) -> Result<(), Fail> 
     let (writer, mut reader) = snoop.seats();
     let mut card = new_playback_card(CardPlayer::new(player, 5), writer, 16)?;
     assert!(rt; !card.records());
-    assert_same(&rt, &place(&mut mix, 19, 9)?, &Placed::In);
+    assert!(rt; place(&mut mix, 19, 9)? == Placed::In);
     let mut out = [1i16; 20];
-    assert_same(&rt, &run(&mut card, &[7i16; 20], &mut out)?, &Ok(()));
-    assert_same(&rt, &[out[0], out[18], out[19]], &[0, 0, 9]);
-    assert_same(&rt, &card.position(), &20);
-    assert_same(&rt, &mix.position(&mut NeverStops)?.frame, &20);
-    assert_same(&rt, &reader.position(&mut NeverStops)?.frame, &0);
+    assert!(rt; run(&mut card, &[7i16; 20], &mut out)? == Ok(()));
+    assert!(rt; [out[0], out[18], out[19]] == [0, 0, 9]);
+    assert!(rt; card.position() == 20);
+    assert!(rt; mix.position(&mut NeverStops)?.frame == 20);
+    assert!(rt; reader.position(&mut NeverStops)?.frame == 0);
     card.unplug();
     assert!(rt; mix.position(&mut NeverStops)?.gone);
     assert!(rt; reader.position(&mut NeverStops)?.gone);
     let (player, writer) = card.into_seats();
-    assert_same(&rt, &[player.next().frame, writer.next()], &[20, 0]);
+    assert!(rt; [player.next().frame, writer.next()] == [20, 0]);
     Ok(())
 }
 
@@ -256,15 +251,11 @@ fn the_frames_before_the_last_lap_are_run(rt: HostRuntime) -> Result<(), Fail> {
     let (writer, mut reader) = snoop.seats();
     let mut card = new_card(CardPlayer::new(player, 16), writer, 16)?;
     let mut out = [1i16; 100];
-    assert_same(
-        &rt,
-        &run(&mut card, &[5i16; 100], &mut out)?,
-        &Err(PcmError::LapEnd),
-    );
-    assert_same(&rt, &[out[63], out[64]], &[0, 1]);
+    assert!(rt; run(&mut card, &[5i16; 100], &mut out)? == Err(PcmError::LapEnd));
+    assert!(rt; [out[63], out[64]] == [0, 1]);
     let end = 4294967295 * 64;
-    assert_same(&rt, &card.position(), &end);
-    assert_same(&rt, &reader.position(&mut NeverStops)?.frame, &end);
-    assert_same(&rt, &(load(&mut reader, end - 1)?), &(Loaded::Got, 5));
+    assert!(rt; card.position() == end);
+    assert!(rt; reader.position(&mut NeverStops)?.frame == end);
+    assert!(rt; (load(&mut reader, end - 1)?) == (Loaded::Got, 5));
     Ok(())
 }

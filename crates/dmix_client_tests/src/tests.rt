@@ -3,7 +3,6 @@
 ghost use Rattle.std.specs.Prelude.{◌≡◌, []};
 ghost use Rattle.dmix_client.specs.Growth.{IsBacked};
 
-use assertions::{assert_same, assert_same_at};
 use bindings::Bindings;
 use dmix_client::Client;
 use hw_space::Config;
@@ -183,20 +182,20 @@ fn a_stream_that_runs_out_is_an_xrun(rt: HostRuntime) -> Result<(), Fail> {
     let (mut core, mut client) = opened(rt.alloc())?;
     let samples = [100; 64];
     let wrote = write(&rt, &mut core, &mut client, &samples);
-    assert_same(&rt, &wrote, &Ok(64));
-    assert_same(&rt, &client.state(), &State::Running);
+    assert!(rt; wrote == Ok(64));
+    assert!(rt; client.state() == State::Running);
     play(&mut core, 128, 1)?;
     let over = XrunWhy::Avail {
         avail: 256,
         seen: 128,
     };
     let synced = sync(&rt, &mut core, &mut client);
-    assert_same(&rt, &synced, &Err(PcmError::Xrun(over)));
+    assert!(rt; synced == Err(PcmError::Xrun(over)));
     let again = write(&rt, &mut core, &mut client, &samples[..1]);
-    assert_same(&rt, &again, &Err(PcmError::Xrun(XrunWhy::Already)));
-    assert_same(&rt, &client.prepare(), &Ok(()));
-    assert_same(&rt, &client.state(), &State::Prepared);
-    assert_same(&rt, &client.seen(), &Some(128));
+    assert!(rt; again == Err(PcmError::Xrun(XrunWhy::Already)));
+    assert!(rt; client.prepare() == Ok(()));
+    assert!(rt; client.state() == State::Prepared);
+    assert!(rt; client.seen() == Some(128));
     Ok(())
 }
 
@@ -212,12 +211,12 @@ fn a_call_that_is_stopped_lays_nothing_more(rt: HostRuntime) -> Result<(), Fail>
         };
         let samples = [100; 64];
         let wrote = write_by(&rt, &mut core, &mut client, &mut gate, &samples);
-        assert_same(&rt, &wrote, &Err(PcmError::Stopped));
+        assert!(rt; wrote == Err(PcmError::Stopped));
         assert!(rt; client.is_stopped());
         let laid = passed.saturating_sub(1) / 2;
-        assert_same(&rt, &client.segment().whole, &u64::from(laid));
-        assert_same(&rt, &client.fed(), &0);
-        assert_same(&rt, &heard(&mut core, 256), &Ok(laid));
+        assert!(rt; client.segment().whole == u64::from(laid));
+        assert!(rt; client.fed() == 0);
+        assert!(rt; heard(&mut core, 256) == Ok(laid));
     }
     Ok(())
 }
@@ -228,29 +227,29 @@ fn a_stream_restarts_behind_what_it_laid(rt: HostRuntime) -> Result<(), Fail> {
     let (mut core, mut client) = opened(rt.alloc())?;
     let samples = [7; 256];
     let first = write(&rt, &mut core, &mut client, &samples);
-    assert_same(&rt, &first, &Ok(256));
-    assert_same(&rt, &client.drop_pending(), &Ok(()));
+    assert!(rt; first == Ok(256));
+    assert!(rt; client.drop_pending() == Ok(()));
     let laid = Segment {
         source: 0,
         card: 64,
         whole: 192,
         part: 0,
     };
-    assert_same(&rt, &client.segment(), &laid);
-    assert_same(&rt, &client.prepare(), &Ok(()));
+    assert!(rt; client.segment() == laid);
+    assert!(rt; client.prepare() == Ok(()));
     let second = write(&rt, &mut core, &mut client, &samples);
-    assert_same(&rt, &second, &Ok(256));
+    assert!(rt; second == Ok(256));
     play(&mut core, 256, 1)?;
     let synced = sync(&rt, &mut core, &mut client);
-    assert_same(&rt, &synced, &Ok(()));
+    assert!(rt; synced == Ok(()));
     let behind = Segment {
         source: 256,
         card: 256,
         whole: 256,
         part: 0,
     };
-    assert_same(&rt, &client.segment(), &behind);
-    assert_same(&rt, &client.fed(), &512);
+    assert!(rt; client.segment() == behind);
+    assert!(rt; client.fed() == 512);
     Ok(())
 }
 
@@ -263,35 +262,35 @@ fn a_late_write_accepts_nothing(rt: HostRuntime) -> Result<(), Fail> {
         stop_threshold: 4611686018427387904,
         avail_min: 64,
     };
-    assert_same(&rt, &client.sw_params(never), &Ok(()));
+    assert!(rt; client.sw_params(never) == Ok(()));
     let samples = [5; 64];
     let first = write(&rt, &mut core, &mut client, &samples);
-    assert_same(&rt, &first, &Ok(64));
+    assert!(rt; first == Ok(64));
     play(&mut core, 192, 1)?;
     let late = write(&rt, &mut core, &mut client, &samples);
     match late {
         Err(PcmError::Xrun(XrunWhy::Late { frame, channel, .. })) => {
-            assert_same(&rt, &frame, &128);
-            assert_same(&rt, &channel, &0);
+            assert!(rt; frame == 128);
+            assert!(rt; channel == 0);
         }
-        other => assert_same_at(&rt, &"not late", &other, &Ok(0)),
+        other => assert!(rt; other == Ok(0), "not late"),
     }
-    assert_same(&rt, &client.state(), &State::Xrun);
-    assert_same(&rt, &client.fed(), &64);
-    assert_same(&rt, &client.prepare(), &Ok(()));
+    assert!(rt; client.state() == State::Xrun);
+    assert!(rt; client.fed() == 64);
+    assert!(rt; client.prepare() == Ok(()));
     let again = write(&rt, &mut core, &mut client, &samples);
-    assert_same(&rt, &again, &Ok(64));
+    assert!(rt; again == Ok(64));
     let avail = avail_update(&rt, &mut core, &mut client);
-    assert_same(&rt, &avail, &Ok(192));
+    assert!(rt; avail == Ok(192));
     let delay = delay(&rt, &mut core, &mut client);
-    assert_same(&rt, &delay, &Ok(128));
+    assert!(rt; delay == Ok(128));
     let laid = Segment {
         source: 64,
         card: 256,
         whole: 64,
         part: 0,
     };
-    assert_same(&rt, &client.segment(), &laid);
+    assert!(rt; client.segment() == laid);
     Ok(())
 }
 
@@ -301,17 +300,17 @@ fn a_drain_is_done_once_all_is_played(rt: HostRuntime) -> Result<(), Fail> {
     let (mut core, mut client) = opened(rt.alloc())?;
     let samples = [3; 256];
     let full = write(&rt, &mut core, &mut client, &samples);
-    assert_same(&rt, &full, &Ok(256));
+    assert!(rt; full == Ok(256));
     play(&mut core, 64, 1)?;
     let none = write(&rt, &mut core, &mut client, &samples[..64]);
-    assert_same(&rt, &none, &Err(PcmError::Again));
+    assert!(rt; none == Err(PcmError::Again));
     let waits = drain(&rt, &mut core, &mut client);
-    assert_same(&rt, &waits, &Err(PcmError::Again));
-    assert_same(&rt, &client.state(), &State::Draining);
+    assert!(rt; waits == Err(PcmError::Again));
+    assert!(rt; client.state() == State::Draining);
     play(&mut core, 256, 1)?;
     let done = drain(&rt, &mut core, &mut client);
-    assert_same(&rt, &done, &Ok(()));
-    assert_same(&rt, &client.state(), &State::Setup);
+    assert!(rt; done == Ok(()));
+    assert!(rt; client.state() == State::Setup);
     Ok(())
 }
 
@@ -332,9 +331,9 @@ fn exchanged_channels_are_exchanged(rt: HostRuntime) -> Result<(), Fail> {
     let exchanged = Bindings::read(&[1, 0], 2).ok().ok_or("bindings")?;
     client.hw_params(rt.alloc(), config, exchanged)?;
     let wrote = write(&rt, &mut core, &mut client, &[10, 20]);
-    assert_same(&rt, &wrote, &Ok(1));
-    assert_same(&rt, &core.take()?.value, &20);
-    assert_same(&rt, &core.take()?.value, &10);
+    assert!(rt; wrote == Ok(1));
+    assert!(rt; core.take()?.value == 20);
+    assert!(rt; core.take()?.value == 10);
     Ok(())
 }
 
@@ -355,33 +354,33 @@ fn a_resume_begins_a_segment_with_what_is_pending(rt: HostRuntime) -> Result<(),
     let mut samples = [0; 256];
     ramp(&mut samples);
     let wrote = write(&rt, &mut core, &mut client, &samples);
-    assert_same(&rt, &wrote, &Ok(256));
+    assert!(rt; wrote == Ok(256));
     let paused = pause(&rt, &mut core, &mut client, true);
-    assert_same(&rt, &paused, &Ok(()));
-    assert_same(&rt, &client.state(), &State::Paused);
+    assert!(rt; paused == Ok(()));
+    assert!(rt; client.state() == State::Paused);
     let synced = sync(&rt, &mut core, &mut client);
-    assert_same(&rt, &synced, &Ok(()));
-    assert_same(&rt, &heard(&mut core, 256), &Ok(192));
+    assert!(rt; synced == Ok(()));
+    assert!(rt; heard(&mut core, 256) == Ok(192));
     core.publish();
     let avail = avail_update(&rt, &mut core, &mut client);
-    assert_same(&rt, &avail, &Ok(0));
+    assert!(rt; avail == Ok(0));
     let left = delay(&rt, &mut core, &mut client);
-    assert_same(&rt, &left, &Ok(320));
+    assert!(rt; left == Ok(320));
     let resumed = pause(&rt, &mut core, &mut client, false);
-    assert_same(&rt, &resumed, &Ok(()));
-    assert_same(&rt, &client.state(), &State::Running);
-    assert_same(&rt, &client.seen(), &Some(256));
+    assert!(rt; resumed == Ok(()));
+    assert!(rt; client.state() == State::Running);
+    assert!(rt; client.seen() == Some(256));
     let laid = Segment {
         source: 192,
         card: 320,
         whole: 64,
         part: 0,
     };
-    assert_same(&rt, &client.segment(), &laid);
-    assert_same(&rt, &client.fed(), &256);
-    assert_same(&rt, &heard(&mut core, 64), &Ok(0));
-    assert_same(&rt, &core.take()?.value, &193);
-    assert_same(&rt, &heard(&mut core, 191), &Ok(63));
+    assert!(rt; client.segment() == laid);
+    assert!(rt; client.fed() == 256);
+    assert!(rt; heard(&mut core, 64) == Ok(0));
+    assert!(rt; core.take()?.value == 193);
+    assert!(rt; heard(&mut core, 191) == Ok(63));
     Ok(())
 }
 
@@ -390,26 +389,26 @@ fn a_resume_begins_a_segment_with_what_is_pending(rt: HostRuntime) -> Result<(),
 fn a_resume_without_pending_frames_is_a_prepare(rt: HostRuntime) -> Result<(), Fail> {
     let (mut core, mut client) = opened(rt.alloc())?;
     let early = pause(&rt, &mut core, &mut client, true);
-    assert_same(&rt, &early, &Err(PcmError::BadState));
+    assert!(rt; early == Err(PcmError::BadState));
     let samples = [100; 64];
     let wrote = write(&rt, &mut core, &mut client, &samples);
-    assert_same(&rt, &wrote, &Ok(64));
+    assert!(rt; wrote == Ok(64));
     let none = write(&rt, &mut core, &mut client, &samples[..0]);
-    assert_same(&rt, &none, &Ok(0));
+    assert!(rt; none == Ok(0));
     let paused = pause(&rt, &mut core, &mut client, true);
-    assert_same(&rt, &paused, &Ok(()));
+    assert!(rt; paused == Ok(()));
     let refused = write(&rt, &mut core, &mut client, &samples);
-    assert_same(&rt, &refused, &Err(PcmError::BadState));
+    assert!(rt; refused == Err(PcmError::BadState));
     let resumed = pause(&rt, &mut core, &mut client, false);
-    assert_same(&rt, &resumed, &Ok(()));
-    assert_same(&rt, &client.state(), &State::Prepared);
+    assert!(rt; resumed == Ok(()));
+    assert!(rt; client.state() == State::Prepared);
     let nothing = Segment {
         source: 64,
         card: 0,
         whole: 0,
         part: 0,
     };
-    assert_same(&rt, &client.segment(), &nothing);
+    assert!(rt; client.segment() == nothing);
     Ok(())
 }
 
@@ -419,19 +418,19 @@ fn a_resume_that_is_stopped_changes_no_count(rt: HostRuntime) -> Result<(), Fail
     let (mut core, mut client) = opened(rt.alloc())?;
     let samples = [100; 256];
     let wrote = write(&rt, &mut core, &mut client, &samples);
-    assert_same(&rt, &wrote, &Ok(256));
+    assert!(rt; wrote == Ok(256));
     let paused = pause(&rt, &mut core, &mut client, true);
-    assert_same(&rt, &paused, &Ok(()));
+    assert!(rt; paused == Ok(()));
     let before = client.segment();
     let mut gate = StopsOnce {
         left: 0,
         stopped: false,
     };
     let stopped = pause_by(&rt, &mut core, &mut client, &mut gate, false);
-    assert_same(&rt, &stopped, &Err(PcmError::Stopped));
-    assert_same(&rt, &client.state(), &State::Paused);
-    assert_same(&rt, &client.segment(), &before);
-    assert_same(&rt, &client.fed(), &256);
+    assert!(rt; stopped == Err(PcmError::Stopped));
+    assert!(rt; client.state() == State::Paused);
+    assert!(rt; client.segment() == before);
+    assert!(rt; client.fed() == 256);
     Ok(())
 }
 
@@ -523,7 +522,7 @@ fn take_back<G: Gate>(
 /// The next frames that the card takes are these.
 fn takes(rt: &impl Abort, core: &mut Core, expected: &[i16]) -> Result<(), PcmError> {
     for value in expected {
-        assert_same(&rt, &core.take()?.value, value);
+        assert!(rt; core.take()?.value == *value);
     }
     Ok(())
 }
@@ -534,17 +533,17 @@ fn a_rewind_leaves_the_first_half(rt: HostRuntime) -> Result<(), Fail> {
     let mut samples = [0; 64];
     ramp(&mut samples);
     let mut taken = take_back(&rt, rt.alloc(), &mut NeverStops, &samples, 32, None)?;
-    assert_same(&rt, &taken.answer, &Ok(32));
-    assert_same(&rt, &taken.client.state(), &State::Running);
-    assert_same(&rt, &taken.client.seen(), &Some(0));
+    assert!(rt; taken.answer == Ok(32));
+    assert!(rt; taken.client.state() == State::Running);
+    assert!(rt; taken.client.seen() == Some(0));
     let laid = Segment {
         source: 0,
         card: 64,
         whole: 32,
         part: 0,
     };
-    assert_same(&rt, &taken.client.segment(), &laid);
-    assert_same(&rt, &taken.client.fed(), &32);
+    assert!(rt; taken.client.segment() == laid);
+    assert!(rt; taken.client.fed() == 32);
     takes(&rt, &mut taken.core, &[0; 64])?;
     let mut left = [0; 32];
     ramp(&mut left);
@@ -562,8 +561,8 @@ fn a_rewind_that_is_stopped_leaves_the_rest(rt: HostRuntime) -> Result<(), Fail>
         stopped: false,
     };
     let mut taken = take_back(&rt, rt.alloc(), &mut gate, &samples, 32, None)?;
-    assert_same(&rt, &taken.answer, &Err(PcmError::Stopped));
-    assert_same(&rt, &taken.client.state(), &State::Running);
+    assert!(rt; taken.answer == Err(PcmError::Stopped));
+    assert!(rt; taken.client.state() == State::Running);
     assert!(rt; taken.client.is_stopped());
     let laid = Segment {
         source: 0,
@@ -571,9 +570,9 @@ fn a_rewind_that_is_stopped_leaves_the_rest(rt: HostRuntime) -> Result<(), Fail>
         whole: 63,
         part: 0,
     };
-    assert_same(&rt, &taken.client.segment(), &laid);
-    assert_same(&rt, &taken.client.fed(), &63);
-    assert_same(&rt, &heard(&mut taken.core, 256), &Ok(63));
+    assert!(rt; taken.client.segment() == laid);
+    assert!(rt; taken.client.fed() == 63);
+    assert!(rt; heard(&mut taken.core, 256) == Ok(63));
     Ok(())
 }
 
@@ -584,17 +583,17 @@ fn frames_that_were_taken_back_once_stay(rt: HostRuntime) -> Result<(), Fail> {
     let mut samples = [0; 64];
     ramp(&mut samples);
     let mut taken = take_back(&rt, rt.alloc(), &mut NeverStops, &samples, 32, Some(1))?;
-    assert_same(&rt, &taken.answer, &Ok(0));
+    assert!(rt; taken.answer == Ok(0));
     let more = rewindable(&rt, &mut taken.core, &mut taken.client);
-    assert_same(&rt, &more, &Ok(0));
+    assert!(rt; more == Ok(0));
     let laid = Segment {
         source: 0,
         card: 64,
         whole: 64,
         part: 0,
     };
-    assert_same(&rt, &taken.client.segment(), &laid);
-    assert_same(&rt, &taken.client.fed(), &64);
+    assert!(rt; taken.client.segment() == laid);
+    assert!(rt; taken.client.fed() == 64);
     takes(&rt, &mut taken.core, &[0; 64])?;
     takes(&rt, &mut taken.core, &samples)?;
     takes(&rt, &mut taken.core, &[0; 128])?;
@@ -606,22 +605,18 @@ fn frames_that_were_taken_back_once_stay(rt: HostRuntime) -> Result<(), Fail> {
 fn an_empty_client_is_not_started(rt: HostRuntime) -> Result<(), Fail> {
     let mut core = Core::new(rt.alloc(), RING, 1)?;
     let mut client = Client::new(rt.alloc(), RING, 0, 64);
-    assert_same(&rt, &client.prepare(), &Err(PcmError::BadState));
-    assert_same(
-        &rt,
-        &pause(&rt, &mut core, &mut client, true),
-        &Err(PcmError::BadState),
-    );
+    assert!(rt; client.prepare() == Err(PcmError::BadState));
+    assert!(rt; pause(&rt, &mut core, &mut client, true) == Err(PcmError::BadState));
     client.hw_params(rt.alloc(), MONO, Bindings::identity(1))?;
-    assert_same(&rt, &client.config(), &Some(MONO));
+    assert!(rt; client.config() == Some(MONO));
     let started = start(&rt, &mut core, &mut client);
-    assert_same(&rt, &started, &Err(PcmError::Xrun(XrunWhy::Empty)));
-    assert_same(&rt, &client.seen(), &None);
+    assert!(rt; started == Err(PcmError::Xrun(XrunWhy::Empty)));
+    assert!(rt; client.seen() == None);
     let drained = drain(&rt, &mut core, &mut client);
-    assert_same(&rt, &drained, &Ok(()));
-    assert_same(&rt, &client.state(), &State::Setup);
-    assert_same(&rt, &client.hw_free(), &Ok(()));
-    assert_same(&rt, &client.state(), &State::Open);
-    assert_same(&rt, &client.is_stopped(), &false);
+    assert!(rt; drained == Ok(()));
+    assert!(rt; client.state() == State::Setup);
+    assert!(rt; client.hw_free() == Ok(()));
+    assert!(rt; client.state() == State::Open);
+    assert!(rt; client.is_stopped() == false);
     Ok(())
 }

@@ -1,6 +1,5 @@
 //! Calls of a reader at a core.
 
-use assertions::assert_same;
 use bindings::Bindings;
 use dsnoop_client::Reader;
 use hw_space::Config;
@@ -150,9 +149,9 @@ fn count_up_from(samples: &[i16], frames: usize, first: i16) -> bool {
 fn a_reader_that_waits_too_long_is_an_xrun(rt: HostRuntime) -> Result<(), Fail> {
     let (mut core, mut reader) = opened(&rt, rt.alloc())?;
     let mut out = [0; 64];
-    assert_same(&rt, &start(&rt, &mut core, &mut reader), &Ok(()));
+    assert!(rt; start(&rt, &mut core, &mut reader) == Ok(()));
     capture(&rt, &mut core, 0, 64)?;
-    assert_same(&rt, &read(&rt, &mut core, &mut reader, &mut out), &Ok(64));
+    assert!(rt; read(&rt, &mut core, &mut reader, &mut out) == Ok(64));
     assert!(rt; count_up_from(&out, 64, 0));
     capture(&rt, &mut core, 64, 320)?;
     let over = XrunWhy::Avail {
@@ -160,21 +159,17 @@ fn a_reader_that_waits_too_long_is_an_xrun(rt: HostRuntime) -> Result<(), Fail> 
         seen: 384,
     };
     let late = read(&rt, &mut core, &mut reader, &mut out);
-    assert_same(&rt, &late, &Err(PcmError::Xrun(over)));
-    assert_same(&rt, &reader.state(), &State::Xrun);
+    assert!(rt; late == Err(PcmError::Xrun(over)));
+    assert!(rt; reader.state() == State::Xrun);
     let again = sync(&rt, &mut core, &mut reader);
-    assert_same(&rt, &again, &Err(PcmError::Xrun(XrunWhy::Already)));
-    assert_same(&rt, &reader.prepare(), &Ok(()));
-    assert_same(
-        &rt,
-        &read(&rt, &mut core, &mut reader, &mut out),
-        &Err(PcmError::Again),
-    );
-    assert_same(&rt, &reader.state(), &State::Running);
+    assert!(rt; again == Err(PcmError::Xrun(XrunWhy::Already)));
+    assert!(rt; reader.prepare() == Ok(()));
+    assert!(rt; read(&rt, &mut core, &mut reader, &mut out) == Err(PcmError::Again));
+    assert!(rt; reader.state() == State::Running);
     capture(&rt, &mut core, 384, 64)?;
-    assert_same(&rt, &read(&rt, &mut core, &mut reader, &mut out), &Ok(64));
+    assert!(rt; read(&rt, &mut core, &mut reader, &mut out) == Ok(64));
     assert!(rt; count_up_from(&out, 64, 384));
-    assert_same(&rt, &reader.seen(), &Some(448));
+    assert!(rt; reader.seen() == Some(448));
     Ok(())
 }
 
@@ -183,25 +178,17 @@ fn a_reader_that_waits_too_long_is_an_xrun(rt: HostRuntime) -> Result<(), Fail> 
 fn a_reader_restarts_at_the_position(rt: HostRuntime) -> Result<(), Fail> {
     let (mut core, mut reader) = opened(&rt, rt.alloc())?;
     let mut out = [0; 64];
-    assert_same(&rt, &start(&rt, &mut core, &mut reader), &Ok(()));
+    assert!(rt; start(&rt, &mut core, &mut reader) == Ok(()));
     capture(&rt, &mut core, 0, 64)?;
-    assert_same(
-        &rt,
-        &read_frames(&rt, &mut core, &mut reader, &mut out, 32),
-        &Ok(32),
-    );
-    assert_same(&rt, &reader.drop_pending(), &Ok(()));
-    assert_same(&rt, &reader.state(), &State::Setup);
-    assert_same(&rt, &reader.prepare(), &Ok(()));
-    assert_same(&rt, &start(&rt, &mut core, &mut reader), &Ok(()));
-    assert_same(
-        &rt,
-        &read_frames(&rt, &mut core, &mut reader, &mut out, 1),
-        &Err(PcmError::Again),
-    );
+    assert!(rt; read_frames(&rt, &mut core, &mut reader, &mut out, 32) == Ok(32));
+    assert!(rt; reader.drop_pending() == Ok(()));
+    assert!(rt; reader.state() == State::Setup);
+    assert!(rt; reader.prepare() == Ok(()));
+    assert!(rt; start(&rt, &mut core, &mut reader) == Ok(()));
+    assert!(rt; read_frames(&rt, &mut core, &mut reader, &mut out, 1) == Err(PcmError::Again));
     capture(&rt, &mut core, 64, 16)?;
-    assert_same(&rt, &avail_update(&rt, &mut core, &mut reader), &Ok(16));
-    assert_same(&rt, &read(&rt, &mut core, &mut reader, &mut out), &Ok(16));
+    assert!(rt; avail_update(&rt, &mut core, &mut reader) == Ok(16));
+    assert!(rt; read(&rt, &mut core, &mut reader, &mut out) == Ok(16));
     assert!(rt; count_up_from(&out, 16, 64));
     Ok(())
 }
@@ -212,13 +199,13 @@ fn a_reader_restarts_at_the_position(rt: HostRuntime) -> Result<(), Fail> {
 fn a_late_reader_misses_a_frame(rt: HostRuntime) -> Result<(), Fail> {
     for (waits, missed) in [(256i16, false), (257, true), (300, true), (512, true)] {
         let (mut core, mut reader) = opened(&rt, rt.alloc())?;
-        assert_same(&rt, &reader.sw_params(NEVER_OVER), &Ok(()));
-        assert_same(&rt, &start(&rt, &mut core, &mut reader), &Ok(()));
+        assert!(rt; reader.sw_params(NEVER_OVER) == Ok(()));
+        assert!(rt; start(&rt, &mut core, &mut reader) == Ok(()));
         capture(&rt, &mut core, 0, waits)?;
         let mut out = [0; 32];
         let answer = read(&rt, &mut core, &mut reader, &mut out);
         if !missed {
-            assert_same(&rt, &answer, &Ok(32));
+            assert!(rt; answer == Ok(32));
             assert!(rt; count_up_from(&out, 32, 0));
             continue;
         }
@@ -228,11 +215,11 @@ fn a_late_reader_misses_a_frame(rt: HostRuntime) -> Result<(), Fail> {
             channel: 0,
             seen: laps * 4294967296 + sample + 32768,
         };
-        assert_same(&rt, &answer, &Err(PcmError::Xrun(why)));
-        assert_same(&rt, &reader.state(), &State::Xrun);
-        assert_same(&rt, &reader.prepare(), &Ok(()));
+        assert!(rt; answer == Err(PcmError::Xrun(why)));
+        assert!(rt; reader.state() == State::Xrun);
+        assert!(rt; reader.prepare() == Ok(()));
         let next = read(&rt, &mut core, &mut reader, &mut out);
-        assert_same(&rt, &next, &Err(PcmError::Again));
+        assert!(rt; next == Err(PcmError::Again));
     }
     Ok(())
 }
@@ -285,7 +272,7 @@ fn a_read_that_is_stopped_asks_nothing_more(rt: HostRuntime) -> Result<(), Fail>
         let mut core = SnoopCore::new(rt.alloc(), stereo)?;
         let mut reader = Reader::new(rt.alloc(), stereo);
         configure(&rt, rt.alloc(), &mut reader, config, Bindings::identity(2))?;
-        assert_same(&rt, &start(&rt, &mut core, &mut reader), &Ok(()));
+        assert!(rt; start(&rt, &mut core, &mut reader) == Ok(()));
         capture(&rt, &mut core, 0, 3)?;
         let mut gate = StopsOnce {
             left: passed,
@@ -295,18 +282,18 @@ fn a_read_that_is_stopped_asks_nothing_more(rt: HostRuntime) -> Result<(), Fail>
         let mut out = [0; 6];
         let answer = read_by(&rt, &mut core, &mut reader, &mut gate, &mut out);
         if passed == 7 {
-            assert_same(&rt, &answer, &Ok(3));
-            assert_same(&rt, &gate.asks, &7);
-            assert_same(&rt, &out, &[0, 1, 10, 11, 20, 21]);
+            assert!(rt; answer == Ok(3));
+            assert!(rt; gate.asks == 7);
+            assert!(rt; out == [0, 1, 10, 11, 20, 21]);
             continue;
         }
-        assert_same(&rt, &answer, &Err(PcmError::Stopped));
-        assert_same(&rt, &gate.asks, &passed.wrapping_add(1));
+        assert!(rt; answer == Err(PcmError::Stopped));
+        assert!(rt; gate.asks == passed.wrapping_add(1));
         assert!(rt; reader.is_stopped());
         let seen = if passed == 0 { 0 } else { 3 };
-        assert_same(&rt, &reader.seen(), &Some(seen));
-        assert_same(&rt, &reader.prepare(), &Err(PcmError::Stopped));
-        assert_same(&rt, &reader.pause(true), &Err(PcmError::NotSupported));
+        assert!(rt; reader.seen() == Some(seen));
+        assert!(rt; reader.prepare() == Err(PcmError::Stopped));
+        assert!(rt; reader.pause(true) == Err(PcmError::NotSupported));
     }
     Ok(())
 }
@@ -319,38 +306,22 @@ fn a_read_starts_at_its_threshold(rt: HostRuntime) -> Result<(), Fail> {
         start_threshold: 8,
         ..NEVER_OVER
     };
-    assert_same(&rt, &reader.sw_params(from_eight), &Ok(()));
+    assert!(rt; reader.sw_params(from_eight) == Ok(()));
     capture(&rt, &mut core, 0, 100)?;
     let mut out = [0; 16];
-    assert_same(
-        &rt,
-        &read_frames(&rt, &mut core, &mut reader, &mut out, 7),
-        &Err(PcmError::Again),
-    );
-    assert_same(
-        &rt,
-        &read_frames(&rt, &mut core, &mut reader, &mut out, 0),
-        &Ok(0),
-    );
-    assert_same(&rt, &avail_update(&rt, &mut core, &mut reader), &Ok(0));
-    assert_same(&rt, &sync(&rt, &mut core, &mut reader), &Ok(()));
-    assert_same(&rt, &reader.seen(), &None);
-    assert_same(
-        &rt,
-        &read_frames(&rt, &mut core, &mut reader, &mut out, 8),
-        &Err(PcmError::Again),
-    );
-    assert_same(&rt, &reader.state(), &State::Running);
-    assert_same(&rt, &reader.seen(), &Some(100));
+    assert!(rt; read_frames(&rt, &mut core, &mut reader, &mut out, 7) == Err(PcmError::Again));
+    assert!(rt; read_frames(&rt, &mut core, &mut reader, &mut out, 0) == Ok(0));
+    assert!(rt; avail_update(&rt, &mut core, &mut reader) == Ok(0));
+    assert!(rt; sync(&rt, &mut core, &mut reader) == Ok(()));
+    assert!(rt; reader.seen() == None);
+    assert!(rt; read_frames(&rt, &mut core, &mut reader, &mut out, 8) == Err(PcmError::Again));
+    assert!(rt; reader.state() == State::Running);
+    assert!(rt; reader.seen() == Some(100));
     capture(&rt, &mut core, 100, 8)?;
-    assert_same(
-        &rt,
-        &read_frames(&rt, &mut core, &mut reader, &mut out, 0),
-        &Ok(0),
-    );
-    assert_same(&rt, &read(&rt, &mut core, &mut reader, &mut out), &Ok(8));
+    assert!(rt; read_frames(&rt, &mut core, &mut reader, &mut out, 0) == Ok(0));
+    assert!(rt; read(&rt, &mut core, &mut reader, &mut out) == Ok(8));
     assert!(rt; count_up_from(&out, 8, 100));
-    assert_same(&rt, &out[8], &0);
+    assert!(rt; out[8] == 0);
     Ok(())
 }
 
@@ -358,26 +329,18 @@ fn a_read_starts_at_its_threshold(rt: HostRuntime) -> Result<(), Fail> {
 #[test]
 fn an_unplugged_card_disconnects_its_readers(rt: HostRuntime) -> Result<(), Fail> {
     let (mut core, mut reader) = opened(&rt, rt.alloc())?;
-    assert_same(&rt, &start(&rt, &mut core, &mut reader), &Ok(()));
+    assert!(rt; start(&rt, &mut core, &mut reader) == Ok(()));
     capture(&rt, &mut core, 0, 10)?;
     core.unplug();
     let mut out = [0; 4];
-    assert_same(
-        &rt,
-        &read(&rt, &mut core, &mut reader, &mut out),
-        &Err(PcmError::NoDevice),
-    );
-    assert_same(&rt, &reader.state(), &State::Disconnected);
-    assert_same(&rt, &reader.seen(), &Some(10));
-    assert_same(&rt, &reader.prepare(), &Err(PcmError::NoDevice));
+    assert!(rt; read(&rt, &mut core, &mut reader, &mut out) == Err(PcmError::NoDevice));
+    assert!(rt; reader.state() == State::Disconnected);
+    assert!(rt; reader.seen() == Some(10));
+    assert!(rt; reader.prepare() == Err(PcmError::NoDevice));
     let mut other = Reader::new(rt.alloc(), RING);
     configure(&rt, rt.alloc(), &mut other, MONO, Bindings::identity(1))?;
-    assert_same(
-        &rt,
-        &start(&rt, &mut core, &mut other),
-        &Err(PcmError::NoDevice),
-    );
-    assert_same(&rt, &other.state(), &State::Disconnected);
+    assert!(rt; start(&rt, &mut core, &mut other) == Err(PcmError::NoDevice));
+    assert!(rt; other.state() == State::Disconnected);
     Ok(())
 }
 
@@ -397,12 +360,12 @@ fn bindings_leave_channels_out(rt: HostRuntime) -> Result<(), Fail> {
     let mut reader = Reader::new(rt.alloc(), card);
     let bindings = Bindings::read(&[2, 0], 3).ok().ok_or("bindings")?;
     configure(&rt, rt.alloc(), &mut reader, config, bindings)?;
-    assert_same(&rt, &start(&rt, &mut core, &mut reader), &Ok(()));
+    assert!(rt; start(&rt, &mut core, &mut reader) == Ok(()));
     capture(&rt, &mut core, 0, 2)?;
     let mut out = [-1; 6];
     assert!(rt; !reader.can_read(&[0; 5]));
-    assert_same(&rt, &read(&rt, &mut core, &mut reader, &mut out), &Ok(2));
-    assert_same(&rt, &out, &[2, 0, 12, 10, -1, -1]);
+    assert!(rt; read(&rt, &mut core, &mut reader, &mut out) == Ok(2));
+    assert!(rt; out == [2, 0, 12, 10, -1, -1]);
     Ok(())
 }
 
@@ -411,29 +374,21 @@ fn bindings_leave_channels_out(rt: HostRuntime) -> Result<(), Fail> {
 fn a_reader_is_configured_and_freed(rt: HostRuntime) -> Result<(), Fail> {
     let mut core = SnoopCore::new(rt.alloc(), RING)?;
     let mut reader = Reader::new(rt.alloc(), RING);
-    assert_same(&rt, &reader.state(), &State::Open);
-    assert_same(&rt, &reader.config(), &None);
-    assert_same(
-        &rt,
-        &start(&rt, &mut core, &mut reader),
-        &Err(PcmError::BadState),
-    );
+    assert!(rt; reader.state() == State::Open);
+    assert!(rt; reader.config() == None);
+    assert!(rt; start(&rt, &mut core, &mut reader) == Err(PcmError::BadState));
     let mut out = [0; 1];
-    assert_same(
-        &rt,
-        &read(&rt, &mut core, &mut reader, &mut out),
-        &Err(PcmError::BadState),
-    );
+    assert!(rt; read(&rt, &mut core, &mut reader, &mut out) == Err(PcmError::BadState));
     configure(&rt, rt.alloc(), &mut reader, MONO, Bindings::identity(1))?;
-    assert_same(&rt, &reader.config(), &Some(MONO));
+    assert!(rt; reader.config() == Some(MONO));
     let invalid = SwParams {
         avail_min: 0,
         ..NEVER_OVER
     };
     let answer = reader.sw_params(invalid);
-    assert_same(&rt, &answer, &Err(PcmError::Invalid(Why::AvailMinZero)));
-    assert_same(&rt, &reader.hw_free(), &Ok(()));
-    assert_same(&rt, &reader.state(), &State::Open);
-    assert_same(&rt, &reader.config(), &None);
+    assert!(rt; answer == Err(PcmError::Invalid(Why::AvailMinZero)));
+    assert!(rt; reader.hw_free() == Ok(()));
+    assert!(rt; reader.state() == State::Open);
+    assert!(rt; reader.config() == None);
     Ok(())
 }

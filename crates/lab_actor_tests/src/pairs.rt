@@ -1,7 +1,6 @@
 //! Calls on each item of a list, in threads.
 ghost use Rattle.std.specs.Prelude.{◌≡◌, ◌<◌, ◌≤◌, ℕ, length, slice_index};
 
-use assertions::assert_same;
 use lab_actors::for_each_pair;
 use std::thread::Threads;
 
@@ -31,8 +30,8 @@ fn each_item_meets_the_gate_of_its_number(rt: HostRuntime) {
     let mut items = [0, 0, 0, 0, 0];
     let mut gates = [10, 20, 30, 40, 50, 60];
     take_each(&rt, &mut items, &mut gates);
-    assert_same(&rt, &items, &[10, 20, 30, 40, 50]);
-    assert_same(&rt, &gates, &[0, 1, 2, 3, 4, 60]);
+    assert!(rt; items == [10, 20, 30, 40, 50]);
+    assert!(rt; gates == [0, 1, 2, 3, 4, 60]);
 }
 
 // No item: nothing is called, and the gates are as they were.
@@ -41,5 +40,5 @@ fn gates_alone_are_as_before(rt: HostRuntime) {
     let mut items: [usize; 0] = [];
     let mut gates = [10, 20];
     take_each(&rt, &mut items, &mut gates);
-    assert_same(&rt, &gates, &[10, 20]);
+    assert!(rt; gates == [10, 20]);
 }

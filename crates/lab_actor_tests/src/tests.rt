@@ -1,6 +1,5 @@
 //! Lines of one client or reader.
 
-use assertions::assert_same;
 use bindings::Bindings;
 use dsnoop_client::Reader;
 use hw_space::Config;
@@ -132,17 +131,9 @@ fn a_reader_that_came_too_late_reads_on_behind_the_gap(rt: HostRuntime) -> Resul
         ),
         row(7, Op::Read(64), Answer::Count(64), State::Running, 448),
     ];
-    assert_same(&rt, &actor.rows.as_slice(), &rows.as_slice());
-    assert_same(
-        &rt,
-        &actor.frames.as_slice(),
-        &[(0, 64), (384, 64)].as_slice(),
-    );
-    assert_same(
-        &rt,
-        &actor.samples.as_slice(),
-        &two_runs(rt.alloc(), 0, 384)?.as_slice(),
-    );
+    assert!(rt; actor.rows.as_slice() == rows.as_slice());
+    assert!(rt; actor.frames.as_slice() == [(0, 64), (384, 64)].as_slice());
+    assert!(rt; actor.samples.as_slice() == two_runs(rt.alloc(), 0, 384)?.as_slice());
     Ok(())
 }
 
@@ -157,8 +148,8 @@ fn a_read_takes_no_more_room_than_for_frames_that_come(rt: HostRuntime) -> Resul
         row(1, Op::Start, Answer::Done, State::Running, 0),
         row(3, Op::Read(4194304), Answer::Count(64), State::Running, 64),
     ];
-    assert_same(&rt, &actor.rows.as_slice(), &rows.as_slice());
-    assert_same(&rt, &actor.frames.as_slice(), &[(0, 64)].as_slice());
+    assert!(rt; actor.rows.as_slice() == rows.as_slice());
+    assert!(rt; actor.frames.as_slice() == [(0, 64)].as_slice());
     assert!(rt; actor.samples.capacity() < 100_000);
     Ok(())
 }
@@ -209,10 +200,10 @@ fn a_reader_that_dies_in_a_read_reads_nothing_more(rt: HostRuntime) -> Result<()
         row(3, Op::Read(4), stopped, State::Running, 64),
         row(3, Op::Drop, stopped, State::Running, 64),
     ];
-    assert_same(&rt, &actor.rows.as_slice(), &rows.as_slice());
-    assert_same(&rt, &actor.frames.as_slice(), &[(0, 2)].as_slice());
-    assert_same(&rt, &actor.samples.as_slice(), &[0, 1].as_slice());
-    assert_same(&rt, &actor.left, &Some(0));
+    assert!(rt; actor.rows.as_slice() == rows.as_slice());
+    assert!(rt; actor.frames.as_slice() == [(0, 2)].as_slice());
+    assert!(rt; actor.samples.as_slice() == [0, 1].as_slice());
+    assert!(rt; actor.left == Some(0));
     Ok(())
 }
 
@@ -235,10 +226,6 @@ fn lines_of_an_actor_that_is_not_open_are_refused(rt: HostRuntime) -> Result<(),
         state: State::Open,
         seen: None,
     };
-    assert_same(
-        &rt,
-        &rows.as_slice(),
-        &[refused(Op::Start), refused(Op::Die(3))].as_slice(),
-    );
+    assert!(rt; rows.as_slice() == [refused(Op::Start), refused(Op::Die(3))].as_slice());
     Ok(())
 }

@@ -3,7 +3,6 @@ ghost use Rattle.std.specs.Prelude.{IfOk};
 ghost use Rattle.sum_table.specs.Rings.{GaveNone};
 ghost use Rattle.snoop_table.specs.Rings.{GaveNone as SnoopGaveNone};
 
-use assertions::assert_same;
 use card_player::CardPlayer;
 use card_sim::Card;
 use lab_card::CardActor;
@@ -134,19 +133,15 @@ fn over_rings(rt: &impl Abort, alloc: Global, course: Course) -> Result<(), Fail
 
 // Two lines of a phase that play.
 fn play_on(rt: &impl Abort, card: &mut CardActor<'_>, mix: &mut MixSeat<'_>) -> Result<(), Fail> {
-    assert_same(rt, &place(mix, 19, 9)?, &Placed::In);
+    assert!(rt; place(mix, 19, 9)? == Placed::In);
     run(card, None, 1, [Op::Play(10), Op::Play(30)])?;
     assert!(rt; card.played.len() == 40);
-    assert_same(
-        rt,
-        &[card.played[18], card.played[19], card.played[20]],
-        &[0, 9, 0],
-    );
+    assert!(rt; [card.played[18], card.played[19], card.played[20]] == [0, 9, 0]);
     assert!(rt; card.rows.len() == 2);
-    assert_same(rt, &card.rows[1].answer, &Answer::Count(30));
-    assert_same(rt, &card.rows[1].state, &State::Running);
-    assert_same(rt, &card.rows[1].seen, &Some(40));
-    assert_same(rt, &mix.position(&mut NeverStops)?.frame, &40);
+    assert!(rt; card.rows[1].answer == Answer::Count(30));
+    assert!(rt; card.rows[1].state == State::Running);
+    assert!(rt; card.rows[1].seen == Some(40));
+    assert!(rt; mix.position(&mut NeverStops)?.frame == 40);
     Ok(())
 }
 
@@ -163,10 +158,10 @@ fn capture(
         samples: Samples::from_vec(vec![in alloc; 5i16, 6, 7, 8]?),
     };
     run(card, Some(&file), 1, [Op::Play(1), Op::Play(3)])?;
-    assert_same(rt, &reader.position(&mut NeverStops)?.frame, &4);
-    assert_same(rt, &load(reader, 0)?, &(Loaded::Got, 5));
-    assert_same(rt, &load(reader, 1)?, &(Loaded::Got, 7));
-    assert_same(rt, &load(reader, 2)?, &(Loaded::Got, 0));
+    assert!(rt; reader.position(&mut NeverStops)?.frame == 4);
+    assert!(rt; load(reader, 0)? == (Loaded::Got, 5));
+    assert!(rt; load(reader, 1)? == (Loaded::Got, 7));
+    assert!(rt; load(reader, 2)? == (Loaded::Got, 0));
     Ok(())
 }
 
@@ -179,8 +174,8 @@ fn unplug(
 ) -> Result<(), Fail> {
     run(card, None, 2, [Op::Play(0), Op::Unplug])?;
     assert!(rt; card.rows.len() == 2);
-    assert_same(rt, &card.rows[1].answer, &Answer::Done);
-    assert_same(rt, &card.rows[1].state, &State::Disconnected);
+    assert!(rt; card.rows[1].answer == Answer::Done);
+    assert!(rt; card.rows[1].state == State::Disconnected);
     assert!(rt; mix.position(&mut NeverStops)?.gone);
     assert!(rt; reader.position(&mut NeverStops)?.gone);
     Ok(())

@@ -12,7 +12,6 @@ ghost use Rattle.sum_table.specs.Players.{player_key, player_ring};
 ghost use Rattle.sum_table.specs.Rings.{GaveNone, key_of_ring};
 ghost use Rattle.sum_table.specs.Seats.{geometry_of, key_of, places_of_seat, ring_of};
 
-use assertions::assert_same;
 use card_player::CardPlayer;
 use card_sim::Card;
 use lab_card::CardActor;
@@ -250,14 +249,10 @@ fn play_phases(
         row(1, Op::Avail, Answer::Count(192), State::Running, Some(0)),
         row(3, Op::Delay, Answer::Count(32), State::Running, Some(96)),
     ];
-    assert_same(rt, &taken(alloc, client)?.as_slice(), &rows.as_slice());
-    assert_same(rt, &client.rows().len(), &0);
+    assert!(rt; taken(alloc, client)?.as_slice() == rows.as_slice());
+    assert!(rt; client.rows().len() == 0);
     assert!(rt; card.played.len() == 96);
-    assert_same(
-        rt,
-        &[card.played[63], card.played[64], card.played[95]],
-        &[0, 1, 32],
-    );
+    assert!(rt; [card.played[63], card.played[64], card.played[95]] == [0, 1, 32]);
     Ok(())
 }
 
@@ -273,8 +268,8 @@ fn play_and_close(
     requires can { CanRun wav.now client.old }
 {
     run(card, client, wav, 1, &[line(Op::Write(40))])?;
-    assert_same(rt, &client.seen(), &Some(0));
-    assert_same(rt, &close(client)?, &0);
+    assert!(rt; client.seen() == Some(0));
+    assert!(rt; close(client)? == 0);
     run(card, client, wav, 2, &[line(Op::Write(24))])?;
     let placed = Segment {
         source: 0,
@@ -285,17 +280,15 @@ fn play_and_close(
     let mut segments = Vec::new(alloc);
     segments.reserve(client.segment_count())?;
     client.segments_into(&mut segments);
-    assert_same(rt, &segments.as_slice(), &[(0, placed)].as_slice());
+    assert!(rt; segments.as_slice() == [(0, placed)].as_slice());
     let refused = Answer::Failed(PcmError::BadState);
     let rows = [
         row(1, Op::Write(40), Answer::Count(40), State::Running, Some(0)),
         row(2, Op::Write(24), refused, State::Open, None),
     ];
-    assert_same(rt, &client.rows(), &rows.as_slice());
-    assert_same(
-        rt,
-        &client.row(2, Op::Closes, refused),
-        &row(2, Op::Closes, refused, State::Open, None),
+    assert!(rt; client.rows() == rows.as_slice());
+    assert!(rt;
+        client.row(2, Op::Closes, refused) == row(2, Op::Closes, refused, State::Open, None)
     );
     Ok(())
 }
@@ -318,9 +311,9 @@ fn die(
     assert!(rt; client.is_stopped());
     let rows = taken(alloc, client)?;
     assert!(rt; rows.len() == 3);
-    assert_same(rt, &rows[0].answer, &Answer::Done);
-    assert_same(rt, &rows[1].answer, &Answer::Failed(PcmError::Stopped));
-    assert_same(rt, &rows[2].answer, &Answer::Failed(PcmError::Stopped));
+    assert!(rt; rows[0].answer == Answer::Done);
+    assert!(rt; rows[1].answer == Answer::Failed(PcmError::Stopped));
+    assert!(rt; rows[2].answer == Answer::Failed(PcmError::Stopped));
     Ok(())
 }
 

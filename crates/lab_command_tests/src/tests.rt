@@ -5,7 +5,6 @@ mod refine;
 mod refusals;
 mod workloads;
 
-use assertions::assert_same;
 use lab_calls::call;
 use std::test::Fail;
 
@@ -27,7 +26,7 @@ fn commands_that_read_no_file_put_their_text(rt: HostRuntime) -> Result<(), Fail
     ];
     for (words, first, last) in table {
         let left = call(&rt, alloc, words, Vec::new(alloc), (&[], &[]))?;
-        assert_same(&rt, &left.status, &0);
+        assert!(rt; left.status == 0);
         assert!(rt; left.out.bytes().starts_with(first.as_bytes()));
         assert!(rt; left.out.bytes().ends_with(last.as_bytes()));
     }

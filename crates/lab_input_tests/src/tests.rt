@@ -3,7 +3,6 @@ mod large;
 
 ghost use Rattle.std.specs.Prelude.{◌<◌, ◌≤◌};
 
-use assertions::{assert_same, assert_same_at};
 use lab_input::{Input, read_input};
 use lab_shelf::{MemoryShelf, MemorySink, Shelf};
 use lab_stop::tell;
@@ -83,22 +82,14 @@ fn the_capture_file_is_read_and_then_each_client_s(rt: HostRuntime) -> Result<()
         ],
     )?;
     let capture = read.capture.as_ref().ok_or("the card captures a file")?;
-    assert_same(
-        &rt,
-        &capture.samples.as_slice(),
-        &[30i16, 30, 30].as_slice(),
-    );
+    assert!(rt; capture.samples.as_slice() == [30i16, 30, 30].as_slice());
     assert!(rt; read.wavs.len() == 2);
-    assert_same(&rt, &read.wavs[0].samples.as_slice(), &[10i16].as_slice());
-    assert_same(
-        &rt,
-        &read.wavs[1].samples.as_slice(),
-        &[20i16, 20].as_slice(),
-    );
-    assert_same(&rt, &read.script.card.rate, &48_000);
+    assert!(rt; read.wavs[0].samples.as_slice() == [10i16].as_slice());
+    assert!(rt; read.wavs[1].samples.as_slice() == [20i16, 20].as_slice());
+    assert!(rt; read.script.card.rate == 48_000);
     let read = input(alloc, &[(b"s", CARD)])?;
     assert!(rt; read.capture.is_none());
-    assert_same(&rt, &read.wavs.len(), &0);
+    assert!(rt; read.wavs.len() == 0);
     Ok(())
 }
 
@@ -189,13 +180,13 @@ fn the_file_of_a_client_with_plug_is_converted(rt: HostRuntime) -> Result<(), Fa
         let file = raw(alloc, rate, bits, body)?;
         let read = input(alloc, &[(b"s", PLUGGED), (b"a.wav", &file)])?;
         let wav = read.wavs.first().ok_or("there is a client")?;
-        assert_same(&rt, &(wav.channels, wav.rate), &(1, 48_000));
-        assert_same_at(&rt, &bits, &wav.samples.as_slice(), &samples);
+        assert!(rt; (wav.channels, wav.rate) == (1, 48_000));
+        assert!(rt; wav.samples.as_slice() == samples, "{bits}");
     }
     // What is long on a mono card is too long on a faster one of eight channels; and no file has 12 bits.
     let long = raw(alloc, 1, 8, &[0; 250])?;
     let read = input(alloc, &[(b"s", PLUGGED), (b"a.wav", &long)])?;
-    assert_same(&rt, &first_len(&read), &12_000_000);
+    assert!(rt; first_len(&read) == 12_000_000);
     let script = b"card channels 8 rate 192000 period 64 ring 256\nclient a a.wav plug linear\n";
     let files: [(&[u8], &[u8]); 2] = [(b"s", script), (b"a.wav", &long)];
     assert!(rt; ends_with(alloc, &files, b"dmixlab: wav a.wav: TooLong\n")?);
@@ -214,16 +205,14 @@ fn a_file_of_one_full_piece_takes_two_fetches(rt: HostRuntime) -> Result<(), Fai
         let file = mono(alloc, frames, 7)?;
         let files: [(&[u8], &[u8]); 2] = [(b"s", script), (b"a.wav", &file)];
         let next = line(alloc, &files, &[fetches + 1])?;
-        assert_same_at(&rt, &frames, &next.as_slice(), &b"".as_slice());
+        assert!(rt; next.as_slice() == b"".as_slice(), "{frames}");
         let last = line(alloc, &files, &[fetches])?;
-        assert_same_at(
-            &rt,
-            &frames,
-            &last.as_slice(),
-            &b"dmixlab: read a.wav\n".as_slice(),
+        assert!(rt;
+            last.as_slice() == b"dmixlab: read a.wav\n".as_slice(),
+            "{frames}"
         );
         let read = input(alloc, &files)?;
-        assert_same(&rt, &first_len(&read), &frames);
+        assert!(rt; first_len(&read) == frames);
     }
     Ok(())
 }
@@ -235,14 +224,12 @@ fn a_file_that_is_too_long_is_fetched_up_to_one_piece_more(rt: HostRuntime) -> R
     // A file of 67,108,864 bytes has 1,024 full pieces, and one of no byte after them.
     let mut shelf = LargeShelf::new(alloc, script, 67_108_864)?;
     assert!(rt; read_input(&mut shelf, alloc, b"s").is_ok());
-    assert_same(&rt, &shelf.fetches, &1026);
+    assert!(rt; shelf.fetches == 1026);
     let mut shelf = LargeShelf::new(alloc, script, 67_300_000)?;
-    assert_same(
-        &rt,
-        &line_of(alloc, &mut shelf)?.as_slice(),
-        &b"dmixlab: wav large: TooLong\n".as_slice(),
+    assert!(rt;
+        line_of(alloc, &mut shelf)?.as_slice() == b"dmixlab: wav large: TooLong\n".as_slice()
     );
-    assert_same(&rt, &shelf.fetches, &1026);
+    assert!(rt; shelf.fetches == 1026);
     Ok(())
 }
 
@@ -253,10 +240,8 @@ fn the_files_of_a_run_have_so_many_bytes_together(rt: HostRuntime) -> Result<(),
     let script =
         b"card capture large\nclient a large\nclient b large\nclient c large\nclient d small\n";
     let mut shelf = LargeShelf::new(alloc, script, 67_108_864)?;
-    assert_same(
-        &rt,
-        &line_of(alloc, &mut shelf)?.as_slice(),
-        &b"dmixlab: wav small: TooLong\n".as_slice(),
+    assert!(rt;
+        line_of(alloc, &mut shelf)?.as_slice() == b"dmixlab: wav small: TooLong\n".as_slice()
     );
     Ok(())
 }

@@ -5,7 +5,6 @@ ghost use Rattle.lab_lines.specs.Limits.{IsScript};
 ghost use Rattle.lab_report.specs.Text.{IsReportOf};
 ghost use Rattle.lab_output.specs.Going.{AreOutputs};
 
-use assertions::assert_same;
 use lab_lines::{Report, Script};
 use lab_output::{Outputs, outputs_of};
 use lab_report::read_report;
@@ -133,9 +132,9 @@ fn files_are_begun_with_open_heads_of_their_channels(rt: HostRuntime) -> Result<
     let outputs = outputs_of(alloc, &script, b"o")?;
     let mut shelf = empty_shelf(alloc, &[])?;
     outputs.begin(&mut shelf)?;
-    assert_same(&rt, &shelf.file(b"o.wav"), &Some(OPEN_STEREO));
-    assert_same(&rt, &shelf.file(b"o.r.wav"), &Some(OPEN_STEREO));
-    assert_same(&rt, &shelf.file(b"o.s.wav"), &Some(OPEN_MONO));
+    assert!(rt; shelf.file(b"o.wav") == Some(OPEN_STEREO));
+    assert!(rt; shelf.file(b"o.r.wav") == Some(OPEN_STEREO));
+    assert!(rt; shelf.file(b"o.s.wav") == Some(OPEN_MONO));
     Ok(())
 }
 
@@ -149,10 +148,10 @@ fn only_what_is_new_is_appended(rt: HostRuntime) -> Result<(), Fail> {
     append(&mut outputs, &mut shelf, alloc, 0, &[1, -2])?;
     append(&mut outputs, &mut shelf, alloc, 0, &[1, -2])?;
     append(&mut outputs, &mut shelf, alloc, 0, &[1, -2, 3, -4])?;
-    assert_same(&rt, &shelf.file(b"o.wav"), &Some(OPEN_FOUR));
+    assert!(rt; shelf.file(b"o.wav") == Some(OPEN_FOUR));
     let sixth = append(&mut outputs, &mut shelf, alloc, 2, &[5]);
     assert!(rt; matches!(sixth, Err(Stop::Write)));
-    assert_same(&rt, &shelf.file(b"o.s.wav"), &Some(OPEN_MONO));
+    assert!(rt; shelf.file(b"o.s.wav") == Some(OPEN_MONO));
     Ok(())
 }
 
@@ -163,9 +162,9 @@ fn finished_files_are_canonical(rt: HostRuntime) -> Result<(), Fail> {
     let mut outputs = outputs_of(alloc, &script, b"o")?;
     let mut shelf = empty_shelf(alloc, &[])?;
     write_played(&mut outputs, &mut shelf, alloc, &[1, -2, 3, -4])?;
-    assert_same(&rt, &shelf.file(b"o.wav"), &Some(FOUR));
-    assert_same(&rt, &shelf.file(b"o.r.wav"), &Some(NONE_STEREO));
-    assert_same(&rt, &shelf.file(b"o.s.wav"), &Some(NONE_MONO));
+    assert!(rt; shelf.file(b"o.wav") == Some(FOUR));
+    assert!(rt; shelf.file(b"o.r.wav") == Some(NONE_STEREO));
+    assert!(rt; shelf.file(b"o.s.wav") == Some(NONE_MONO));
     Ok(())
 }
 
@@ -187,9 +186,9 @@ fn a_failing_call_stops_and_leaves_the_later_files(rt: HostRuntime) -> Result<()
         let mut shelf = empty_shelf(alloc, &[call])?;
         let end = write_played(&mut outputs, &mut shelf, alloc, &[1, -2, 3, -4]);
         assert!(rt; matches!(end, Err(Stop::Write)));
-        assert_same(&rt, &shelf.file(b"o.wav"), &played);
-        assert_same(&rt, &shelf.file(b"o.r.wav"), &both);
-        assert_same(&rt, &shelf.file(b"o.s.wav"), &one);
+        assert!(rt; shelf.file(b"o.wav") == played);
+        assert!(rt; shelf.file(b"o.r.wav") == both);
+        assert!(rt; shelf.file(b"o.s.wav") == one);
     }
     Ok(())
 }
@@ -203,16 +202,16 @@ fn the_text_is_put_in_four_pieces(rt: HostRuntime) -> Result<(), Fail> {
     let mut out = MemorySink::new(alloc, Vec::new(alloc));
     let rows = report.rows.as_slice();
     outputs.put_head(&mut out)?;
-    assert_same(&rt, &out.bytes().len(), &10);
+    assert!(rt; out.bytes().len() == 10);
     if rows.len() < 2 {
         return Err("the report has three rows".into());
     }
     outputs.put_rows(&mut out, alloc, &script, &rows[..2])?;
-    assert_same(&rt, &out.bytes().len(), &63);
+    assert!(rt; out.bytes().len() == 63);
     outputs.put_rows(&mut out, alloc, &script, rows)?;
-    assert_same(&rt, &out.bytes().len(), &97);
+    assert!(rt; out.bytes().len() == 97);
     outputs.put_tail(&mut out, alloc, &script, &report)?;
-    assert_same(&rt, &out.bytes(), &REPORT.as_bytes());
+    assert!(rt; out.bytes() == REPORT.as_bytes());
     Ok(())
 }
 
@@ -229,6 +228,6 @@ fn no_put_is_made_where_there_is_no_new_row(rt: HostRuntime) -> Result<(), Fail>
     outputs.put_rows(&mut out, alloc, &script, rows)?;
     let third = outputs.put_tail(&mut out, alloc, &script, &report);
     assert!(rt; matches!(third, Err(Stop::Write)));
-    assert_same(&rt, &out.bytes().len(), &97);
+    assert!(rt; out.bytes().len() == 97);
     Ok(())
 }

@@ -7,7 +7,6 @@ ghost use Rattle.sum_table.specs.Rings.{GaveNone, key_of_ring};
 ghost use Rattle.sum_table.specs.Seats.{IsLaterSeat, key_of, ring_of};
 ghost use Rattle.lab_places.specs.Held.{key_of_places, ring_of_places, shares_of};
 
-use assertions::assert_same;
 use bindings::Bindings;
 use lab_lines::Share;
 use lab_places::Places;
@@ -138,13 +137,13 @@ fn busy(until: Option<u64>, seen: u64) -> PcmError {
 fn a_place_is_given_again_once_it_is_silent(rt: HostRuntime) -> Result<(), Fail> {
     let mut ring = new_ring(rt.alloc(), 1)?;
     let mut card = new_card(rt.alloc(), &mut ring, Share::Dmix)?;
-    assert_same(&rt, &card.open(&[0, 1])?, &Ok(()));
-    assert_same(&rt, &card.open(&[0, 1])?, &Err(busy(None, 0)));
+    assert!(rt; card.open(&[0, 1])? == Ok(()));
+    assert!(rt; card.open(&[0, 1])? == Err(busy(None, 0)));
     card.place(40, 9)?;
     card.close(&[0, 1], 0)?;
-    assert_same(&rt, &card.open(&[0, 1])?, &Err(busy(Some(41), 0)));
+    assert!(rt; card.open(&[0, 1])? == Err(busy(Some(41), 0)));
     card.play(41)?;
-    assert_same(&rt, &card.open(&[0, 1])?, &Ok(()));
+    assert!(rt; card.open(&[0, 1])? == Ok(()));
     Ok(())
 }
 
@@ -154,13 +153,13 @@ fn a_place_is_given_again_once_it_is_silent(rt: HostRuntime) -> Result<(), Fail>
 fn a_channel_has_one_owner(rt: HostRuntime) -> Result<(), Fail> {
     let mut ring = new_ring(rt.alloc(), 3)?;
     let mut card = new_card(rt.alloc(), &mut ring, Share::Dshare)?;
-    assert_same(&rt, &card.open(&[0])?, &Ok(()));
-    assert_same(&rt, &card.open(&[1, 0])?, &Err(busy(None, 0)));
-    assert_same(&rt, &card.open(&[1])?, &Ok(()));
+    assert!(rt; card.open(&[0])? == Ok(()));
+    assert!(rt; card.open(&[1, 0])? == Err(busy(None, 0)));
+    assert!(rt; card.open(&[1])? == Ok(()));
     card.place(20, 3)?;
     card.close(&[0], 0)?;
-    assert_same(&rt, &card.open(&[0])?, &Err(busy(Some(21), 0)));
+    assert!(rt; card.open(&[0])? == Err(busy(Some(21), 0)));
     card.play(21)?;
-    assert_same(&rt, &card.open(&[0])?, &Ok(()));
+    assert!(rt; card.open(&[0])? == Ok(()));
     Ok(())
 }

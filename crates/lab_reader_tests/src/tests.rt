@@ -8,7 +8,6 @@ ghost use Rattle.snoop_table.specs.Writers.{writer_geometry, writer_ring};
 ghost use Rattle.lab_setup.specs.Usable.{IsUsable};
 ghost use Rattle.lab_reader.specs.Readers.{IsOf, seat_of};
 
-use assertions::assert_same;
 use bindings::Bindings;
 use card_player::CardPlayer;
 use card_sim::Card;
@@ -122,7 +121,7 @@ fn reopen<'a>(
     let count = reader.samples().len();
     let seat = reader.close();
     assert!(rt; !reader.is_open());
-    assert_same(&rt, &reader.samples().len(), &count);
+    assert!(rt; reader.samples().len() == count);
     open(alloc, reader, seat)
 }
 
@@ -242,12 +241,12 @@ fn read<'a>(
         row(1, Op::Start, Answer::Done, State::Running, Some(0)),
         row(2, Op::Read(20), Answer::Count(20), State::Running, Some(32)),
     ];
-    assert_same(rt, &rows_of(alloc, reader)?.as_slice(), &rows.as_slice());
-    assert_same(rt, &reader.rows().len(), &0);
-    assert_same(rt, &reader.runs(), &[(0, 20)].as_slice());
-    assert_same(rt, &reader.samples().len(), &20);
-    assert_same(rt, &reader.samples().first(), &Some(&0));
-    assert_same(rt, &reader.samples().last(), &Some(&19));
+    assert!(rt; rows_of(alloc, reader)?.as_slice() == rows.as_slice());
+    assert!(rt; reader.rows().len() == 0);
+    assert!(rt; reader.runs() == [(0, 20)].as_slice());
+    assert!(rt; reader.samples().len() == 20);
+    assert!(rt; reader.samples().first() == Some(&0));
+    assert!(rt; reader.samples().last() == Some(&19));
     Ok(())
 }
 
@@ -268,10 +267,10 @@ fn read_twice<'a>(
     run(card, reader, file, 3, &[of_reader(Op::Start)])?;
     let lines = [of_card(Op::Play(16)), of_reader(Op::Read(16))];
     run(card, reader, file, 4, &lines)?;
-    assert_same(rt, &reader.runs(), &[(0, 20), (32, 16)].as_slice());
-    assert_same(rt, &reader.samples().len(), &36);
-    assert_same(rt, &reader.samples().get(19), &Some(&19));
-    assert_same(rt, &reader.samples().get(20), &Some(&32));
+    assert!(rt; reader.runs() == [(0, 20), (32, 16)].as_slice());
+    assert!(rt; reader.samples().len() == 36);
+    assert!(rt; reader.samples().get(19) == Some(&19));
+    assert!(rt; reader.samples().get(20) == Some(&32));
     Ok(())
 }
 
@@ -296,7 +295,7 @@ fn die<'a>(
         row(1, Op::Start, stopped, State::Prepared, None),
         row(1, Op::Drop, stopped, State::Prepared, None),
     ];
-    assert_same(rt, &reader.rows(), &rows.as_slice());
+    assert!(rt; reader.rows() == rows.as_slice());
     assert!(rt; reader.is_stopped());
     Ok(())
 }
@@ -322,8 +321,8 @@ fn lines_of_a_reader_that_is_not_open_are_refused(rt: HostRuntime) -> Result<(),
         row(3, Op::Start, refused, State::Open, None),
         row(3, Op::Read(8), refused, State::Open, None),
     ];
-    assert_same(&rt, &reader.rows(), &rows.as_slice());
-    assert_same(&rt, &reader.samples().len(), &0);
+    assert!(rt; reader.rows() == rows.as_slice());
+    assert!(rt; reader.samples().len() == 0);
     assert!(rt; !reader.is_open());
     assert!(rt; !reader.is_stopped());
     assert!(rt; !reader.has_lines(&[of_card(Op::Play(8))]));

@@ -3,7 +3,6 @@ ghost use Rattle.lab_report.specs.Text.{IsReportOf};
 ghost use Rattle.lab_lines.specs.Limits.{IsScript};
 ghost use Rattle.std.specs.Prelude.{IfOk};
 
-use assertions::{assert_same, assert_same_at};
 use lab_lines::{Actor, Answer, Op, Report, Script};
 use lab_report::{ReportWhy, print_report, print_row, print_tail, read_report};
 use lab_script::read_script;
@@ -126,14 +125,14 @@ fn reads_a_report(rt: HostRuntime) -> Result<(), Fail> {
     let script = script(alloc)?;
     let text = format!(in alloc; "{ROWS}{TAIL}")?;
     let report = report_of(alloc, text.as_str(), &script)?;
-    assert_same(&rt, &report.rows.as_slice().len(), &8);
-    assert_same(&rt, &(report.first, report.frames), &(0, 7));
+    assert!(rt; report.rows.as_slice().len() == 8);
+    assert!(rt; (report.first, report.frames) == (0, 7));
     for (row, (phase, actor, op, answer)) in report.rows.as_slice().iter().zip(ANSWERS.iter()) {
-        assert_same(&rt, &(row.phase, row.actor, row.op), &(*phase, *actor, *op));
-        assert_same(&rt, &row.answer, answer);
+        assert!(rt; (row.phase, row.actor, row.op) == (*phase, *actor, *op));
+        assert!(rt; row.answer == *answer);
     }
-    assert_same(&rt, &report.segments.as_slice().len(), &2);
-    assert_same(&rt, &report.runs.as_slice(), &[(0, 0, 5)].as_slice());
+    assert!(rt; report.segments.as_slice().len() == 2);
+    assert!(rt; report.runs.as_slice() == [(0, 0, 5)].as_slice());
     Ok(())
 }
 
@@ -195,7 +194,7 @@ fn prints_what_it_read(rt: HostRuntime) -> Result<(), Fail> {
     for (answer, state, seen) in &ANSWER_WORDS {
         let text = answered(alloc, answer, state, seen)?;
         let bytes = printed_again(alloc, text.as_str(), &script)?;
-        assert_same_at(&rt, &answer, &bytes.as_slice(), &text.as_bytes());
+        assert!(rt; bytes.as_slice() == text.as_bytes(), "{answer}");
     }
     Ok(())
 }
@@ -212,7 +211,7 @@ fn prints_rows_and_tail_apart(rt: HostRuntime) -> Result<(), Fail> {
         print_row(row, &script, &mut bytes)?;
     }
     print_tail(&report, &script, &mut bytes)?;
-    assert_same(&rt, &bytes.as_slice(), &text.as_bytes());
+    assert!(rt; bytes.as_slice() == text.as_bytes());
     Ok(())
 }
 
@@ -299,11 +298,9 @@ fn refuses_each_defect_at_its_line(rt: HostRuntime) -> Result<(), Fail> {
     let alloc = rt.alloc();
     let script = script(alloc)?;
     for (text, line, why) in &REFUSED {
-        assert_same_at(
-            &rt,
-            &text,
-            &refusal(alloc, text, &script),
-            &Some((*line, *why)),
+        assert!(rt;
+            refusal(alloc, text, &script) == Some((*line, *why)),
+            "{text}"
         );
     }
     Ok(())
@@ -345,11 +342,9 @@ fn refuses_each_defect_below_the_rows(rt: HostRuntime) -> Result<(), Fail> {
     let script = script(alloc)?;
     for (tail, line, why) in &REFUSED_TAILS {
         let text = format!(in alloc; "{ROWS}{tail}")?;
-        assert_same_at(
-            &rt,
-            &tail,
-            &refusal(alloc, text.as_str(), &script),
-            &Some((*line, *why)),
+        assert!(rt;
+            refusal(alloc, text.as_str(), &script) == Some((*line, *why)),
+            "{tail}"
         );
     }
     Ok(())

@@ -1,5 +1,4 @@
 //! Scripts that are read, and texts that are refused, each with its line.
-use assertions::{assert_same, assert_same_at};
 use lab_lines::{Actor, CardLine, ClientLine, Item, Op, Share, Stop};
 use lab_script::{ScriptWhy as Why, print_op, read_script};
 use std::alloc::{AllocError, Global};
@@ -115,18 +114,12 @@ const REFUSED: [(&str, u32, Why); 69] = [
 #[test]
 fn refuses_each_line_of_its_own(rt: HostRuntime) -> Result<(), Fail> {
     for (text, line, why) in &REFUSED {
-        assert_same_at(
-            &rt,
-            &text,
-            &refusal(rt.alloc(), text.as_bytes()),
-            &Some((*line, *why)),
+        assert!(rt;
+            refusal(rt.alloc(), text.as_bytes()) == Some((*line, *why)),
+            "{text}"
         );
     }
-    assert_same(
-        &rt,
-        &refusal(rt.alloc(), b"card rate 0000000000000048000"),
-        &None,
-    );
+    assert!(rt; refusal(rt.alloc(), b"card rate 0000000000000048000") == None);
     Ok(())
 }
 
@@ -138,18 +131,18 @@ fn reads_keys_in_any_order(rt: HostRuntime) -> Result<(), Fail> {
     let script = read_script(rt.alloc(), text)
         .ok()
         .ok_or("the text is a script")?;
-    assert_same(&rt, &script.card.channels, &3);
-    assert_same(&rt, &script.card.rate, &48000);
-    assert_same(&rt, &script.card.period, &64);
-    assert_same(&rt, &script.card.ring, &256);
-    assert_same(&rt, &script.clients.len(), &2);
-    assert_same(&rt, &script.readers.len(), &0);
-    assert_same(&rt, &script.body.len(), &5);
+    assert!(rt; script.card.channels == 3);
+    assert!(rt; script.card.rate == 48000);
+    assert!(rt; script.card.period == 64);
+    assert!(rt; script.card.ring == 256);
+    assert!(rt; script.clients.len() == 2);
+    assert!(rt; script.readers.len() == 0);
+    assert!(rt; script.body.len() == 5);
     let numbers = [4, 5];
     for (client, number) in script.clients.into_vec().into_iter().zip(numbers) {
-        assert_same(&rt, &client.number, &number);
-        assert_same(&rt, &client.lead, &64);
-        assert_same(&rt, &client.start, &1);
+        assert!(rt; client.number == number);
+        assert!(rt; client.lead == 64);
+        assert!(rt; client.start == 1);
     }
     Ok(())
 }
@@ -158,29 +151,17 @@ fn reads_keys_in_any_order(rt: HostRuntime) -> Result<(), Fail> {
 fn keeps_the_limits(rt: HostRuntime) -> Result<(), Fail> {
     let phase = "phase\ncard play 1\nend\n";
     let most = repeated(rt.alloc(), phase, 4096)?;
-    assert_same(&rt, &refusal(rt.alloc(), most.as_bytes()), &None);
+    assert!(rt; refusal(rt.alloc(), most.as_bytes()) == None);
     let more = repeated(rt.alloc(), phase, 4097)?;
-    assert_same(
-        &rt,
-        &refusal(rt.alloc(), more.as_bytes()),
-        &Some((12290, Why::TooMany)),
-    );
+    assert!(rt; refusal(rt.alloc(), more.as_bytes()) == Some((12290, Why::TooMany)));
     let long = repeated(rt.alloc(), "0123456789abcdef", 65536)?;
-    assert_same(
-        &rt,
-        &refusal(rt.alloc(), long.as_bytes()),
-        &Some((0, Why::TooLong)),
-    );
+    assert!(rt; refusal(rt.alloc(), long.as_bytes()) == Some((0, Why::TooLong)));
     let mut clients = String::from_str(rt.alloc(), "card\n")?;
     for number in 0..65u32 {
         let line = format!(in rt.alloc(); "client c{number} f.wav\n")?;
         clients.push_str(line.as_str())?;
     }
-    assert_same(
-        &rt,
-        &refusal(rt.alloc(), clients.as_bytes()),
-        &Some((66, Why::TooMany)),
-    );
+    assert!(rt; refusal(rt.alloc(), clients.as_bytes()) == Some((66, Why::TooMany)));
     Ok(())
 }
 
@@ -194,7 +175,7 @@ fn prints_ops(rt: HostRuntime) -> Result<(), Fail> {
     ] {
         let mut text = Vec::new(rt.alloc());
         print_op(&op, &mut text)?;
-        assert_same(&rt, &text.as_slice(), &want.as_bytes());
+        assert!(rt; text.as_slice() == want.as_bytes());
     }
     Ok(())
 }
@@ -240,37 +221,33 @@ close a
 
 /// The card's line of that script.
 fn shows_card<A: Abort>(rt: &A, card: &CardLine) -> Result<(), Fail> {
-    assert_same(&rt, &card.number, &1);
-    assert_same(
-        &rt,
-        &(card.channels, card.rate, card.period),
-        &(4, 8000, 64),
-    );
-    assert_same(&rt, &(card.ring, card.places, card.lap), &(256, 2, 3));
-    assert_same(&rt, &card.share, &Share::Dshare);
+    assert!(rt; card.number == 1);
+    assert!(rt; (card.channels, card.rate, card.period) == (4, 8000, 64));
+    assert!(rt; (card.ring, card.places, card.lap) == (256, 2, 3));
+    assert!(rt; card.share == Share::Dshare);
     let Some(file) = &card.capture else {
         return Err("a file is captured".into());
     };
-    assert_same(&rt, &file.as_str(), &"in.wav");
+    assert!(rt; file.as_str() == "in.wav");
     Ok(())
 }
 
 /// The line of its first client, which has each key.
 fn shows_client<A: Abort>(rt: &A, client: &ClientLine) {
-    assert_same(&rt, &(client.number, client.name.as_str()), &(2, "a"));
-    assert_same(&rt, &client.file.as_str(), &"a.wav");
-    assert_same(&rt, &(client.buffer, client.period), &(Some(64), Some(32)));
-    assert_same(&rt, &(client.start, client.lead), &(2, 0));
-    assert_same(&rt, &client.stop, &Some(Stop::At(9)));
+    assert!(rt; (client.number, client.name.as_str()) == (2, "a"));
+    assert!(rt; client.file.as_str() == "a.wav");
+    assert!(rt; (client.buffer, client.period) == (Some(64), Some(32)));
+    assert!(rt; (client.start, client.lead) == (2, 0));
+    assert!(rt; client.stop == Some(Stop::At(9)));
     assert!(rt; client.plug);
     assert!(rt; client.bindings.is_some());
 }
 
 /// The line of its second client, which has one key.
 fn shows_other_client<A: Abort>(rt: &A, other: &ClientLine) {
-    assert_same(&rt, &(other.number, other.name.as_str()), &(4, "write"));
-    assert_same(&rt, &(other.start, other.lead), &(1, 64));
-    assert_same(&rt, &other.stop, &Some(Stop::Never));
+    assert!(rt; (other.number, other.name.as_str()) == (4, "write"));
+    assert!(rt; (other.start, other.lead) == (1, 64));
+    assert!(rt; other.stop == Some(Stop::Never));
     assert!(rt; !other.plug);
 }
 
@@ -288,9 +265,9 @@ fn reads_a_script_with_everything(rt: HostRuntime) -> Result<(), Fail> {
     let [reader] = script.readers.as_slice() else {
         return Err("there is one reader".into());
     };
-    assert_same(&rt, &(reader.number, reader.name.as_str()), &(3, "r"));
-    assert_same(&rt, &(reader.buffer, reader.period), &(Some(128), Some(16)));
-    assert_same(&rt, &(reader.start, reader.stop), &(7, Some(Stop::Never)));
+    assert!(rt; (reader.number, reader.name.as_str()) == (3, "r"));
+    assert!(rt; (reader.buffer, reader.period) == (Some(128), Some(16)));
+    assert!(rt; (reader.start, reader.stop) == (7, Some(Stop::Never)));
     Ok(())
 }
 
@@ -336,14 +313,10 @@ fn reads_each_line_of_a_body(rt: HostRuntime) -> Result<(), Fail> {
     else {
         return Err("there are six items".into());
     };
-    assert_same(
-        &rt,
-        &(*a, *r, *number),
-        &(Actor::Client(0), Actor::Reader(0), 31),
-    );
-    assert_same(&rt, &(lines.len(), gone.len()), &(22, 1));
+    assert!(rt; (*a, *r, *number) == (Actor::Client(0), Actor::Reader(0), 31));
+    assert!(rt; (lines.len(), gone.len()) == (22, 1));
     for (line, op) in lines.as_slice().iter().zip(OPS.iter()) {
-        assert_same(&rt, &line.op, op);
+        assert!(rt; line.op == *op);
     }
     Ok(())
 }

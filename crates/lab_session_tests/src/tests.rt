@@ -7,7 +7,6 @@ mod readers;
 mod runs;
 mod sessions;
 
-use assertions::{assert_same, assert_same_at};
 use lab_calls::{MONO, call, files_of, steps_of, text_in, wav_around, wav_of};
 use readers::READERS;
 use runs::RUNS;
@@ -90,13 +89,12 @@ fn sessions_leave_their_report_and_file(rt: HostRuntime) -> Result<(), Fail> {
         let left = call(&rt, alloc, &["run", "s", "o"], files, (&[], &[]))?;
         let text = text_in(left.out.bytes());
         let wanted = text_in(&report);
-        assert_same_at(&rt, &session.name, &left.status, &0);
-        assert_same_at(&rt, &session.name, &text, &wanted);
-        assert_same_at(
-            &rt,
-            &session.name,
-            &left.shelf.file(b"o.wav").unwrap_or(&[]),
-            &file.as_slice(),
+        assert!(rt; left.status == 0, "{}", session.name);
+        assert!(rt; text == wanted, "{}", session.name);
+        assert!(rt;
+            left.shelf.file(b"o.wav").unwrap_or(&[]) == file.as_slice(),
+            "{}",
+            session.name
         );
         assert!(rt; left.errors.bytes().is_empty());
     }
@@ -132,15 +130,11 @@ fn sixty_four_clients_are_saturated_once(rt: HostRuntime) -> Result<(), Fail> {
         &[("a.wav", MONO, &[(64, -32768)])],
     )?;
     let left = call(&rt, alloc, &["run", "s", "o"], files, (&[], &[]))?;
-    assert_same(&rt, &left.status, &0);
+    assert!(rt; left.status == 0);
     let report = format!(in alloc; "dmixlab 1\n{rows}played 0 128\nend\n")?;
-    assert_same(&rt, &left.out.bytes(), &report.as_bytes());
+    assert!(rt; left.out.bytes() == report.as_bytes());
     let file = wav_of(alloc, MONO, &[(64, 0), (64, -32768)])?;
-    assert_same(
-        &rt,
-        &left.shelf.file(b"o.wav").unwrap_or(&[]),
-        &file.as_slice(),
-    );
+    assert!(rt; left.shelf.file(b"o.wav").unwrap_or(&[]) == file.as_slice());
     Ok(())
 }
 
@@ -156,17 +150,13 @@ fn a_script_has_4096_phases(rt: HostRuntime) -> Result<(), Fail> {
     }
     let files = files_of(alloc, lines.into_bytes(), &[("a.wav", MONO, &[(1, 5)])])?;
     let left = call(&rt, alloc, &["run", "s", "o"], files, (&[], &[]))?;
-    assert_same(&rt, &left.status, &0);
+    assert!(rt; left.status == 0);
     let report = format!(in alloc;
         "dmixlab 1\n0 a open = ok PREPARED -\n{rows}played 0 4096\nend\n"
     )?;
-    assert_same(&rt, &text_in(left.out.bytes()), &text_in(report.as_bytes()));
+    assert!(rt; text_in(left.out.bytes()) == text_in(report.as_bytes()));
     let file = wav_of(alloc, MONO, &[(4096, 0)])?;
-    assert_same(
-        &rt,
-        &left.shelf.file(b"o.wav").unwrap_or(&[]),
-        &file.as_slice(),
-    );
+    assert!(rt; left.shelf.file(b"o.wav").unwrap_or(&[]) == file.as_slice());
     Ok(())
 }
 
@@ -255,13 +245,12 @@ fn runs_leave_their_report_and_files(rt: HostRuntime) -> Result<(), Fail> {
         let report = report_of_run(alloc, run)?;
         let files = files_of_run(alloc, run, "")?;
         let left = call(&rt, alloc, &["run", "s", "o"], files, (&[], &[]))?;
-        assert_same_at(&rt, &run.name, &text_in(left.errors.bytes()), &"");
-        assert_same_at(&rt, &run.name, &left.status, &0);
-        assert_same_at(
-            &rt,
-            &run.name,
-            &text_in(left.out.bytes()),
-            &text_in(&report),
+        assert!(rt; text_in(left.errors.bytes()) == "", "{}", run.name);
+        assert!(rt; left.status == 0, "{}", run.name);
+        assert!(rt;
+            text_in(left.out.bytes()) == text_in(&report),
+            "{}",
+            run.name
         );
         for (name, head, runs) in run.stored {
             let samples = steps_of(alloc, runs)?;

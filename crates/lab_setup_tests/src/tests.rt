@@ -2,7 +2,6 @@
 ghost use Rattle.lab_lines.specs.Limits.{IsScript};
 ghost use Rattle.std.specs.Prelude.{◌≤◌, IfOk, length};
 
-use assertions::assert_same;
 use bindings::Bindings;
 use lab_lines::Script;
 use lab_script::read_script;
@@ -122,7 +121,7 @@ fn openings_are_as_worked_out(rt: HostRuntime) -> Result<(), Fail> {
     for opening in &openings.readers {
         push_opening(&mut text, opening)?;
     }
-    assert_same(&rt, &text.as_str(), &OPENINGS);
-    assert_same(&rt, &openings.ring.first_lap, &0);
+    assert!(rt; text.as_str() == OPENINGS);
+    assert!(rt; openings.ring.first_lap == 0);
     Ok(())
 }

@@ -3,7 +3,6 @@ ghost use Rattle.std.specs.Prelude.{◌≡◌, [], None, IfOk, IsErrOf};
 ghost use Rattle.std.specs.Option.{ForSome};
 ghost use Rattle.lab_shelf.specs.Files.{bytes_under};
 
-use assertions::assert_same;
 use lab_shelf::{FileShelf, MemoryShelf, MemorySink, Shelf, ShelfFault, Sink, StdSink};
 use std::alloc::Global;
 use std::io::Write;
@@ -49,12 +48,10 @@ fn reliable_forms_fail_only_for_a_missing_name(rt: HostRuntime) -> Result<(), Fa
     let mut sink = MemorySink::new(alloc, Vec::new(alloc));
     copy_out(&mut shelf, &mut sink, alloc, b"a", b"b")?;
     copy_out(&mut shelf, &mut sink, alloc, b"b", b"c")?;
-    assert_same(
-        &rt,
-        &copy_out(&mut shelf, &mut sink, alloc, b"d", b"e").err(),
-        &Some(ShelfFault::Failed),
+    assert!(rt;
+        copy_out(&mut shelf, &mut sink, alloc, b"d", b"e").err() == Some(ShelfFault::Failed)
     );
-    assert_same(&rt, &sink.bytes(), &b"hellohello".as_slice());
+    assert!(rt; sink.bytes() == b"hellohello".as_slice());
     Ok(())
 }
 
@@ -62,36 +59,16 @@ fn reliable_forms_fail_only_for_a_missing_name(rt: HostRuntime) -> Result<(), Fa
 fn memory_shelf_fails_listed_calls(rt: HostRuntime) -> Result<(), Fail> {
     let alloc = rt.alloc();
     let mut shelf = one_file(alloc, vec![in alloc; 2, 5]?)?;
-    assert_same(
-        &rt,
-        &shelf.fetch(alloc, b"a", 1, 3)?.as_slice(),
-        &b"ell".as_slice(),
-    );
-    assert_same(
-        &rt,
-        &shelf.store(b"b", b"new").err(),
-        &Some(ShelfFault::Failed),
-    );
+    assert!(rt; shelf.fetch(alloc, b"a", 1, 3)?.as_slice() == b"ell".as_slice());
+    assert!(rt; shelf.store(b"b", b"new").err() == Some(ShelfFault::Failed));
     assert!(rt; shelf.file(b"b").is_none());
     shelf.store(b"b", b"new")?;
     shelf.store(b"a", b"bye")?;
-    assert_same(
-        &rt,
-        &shelf.fetch(alloc, b"a", 0, 9).err(),
-        &Some(ShelfFault::Failed),
-    );
-    assert_same(
-        &rt,
-        &shelf.fetch(alloc, b"c", 0, 9).err(),
-        &Some(ShelfFault::Failed),
-    );
-    assert_same(
-        &rt,
-        &shelf.fetch(alloc, b"a", 0, 9)?.as_slice(),
-        &b"bye".as_slice(),
-    );
-    assert_same(&rt, &shelf.fetch(alloc, b"a", 4, 9)?.len(), &0);
-    assert_same(&rt, &shelf.file(b"b").unwrap_or(&[]), &b"new".as_slice());
+    assert!(rt; shelf.fetch(alloc, b"a", 0, 9).err() == Some(ShelfFault::Failed));
+    assert!(rt; shelf.fetch(alloc, b"c", 0, 9).err() == Some(ShelfFault::Failed));
+    assert!(rt; shelf.fetch(alloc, b"a", 0, 9)?.as_slice() == b"bye".as_slice());
+    assert!(rt; shelf.fetch(alloc, b"a", 4, 9)?.len() == 0);
+    assert!(rt; shelf.file(b"b").unwrap_or(&[]) == b"new".as_slice());
     Ok(())
 }
 
@@ -99,35 +76,15 @@ fn memory_shelf_fails_listed_calls(rt: HostRuntime) -> Result<(), Fail> {
 fn files_in_memory_are_appended_to_and_finished(rt: HostRuntime) -> Result<(), Fail> {
     let alloc = rt.alloc();
     let mut shelf = one_file(alloc, vec![in alloc; 1, 3, 6]?)?;
-    assert_same(
-        &rt,
-        &shelf.begin(b"b", b"??").err(),
-        &Some(ShelfFault::Failed),
-    );
+    assert!(rt; shelf.begin(b"b", b"??").err() == Some(ShelfFault::Failed));
     shelf.begin(b"b", b"??")?;
-    assert_same(
-        &rt,
-        &shelf.append(b"b", b"one").err(),
-        &Some(ShelfFault::Failed),
-    );
+    assert!(rt; shelf.append(b"b", b"one").err() == Some(ShelfFault::Failed));
     shelf.append(b"b", b"one")?;
     shelf.append(b"b", b"two")?;
-    assert_same(
-        &rt,
-        &shelf.append(b"b", b"six").err(),
-        &Some(ShelfFault::Failed),
-    );
-    assert_same(
-        &rt,
-        &shelf.append(b"c", b"new").err(),
-        &Some(ShelfFault::Failed),
-    );
-    assert_same(
-        &rt,
-        &shelf.file(b"b").unwrap_or(&[]),
-        &b"??onetwo".as_slice(),
-    );
-    assert_same(&rt, &shelf.file(b"a").unwrap_or(&[]), &b"hello".as_slice());
+    assert!(rt; shelf.append(b"b", b"six").err() == Some(ShelfFault::Failed));
+    assert!(rt; shelf.append(b"c", b"new").err() == Some(ShelfFault::Failed));
+    assert!(rt; shelf.file(b"b").unwrap_or(&[]) == b"??onetwo".as_slice());
+    assert!(rt; shelf.file(b"a").unwrap_or(&[]) == b"hello".as_slice());
     assert!(rt; shelf.file(b"c").is_none());
     assert!(rt; shelf.has_room(b"a", b"jelly"));
     assert!(rt; !shelf.has_room(b"a", b"jellyfish"));
@@ -140,9 +97,9 @@ fn memory_sink_fails_listed_calls(rt: HostRuntime) -> Result<(), Fail> {
     let alloc = rt.alloc();
     let mut sink = MemorySink::new(alloc, vec![in alloc; 2]?);
     sink.put(b"one ")?;
-    assert_same(&rt, &sink.put(b"two ").err(), &Some(ShelfFault::Failed));
+    assert!(rt; sink.put(b"two ").err() == Some(ShelfFault::Failed));
     sink.put(b"three")?;
-    assert_same(&rt, &sink.bytes(), &b"one three".as_slice());
+    assert!(rt; sink.bytes() == b"one three".as_slice());
     Ok(())
 }
 
@@ -156,63 +113,23 @@ fn file_shelf_reads_what_it_wrote(rt: HostRuntime) -> Result<(), Fail> {
     let mut shelf = FileShelf::new(rt);
     shelf.store(name, b"hello, world")?;
     shelf.store(name, b"hello")?;
-    assert_same(
-        &rt,
-        &shelf.fetch(alloc, name, 1, 3)?.as_slice(),
-        &b"ell".as_slice(),
-    );
-    assert_same(
-        &rt,
-        &shelf.fetch(alloc, name, 3, 9)?.as_slice(),
-        &b"lo".as_slice(),
-    );
-    assert_same(&rt, &shelf.fetch(alloc, name, 9, 9)?.len(), &0);
+    assert!(rt; shelf.fetch(alloc, name, 1, 3)?.as_slice() == b"ell".as_slice());
+    assert!(rt; shelf.fetch(alloc, name, 3, 9)?.as_slice() == b"lo".as_slice());
+    assert!(rt; shelf.fetch(alloc, name, 9, 9)?.len() == 0);
     shelf.begin(name, b"??")?;
     shelf.append(name, b"one")?;
     shelf.append(name, b"two")?;
     shelf.finish(name, b"ok")?;
-    assert_same(
-        &rt,
-        &shelf.fetch(alloc, name, 0, 99)?.as_slice(),
-        &b"okonetwo".as_slice(),
-    );
+    assert!(rt; shelf.fetch(alloc, name, 0, 99)?.as_slice() == b"okonetwo".as_slice());
     fs::remove_file(&rt, path.as_str())?;
-    assert_same(
-        &rt,
-        &shelf.append(name, b"one").err(),
-        &Some(ShelfFault::Failed),
-    );
-    assert_same(
-        &rt,
-        &shelf.finish(name, b"ok").err(),
-        &Some(ShelfFault::Failed),
-    );
-    assert_same(
-        &rt,
-        &shelf.fetch(alloc, name, 0, 9).err(),
-        &Some(ShelfFault::Failed),
-    );
+    assert!(rt; shelf.append(name, b"one").err() == Some(ShelfFault::Failed));
+    assert!(rt; shelf.finish(name, b"ok").err() == Some(ShelfFault::Failed));
+    assert!(rt; shelf.fetch(alloc, name, 0, 9).err() == Some(ShelfFault::Failed));
     let folder_name = folder.as_str().as_bytes();
-    assert_same(
-        &rt,
-        &shelf.fetch(alloc, folder_name, 0, 9).err(),
-        &Some(ShelfFault::Failed),
-    );
-    assert_same(
-        &rt,
-        &shelf.store(folder_name, b"hello").err(),
-        &Some(ShelfFault::Failed),
-    );
-    assert_same(
-        &rt,
-        &shelf.fetch(alloc, b"\xff", 0, 9).err(),
-        &Some(ShelfFault::Failed),
-    );
-    assert_same(
-        &rt,
-        &shelf.store(b"\xff", b"hello").err(),
-        &Some(ShelfFault::Failed),
-    );
+    assert!(rt; shelf.fetch(alloc, folder_name, 0, 9).err() == Some(ShelfFault::Failed));
+    assert!(rt; shelf.store(folder_name, b"hello").err() == Some(ShelfFault::Failed));
+    assert!(rt; shelf.fetch(alloc, b"\xff", 0, 9).err() == Some(ShelfFault::Failed));
+    assert!(rt; shelf.store(b"\xff", b"hello").err() == Some(ShelfFault::Failed));
     Ok(())
 }
 
@@ -240,7 +157,7 @@ fn std_sink_takes_all_or_fails(rt: HostRuntime) -> Result<(), Fail> {
     output.put(b"a line\n")?;
     let mut narrow = StdSink::new(Narrow { room: 3 });
     narrow.put(b"ab")?;
-    assert_same(&rt, &narrow.put(b"cd").err(), &Some(ShelfFault::Failed));
+    assert!(rt; narrow.put(b"cd").err() == Some(ShelfFault::Failed));
     narrow.put(b"")?;
     Ok(())
 }

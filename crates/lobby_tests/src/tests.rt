@@ -8,7 +8,6 @@ ghost use Rattle.lobby.specs.Lobbies.{key_of_lobby, places_of_lobby, ring_of_lob
 
 mod threads;
 
-use assertions::assert_same;
 use lobby::Lobby;
 use mix_core::{MixPort, NeverStops, Placed};
 use snd_base::{Cursor, Geometry, PcmError};
@@ -180,19 +179,19 @@ fn busy(until: u64, seen: u64) -> PcmError {
 fn a_place_is_given_anew_once_it_is_silent(rt: HostRuntime) -> Result<(), Fail> {
     let mut ring = new_ring(rt.alloc(), 1, 0, 1)?;
     let mut hall = open_hall(rt.alloc(), &mut ring)?;
-    assert_same(&rt, &hall.attach_beside()?, &Ok(0));
+    assert!(rt; hall.attach_beside()? == Ok(0));
     hall.lay(64, 64, 5)?;
-    assert_same(&rt, &hall.detach()?, &128);
-    assert_same(&rt, &hall.attach_beside()?, &Err(busy(128, 0)));
-    assert_same(&rt, &hall.play(127)?, &5);
-    assert_same(&rt, &hall.attach_beside()?, &Err(busy(128, 127)));
-    assert_same(&rt, &hall.play(1)?, &5);
-    assert_same(&rt, &hall.attach_beside()?, &Ok(0));
+    assert!(rt; hall.detach()? == 128);
+    assert!(rt; hall.attach_beside()? == Err(busy(128, 0)));
+    assert!(rt; hall.play(127)? == 5);
+    assert!(rt; hall.attach_beside()? == Err(busy(128, 127)));
+    assert!(rt; hall.play(1)? == 5);
+    assert!(rt; hall.attach_beside()? == Ok(0));
     let none = PcmError::Busy {
         until: None,
         seen: 128,
     };
-    assert_same(&rt, &hall.attach_beside()?, &Err(none));
+    assert!(rt; hall.attach_beside()? == Err(none));
     Ok(())
 }
 
@@ -202,15 +201,15 @@ fn a_place_is_given_anew_once_it_is_silent(rt: HostRuntime) -> Result<(), Fail> 
 fn a_reaped_place_keeps_its_last_frame(rt: HostRuntime) -> Result<(), Fail> {
     let mut ring = new_ring(rt.alloc(), 2, 0, 2)?;
     let mut hall = open_hall(rt.alloc(), &mut ring)?;
-    assert_same(&rt, &hall.attach()?, &Ok(0));
+    assert!(rt; hall.attach()? == Ok(0));
     hall.lay(64, 1, 7)?;
-    assert_same(&rt, &hall.reap()?, &65);
-    assert_same(&rt, &hall.lobby.reaped(), &1);
-    assert_same(&rt, &hall.attach()?, &Ok(1));
-    assert_same(&rt, &hall.attach()?, &Err(busy(65, 0)));
-    assert_same(&rt, &hall.play(256)?, &0);
-    assert_same(&rt, &hall.attach()?, &Ok(0));
-    assert_same(&rt, &hall.lobby.reaped(), &1);
+    assert!(rt; hall.reap()? == 65);
+    assert!(rt; hall.lobby.reaped() == 1);
+    assert!(rt; hall.attach()? == Ok(1));
+    assert!(rt; hall.attach()? == Err(busy(65, 0)));
+    assert!(rt; hall.play(256)? == 0);
+    assert!(rt; hall.attach()? == Ok(0));
+    assert!(rt; hall.lobby.reaped() == 1);
     Ok(())
 }
 
@@ -224,18 +223,18 @@ fn a_refusal_names_the_first_silence(rt: HostRuntime) -> Result<(), Fail> {
         seen: 768,
     };
     for (place, last) in [(0, 900), (1, 850), (2, 950)] {
-        assert_same(&rt, &hall.attach()?, &Ok(place));
+        assert!(rt; hall.attach()? == Ok(place));
         hall.lay(last, 1, 1)?;
     }
-    assert_same(&rt, &hall.attach()?, &Err(none));
+    assert!(rt; hall.attach()? == Err(none));
     for from in [951, 851, 901] {
-        assert_same(&rt, &hall.detach()?, &from);
+        assert!(rt; hall.detach()? == from);
     }
-    assert_same(&rt, &hall.attach()?, &Err(busy(851, 768)));
-    assert_same(&rt, &hall.play(83)?, &1);
-    assert_same(&rt, &hall.attach()?, &Ok(1));
-    assert_same(&rt, &hall.attach()?, &Err(busy(901, 851)));
-    assert_same(&rt, &hall.detach()?, &851);
+    assert!(rt; hall.attach()? == Err(busy(851, 768)));
+    assert!(rt; hall.play(83)? == 1);
+    assert!(rt; hall.attach()? == Ok(1));
+    assert!(rt; hall.attach()? == Err(busy(901, 851)));
+    assert!(rt; hall.detach()? == 851);
     Ok(())
 }
 
@@ -245,11 +244,11 @@ fn a_lobby_has_up_to_64_places(rt: HostRuntime) -> Result<(), Fail> {
     let mut ring = new_ring(rt.alloc(), 1, 2, 64)?;
     let mut hall = open_hall(rt.alloc(), &mut ring)?;
     for place in 0..64 {
-        assert_same(&rt, &hall.attach()?, &Ok(place));
+        assert!(rt; hall.attach()? == Ok(place));
     }
     assert!(rt; !hall.lobby.is_whole());
     for _ in 0..64 {
-        assert_same(&rt, &hall.detach()?, &512);
+        assert!(rt; hall.detach()? == 512);
     }
     assert!(rt; hall.lobby.is_whole());
     let next = Cursor {
@@ -260,7 +259,7 @@ fn a_lobby_has_up_to_64_places(rt: HostRuntime) -> Result<(), Fail> {
         position: 512,
         next,
     };
-    assert_same(&rt, &hall.close()?, &closed);
+    assert!(rt; hall.close()? == closed);
     Ok(())
 }
 
@@ -271,12 +270,12 @@ fn sixteen_places_are_used_over_and_over(rt: HostRuntime) -> Result<(), Fail> {
     let mut hall = open_hall(rt.alloc(), &mut ring)?;
     for round in 0..40u64 {
         for place in 0..16 {
-            assert_same(&rt, &hall.attach_beside()?, &Ok(place));
+            assert!(rt; hall.attach_beside()? == Ok(place));
             hall.lay(round * 64 + 63, 1, 100)?;
         }
-        assert_same(&rt, &hall.play(64)?, &1600);
+        assert!(rt; hall.play(64)? == 1600);
         for _ in 0..16 {
-            assert_same(&rt, &hall.detach()?, &(round * 64 + 64));
+            assert!(rt; hall.detach()? == (round * 64 + 64));
         }
     }
     let next = Cursor {
@@ -287,6 +286,6 @@ fn sixteen_places_are_used_over_and_over(rt: HostRuntime) -> Result<(), Fail> {
         position: 2560,
         next,
     };
-    assert_same(&rt, &hall.close()?, &closed);
+    assert!(rt; hall.close()? == closed);
     Ok(())
 }

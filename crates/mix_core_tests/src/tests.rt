@@ -6,7 +6,6 @@ ghost use Rattle.mix_core.specs.Marks.{added_at};
 ghost use Rattle.mix_core.specs.Port.{Lays, OnLate, OnWhole, ended_of};
 ghost use Rattle.mix_core.specs.View.{cursor_at, marks_at};
 
-use assertions::assert_same;
 use mix_core::{
     Core, Event, Gate, Marks, MixPort, NeverStops, Placed, Position, Reply, can_place, later,
 };
@@ -95,13 +94,13 @@ fn new_core(rt: &HostRuntime, channels: u8, members: u32) -> Result<Core, Fail>
 fn three_samples_are_summed_before_the_cut(rt: HostRuntime) -> Result<(), Fail> {
     let mut core = new_core(&rt, 1, 3)?;
     for (member, sample) in [(0, 30000), (1, 10000), (2, -20000)] {
-        assert_same(&rt, &try_lay(&mut core, member, 0, 0, sample)?, &Placed::In);
+        assert!(rt; try_lay(&mut core, member, 0, 0, sample)? == Placed::In);
     }
-    assert_same(&rt, &core.take()?.value, &20000);
+    assert!(rt; core.take()?.value == 20000);
     let mut two = new_core(&rt, 1, 2)?;
-    assert_same(&rt, &try_lay(&mut two, 0, 0, 0, 30000)?, &Placed::In);
-    assert_same(&rt, &try_lay(&mut two, 1, 0, 0, 10000)?, &Placed::In);
-    assert_same(&rt, &two.take()?.value, &32767);
+    assert!(rt; try_lay(&mut two, 0, 0, 0, 30000)? == Placed::In);
+    assert!(rt; try_lay(&mut two, 1, 0, 0, 10000)? == Placed::In);
+    assert!(rt; two.take()?.value == 32767);
     Ok(())
 }
 
@@ -118,15 +117,15 @@ fn a_frame_is_late_in_the_channel_that_was_taken(rt: HostRuntime) -> Result<(), 
     }
     // The word of lap 2, with nothing added.
     let empty = Placed::Late { seen: 8598323200 };
-    assert_same(&rt, &try_lay(&mut core, 0, 64, 0, 1)?, &empty);
-    assert_same(&rt, &try_lay(&mut core, 0, 64, 1, 1)?, &Placed::In);
+    assert!(rt; try_lay(&mut core, 0, 64, 0, 1)? == empty);
+    assert!(rt; try_lay(&mut core, 0, 64, 1, 1)? == Placed::In);
     core.publish();
     core.unplug();
     let position = Position {
         frame: 64,
         gone: true,
     };
-    assert_same(&rt, &core.position(), &position);
+    assert!(rt; core.position() == position);
     Ok(())
 }
 
@@ -180,7 +179,7 @@ fn events_are_answered_in_their_order(rt: HostRuntime) -> Result<(), Fail> {
         value: 0,
     };
     let wanted = [Reply::In, Reply::In, first, second, Reply::Published(1)];
-    assert_same(&rt, &replies.as_slice(), &wanted.as_slice());
+    assert!(rt; replies.as_slice() == wanted.as_slice());
     Ok(())
 }
 
@@ -194,11 +193,11 @@ fn an_add_is_late_then_in_time_then_outside(rt: HostRuntime) -> Result<(), Fail>
         channel: 0,
         value: 0,
     };
-    assert_same(&rt, &take_words(&rt, &mut core, 129)?, &last);
+    assert!(rt; take_words(&rt, &mut core, 129)? == last);
     let events = [add(0, 64, 0), add(0, 64, 1), add(0, 64, 1), Event::Publish];
     let replies = core.run(rt.alloc(), &events)?;
     let wanted = [Reply::Late, Reply::In, Reply::Outside, Reply::Published(64)];
-    assert_same(&rt, &replies.as_slice(), &wanted.as_slice());
+    assert!(rt; replies.as_slice() == wanted.as_slice());
     Ok(())
 }
 
@@ -211,9 +210,9 @@ fn the_last_lap_ends(rt: HostRuntime) -> Result<(), Fail> {
         channel: 1,
         value: 0,
     };
-    assert_same(&rt, &take_words(&rt, &mut core, 512)?, &last);
-    assert_same(&rt, &take_words(&rt, &mut core, 1)?, &Reply::LapEnd);
-    assert_same(&rt, &take_words(&rt, &mut core, 2)?, &Reply::LapEnd);
+    assert!(rt; take_words(&rt, &mut core, 512)? == last);
+    assert!(rt; take_words(&rt, &mut core, 1)? == Reply::LapEnd);
+    assert!(rt; take_words(&rt, &mut core, 2)? == Reply::LapEnd);
     Ok(())
 }
 
@@ -234,7 +233,7 @@ fn an_add_is_outside(rt: HostRuntime) -> Result<(), Fail> {
     ];
     for (event, wanted) in table {
         let replies = core.run(rt.alloc(), &[event])?;
-        assert_same(&rt, &replies.as_slice(), &[wanted].as_slice());
+        assert!(rt; replies.as_slice() == [wanted].as_slice());
     }
     Ok(())
 }
@@ -251,7 +250,7 @@ fn an_add_past_the_last_lap_is_outside(rt: HostRuntime) -> Result<(), Fail> {
     ];
     let replies = core.run(rt.alloc(), &events)?;
     let wanted = [Reply::Published(1099511627266), Reply::Outside, Reply::In];
-    assert_same(&rt, &replies.as_slice(), &wanted.as_slice());
+    assert!(rt; replies.as_slice() == wanted.as_slice());
     Ok(())
 }
 
@@ -291,7 +290,7 @@ fn a_withdrawal_is_in_time_then_late_then_outside(rt: HostRuntime) -> Result<(),
         value: 0,
     };
     let wanted = [Reply::In, Reply::Late, silent, Reply::Outside];
-    assert_same(&rt, &replies.get(131..), &Some(wanted.as_slice()));
+    assert!(rt; replies.get(131..) == Some(wanted.as_slice()));
     Ok(())
 }
 
@@ -317,8 +316,8 @@ fn a_withdrawal_is_outside(rt: HostRuntime) -> Result<(), Fail> {
     ];
     let replies = core.run(rt.alloc(), &first)?;
     let wanted = [Reply::In, Reply::Outside, Reply::In, Reply::Outside];
-    assert_same(&rt, &replies.as_slice(), &wanted.as_slice());
+    assert!(rt; replies.as_slice() == wanted.as_slice());
     let later = core.run(rt.alloc(), &[withdraw(1, 7)])?;
-    assert_same(&rt, &later.as_slice(), &[Reply::Outside].as_slice());
+    assert!(rt; later.as_slice() == [Reply::Outside].as_slice());
     Ok(())
 }

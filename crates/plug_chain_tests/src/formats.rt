@@ -1,46 +1,45 @@
 //! Formats, places, and frames that are copied and silenced.
 ghost use Rattle.std.specs.Prelude.{◌≡◌};
 
-use assertions::{assert_same, assert_same_at};
 use pcm_format::{Areas, Format, copy_frames, print_sample, read_sample, silence_frames};
 
 #[test]
 fn formats_have_the_numbers_of_alsa(rt: HostRuntime) {
-    assert_same(&rt, &Format::S8.number(), &0);
-    assert_same(&rt, &Format::U8.number(), &1);
-    assert_same(&rt, &Format::S16Le.number(), &2);
-    assert_same(&rt, &Format::S16Be.number(), &3);
-    assert_same(&rt, &Format::U8.bits(), &8);
-    assert_same(&rt, &Format::S16Be.bits(), &16);
-    assert_same(&rt, &Format::U8.silence(), &128);
-    assert_same(&rt, &Format::S8.silence(), &0);
+    assert!(rt; Format::S8.number() == 0);
+    assert!(rt; Format::U8.number() == 1);
+    assert!(rt; Format::S16Le.number() == 2);
+    assert!(rt; Format::S16Be.number() == 3);
+    assert!(rt; Format::U8.bits() == 8);
+    assert!(rt; Format::S16Be.bits() == 16);
+    assert!(rt; Format::U8.silence() == 128);
+    assert!(rt; Format::S8.silence() == 0);
 }
 
 #[test]
 fn bytes_are_read_in_each_format(rt: HostRuntime) {
-    assert_same(&rt, &read_sample(Format::U8, &[0]), &-32768);
-    assert_same(&rt, &read_sample(Format::U8, &[255]), &32512);
-    assert_same(&rt, &read_sample(Format::S8, &[128]), &-32768);
-    assert_same(&rt, &read_sample(Format::S16Be, &[18, 52]), &4660);
-    assert_same(&rt, &read_sample(Format::S16Le, &[52, 18]), &4660);
+    assert!(rt; read_sample(Format::U8, &[0]) == -32768);
+    assert!(rt; read_sample(Format::U8, &[255]) == 32512);
+    assert!(rt; read_sample(Format::S8, &[128]) == -32768);
+    assert!(rt; read_sample(Format::S16Be, &[18, 52]) == 4660);
+    assert!(rt; read_sample(Format::S16Le, &[52, 18]) == 4660);
 }
 
 #[test]
 fn an_8_bit_sample_is_rounded_down(rt: HostRuntime) {
     let mut byte = [0u8; 1];
     print_sample(Format::U8, -1, &mut byte);
-    assert_same(&rt, &byte, &[127]);
+    assert!(rt; byte == [127]);
     print_sample(Format::S8, -1, &mut byte);
-    assert_same(&rt, &byte, &[255]);
+    assert!(rt; byte == [255]);
 }
 
 #[test]
 fn both_bytes_are_written_in_their_order(rt: HostRuntime) {
     let mut bytes = [0u8; 2];
     print_sample(Format::S16Be, 4660, &mut bytes);
-    assert_same(&rt, &bytes, &[18, 52]);
+    assert!(rt; bytes == [18, 52]);
     print_sample(Format::S16Le, 4660, &mut bytes);
-    assert_same(&rt, &bytes, &[52, 18]);
+    assert!(rt; bytes == [52, 18]);
 }
 
 // The layout of two frames of two channels.
@@ -67,7 +66,7 @@ fn interleaved_frames_are_copied_channel_by_channel(rt: HostRuntime) {
         0,
         2,
     );
-    assert_same(&rt, &to, &[1, 3, 2, 4]);
+    assert!(rt; to == [1, 3, 2, 4]);
 }
 
 #[test]
@@ -75,7 +74,7 @@ fn interleaved_frames_are_copied_channel_by_channel(rt: HostRuntime) {
 fn only_the_range_is_changed(rt: HostRuntime) {
     let mut to = [1i16, 2, 3, 4];
     silence_frames(&mut to, &two_by_two(true), 1, 1);
-    assert_same(&rt, &to, &[1, 2, 0, 0]);
+    assert!(rt; to == [1, 2, 0, 0]);
     copy_frames(
         &[5, 6, 7, 8],
         &two_by_two(true),
@@ -85,13 +84,13 @@ fn only_the_range_is_changed(rt: HostRuntime) {
         0,
         1,
     );
-    assert_same(&rt, &to, &[7, 8, 0, 0]);
+    assert!(rt; to == [7, 8, 0, 0]);
 }
 
 #[test]
 fn a_place_is_by_frame_or_by_channel(rt: HostRuntime) {
-    assert_same(&rt, &two_by_two(true).place(0, 1), &1);
-    assert_same(&rt, &two_by_two(false).place(0, 1), &2);
+    assert!(rt; two_by_two(true).place(0, 1) == 1);
+    assert!(rt; two_by_two(false).place(0, 1) == 2);
 }
 
 #[test]
@@ -106,11 +105,9 @@ fn a_buffer_holds_the_frames_whose_places_it_has(rt: HostRuntime) {
         (true, 4, 3, 0, false),
         (false, 0, 2, 0, true),
     ] {
-        assert_same_at(
-            &rt,
-            &samples,
-            &two_by_two(interleaved).holds(samples, first, count),
-            &holds,
+        assert!(rt;
+            two_by_two(interleaved).holds(samples, first, count) == holds,
+            "{samples}"
         );
     }
 }

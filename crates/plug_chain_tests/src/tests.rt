@@ -1,5 +1,4 @@
 //! What no clause says of a plug: that it works where there is memory, and samples worked out by hand.
-use assertions::assert_same;
 use plug_chain::{Plug, Table, Wide};
 use std::alloc::Global;
 use std::test::Fail;
@@ -23,17 +22,9 @@ fn converted(alloc: Global, mut plug: Plug, first: &[u8], second: &[u8]) -> Resu
 fn twice_the_rate_puts_frames_between(rt: HostRuntime) -> Result<(), Fail> {
     let table = Table::usual(rt.alloc(), 1, 1)?;
     let plug = Plug::new(Wide::U8, table, 24000, 48000);
-    assert_same(
-        &rt,
-        &(plug.converted_len(0), plug.converted_len(3)),
-        &(0, 6),
-    );
+    assert!(rt; (plug.converted_len(0), plug.converted_len(3)) == (0, 6));
     let out = converted(rt.alloc(), plug, &[128, 192], &[64])?;
-    assert_same(
-        &rt,
-        &out.as_slice(),
-        &[0, 8192, 16384, 0, -16384, -16384].as_slice(),
-    );
+    assert!(rt; out.as_slice() == [0, 8192, 16384, 0, -16384, -16384].as_slice());
     Ok(())
 }
 
@@ -41,10 +32,10 @@ fn twice_the_rate_puts_frames_between(rt: HostRuntime) -> Result<(), Fail> {
 fn wide_samples_are_rounded_down(rt: HostRuntime) -> Result<(), Fail> {
     let plug = one_to_one(rt.alloc(), Wide::S24Packed)?;
     let out = converted(rt.alloc(), plug, &[255, 255], &[255, 0, 0, 128])?;
-    assert_same(&rt, &out.as_slice(), &[-1, -32768].as_slice());
+    assert!(rt; out.as_slice() == [-1, -32768].as_slice());
     let plug = one_to_one(rt.alloc(), Wide::S32Le)?;
     let out = converted(rt.alloc(), plug, &[255, 255, 255, 255, 0], &[0, 0, 128, 9])?;
-    assert_same(&rt, &out.as_slice(), &[-1, -32768].as_slice());
+    assert!(rt; out.as_slice() == [-1, -32768].as_slice());
     Ok(())
 }
 
@@ -53,7 +44,7 @@ fn stereo_is_rounded_down_to_mono(rt: HostRuntime) -> Result<(), Fail> {
     let table = Table::usual(rt.alloc(), 2, 1)?;
     let plug = Plug::new(Wide::S16Be, table, 8000, 8000);
     let out = converted(rt.alloc(), plug, &[0, 3, 255], &[252])?;
-    assert_same(&rt, &out.as_slice(), &[-1].as_slice());
+    assert!(rt; out.as_slice() == [-1].as_slice());
     Ok(())
 }
 
@@ -62,7 +53,7 @@ fn a_sum_is_saturated_once(rt: HostRuntime) -> Result<(), Fail> {
     let table = Table::new(rt.alloc(), 3, 1, &[65536, 65536, -65536])?;
     let plug = Plug::new(Wide::S8, table, 8000, 8000);
     let out = converted(rt.alloc(), plug, &[127, 127, 127], &[127, 127, 1])?;
-    assert_same(&rt, &out.as_slice(), &[32512, 32767].as_slice());
+    assert!(rt; out.as_slice() == [32512, 32767].as_slice());
     Ok(())
 }
 

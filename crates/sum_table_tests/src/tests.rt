@@ -8,7 +8,6 @@ ghost use Rattle.sum_table.specs.Seats.{CanAdd, IsLaterSeat, SeatLaid, member_of
 
 mod threads;
 
-use assertions::assert_same;
 use mix_core::{MixPort, NeverStops, Placed, Position};
 use snd_base::{Cursor, Geometry, Steps};
 use std::alloc::Global;
@@ -97,22 +96,18 @@ fn lose_once<L: Ledger, A: Abort>(rt: &A, alloc: Global, blank: Blank) -> Result
     let (mut player, mut a) = ring.seats();
     let mut b = a.split(1, 1);
     let word = a.load_word(5, 0, &mut steps);
-    assert_same(&rt, &word, &8388608);
-    assert_same(&rt, &try_place(&mut b, 5, 0, 10000)?, &Placed::In);
+    assert!(rt; word == 8388608);
+    assert!(rt; try_place(&mut b, 5, 0, 10000)? == Placed::In);
     let Err(found) = try_exchange(&mut a, 5, word, 30000, &mut steps)? else {
         return Err("the exchange was won".into());
     };
-    assert_same(&rt, &found, &25175824);
-    assert_same(
-        &rt,
-        &try_exchange(&mut a, 5, found, 30000, &mut steps)?,
-        &Ok(()),
-    );
-    assert_same(&rt, &a.load_word(5, 0, &mut steps), &41983040);
+    assert!(rt; found == 25175824);
+    assert!(rt; try_exchange(&mut a, 5, found, 30000, &mut steps)? == Ok(()));
+    assert!(rt; a.load_word(5, 0, &mut steps) == 41983040);
     for _ in 0..5 {
-        assert_same(&rt, &player.take_word()?.value, &0);
+        assert!(rt; player.take_word()?.value == 0);
     }
-    assert_same(&rt, &player.take_word()?.value, &32767);
+    assert!(rt; player.take_word()?.value == 32767);
     Ok(())
 }
 
@@ -127,7 +122,7 @@ fn a_place_at_a_taken_frame_is_late(rt: HostRuntime) -> Result<(), Fail> {
     let mut ring = new_ring(rt.alloc(), 1, 1)?;
     let (mut player, mut a) = ring.seats();
     for _ in 0..10 {
-        assert_same(&rt, &player.take_word()?.value, &0);
+        assert!(rt; player.take_word()?.value == 0);
     }
     player.publish();
     let position = Position {
@@ -135,11 +130,11 @@ fn a_place_at_a_taken_frame_is_late(rt: HostRuntime) -> Result<(), Fail> {
         gone: false,
     };
     let before = a.cursor();
-    assert_same(&rt, &a.position(&mut NeverStops)?, &position);
+    assert!(rt; a.position(&mut NeverStops)? == position);
     let late = Placed::Late { seen: 4303355904 };
-    assert_same(&rt, &try_place(&mut a, 7, 0, 1)?, &late);
-    assert_same(&rt, &a.cursor(), &before);
-    assert_same(&rt, &a.last(), &None);
+    assert!(rt; try_place(&mut a, 7, 0, 1)? == late);
+    assert!(rt; a.cursor() == before);
+    assert!(rt; a.last() == None);
     player.unplug();
     assert!(rt; a.position(&mut NeverStops)?.gone);
     Ok(())
@@ -153,10 +148,10 @@ fn lay_anew<L: Ledger, A: Abort>(rt: &A, alloc: Global, blank: Blank) -> Result<
     let mut steps: Steps<L> = Steps::open(blank);
     let mut ring = new_ring(alloc, 1, 1)?;
     let (mut player, mut a) = ring.seats();
-    assert_same(&rt, &place_and_withdraw(&mut a, 0, 30000)?, &Placed::In);
-    assert_same(&rt, &try_place(&mut a, 0, 0, 7)?, &Placed::In);
-    assert_same(&rt, &a.load_word(0, 0, &mut steps), &58720263);
-    assert_same(&rt, &player.take_word()?.value, &7);
+    assert!(rt; place_and_withdraw(&mut a, 0, 30000)? == Placed::In);
+    assert!(rt; try_place(&mut a, 0, 0, 7)? == Placed::In);
+    assert!(rt; a.load_word(0, 0, &mut steps) == 58720263);
+    assert!(rt; player.take_word()?.value == 7);
     Ok(())
 }
 
@@ -176,9 +171,9 @@ fn the_largest_ring_is_made(rt: HostRuntime) -> Result<(), Fail> {
     };
     let mut ring = SumRing::new(rt.alloc(), geometry, 64)?;
     let (mut player, mut seat) = ring.seats();
-    assert_same(&rt, &seat.places(), &64);
-    assert_same(&rt, &try_place(&mut seat, 16383, 7, 5)?, &Placed::In);
-    assert_same(&rt, &player.take_word()?.value, &0);
+    assert!(rt; seat.places() == 64);
+    assert!(rt; try_place(&mut seat, 16383, 7, 5)? == Placed::In);
+    assert!(rt; player.take_word()?.value == 0);
     Ok(())
 }
 
@@ -192,11 +187,11 @@ fn sum_three<L: Ledger, A: Abort>(rt: &A, alloc: Global, blank: Blank) -> Result
     let (mut player, mut a) = ring.seats();
     let mut b = a.split(1, 1);
     let mut c = a.split(1, 2);
-    assert_same(&rt, &try_place(&mut a, 0, 0, 30000)?, &Placed::In);
-    assert_same(&rt, &try_place(&mut b, 0, 0, 10000)?, &Placed::In);
-    assert_same(&rt, &try_place(&mut c, 0, 0, -20000)?, &Placed::In);
-    assert_same(&rt, &a.load_word(0, 0, &mut steps), &58740256);
-    assert_same(&rt, &player.take_word()?.value, &20000);
+    assert!(rt; try_place(&mut a, 0, 0, 30000)? == Placed::In);
+    assert!(rt; try_place(&mut b, 0, 0, 10000)? == Placed::In);
+    assert!(rt; try_place(&mut c, 0, 0, -20000)? == Placed::In);
+    assert!(rt; a.load_word(0, 0, &mut steps) == 58740256);
+    assert!(rt; player.take_word()?.value == 20000);
     Ok(())
 }
 
@@ -212,22 +207,22 @@ fn seats_end_where_they_began(rt: HostRuntime) -> Result<(), Fail> {
     let mut ring = new_ring(rt.alloc(), 2, 3)?;
     let (mut player, mut mix) = ring.seats();
     let mut a = mix.split(2, 7);
-    assert_same(&rt, &a.member(), &7);
-    assert_same(&rt, &try_place(&mut a, 0, 1, -32768)?, &Placed::In);
-    assert_same(&rt, &player.take_word()?.value, &0);
-    assert_same(&rt, &player.take_word()?.value, &-32768);
+    assert!(rt; a.member() == 7);
+    assert!(rt; try_place(&mut a, 0, 1, -32768)? == Placed::In);
+    assert!(rt; player.take_word()?.value == 0);
+    assert!(rt; player.take_word()?.value == -32768);
     player.publish();
     a.meet(player.note());
-    assert_same(&rt, &a.seen(), &1);
+    assert!(rt; a.seen() == 1);
     player.meet(a.note());
-    assert_same(&rt, &try_place(&mut a, 3, 0, 5)?, &Placed::In);
+    assert!(rt; try_place(&mut a, 3, 0, 5)? == Placed::In);
     mix.join(a);
-    assert_same(&rt, &mix.places(), &3);
-    assert_same(&rt, &mix.last(), &Some(3));
+    assert!(rt; mix.places() == 3);
+    assert!(rt; mix.last() == Some(3));
     let next = Cursor {
         frame: 1,
         channel: 0,
     };
-    assert_same(&rt, &mix.close(player), &Closed { position: 1, next });
+    assert!(rt; mix.close(player) == Closed { position: 1, next });
     Ok(())
 }

@@ -2,7 +2,6 @@
 mod pieces;
 mod real_files;
 
-use assertions::{assert_same, assert_same_at};
 use pieces::{in_pieces, is_alike_in_pieces};
 use std::alloc::{AllocError, Global};
 use std::test::*;
@@ -17,17 +16,17 @@ const EMPTY: [u8; 44] = [
 
 #[test]
 fn the_empty_file_both_ways(rt: HostRuntime) -> Result<(), Fail> {
-    assert_same(&rt, &header(1, 48000, 0), &EMPTY);
+    assert!(rt; header(1, 48000, 0) == EMPTY);
     let open = open_header(1, 48000);
-    assert_same(&rt, &&open[..4], &&EMPTY[..4]);
-    assert_same(&rt, &&open[4..8], &[0xffu8; 4].as_slice());
-    assert_same(&rt, &&open[8..40], &&EMPTY[8..40]);
-    assert_same(&rt, &&open[40..], &[0xffu8; 4].as_slice());
+    assert!(rt; *&&open[..4] == *&&EMPTY[..4]);
+    assert!(rt; *&&open[4..8] == [0xffu8; 4].as_slice());
+    assert!(rt; *&&open[8..40] == *&&EMPTY[8..40]);
+    assert!(rt; *&&open[40..] == [0xffu8; 4].as_slice());
     let read = read_wav(rt.alloc(), &EMPTY).ok().ok_or("the file is read")?;
-    assert_same(&rt, &read.channels, &1);
-    assert_same(&rt, &read.rate, &48000);
+    assert!(rt; read.channels == 1);
+    assert!(rt; read.rate == 48000);
     assert!(rt; read.samples.is_empty());
-    assert_same(&rt, &read.samples.len(), &0);
+    assert!(rt; read.samples.len() == 0);
     let written = write_wav(
         rt.alloc(),
         &Wav {
@@ -38,7 +37,7 @@ fn the_empty_file_both_ways(rt: HostRuntime) -> Result<(), Fail> {
     )
     .ok()
     .ok_or("the file is written")?;
-    assert_same(&rt, &written.as_slice(), &EMPTY.as_slice());
+    assert!(rt; written.as_slice() == EMPTY.as_slice());
     Ok(())
 }
 
@@ -53,16 +52,12 @@ fn one_frame_both_ways(rt: HostRuntime) -> Result<(), Fail> {
     let bytes = write_wav(rt.alloc(), &stereo)
         .ok()
         .ok_or("the file is written")?;
-    assert_same(&rt, &&bytes[44..], &[1u8, 0, 0xfe, 0xff].as_slice());
-    assert_same(&rt, &&bytes[40..44], &[4u8, 0, 0, 0].as_slice());
+    assert!(rt; *&&bytes[44..] == [1u8, 0, 0xfe, 0xff].as_slice());
+    assert!(rt; *&&bytes[40..44] == [4u8, 0, 0, 0].as_slice());
     let read = read_wav(rt.alloc(), &bytes).ok().ok_or("the file is read")?;
-    assert_same(&rt, &read.channels, &2);
-    assert_same(&rt, &read.rate, &44100);
-    assert_same(
-        &rt,
-        &read.samples.into_vec().as_slice(),
-        &[1i16, -2].as_slice(),
-    );
+    assert!(rt; read.channels == 2);
+    assert!(rt; read.rate == 44100);
+    assert!(rt; read.samples.into_vec().as_slice() == [1i16, -2].as_slice());
     Ok(())
 }
 
@@ -125,11 +120,7 @@ fn list_chunks_and_extensible_formats_are_read(rt: HostRuntime) -> Result<(), Fa
     if let Some(tag) = bytes.get_mut(12 + 8 + 24) {
         *tag = 3;
     }
-    assert_same(
-        &rt,
-        &refusal(read_wav(alloc, &bytes)),
-        &Some(WavError::Tag(3)),
-    );
+    assert!(rt; refusal(read_wav(alloc, &bytes)) == Some(WavError::Tag(3)));
     assert!(rt; is_alike_in_pieces(alloc, &bytes));
     Ok(())
 }
@@ -141,21 +132,9 @@ fn cut_files(rt: HostRuntime) -> Result<(), Fail> {
     assert!(rt; is_one_sample(read_wav(alloc, &rest)));
     assert!(rt; is_alike_in_pieces(alloc, &rest));
     assert!(rt; is_alike_in_pieces(alloc, &BEGIN[..30]));
-    assert_same(
-        &rt,
-        &refusal(read_wav(alloc, &BEGIN[..30])),
-        &Some(WavError::ShortFormat),
-    );
-    assert_same(
-        &rt,
-        &refusal(read_wav(alloc, &EMPTY[..8])),
-        &Some(WavError::NotWave),
-    );
-    assert_same(
-        &rt,
-        &refusal(read_wav(alloc, &EMPTY[..36])),
-        &Some(WavError::NoData),
-    );
+    assert!(rt; refusal(read_wav(alloc, &BEGIN[..30])) == Some(WavError::ShortFormat));
+    assert!(rt; refusal(read_wav(alloc, &EMPTY[..8])) == Some(WavError::NotWave));
+    assert!(rt; refusal(read_wav(alloc, &EMPTY[..36])) == Some(WavError::NoData));
     Ok(())
 }
 
@@ -174,8 +153,8 @@ fn one_frame_cut_after_each_byte(rt: HostRuntime) -> Result<(), Fail> {
     for (from, to, want) in table {
         for n in from..to {
             let cut = whole.get(..n).ok_or("the file has so many bytes")?;
-            assert_same_at(&rt, &n, &refusal(read_wav(alloc, cut)), &want);
-            assert_same_at(&rt, &n, &refusal(in_pieces(alloc, cut, 1)), &want);
+            assert!(rt; refusal(read_wav(alloc, cut)) == want, "{n}");
+            assert!(rt; refusal(in_pieces(alloc, cut, 1)) == want, "{n}");
         }
     }
     let cut = whole.get(..45).ok_or("the file has so many bytes")?;
@@ -201,25 +180,17 @@ fn refusals_of_the_format(rt: HostRuntime) -> Result<(), Fail> {
         if let Some(place) = bytes.get_mut(at) {
             *place = byte;
         }
-        assert_same_at(&rt, &at, &refusal(read_wav(alloc, &bytes)), &Some(want));
+        assert!(rt; refusal(read_wav(alloc, &bytes)) == Some(want), "{at}");
     }
     let twice = joined(alloc, &[&BEGIN, &BEGIN[12..], &DATA])?;
-    assert_same(
-        &rt,
-        &refusal(read_wav(alloc, &twice)),
-        &Some(WavError::FormatTwice),
-    );
+    assert!(rt; refusal(read_wav(alloc, &twice)) == Some(WavError::FormatTwice));
     let mut bytes = joined(alloc, &[&BEGIN, &DATA])?;
     for at in [24usize, 25, 26, 27, 34] {
         if let Some(place) = bytes.get_mut(at) {
             *place = 0;
         }
     }
-    assert_same(
-        &rt,
-        &refusal(read_wav(alloc, &bytes)),
-        &Some(WavError::RateZero),
-    );
+    assert!(rt; refusal(read_wav(alloc, &bytes)) == Some(WavError::RateZero));
     Ok(())
 }
 
@@ -228,21 +199,13 @@ fn a_file_past_the_limit_is_too_long(rt: HostRuntime) -> Result<(), Fail> {
     let alloc = rt.alloc();
     let mut bytes = joined(alloc, &[&BEGIN, &DATA])?;
     bytes.resize(LIMIT + 1, 0)?;
-    assert_same(
-        &rt,
-        &refusal(read_wav(alloc, &bytes)),
-        &Some(WavError::TooLong),
-    );
+    assert!(rt; refusal(read_wav(alloc, &bytes)) == Some(WavError::TooLong));
     let cut = bytes.get(..LIMIT).ok_or("the file has so many bytes")?;
-    assert_same(&rt, &refusal(read_wav(alloc, cut)), &None);
+    assert!(rt; refusal(read_wav(alloc, cut)) == None);
     if let Some(tag) = bytes.get_mut(20) {
         *tag = 2;
     }
-    assert_same(
-        &rt,
-        &refusal(read_wav(alloc, &bytes)),
-        &Some(WavError::Tag(2)),
-    );
+    assert!(rt; refusal(read_wav(alloc, &bytes)) == Some(WavError::Tag(2)));
     Ok(())
 }
 
@@ -265,7 +228,7 @@ fn refusals_print_their_names(rt: HostRuntime) -> Result<(), Fail> {
     ];
     for (error, name) in all {
         let text = format!(in alloc; "{error}")?;
-        assert_same(&rt, &text.as_str(), &name);
+        assert!(rt; text.as_str() == name);
     }
     Ok(())
 }

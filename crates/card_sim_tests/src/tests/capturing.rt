@@ -1,6 +1,5 @@
 //! Random stores, publications and loads at a capture ring between threads and at a core: both give the same answers.
 use super::dice::Dice;
-use assertions::assert_same_at;
 use mix_core::NeverStops;
 use snd_base::PcmError;
 use snoop_core::{Loaded, SnoopCore, SnoopPort};
@@ -85,24 +84,22 @@ fn compare(
                 }
                 let frame = &frame[..geometry.channels as usize];
                 let stored = store_in_core(core, frame)?;
-                assert_same_at(&rt, &seed, &store(writer, frame)?, &stored);
+                assert!(rt; store(writer, frame)? == stored, "{seed}");
                 counts.stored = counts.stored.saturating_add(stored.is_ok() as u32);
             }
             3 => {
                 core.publish();
                 writer.publish();
-                assert_same_at(
-                    &rt,
-                    &seed,
-                    &reader.position(&mut NeverStops)?,
-                    &core.position(),
+                assert!(rt;
+                    reader.position(&mut NeverStops)? == core.position(),
+                    "{seed}"
                 );
             }
             _ => {
                 let back = dice.below(2 * geometry.frames as u64);
                 let frame = core.position().frame.saturating_sub(back).saturating_add(1);
                 let given = load(&mut core.turn(), frame)?;
-                assert_same_at(&rt, &seed, &load(reader, frame)?, &given);
+                assert!(rt; load(reader, frame)? == given, "{seed}");
                 counts.count(given);
             }
         }

@@ -1,6 +1,5 @@
 //! What no clause says of `conf`: its lines byte for byte, the line on the errors' stream for each kind of
 //! refusal, and what a fault leaves.
-use assertions::{assert_same, assert_same_at};
 use lab_calls::{Left, call};
 use lab_script::read_script;
 use std::alloc::{AllocError, Global};
@@ -67,8 +66,8 @@ fn devices_are_put_line_by_line(rt: HostRuntime) -> Result<(), Fail> {
     for (text, name, kind, card, bindings) in &DESCRIBED {
         let left = conf(&rt, alloc, ("c", name), text.as_bytes(), (&[], &[]))?;
         let lines = format!(in alloc; "{kind}{card}{bindings}")?;
-        assert_same_at(&rt, &name, &left.status, &0);
-        assert_same_at(&rt, &name, &left.out.bytes(), &lines.as_bytes());
+        assert!(rt; left.status == 0, "{name}");
+        assert!(rt; left.out.bytes() == lines.as_bytes(), "{name}");
         assert!(rt; left.errors.bytes().is_empty());
         let script = read_script(alloc, card.as_bytes());
         assert!(rt; script.is_ok(), "{name}");
@@ -103,8 +102,8 @@ fn refused_configurations_are_named(rt: HostRuntime) -> Result<(), Fail> {
     for (text, why) in &REFUSED {
         let line = format!(in alloc; "dmixlab: conf {why}\n")?;
         let left = conf(&rt, alloc, ("c", "x"), text.as_bytes(), (&[], &[]))?;
-        assert_same_at(&rt, &text, &left.status, &2);
-        assert_same_at(&rt, &text, &left.errors.bytes(), &line.as_bytes());
+        assert!(rt; left.status == 2, "{text}");
+        assert!(rt; left.errors.bytes() == line.as_bytes(), "{text}");
         assert!(rt; left.out.bytes().is_empty());
     }
     Ok(())
@@ -128,7 +127,7 @@ fn a_name_has_1_to_64_visible_characters(rt: HostRuntime) -> Result<(), Fail> {
         ("\u{e9}", 1),
     ] {
         let left = conf(&rt, alloc, ("c", name), b"", (&[], &[]))?;
-        assert_same_at(&rt, &name, &left.status, &status);
+        assert!(rt; left.status == status, "{name}");
         assert!(rt; left.out.bytes().is_empty());
     }
     Ok(())
@@ -144,8 +143,8 @@ fn faults_leave_no_line(rt: HostRuntime) -> Result<(), Fail> {
         ("", ([].as_slice(), [].as_slice()), 1, "dmixlab: words\n"),
     ] {
         let left = conf(&rt, alloc, (file, "dmixer"), DMIXER.as_bytes(), failing)?;
-        assert_same_at(&rt, &line, &left.status, &status);
-        assert_same(&rt, &left.errors.bytes(), &line.as_bytes());
+        assert!(rt; left.status == status, "{line}");
+        assert!(rt; left.errors.bytes() == line.as_bytes());
         assert!(rt; left.out.bytes().is_empty());
     }
     Ok(())

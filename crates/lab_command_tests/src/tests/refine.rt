@@ -1,6 +1,5 @@
 //! What no clause says of the call of `refine`: that it is done where there is memory, the line on the errors' stream for each
 //! status, and what a fault leaves.
-use assertions::{assert_same, assert_same_at};
 use lab_calls::{Left, call};
 use std::alloc::{AllocError, Global};
 use std::test::Fail;
@@ -41,8 +40,8 @@ fn answers_are_put(rt: HostRuntime) -> Result<(), Fail> {
     let alloc = rt.alloc();
     for (text, answers) in &ANSWERED {
         let left = refine(&rt, alloc, "t", text.as_bytes(), (&[], &[]))?;
-        assert_same_at(&rt, &text, &left.status, &0);
-        assert_same_at(&rt, &text, &left.out.bytes(), &answers.as_bytes());
+        assert!(rt; left.status == 0, "{text}");
+        assert!(rt; left.out.bytes() == answers.as_bytes(), "{text}");
         assert!(rt; left.errors.bytes().is_empty());
     }
     Ok(())
@@ -70,8 +69,8 @@ fn refused_texts_are_named(rt: HostRuntime) -> Result<(), Fail> {
     for (text, why) in &REFUSED {
         let line = format!(in alloc; "dmixlab: script {why}\n")?;
         let left = refine(&rt, alloc, "t", text.as_bytes(), (&[], &[]))?;
-        assert_same_at(&rt, &text, &left.status, &2);
-        assert_same_at(&rt, &text, &left.errors.bytes(), &line.as_bytes());
+        assert!(rt; left.status == 2, "{text}");
+        assert!(rt; left.errors.bytes() == line.as_bytes(), "{text}");
         assert!(rt; left.out.bytes().is_empty());
     }
     Ok(())
@@ -88,8 +87,8 @@ fn faults_leave_no_answer(rt: HostRuntime) -> Result<(), Fail> {
         ("", ([].as_slice(), [].as_slice()), 1, "dmixlab: words\n"),
     ] {
         let left = refine(&rt, alloc, name, text.as_bytes(), failing)?;
-        assert_same_at(&rt, &line, &left.status, &status);
-        assert_same(&rt, &left.errors.bytes(), &line.as_bytes());
+        assert!(rt; left.status == status, "{line}");
+        assert!(rt; left.errors.bytes() == line.as_bytes());
         assert!(rt; left.out.bytes().is_empty());
     }
     Ok(())

@@ -1,5 +1,4 @@
 //! Calls that aren't done: the status, the line on `errors`, and that no file changed.
-use assertions::{assert_same, assert_same_at};
 use lab_calls::{MONO, call, files_of};
 use std::alloc::{AllocError, Global};
 use std::test::Fail;
@@ -89,11 +88,11 @@ fn calls_that_are_not_done_say_why(rt: HostRuntime) -> Result<(), Fail> {
         let mut files = files_of(alloc, script, CLIENTS)?;
         files.push((Vec::from_slice(alloc, b"none")?, Vec::new(alloc)))?;
         let left = call(&rt, alloc, refusal.words, files, refusal.failing)?;
-        assert_same_at(&rt, &refusal.line, &left.status, &refusal.status);
-        assert_same(&rt, &left.errors.bytes(), &refusal.line.as_bytes());
+        assert!(rt; left.status == refusal.status, "{}", refusal.line);
+        assert!(rt; left.errors.bytes() == refusal.line.as_bytes());
         assert!(rt; left.out.bytes().is_empty());
         let stored = left.shelf.file(b"o.wav").is_some();
-        assert_same(&rt, &stored, &!refusal.failing.1.is_empty());
+        assert!(rt; stored == !refusal.failing.1.is_empty());
     }
     Ok(())
 }
@@ -160,8 +159,8 @@ fn refused_scripts_are_named(rt: HostRuntime) -> Result<(), Fail> {
         let line = format!(in alloc; "dmixlab: script {why}\n")?;
         let files = files_of(alloc, Vec::from_slice(alloc, script.as_bytes())?, CLIENTS)?;
         let left = call(&rt, alloc, &["run", "s", "o"], files, (&[], &[]))?;
-        assert_same_at(&rt, &why, &left.status, &2);
-        assert_same_at(&rt, &why, &left.errors.bytes(), &line.as_bytes());
+        assert!(rt; left.status == 2, "{why}");
+        assert!(rt; left.errors.bytes() == line.as_bytes(), "{why}");
         assert!(rt; left.out.bytes().is_empty());
         assert!(rt; left.shelf.file(b"o.wav").is_none());
     }
@@ -201,8 +200,8 @@ fn a_script_has_64_clients_64_readers_and_a_mebibyte(rt: HostRuntime) -> Result<
     ] {
         let files = files_of(alloc, script, CLIENTS)?;
         let left = call(&rt, alloc, &["run", "s", "o"], files, (&[], &[]))?;
-        assert_same_at(&rt, &line, &left.status, &2);
-        assert_same(&rt, &left.errors.bytes(), &line.as_bytes());
+        assert!(rt; left.status == 2, "{line}");
+        assert!(rt; left.errors.bytes() == line.as_bytes());
     }
     Ok(())
 }
@@ -239,8 +238,8 @@ fn files_that_end_too_early_are_named(rt: HostRuntime) -> Result<(), Fail> {
             } else {
                 format!(in alloc; "dmixlab: wav a.wav: {why}\n")?
             };
-            assert_same_at(&rt, &length, &left.errors.bytes(), &line.as_bytes());
-            assert_same(&rt, &left.status, &if why.is_empty() { 0 } else { 3 });
+            assert!(rt; left.errors.bytes() == line.as_bytes(), "{length}");
+            assert!(rt; left.status == if why.is_empty() { 0 } else { 3 });
         }
         first = end;
     }
@@ -288,8 +287,8 @@ fn files_of_other_formats_are_named(rt: HostRuntime) -> Result<(), Fail> {
             let files = files_of(alloc, Vec::from_slice(alloc, script.as_bytes())?, &wavs)?;
             let left = call(&rt, alloc, &["run", "s", "o"], files, (&[], &[]))?;
             let line = format!(in alloc; "dmixlab: wav {name}: {why}\n")?;
-            assert_same(&rt, &left.errors.bytes(), &line.as_bytes());
-            assert_same_at(&rt, &why, &left.status, &3);
+            assert!(rt; left.errors.bytes() == line.as_bytes());
+            assert!(rt; left.status == 3, "{why}");
             assert!(rt; left.out.bytes().is_empty());
         }
     }

@@ -1,5 +1,4 @@
 //! Workloads: which words give one, that each has one summary, and that what is stored of it is what `run` leaves.
-use assertions::assert_same;
 use lab_calls::{Left, call, text_in};
 use std::alloc::{AllocError, Global};
 use std::test::Fail;
@@ -25,8 +24,8 @@ fn words_out_of_range_give_no_workload(rt: HostRuntime) -> Result<(), Fail> {
     let alloc = rt.alloc();
     for words in REFUSED {
         let left = call(&rt, alloc, words, Vec::new(alloc), (&[], &[]))?;
-        assert_same(&rt, &left.status, &1);
-        assert_same(&rt, &text_in(left.errors.bytes()), &"dmixlab: words\n");
+        assert!(rt; left.status == 1);
+        assert!(rt; text_in(left.errors.bytes()) == "dmixlab: words\n");
         assert!(rt; left.out.bytes().is_empty());
         assert!(rt; left.shelf.file(b"made.script").is_none());
     }
@@ -38,7 +37,7 @@ fn the_greatest_numbers_give_a_workload(rt: HostRuntime) -> Result<(), Fail> {
     let alloc = rt.alloc();
     let words = ["make", "18446744073709551615", "00000000000000000002", "3"];
     let left = call(&rt, alloc, &words, Vec::new(alloc), (&[], &[]))?;
-    assert_same(&rt, &left.status, &0);
+    assert!(rt; left.status == 0);
     assert!(rt;
         left.out
             .bytes()
@@ -78,7 +77,7 @@ fn a_run_of_what_is_stored_leaves_the_same(rt: HostRuntime) -> Result<(), Fail> 
         Vec::new(alloc),
         (&[], &[]),
     )?;
-    assert_same(&rt, &made.status, &0);
+    assert!(rt; made.status == 0);
     let files = stored_input(alloc, &made, 5)?;
     let run = call(
         &rt,
@@ -87,15 +86,11 @@ fn a_run_of_what_is_stored_leaves_the_same(rt: HostRuntime) -> Result<(), Fail> 
         files,
         (&[], &[]),
     )?;
-    assert_same(&rt, &run.status, &0);
+    assert!(rt; run.status == 0);
     let report = made.shelf.file(b"made.report").unwrap_or(&[]);
-    assert_same(&rt, &text_in(report), &text_in(run.out.bytes()));
+    assert!(rt; text_in(report) == text_in(run.out.bytes()));
     let played = made.shelf.file(b"made.wav").unwrap_or(&[]);
-    assert_same(
-        &rt,
-        &played,
-        &run.shelf.file(b"made.wav").unwrap_or(b"none"),
-    );
+    assert!(rt; played == run.shelf.file(b"made.wav").unwrap_or(b"none"));
     Ok(())
 }
 
@@ -105,17 +100,13 @@ fn the_largest_workload_has_one_summary(rt: HostRuntime) -> Result<(), Fail> {
     let words = ["make", "1", "64", "1000"];
     let first = call(&rt, alloc, &words, Vec::new(alloc), (&[], &[]))?;
     let second = call(&rt, alloc, &words, Vec::new(alloc), (&[], &[]))?;
-    assert_same(&rt, &first.status, &0);
+    assert!(rt; first.status == 0);
     assert!(rt;
         first
             .out
             .bytes()
             .starts_with(b"made 1 64 1000\nplayed 64000\n")
     );
-    assert_same(
-        &rt,
-        &text_in(first.out.bytes()),
-        &text_in(second.out.bytes()),
-    );
+    assert!(rt; text_in(first.out.bytes()) == text_in(second.out.bytes()));
     Ok(())
 }

@@ -1,6 +1,5 @@
 //! Clients that run at the same time: gates of the tests' own let each go on only once the other one has got so far. A run that did
 //! one after the other would wait in vain, and stop one of them.
-use assertions::assert_same;
 use lab_calls::{MONO, call_gated, files_of, text_in, wav_of};
 use mix_core::{Gate, Pass, StepKind};
 use std::sync::atomic::{AtomicU64, Ordering};
@@ -129,14 +128,10 @@ fn two_clients_wait_for_each_other(rt: HostRuntime) -> Result<(), Fail> {
     )?;
     let report =
         "dmixlab 1\n0 a open = ok PREPARED -\n0 b open = ok PREPARED -\n1 a write 64 = 64 RUNNING 0\n1 b write 64 = 64 RUNNING 0\n2 card play 128 = 128 RUNNING 128\nsegment a 0 64 64 0\nsegment b 0 64 64 0\nplayed 0 128\nend\n";
-    assert_same(&rt, &left.status, &0);
-    assert_same(&rt, &text_in(left.out.bytes()), &report);
+    assert!(rt; left.status == 0);
+    assert!(rt; text_in(left.out.bytes()) == report);
     let file = wav_of(alloc, MONO, &[(64, 0), (64, 32767)])?;
-    assert_same(
-        &rt,
-        &left.shelf.file(b"o.wav").unwrap_or(&[]),
-        &file.as_slice(),
-    );
+    assert!(rt; left.shelf.file(b"o.wav").unwrap_or(&[]) == file.as_slice());
     Ok(())
 }
 
@@ -177,17 +172,13 @@ fn a_lost_exchange_is_made_again(rt: HostRuntime) -> Result<(), Fail> {
     )?;
     let report =
         "dmixlab 1\n0 a open = ok PREPARED -\n0 b open = ok PREPARED -\n1 a write 1 = 1 RUNNING 0\n1 b write 2 = 2 RUNNING 0\n2 card play 128 = 128 RUNNING 128\nsegment a 0 64 1 0\nsegment b 0 64 2 0\nplayed 0 128\nend\n";
-    assert_same(&rt, &left.status, &0);
-    assert_same(&rt, &text_in(left.out.bytes()), &report);
+    assert!(rt; left.status == 0);
+    assert!(rt; text_in(left.out.bytes()) == report);
     let file = wav_of(alloc, MONO, &[(64, 0), (1, 32767), (1, 10000), (62, 0)])?;
-    assert_same(
-        &rt,
-        &left.shelf.file(b"o.wav").unwrap_or(&[]),
-        &file.as_slice(),
-    );
-    assert_same(&rt, &a.further.load(Ordering::SeqCst), &1);
-    assert_same(&rt, &b.further.load(Ordering::SeqCst), &0);
-    assert_same(&rt, &a.all.load(Ordering::SeqCst), &4);
-    assert_same(&rt, &b.all.load(Ordering::SeqCst), &5);
+    assert!(rt; left.shelf.file(b"o.wav").unwrap_or(&[]) == file.as_slice());
+    assert!(rt; a.further.load(Ordering::SeqCst) == 1);
+    assert!(rt; b.further.load(Ordering::SeqCst) == 0);
+    assert!(rt; a.all.load(Ordering::SeqCst) == 4);
+    assert!(rt; b.all.load(Ordering::SeqCst) == 5);
     Ok(())
 }

@@ -1,5 +1,4 @@
 //! A client that stops before each of its steps, by its own `die` and by the gate that is handed in.
-use assertions::{assert_same, assert_same_at};
 use lab_calls::{MONO, STEREO, call, call_gated, files_of, text_in, wav_around, wav_of};
 use mix_core::{Gate, Pass, StepKind};
 use std::alloc::{AllocError, Global};
@@ -84,13 +83,11 @@ fn a_client_that_stops_leaves_what_it_placed(rt: HostRuntime) -> Result<(), Fail
             files_with(alloc, &line)?,
             (&[], &[]),
         )?;
-        assert_same(&rt, &left.status, &0);
-        assert_same_at(&rt, &steps, &text_in(left.out.bytes()), &report.as_str());
-        assert_same_at(
-            &rt,
-            &steps,
-            &left.shelf.file(b"o.wav").unwrap_or(&[]),
-            &file.as_slice(),
+        assert!(rt; left.status == 0);
+        assert!(rt; text_in(left.out.bytes()) == report.as_str(), "{steps}");
+        assert!(rt;
+            left.shelf.file(b"o.wav").unwrap_or(&[]) == file.as_slice(),
+            "{steps}"
         );
     }
     Ok(())
@@ -144,16 +141,14 @@ fn a_gate_stops_its_client_alone(rt: HostRuntime) -> Result<(), Fail> {
             (&[], &[]),
             &mut gates,
         )?;
-        assert_same(&rt, &left.status, &0);
-        assert_same_at(&rt, &steps, &text_in(left.out.bytes()), &report.as_str());
-        assert_same_at(
-            &rt,
-            &steps,
-            &left.shelf.file(b"o.wav").unwrap_or(&[]),
-            &file.as_slice(),
+        assert!(rt; left.status == 0);
+        assert!(rt; text_in(left.out.bytes()) == report.as_str(), "{steps}");
+        assert!(rt;
+            left.shelf.file(b"o.wav").unwrap_or(&[]) == file.as_slice(),
+            "{steps}"
         );
-        assert_same(&rt, &gates[0].stops, &if steps < ALL { 1 } else { 0 });
-        assert_same(&rt, &gates[1].stops, &0);
+        assert!(rt; gates[0].stops == if steps < ALL { 1 } else { 0 });
+        assert!(rt; gates[1].stops == 0);
     }
     Ok(())
 }
@@ -184,16 +179,16 @@ fn a_gate_stops_its_reader_alone(rt: HostRuntime) -> Result<(), Fail> {
     )?;
     let report =
         "dmixlab 1\n0 r open = ok PREPARED -\n0 q open = ok PREPARED -\n1 r start = ok RUNNING 0\n1 q start = ok RUNNING 0\n2 card play 4 = 4 RUNNING 4\n3 r read 4 = 4 RUNNING 4\n3 q read 4 = stopped RUNNING 4\n3 q sync = stopped RUNNING 4\n3 q open = ok PREPARED -\nrun r 0 4\nplayed 0 4\nend\n";
-    assert_same(&rt, &left.status, &0);
-    assert_same(&rt, &text_in(left.out.bytes()), &report);
+    assert!(rt; left.status == 0);
+    assert!(rt; text_in(left.out.bytes()) == report);
     for (name, runs) in [
         (b"o.wav".as_slice(), [(4, 0)].as_slice()),
         (b"o.r.wav".as_slice(), [(3, 7), (1, 8)].as_slice()),
         (b"o.q.wav".as_slice(), [].as_slice()),
     ] {
         let file = wav_of(alloc, MONO, runs)?;
-        assert_same(&rt, &left.shelf.file(name).unwrap_or(&[]), &file.as_slice());
+        assert!(rt; left.shelf.file(name).unwrap_or(&[]) == file.as_slice());
     }
-    assert_same(&rt, &gates[65].stops, &1);
+    assert!(rt; gates[65].stops == 1);
     Ok(())
 }

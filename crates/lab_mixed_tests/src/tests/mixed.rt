@@ -2,7 +2,6 @@
 //! threads, so these runs are repeated, and each is checked by what must hold in every order.
 use super::actors::Geometry;
 use super::checker::{Plan, Sounds, check};
-use assertions::assert_same;
 use lab_calls::{Left, MONO, STEREO, call, files_of, text_in, wav_around, wav_of};
 use std::alloc::{AllocError, Global};
 use std::marker::Sync;
@@ -275,7 +274,7 @@ fn a_start_in_a_mixed_phase_is_before_or_after_the_play(rt: HostRuntime) -> Resu
         let text = Vec::from_slice(alloc, ONE.as_bytes())?;
         let files = files_of(alloc, text, &[("a.wav", MONO, &[(64, 1000)])])?;
         let left = call(&rt, alloc, &["run", "s", "o"], files, (&[], &[]))?;
-        assert_same(&rt, &left.status, &0);
+        assert!(rt; left.status == 0);
         let report = text_in(left.out.bytes());
         let is_after = report.contains("1 a write 64 = 64 RUNNING 64\n");
         let (seen, silent, rest) = if is_after {
@@ -286,13 +285,9 @@ fn a_start_in_a_mixed_phase_is_before_or_after_the_play(rt: HostRuntime) -> Resu
         let wanted = format!(in alloc;
             "dmixlab 1\n0 a open = ok PREPARED -\n1 card play 64 = 64 RUNNING 64\n1 a write 64 = 64 RUNNING {seen}\n2 card play 192 = 192 RUNNING 256\nsegment a 0 {silent} 64 0\nplayed 0 256\nend\n"
         )?;
-        assert_same(&rt, &report, &wanted.as_str());
+        assert!(rt; report == wanted.as_str());
         let file = wav_of(alloc, MONO, &[(silent, 0), (64, 1000), (rest, 0)])?;
-        assert_same(
-            &rt,
-            &left.shelf.file(b"o.wav").unwrap_or(&[]),
-            &file.as_slice(),
-        );
+        assert!(rt; left.shelf.file(b"o.wav").unwrap_or(&[]) == file.as_slice());
     }
     Ok(())
 }
@@ -326,13 +321,9 @@ fn sixty_four_clients_write_at_once(rt: HostRuntime) -> Result<(), Fail> {
         let text = Vec::from_slice(alloc, script.as_bytes())?;
         let files = files_of(alloc, text, &[("a.wav", MONO, &[(64, -32768)])])?;
         let left = call(&rt, alloc, &["run", "s", "o"], files, (&[], &[]))?;
-        assert_same(&rt, &left.status, &0);
-        assert_same(&rt, &text_in(left.out.bytes()), &report.as_str());
-        assert_same(
-            &rt,
-            &left.shelf.file(b"o.wav").unwrap_or(&[]),
-            &file.as_slice(),
-        );
+        assert!(rt; left.status == 0);
+        assert!(rt; text_in(left.out.bytes()) == report.as_str());
+        assert!(rt; left.shelf.file(b"o.wav").unwrap_or(&[]) == file.as_slice());
     }
     Ok(())
 }

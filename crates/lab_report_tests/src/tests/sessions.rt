@@ -1,6 +1,5 @@
 //! Whole sessions: a script and a report of it, which is read and printed as it is.
 use super::{printed_again, script_of};
-use assertions::assert_same_at;
 use std::test::*;
 
 /// One client, which the card plays.
@@ -239,7 +238,7 @@ fn reads_and_prints_whole_sessions(rt: HostRuntime) -> Result<(), Fail> {
     for (text, printed) in &SESSIONS {
         let script = script_of(alloc, text.as_bytes())?;
         let bytes = printed_again(alloc, printed, &script)?;
-        assert_same_at(&rt, &text, &bytes.as_slice(), &printed.as_bytes());
+        assert!(rt; bytes.as_slice() == printed.as_bytes(), "{text}");
     }
     Ok(())
 }

@@ -1,5 +1,4 @@
 //! The calls that a run makes: the shelf's and the output's, counted by letting one of them fail.
-use assertions::{assert_same, assert_same_at};
 use lab_calls::{Left, MONO, call, files_of, text_in, wav_of};
 use std::alloc::{AllocError, Global};
 use std::marker::Sync;
@@ -73,12 +72,10 @@ fn a_run_makes_five_calls_of_the_shelf(rt: HostRuntime) -> Result<(), Fail> {
             3..=5 => 5,
             _ => 0,
         };
-        assert_same_at(&rt, &failing, &left.status, &status);
-        assert_same_at(
-            &rt,
-            &failing,
-            &left.shelf.file(b"o.wav").unwrap_or(&[]),
-            &held.as_slice(),
+        assert!(rt; left.status == status, "{failing}");
+        assert!(rt;
+            left.shelf.file(b"o.wav").unwrap_or(&[]) == held.as_slice(),
+            "{failing}"
         );
     }
     Ok(())
@@ -92,15 +89,15 @@ fn a_run_puts_its_report_in_four_pieces(rt: HostRuntime) -> Result<(), Fail> {
     for piece in PIECES {
         number = number.wrapping_add(1);
         let left = run(&rt, alloc, SCRIPT, 64, (&[], &[number]))?;
-        assert_same(&rt, &left.status, &5);
-        assert_same(&rt, &left.errors.bytes(), &b"dmixlab: write\n".as_slice());
-        assert_same_at(&rt, &number, &left.out.bytes(), &taken.as_bytes());
+        assert!(rt; left.status == 5);
+        assert!(rt; left.errors.bytes() == b"dmixlab: write\n".as_slice());
+        assert!(rt; left.out.bytes() == taken.as_bytes(), "{number}");
         taken.push_str(piece)?;
     }
     let left = run(&rt, alloc, SCRIPT, 64, (&[], &[5]))?;
-    assert_same(&rt, &left.status, &0);
-    assert_same(&rt, &left.out.bytes(), &taken.as_bytes());
-    assert_same(&rt, &taken.len(), &134);
+    assert!(rt; left.status == 0);
+    assert!(rt; left.out.bytes() == taken.as_bytes());
+    assert!(rt; taken.len() == 134);
     Ok(())
 }
 
@@ -120,7 +117,7 @@ fn a_file_is_fetched_in_pieces(rt: HostRuntime) -> Result<(), Fail> {
         (8, 0),
     ] {
         let left = run(&rt, alloc, IN_TWO, 32746, (&[failing], &[]))?;
-        assert_same_at(&rt, &failing, &left.status, &status);
+        assert!(rt; left.status == status, "{failing}");
         let held = left.shelf.file(b"o.wav").unwrap_or(&[]).len();
         let wanted = match failing {
             1..=4 => 3,
@@ -128,7 +125,7 @@ fn a_file_is_fetched_in_pieces(rt: HostRuntime) -> Result<(), Fail> {
             6 => 300,
             _ => 556,
         };
-        assert_same_at(&rt, &failing, &held, &wanted);
+        assert!(rt; held == wanted, "{failing}");
     }
     Ok(())
 }
@@ -155,18 +152,14 @@ fn the_files_of_readers_follow_the_cards(rt: HostRuntime) -> Result<(), Fail> {
             2..=7 => 5,
             _ => 0,
         };
-        assert_same_at(&rt, &failing, &left.status, &status);
-        assert_same_at(
-            &rt,
-            &failing,
-            &left.shelf.file(b"o.wav").unwrap_or(&[]).len(),
-            &played,
+        assert!(rt; left.status == status, "{failing}");
+        assert!(rt;
+            left.shelf.file(b"o.wav").unwrap_or(&[]).len() == played,
+            "{failing}"
         );
-        assert_same_at(
-            &rt,
-            &failing,
-            &left.shelf.file(b"o.r.wav").unwrap_or(&[]).len(),
-            &recorded,
+        assert!(rt;
+            left.shelf.file(b"o.r.wav").unwrap_or(&[]).len() == recorded,
+            "{failing}"
         );
     }
     Ok(())
@@ -285,33 +278,19 @@ fn expect_left<R: Abort>(
 ) -> Result<(), AllocError> {
     let card = left.shelf.file(b"o.wav").unwrap_or(&[]);
     let reader = left.shelf.file(b"o.r.wav");
-    assert_same(&rt, &text_in(left.errors.bytes()), &message);
-    assert_same(&rt, &text_in(left.out.bytes()), &text_in(&expected.text));
-    assert_same_at(&rt, &"o.wav", &card, &expected.card.as_slice());
-    assert_same(&rt, &reader.is_some(), &!expected.reader.is_empty());
-    assert_same_at(
-        &rt,
-        &"o.r.wav",
-        &reader.unwrap_or(&[]),
-        &expected.reader.as_slice(),
+    assert!(rt; text_in(left.errors.bytes()) == message);
+    assert!(rt; text_in(left.out.bytes()) == text_in(&expected.text));
+    assert!(rt; card == expected.card.as_slice(), "o.wav");
+    assert!(rt; reader.is_some() == !expected.reader.is_empty());
+    assert!(rt;
+        reader.unwrap_or(&[]) == expected.reader.as_slice(),
+        "o.r.wav"
     );
     let client = wav_of(alloc, MONO, &[(64, 1000)])?;
     let captured = wav_of(alloc, MONO, &[(300, 7)])?;
-    assert_same(
-        &rt,
-        &left.shelf.file(b"s").unwrap_or(&[]),
-        &SESSION.as_bytes(),
-    );
-    assert_same(
-        &rt,
-        &left.shelf.file(b"a.wav").unwrap_or(&[]),
-        &client.as_slice(),
-    );
-    assert_same(
-        &rt,
-        &left.shelf.file(b"c.wav").unwrap_or(&[]),
-        &captured.as_slice(),
-    );
+    assert!(rt; left.shelf.file(b"s").unwrap_or(&[]) == SESSION.as_bytes());
+    assert!(rt; left.shelf.file(b"a.wav").unwrap_or(&[]) == client.as_slice());
+    assert!(rt; left.shelf.file(b"c.wav").unwrap_or(&[]) == captured.as_slice());
     Ok(())
 }
 
@@ -338,7 +317,7 @@ fn a_call_that_fails_leaves_what_the_calls_before_it_left(rt: HostRuntime) -> Re
             _ => run_session(&rt, alloc, (&[calls], &[]))?,
         };
         let (status, message) = refusal_of(alloc, step)?;
-        assert_same_at(&rt, &message, &left.status, &status);
+        assert!(rt; left.status == status, "{message}");
         expect_left(&rt, alloc, &left, &expected, &message)?;
         expected.advance(alloc, step)?;
         match step {
@@ -348,7 +327,7 @@ fn a_call_that_fails_leaves_what_the_calls_before_it_left(rt: HostRuntime) -> Re
     }
     // A call behind the last one isn't made.
     let left = run_session(&rt, alloc, (&[calls], &[puts]))?;
-    assert_same(&rt, &left.status, &0);
+    assert!(rt; left.status == 0);
     expect_left(&rt, alloc, &left, &expected, "")?;
     Ok(())
 }

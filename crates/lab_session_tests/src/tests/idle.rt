@@ -1,7 +1,6 @@
 //! A reader that does nothing changes nothing of a run, though the card stores what it captures only where there is a reader.
 use super::runs::RUNS;
 use super::{Run, files_of_run};
-use assertions::assert_same_at;
 use lab_calls::{call, text_in};
 use std::alloc::Global;
 use std::marker::Sync;
@@ -25,19 +24,17 @@ fn is_same_beside_reader<R: Threads + Sync + Abort>(
     let alone = call(rt, alloc, &words, files, (&[], &[]))?;
     let files = files_of_run(alloc, run, "reader idle\n")?;
     let beside = call(rt, alloc, &words, files, (&[], &[]))?;
-    assert_same_at(&rt, &run.name, &beside.status, &alone.status);
-    assert_same_at(
-        &rt,
-        &run.name,
-        &text_in(beside.out.bytes()),
-        &text_in(alone.out.bytes()),
+    assert!(rt; beside.status == alone.status, "{}", run.name);
+    assert!(rt;
+        text_in(beside.out.bytes()) == text_in(alone.out.bytes()),
+        "{}",
+        run.name
     );
     let samples = alone.shelf.file(b"o.wav").unwrap_or(&[]);
-    assert_same_at(
-        &rt,
-        &run.name,
-        &beside.shelf.file(b"o.wav").unwrap_or(&[]),
-        &samples,
+    assert!(rt;
+        beside.shelf.file(b"o.wav").unwrap_or(&[]) == samples,
+        "{}",
+        run.name
     );
     assert!(rt; beside.shelf.file(b"o.idle.wav").is_some(), "{}", run.name);
     Ok(())

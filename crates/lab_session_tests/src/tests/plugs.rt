@@ -1,5 +1,4 @@
 //! Clients whose files have other samples, rates and channels than the card: what is played of them.
-use assertions::assert_same;
 use lab_calls::{MONO, call, text_in, wav_around};
 use std::alloc::{AllocError, Global};
 use std::test::Fail;
@@ -86,12 +85,12 @@ fn files_of_clients_with_plug_are_converted(rt: HostRuntime) -> Result<(), Fail>
         let report = format!(in alloc;
             "dmixlab 1\n0 a open = ok PREPARED -\n1 a write 64 = {count} RUNNING 0\n2 card play 128 = 128 RUNNING 128\nsegment a 0 64 {count} 0\nplayed 0 128\nend\n"
         )?;
-        assert_same(&rt, &text_in(left.errors.bytes()), &"");
-        assert_same(&rt, &left.status, &0);
-        assert_same(&rt, &text_in(left.out.bytes()), &report.as_str());
+        assert!(rt; text_in(left.errors.bytes()) == "");
+        assert!(rt; left.status == 0);
+        assert!(rt; text_in(left.out.bytes()) == report.as_str());
         let played = played_of(alloc, converted.samples)?;
         let held = left.shelf.file(b"o.wav").unwrap_or(&[]);
-        assert_same(&rt, &held, &played.as_slice());
+        assert!(rt; held == played.as_slice());
     }
     Ok(())
 }

@@ -1,5 +1,4 @@
 //! What no clause says of a workload: samples of a generator written apart, and the smallest script byte for byte.
-use assertions::assert_same;
 use lab_lines::{Report, Rows, Runs, Segments};
 use lab_make::{made_files, made_text, read_workload, summary_of};
 use snd_base::Segment;
@@ -13,11 +12,11 @@ fn samples_are_those_of_a_generator_written_apart(rt: HostRuntime) -> Result<(),
     };
     let first = first.samples.as_slice();
     let second = second.samples.as_slice();
-    assert_same(&rt, &first.first().copied(), &Some(1124i16));
-    assert_same(&rt, &first.get(1).copied(), &Some(-6613i16));
-    assert_same(&rt, &first.last().copied(), &Some(-5640i16));
-    assert_same(&rt, &second.first().copied(), &Some(-1557i16));
-    assert_same(&rt, &second.last().copied(), &Some(-1384i16));
+    assert!(rt; first.first().copied() == Some(1124i16));
+    assert!(rt; first.get(1).copied() == Some(-6613i16));
+    assert!(rt; first.last().copied() == Some(-5640i16));
+    assert!(rt; second.first().copied() == Some(-1557i16));
+    assert!(rt; second.last().copied() == Some(-1384i16));
     Ok(())
 }
 
@@ -35,7 +34,7 @@ phase
 card play 64
 end
 ";
-    assert_same(&rt, &text.as_str(), &script);
+    assert!(rt; text.as_str() == script);
     let segment = Segment {
         source: 0,
         card: 64,
@@ -52,6 +51,6 @@ end
     let summary = summary_of(&workload, &report, &[0; 128]);
     let shown = format!(in rt.alloc(); "{summary}")?;
     let lines = "made 7 1 1\nplayed 64\nsegments 1\nlaid 130\nxruns 0\nsum 0\n";
-    assert_same(&rt, &shown.as_str(), &lines);
+    assert!(rt; shown.as_str() == lines);
     Ok(())
 }

@@ -1,49 +1,32 @@
-//! What no clause says: answers byte for byte, worked out by hand, the cause of each refusal, and how
-//! a failed fetch ends.
-use assertions::{assert_same, assert_same_at};
+//! What no clause says of `refine_file`: answers byte for byte, worked out by hand, and the cause of each refusal. Faults are tried with
+//! the command, in `lab_command_tests`.
 use lab_refine::refine_file;
 use lab_shelf::MemoryShelf;
 use lab_stop::Stop;
 use std::alloc::{AllocError, Global};
 use std::test::Fail;
 
-// How the answers to the file of this name end, where the file `t` has this text and the shelf's
-// calls of these numbers fail.
-fn refine(
-    alloc: Global,
-    name: &str,
-    text: &str,
-    failing: &[u64],
-) -> Result<Result<String, Stop>, AllocError> {
+// The answers to the file `t` of this text, or its refusal.
+fn refine(alloc: Global, text: &str) -> Result<Result<String, Stop>, AllocError> {
     let mut files = Vec::new(alloc);
     files.push((
         Vec::from_slice(alloc, b"t")?,
         Vec::from_slice(alloc, text.as_bytes())?,
     ))?;
-    let mut shelf = MemoryShelf::new(files, Vec::from_slice(alloc, failing)?);
-    Ok(refine_file(&mut shelf, alloc, name.as_bytes()))
+    let mut shelf = MemoryShelf::new(files, Vec::new(alloc));
+    Ok(refine_file(&mut shelf, alloc, b"t"))
 }
 
 // The refusal of a text, as its line and its cause, or nothing where it isn't refused.
 fn refusal(alloc: Global, text: &str) -> Result<String, AllocError> {
-    match refine(alloc, "t", text, &[])? {
+    match refine(alloc, text)? {
         Err(Stop::Script(error)) => format!(in alloc; "{error}"),
         _ => Ok(String::new(alloc)),
     }
 }
 
 // Texts and their answers.
-const ANSWERED: [(&str, &str); 6] = [
-    // A period of 1024 frames at 48000 Hz lasts 21333.3 microseconds, so no whole number of them.
-    (
-        "slave channels 2 rate 48000 period 1024 ring 8192\nset period_size 1024\nshow period_time\ninteger period_time\nchoose\n",
-        "ok period_size [1024,1024] integer\nok period_time (21333,21334)\nempty\nchoice channels 1 rate 48000 period 1024 buffer 8192 periods 8\n",
-    ),
-    // What leaves nothing changes nothing.
-    (
-        "slave channels 2 rate 48000 period 1024 ring 8192\nnear period_size 10\nset channels 3\nshow format\nset format 1\n",
-        "ok period_size [16,16] integer\nempty\nok format 2\nempty\n",
-    ),
+const ANSWERED: [(&str, &str); 3] = [
     // After `empty` the space is as before.
     (
         "slave channels 2 rate 48000 period 1024 ring 8192\nset channels 3\nshow channels\nmin channels 2\nmax channels 1\nshow channels\nset access 3\nset access 0\nshow access\n",
@@ -59,15 +42,13 @@ const ANSWERED: [(&str, &str); 6] = [
         "slave channels 8 rate 4000 period 16 ring 64\nmin channels 0\nmax channels 4294967295\nset channels 0\nmax channels 0\nmin channels 9\nshow buffer_size\n",
         "ok channels [1,8] integer\nok channels [1,8] integer\nempty\nempty\nempty\nok buffer_size [32,64] integer\n",
     ),
-    // The slave alone.
-    ("slave channels 1 rate 192000 period 8192 ring 16384", ""),
 ];
 
 #[test]
 fn texts_are_answered_line_by_line(rt: HostRuntime) -> Result<(), Fail> {
     for (text, answers) in &ANSWERED {
-        match refine(rt.alloc(), "t", text, &[])? {
-            Ok(answered) => assert_same_at(&rt, &text, &answered.as_str(), answers),
+        match refine(rt.alloc(), text)? {
+            Ok(answered) => assert!(rt; answered.as_str() == *answers, "{text}"),
             Err(_) => return Err("the text was refused")?,
         }
     }
@@ -112,7 +93,7 @@ fn refused_lines_are_named(rt: HostRuntime) -> Result<(), Fail> {
     for (line, why) in &REFUSED {
         let text = format!(in alloc; "{SLAVE}{line}\nfoo\n")?;
         let named = format!(in alloc; "line 2: {why}")?;
-        assert_same_at(&rt, &line, &refusal(alloc, &text)?, &named);
+        assert!(rt; refusal(alloc, &text)? == named, "{line}");
     }
     Ok(())
 }
@@ -194,7 +175,7 @@ const REFUSED_SLAVES: [(&str, &str); 25] = [
 #[test]
 fn refused_slaves_are_named(rt: HostRuntime) -> Result<(), Fail> {
     for (text, why) in &REFUSED_SLAVES {
-        assert_same_at(&rt, &text, &refusal(rt.alloc(), text)?.as_str(), why);
+        assert!(rt; refusal(rt.alloc(), text)?.as_str() == *why, "{text}");
     }
     Ok(())
 }
@@ -212,20 +193,8 @@ fn text_of_length(alloc: Global, length: usize) -> Result<String, AllocError> {
 fn a_text_has_at_most_a_mebibyte(rt: HostRuntime) -> Result<(), Fail> {
     let alloc = rt.alloc();
     let longest = text_of_length(alloc, 1_048_576)?;
-    assert!(rt; refine(alloc, "t", &longest, &[])?.is_ok());
+    assert!(rt; refine(alloc, &longest)?.is_ok());
     let longer = text_of_length(alloc, 1_048_577)?;
-    assert_same(&rt, &refusal(alloc, &longer)?.as_str(), &"line 0: TooLong");
-    Ok(())
-}
-
-#[test]
-fn a_failed_fetch_names_the_file(rt: HostRuntime) -> Result<(), Fail> {
-    let failing: [(&str, &[u64]); 2] = [("u", &[]), ("t", &[1])];
-    for (name, calls) in &failing {
-        match refine(rt.alloc(), name, SLAVE, calls)? {
-            Err(Stop::Read { name: read }) => assert_same(&rt, &read.as_slice(), &name.as_bytes()),
-            _ => return Err("the file was read")?,
-        }
-    }
+    assert!(rt; refusal(alloc, &longer)?.as_str() == "line 0: TooLong");
     Ok(())
 }

@@ -1,6 +1,5 @@
 //! The line and the status of each stop, and pieces of files.
 use asound_conf::{ConfError, ConfWhy};
-use assertions::{assert_same, assert_same_at};
 use lab_script::{ScriptError, ScriptWhy};
 use lab_shelf::{MemoryShelf, MemorySink};
 use lab_stop::{Stop, fetch_most, status, tell, wav_stop};
@@ -50,13 +49,13 @@ fn each_stop_has_its_line_and_status(rt: HostRuntime) -> Result<(), Fail> {
     ]?;
     for (stop, text, number) in table {
         let end = Err(stop);
-        assert_same_at(&rt, &text, &status(&end), &number);
+        assert!(rt; status(&end) == number, "{text}");
         if let Err(stop) = end {
             let errors = line(alloc, stop, Vec::new(alloc));
-            assert_same(&rt, &errors.bytes(), &text.as_bytes());
+            assert!(rt; errors.bytes() == text.as_bytes());
         }
     }
-    assert_same(&rt, &status(&Ok(())), &0);
+    assert!(rt; status(&Ok(())) == 0);
     Ok(())
 }
 
@@ -64,7 +63,7 @@ fn each_stop_has_its_line_and_status(rt: HostRuntime) -> Result<(), Fail> {
 fn a_line_that_fails_is_left_out(rt: HostRuntime) -> Result<(), Fail> {
     let alloc = rt.alloc();
     let errors = line(alloc, Stop::Write, vec![in alloc; 1]?);
-    assert_same(&rt, &errors.bytes(), &b"".as_slice());
+    assert!(rt; errors.bytes() == b"".as_slice());
     Ok(())
 }
 
@@ -107,13 +106,11 @@ fn a_file_is_fetched_up_to_a_short_piece(rt: HostRuntime) -> Result<(), Fail> {
         (200_000, 1_000_000, 200_000, 4),
     ];
     for (bytes, most, count, fetches) in table {
-        assert_same_at(
-            &rt,
-            &bytes,
-            &(given(alloc, bytes, most, fetches + 1)?),
-            &Some(count),
+        assert!(rt;
+            (given(alloc, bytes, most, fetches + 1)?) == Some(count),
+            "{bytes}"
         );
-        assert_same_at(&rt, &bytes, &given(alloc, bytes, most, fetches)?, &None);
+        assert!(rt; given(alloc, bytes, most, fetches)? == None, "{bytes}");
     }
     Ok(())
 }

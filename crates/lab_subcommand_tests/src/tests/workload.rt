@@ -1,5 +1,4 @@
 //! What no clause says: that a workload is done where there is memory, and how many calls it makes.
-use assertions::{assert_same, assert_same_at};
 use lab_make::read_workload;
 use lab_shelf::{MemoryShelf, MemorySink};
 use lab_workload::make_workload;
@@ -75,16 +74,16 @@ fn the_smallest_workload_makes_six_calls_of_the_shelf(rt: HostRuntime) -> Result
     for (failing, sizes) in table {
         let left = make(&rt, alloc, ["7", "1", "1"], (&[failing], &[]))?;
         assert!(rt; !left.is_done, "{failing}");
-        assert_same_at(&rt, &failing, &left.sizes(), &sizes);
+        assert!(rt; left.sizes() == sizes, "{failing}");
         assert!(rt; left.out.bytes().is_empty(), "{failing}");
     }
     let left = make(&rt, alloc, ["7", "1", "1"], (&[7], &[2]))?;
     assert!(rt; left.is_done);
-    assert_same(&rt, &left.out.bytes(), &SUMMARY.as_bytes());
+    assert!(rt; left.out.bytes() == SUMMARY.as_bytes());
     let stored = left.shelf.file(b"made.script").unwrap_or(&[]);
-    assert_same(&rt, &stored, &SCRIPT.as_bytes());
+    assert!(rt; stored == SCRIPT.as_bytes());
     let report = left.shelf.file(b"made.report").unwrap_or(&[]);
-    assert_same(&rt, &report, &REPORT.as_bytes());
+    assert!(rt; report == REPORT.as_bytes());
     Ok(())
 }
 
@@ -97,6 +96,6 @@ fn a_summary_is_put_with_one_call_and_the_same_each_time(rt: HostRuntime) -> Res
     let first = make(&rt, alloc, ["1", "3", "60"], (&[], &[]))?;
     let second = make(&rt, alloc, ["01", "3", "060"], (&[], &[]))?;
     assert!(rt; first.is_done);
-    assert_same(&rt, &first.out.bytes(), &second.out.bytes());
+    assert!(rt; first.out.bytes() == second.out.bytes());
     Ok(())
 }

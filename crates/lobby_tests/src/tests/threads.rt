@@ -1,7 +1,6 @@
 //! Clients that come and go in threads of their own.
 
 use super::*;
-use assertions::assert_same;
 use std::thread::{Threads, join_mut};
 
 // A client that places 64 frames from frame 64 on, and whether it could.
@@ -42,10 +41,10 @@ fn seats_of_a_lobby_lay_in_threads(rt: HostRuntime) -> Result<(), Fail> {
     lay_both(&rt, &mut a, &mut b);
     assert!(rt; a.laid && b.laid);
     for _ in 0..64 {
-        assert_same(&rt, &player.take_word()?.value, &0);
+        assert!(rt; player.take_word()?.value == 0);
     }
     for _ in 0..64 {
-        assert_same(&rt, &player.take_word()?.value, &32767);
+        assert!(rt; player.take_word()?.value == 32767);
     }
     Ok(())
 }
@@ -96,9 +95,9 @@ fn play_beside<R: Threads + Sync>(rt: &R, playing: &mut Playing<'_>, waiting: &m
 fn a_lobby_attaches_while_the_card_plays(rt: HostRuntime) -> Result<(), Fail> {
     let mut ring = new_ring(rt.alloc(), 1, 0, 1)?;
     let mut hall = open_hall(rt.alloc(), &mut ring)?;
-    assert_same(&rt, &hall.attach()?, &Ok(0));
+    assert!(rt; hall.attach()? == Ok(0));
     hall.lay(64, 64, 5)?;
-    assert_same(&rt, &hall.detach()?, &128);
+    assert!(rt; hall.detach()? == 128);
     let Hall { player, lobby, out } = hall;
     assert!(rt; out.is_empty());
     let mut playing = Playing { player };

@@ -1,5 +1,4 @@
 //! The numbers of errno.h, as the refusals have them.
-use assertions::assert_same;
 use snd_base::{PcmError, Why, XrunWhy};
 use std::test::Fail;
 
@@ -12,15 +11,15 @@ fn codes_are_those_of_errno(rt: HostRuntime) -> Result<(), Fail> {
         until: None,
         seen: 0,
     };
-    assert_same(&rt, &PcmError::BadState.code(), &77);
-    assert_same(&rt, &empty.code(), &32);
-    assert_same(&rt, &PcmError::Again.code(), &11);
-    assert_same(&rt, &PcmError::NoDevice.code(), &19);
-    assert_same(&rt, &config.code(), &22);
-    assert_same(&rt, &busy.code(), &16);
-    assert_same(&rt, &PcmError::NotSupported.code(), &5);
-    assert_same(&rt, &PcmError::LapEnd.code(), &75);
-    assert_same(&rt, &PcmError::Stopped.code(), &4);
-    assert_same(&rt, &PcmError::Memory.code(), &12);
+    assert!(rt; PcmError::BadState.code() == 77);
+    assert!(rt; empty.code() == 32);
+    assert!(rt; PcmError::Again.code() == 11);
+    assert!(rt; PcmError::NoDevice.code() == 19);
+    assert!(rt; config.code() == 22);
+    assert!(rt; busy.code() == 16);
+    assert!(rt; PcmError::NotSupported.code() == 5);
+    assert!(rt; PcmError::LapEnd.code() == 75);
+    assert!(rt; PcmError::Stopped.code() == 4);
+    assert!(rt; PcmError::Memory.code() == 12);
     Ok(())
 }

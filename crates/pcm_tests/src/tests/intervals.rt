@@ -1,5 +1,4 @@
 //! Intervals and masks: refinements, products and quotients, worked out by hand.
-use assertions::assert_same;
 use pcm_interval::{Empty, Interval, Mask, div, mul, muldivk, mulkdiv};
 use std::alloc::AllocError;
 use std::test::Fail;
@@ -112,18 +111,18 @@ fn a_refinement_that_leaves_nothing_is_refused(rt: HostRuntime) -> Result<(), Al
         assert_eq!(rt; refined, interval, "{interval:?} by {other:?}");
     }
     let text = format!(in rt.alloc(); "{Empty}")?;
-    assert_same(&rt, &text.as_str(), &"no value is left");
+    assert!(rt; text.as_str() == "no value is left");
     Ok(())
 }
 
 #[test]
 fn a_mask_keeps_what_both_have(rt: HostRuntime) {
     let mut mask = Mask { bits: 12 };
-    assert_same(&rt, &mask.refine(&Mask { bits: 5 }), &Ok(true));
-    assert_same(&rt, &mask, &Mask { bits: 4 });
-    assert_same(&rt, &mask.refine(&Mask { bits: 6 }), &Ok(false));
-    assert_same(&rt, &mask.refine(&Mask { bits: 3 }), &Err(Empty));
-    assert_same(&rt, &mask, &Mask { bits: 4 });
+    assert!(rt; mask.refine(&Mask { bits: 5 }) == Ok(true));
+    assert!(rt; mask == Mask { bits: 4 });
+    assert!(rt; mask.refine(&Mask { bits: 6 }) == Ok(false));
+    assert!(rt; mask.refine(&Mask { bits: 3 }) == Err(Empty));
+    assert!(rt; mask == Mask { bits: 4 });
 }
 
 #[test]

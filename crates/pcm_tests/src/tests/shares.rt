@@ -1,6 +1,5 @@
 //! Claims and releases, and the refusals of channels that aren't free.
 
-use assertions::assert_same;
 use bindings::Bindings;
 use dshare::Shares;
 use snd_base::PcmError;
@@ -58,7 +57,7 @@ fn channels_have_one_owner(rt: HostRuntime) -> Result<(), Fail> {
     for (row, first) in SETS.iter().enumerate() {
         for (column, second) in SETS.iter().enumerate() {
             let wanted = BESIDE[row].as_bytes().get(column) == Some(&b'y');
-            assert_same(&rt, &is_free_beside(first, second)?, &wanted);
+            assert!(rt; is_free_beside(first, second)? == wanted);
         }
     }
     Ok(())
@@ -70,14 +69,13 @@ fn an_owned_channel_is_busy_with_no_end(rt: HostRuntime) -> Result<(), Fail> {
     let mut shares = Shares::new(2);
     shares.claim(&left, 0)?;
     shares.claim(&right, 0)?;
-    assert_same(&rt, &shares.owned(0), &true);
-    assert_same(
-        &rt,
-        &shares.claim(&left, 0),
-        &Err(PcmError::Busy {
-            until: None,
-            seen: 0,
-        }),
+    assert!(rt; shares.owned(0) == true);
+    assert!(rt;
+        shares.claim(&left, 0)
+            == Err(PcmError::Busy {
+                until: None,
+                seen: 0,
+            })
     );
     Ok(())
 }
@@ -92,12 +90,12 @@ fn a_released_channel_is_busy_until_it_is_silent(rt: HostRuntime) -> Result<(), 
     let mut shares = Shares::new(2);
     shares.claim(&left, 0)?;
     shares.release(&left, Some(127));
-    assert_same(&rt, &shares.owned(0), &false);
-    assert_same(&rt, &shares.claim(&left, 0), &Err(busy(0)));
-    assert_same(&rt, &shares.claim(&left, 127), &Err(busy(127)));
+    assert!(rt; shares.owned(0) == false);
+    assert!(rt; shares.claim(&left, 0) == Err(busy(0)));
+    assert!(rt; shares.claim(&left, 127) == Err(busy(127)));
     shares.claim(&left, 128)?;
     shares.release(&left, None);
-    assert_same(&rt, &shares.claim(&left, 64), &Err(busy(64)));
+    assert!(rt; shares.claim(&left, 64) == Err(busy(64)));
     shares.claim(&left, 128)?;
     Ok(())
 }
@@ -107,16 +105,16 @@ fn only_owned_channels_of_the_card_are_released(rt: HostRuntime) -> Result<(), F
     let (left, both) = (Bindings::read(&[0], 2)?, Bindings::read(&[1, 0], 2)?);
     let other_card = Bindings::read(&[0, 3], 4)?;
     let mut shares = Shares::new(2);
-    assert_same(&rt, &shares.can_release(&left), &false);
+    assert!(rt; shares.can_release(&left) == false);
     shares.claim(&left, 0)?;
-    assert_same(&rt, &shares.can_release(&left), &true);
-    assert_same(&rt, &shares.can_release(&both), &false);
-    assert_same(&rt, &shares.can_release(&other_card), &false);
-    assert_same(&rt, &shares.can_claim(&both), &true);
-    assert_same(&rt, &shares.can_claim(&other_card), &false);
+    assert!(rt; shares.can_release(&left) == true);
+    assert!(rt; shares.can_release(&both) == false);
+    assert!(rt; shares.can_release(&other_card) == false);
+    assert!(rt; shares.can_claim(&both) == true);
+    assert!(rt; shares.can_claim(&other_card) == false);
     if shares.can_release(&left) {
         shares.release(&left, None);
     }
-    assert_same(&rt, &shares.can_release(&left), &false);
+    assert!(rt; shares.can_release(&left) == false);
     Ok(())
 }

@@ -1,6 +1,5 @@
 //! Thresholds and their defects.
 
-use assertions::assert_same;
 use hw_space::Config;
 use snd_base::Why;
 use std::test::Fail;
@@ -16,17 +15,17 @@ const CONFIG: Config = Config {
 
 #[test]
 fn the_boundary_is_the_last_double_that_fits(rt: HostRuntime) {
-    assert_same(&rt, &boundary(256), &4611686018427387904);
-    assert_same(&rt, &boundary(6000), &6755399441055744000);
+    assert!(rt; boundary(256) == 4611686018427387904);
+    assert!(rt; boundary(6000) == 6755399441055744000);
 }
 
 #[test]
 fn defaults_are_valid(rt: HostRuntime) {
     let params = SwParams::defaults(&CONFIG);
-    assert_same(&rt, &params.start_threshold, &1);
-    assert_same(&rt, &params.stop_threshold, &256);
-    assert_same(&rt, &params.avail_min, &64);
-    assert_same(&rt, &params.check(&CONFIG), &Ok(()));
+    assert!(rt; params.start_threshold == 1);
+    assert!(rt; params.stop_threshold == 256);
+    assert!(rt; params.avail_min == 64);
+    assert!(rt; params.check(&CONFIG) == Ok(()));
 }
 
 #[test]
@@ -34,9 +33,9 @@ fn thresholds_reach_to_the_boundary(rt: HostRuntime) {
     let mut params = SwParams::defaults(&CONFIG);
     params.start_threshold = 4611686018427387904;
     params.stop_threshold = 4611686018427387904;
-    assert_same(&rt, &params.check(&CONFIG), &Ok(()));
+    assert!(rt; params.check(&CONFIG) == Ok(()));
     params.stop_threshold = 4611686018427387905;
-    assert_same(&rt, &params.check(&CONFIG), &Err(Why::StopRange));
+    assert!(rt; params.check(&CONFIG) == Err(Why::StopRange));
 }
 
 #[test]
@@ -46,11 +45,11 @@ fn the_first_defect_is_answered(rt: HostRuntime) {
         stop_threshold: 0,
         avail_min: 0,
     };
-    assert_same(&rt, &params.check(&CONFIG), &Err(Why::AvailMinZero));
+    assert!(rt; params.check(&CONFIG) == Err(Why::AvailMinZero));
     params.avail_min = 1;
-    assert_same(&rt, &params.check(&CONFIG), &Err(Why::StartRange));
+    assert!(rt; params.check(&CONFIG) == Err(Why::StartRange));
     params.start_threshold = 1;
-    assert_same(&rt, &params.check(&CONFIG), &Err(Why::StopRange));
+    assert!(rt; params.check(&CONFIG) == Err(Why::StopRange));
     params.stop_threshold = 1;
-    assert_same(&rt, &params.check(&CONFIG), &Ok(()));
+    assert!(rt; params.check(&CONFIG) == Ok(()));
 }

@@ -1,5 +1,4 @@
 //! Numbers and names of the states, and the table of calls cell by cell.
-use assertions::assert_same;
 use pcm_states::{Call, Facts, State, next};
 use snd_base::{PcmError, XrunWhy};
 use std::process::Abort;
@@ -33,9 +32,9 @@ fn states_have_the_numbers_and_names_of_alsa(rt: HostRuntime) -> Result<(), Fail
     ];
     let mut number = 0u32;
     for (state, name) in STATES.iter().zip(names) {
-        assert_same(&rt, &state.number(), &number);
+        assert!(rt; state.number() == number);
         let text = format!(in rt.alloc(); "{state}")?;
-        assert_same(&rt, &text.as_str(), &name);
+        assert!(rt; text.as_str() == name);
         number = number.wrapping_add(1);
     }
     Ok(())

@@ -1,6 +1,5 @@
 //! Calls that a stream admits, and setups that can run.
 
-use assertions::assert_same;
 use bindings::Bindings;
 use hw_space::Config;
 use pcm_states::{Call, State};
@@ -33,7 +32,7 @@ fn a_stopped_stream_admits_nothing(rt: HostRuntime) {
     let status = status_in(State::Disconnected).stop();
     for direction in [Direction::Playback, Direction::Capture] {
         for call in [Call::Sync, Call::Drop, Call::HwParams] {
-            assert_same(&rt, &status.admit(direction, call), &Err(PcmError::Stopped));
+            assert!(rt; status.admit(direction, call) == Err(PcmError::Stopped));
         }
     }
 }
@@ -42,27 +41,11 @@ fn a_stopped_stream_admits_nothing(rt: HostRuntime) {
 #[test]
 fn only_playback_drains(rt: HostRuntime) {
     let running = status_in(State::Running);
-    assert_same(
-        &rt,
-        &running.admit(Direction::Playback, Call::Drain),
-        &Ok(()),
-    );
-    assert_same(
-        &rt,
-        &running.admit(Direction::Capture, Call::Drain),
-        &Err(PcmError::BadState),
-    );
+    assert!(rt; running.admit(Direction::Playback, Call::Drain) == Ok(()));
+    assert!(rt; running.admit(Direction::Capture, Call::Drain) == Err(PcmError::BadState));
     let gone = status_in(State::Disconnected);
-    assert_same(
-        &rt,
-        &gone.admit(Direction::Capture, Call::Drain),
-        &Err(PcmError::NoDevice),
-    );
-    assert_same(
-        &rt,
-        &running.admit(Direction::Capture, Call::Pause),
-        &Err(PcmError::NotSupported),
-    );
+    assert!(rt; gone.admit(Direction::Capture, Call::Drain) == Err(PcmError::NoDevice));
+    assert!(rt; running.admit(Direction::Capture, Call::Pause) == Err(PcmError::NotSupported));
 }
 
 // What a call finds later doesn't refuse it beforehand.
@@ -70,44 +53,40 @@ fn only_playback_drains(rt: HostRuntime) {
 fn a_prepared_stream_admits_its_start(rt: HostRuntime) {
     let prepared = status_in(State::Prepared);
     for direction in [Direction::Playback, Direction::Capture] {
-        assert_same(&rt, &prepared.admit(direction, Call::Start), &Ok(()));
-        assert_same(&rt, &prepared.admit(direction, Call::Transfer), &Ok(()));
+        assert!(rt; prepared.admit(direction, Call::Start) == Ok(()));
+        assert!(rt; prepared.admit(direction, Call::Transfer) == Ok(()));
     }
     let xrun = status_in(State::Xrun);
     let already = Err(PcmError::Xrun(XrunWhy::Already));
-    assert_same(
-        &rt,
-        &xrun.admit(Direction::Capture, Call::Transfer),
-        &already,
-    );
+    assert!(rt; xrun.admit(Direction::Capture, Call::Transfer) == already);
     assert!(rt; status_in(State::Draining).is_moving());
     assert!(rt; !prepared.is_moving());
 }
 
 #[test]
 fn a_setup_begins_with_the_default_parameters(rt: HostRuntime) -> Result<(), Fail> {
-    assert_same(&rt, &Setup::none().config(), &None);
+    assert!(rt; Setup::none().config() == None);
     let exchanged = Bindings::read(&[1, 0], 2).ok().ok_or("bindings")?;
     assert!(rt; can_run_with(&RING, &STEREO, &exchanged));
     let mut setup = Setup::with(STEREO, exchanged);
-    assert_same(&rt, &setup.config(), &Some(STEREO));
-    assert_same(&rt, &setup.params, &SwParams::defaults(&STEREO));
+    assert!(rt; setup.config() == Some(STEREO));
+    assert!(rt; setup.params == SwParams::defaults(&STEREO));
     let never = SwParams {
         start_threshold: 1,
         stop_threshold: 4611686018427387904,
         avail_min: 1,
     };
     assert!(rt; setup.config.buffer_size > 0);
-    assert_same(&rt, &setup.set_params(never), &Ok(()));
-    assert_same(&rt, &setup.params, &never);
+    assert!(rt; setup.set_params(never) == Ok(()));
+    assert!(rt; setup.params == never);
     let zero = SwParams {
         avail_min: 0,
         ..never
     };
     assert!(rt; setup.config.buffer_size > 0);
     let answer = setup.set_params(zero);
-    assert_same(&rt, &answer, &Err(PcmError::Invalid(Why::AvailMinZero)));
-    assert_same(&rt, &setup.freed().config(), &None);
+    assert!(rt; answer == Err(PcmError::Invalid(Why::AvailMinZero)));
+    assert!(rt; setup.freed().config() == None);
     Ok(())
 }
 
@@ -135,6 +114,6 @@ fn a_stream_runs_with_channels_that_the_card_has(rt: HostRuntime) -> Result<(), 
 // The numbers of alsa/pcm.h.
 #[test]
 fn directions_have_the_numbers_of_alsa(rt: HostRuntime) {
-    assert_same(&rt, &(Direction::Playback as u32), &0);
-    assert_same(&rt, &(Direction::Capture as u32), &1);
+    assert!(rt; (Direction::Playback as u32) == 0);
+    assert!(rt; (Direction::Capture as u32) == 1);
 }

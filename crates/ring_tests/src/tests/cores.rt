@@ -1,7 +1,6 @@
 //! Frames that are stored, loaded and overtaken, and loads that a gate stops.
 ghost use Rattle.std.specs.Prelude.{◌≤◌};
 
-use assertions::assert_same;
 use mix_core::{Gate, NeverStops, Pass, Position, StepKind};
 use snd_base::{Geometry, PcmError};
 use snoop_core::{Got, Loaded, SnoopCore, SnoopPort, laps, sample, snoop_word};
@@ -80,11 +79,11 @@ fn load<P: SnoopPort, G: Gate>(
 
 #[test]
 fn words_have_their_laps_and_samples(rt: HostRuntime) {
-    assert_same(&rt, &snoop_word(0, 0), &32768);
-    assert_same(&rt, &snoop_word(2, 7), &8589967367);
-    assert_same(&rt, &laps(8589967367), &2);
-    assert_same(&rt, &sample(8589967367), &7);
-    assert_same(&rt, &sample(snoop_word(4294967295, -32768)), &-32768);
+    assert!(rt; snoop_word(0, 0) == 32768);
+    assert!(rt; snoop_word(2, 7) == 8589967367);
+    assert!(rt; laps(8589967367) == 2);
+    assert!(rt; sample(8589967367) == 7);
+    assert!(rt; sample(snoop_word(4294967295, -32768)) == -32768);
 }
 
 // A frame is stored over frame 0, whose slot it has, and leaves frame 1.
@@ -99,7 +98,7 @@ fn a_frame_is_overtaken_by_the_one_a_lap_later(rt: HostRuntime) -> Result<(), Fa
         frame: 64,
         gone: false,
     };
-    assert_same(&rt, &core.turn().position(&mut NeverStops)?, &wanted);
+    assert!(rt; core.turn().position(&mut NeverStops)? == wanted);
     store(&mut core, &[7])?;
     let mut out = [0];
     let mut turn = core.turn();
@@ -107,17 +106,9 @@ fn a_frame_is_overtaken_by_the_one_a_lap_later(rt: HostRuntime) -> Result<(), Fa
         channel: 0,
         seen: 8589967367,
     };
-    assert_same(
-        &rt,
-        &load(&mut turn, &mut NeverStops, 0, &mut out)?,
-        &Ok(overtaken),
-    );
-    assert_same(
-        &rt,
-        &load(&mut turn, &mut NeverStops, 1, &mut out)?,
-        &Ok(Loaded::Got),
-    );
-    assert_same(&rt, &out[0], &1);
+    assert!(rt; load(&mut turn, &mut NeverStops, 0, &mut out)? == Ok(overtaken));
+    assert!(rt; load(&mut turn, &mut NeverStops, 1, &mut out)? == Ok(Loaded::Got));
+    assert!(rt; out[0] == 1);
     Ok(())
 }
 
@@ -134,13 +125,9 @@ fn a_frame_has_the_samples_of_all_channels(rt: HostRuntime) -> Result<(), Fail> 
         frame: 130,
         gone: true,
     };
-    assert_same(&rt, &turn.position(&mut NeverStops)?, &gone);
-    assert_same(
-        &rt,
-        &load(&mut turn, &mut NeverStops, 129, &mut out)?,
-        &Ok(Loaded::Got),
-    );
-    assert_same(&rt, &out.as_slice(), &[4, -32768, 6].as_slice());
+    assert!(rt; turn.position(&mut NeverStops)? == gone);
+    assert!(rt; load(&mut turn, &mut NeverStops, 129, &mut out)? == Ok(Loaded::Got));
+    assert!(rt; out.as_slice() == [4, -32768, 6].as_slice());
     Ok(())
 }
 
@@ -154,21 +141,13 @@ fn a_load_is_stopped_at_each_of_its_asks(rt: HostRuntime) -> Result<(), Fail> {
     let mut turn = core.turn();
     for left in 0..2 {
         let mut gate = StopsAfter { left, stops: 0 };
-        assert_same(
-            &rt,
-            &load(&mut turn, &mut gate, 0, &mut out)?,
-            &Err(PcmError::Stopped),
-        );
-        assert_same(&rt, &gate.stops, &1);
+        assert!(rt; load(&mut turn, &mut gate, 0, &mut out)? == Err(PcmError::Stopped));
+        assert!(rt; gate.stops == 1);
     }
     let mut gate = StopsAfter { left: 2, stops: 0 };
-    assert_same(
-        &rt,
-        &load(&mut turn, &mut gate, 0, &mut out)?,
-        &Ok(Loaded::Got),
-    );
-    assert_same(&rt, &turn.position(&mut gate), &Err(PcmError::Stopped));
-    assert_same(&rt, &gate.stops, &1);
+    assert!(rt; load(&mut turn, &mut gate, 0, &mut out)? == Ok(Loaded::Got));
+    assert!(rt; turn.position(&mut gate) == Err(PcmError::Stopped));
+    assert!(rt; gate.stops == 1);
     Ok(())
 }
 
@@ -178,15 +157,13 @@ fn the_last_lap_ends(rt: HostRuntime) -> Result<(), Fail> {
     for _ in 0..64 {
         store(&mut core, &[5])?;
     }
-    assert_same(&rt, &core.next(), &274877906880);
-    assert_same(&rt, &try_store(&mut core, &[5])?, &Err(PcmError::LapEnd));
+    assert!(rt; core.next() == 274877906880);
+    assert!(rt; try_store(&mut core, &[5])? == Err(PcmError::LapEnd));
     core.publish();
     let mut out = [0];
-    assert_same(
-        &rt,
-        &load(&mut core.turn(), &mut NeverStops, 274877906879, &mut out)?,
-        &Ok(Loaded::Got),
+    assert!(rt;
+        load(&mut core.turn(), &mut NeverStops, 274877906879, &mut out)? == Ok(Loaded::Got)
     );
-    assert_same(&rt, &out[0], &5);
+    assert!(rt; out[0] == 5);
     Ok(())
 }

@@ -2,7 +2,6 @@
 ghost use Rattle.std.specs.Prelude.{◌≤◌, IfOk};
 ghost use Rattle.sum_table.specs.Rings.{GaveNone};
 
-use assertions::assert_same;
 use card_player::CardPlayer;
 use mix_core::{MixPort, NeverStops, Placed};
 use snd_base::{Cursor, Geometry, PcmError};
@@ -60,16 +59,12 @@ fn played_frames_are_interleaved_and_published(rt: HostRuntime) -> Result<(), Fa
     let mut ring = new_ring(rt.alloc(), 2, 0)?;
     let (seat, mut mix) = ring.seats();
     let mut player = CardPlayer::new(seat, 16);
-    assert_same(&rt, &place(&mut mix, 0, 1, 5)?, &Placed::In);
-    assert_same(&rt, &place(&mut mix, 19, 0, -7)?, &Placed::In);
+    assert!(rt; place(&mut mix, 0, 1, 5)? == Placed::In);
+    assert!(rt; place(&mut mix, 19, 0, -7)? == Placed::In);
     let mut out = [1i16; 41];
-    assert_same(&rt, &play(&mut player, &mut out)?, &Ok(()));
-    assert_same(
-        &rt,
-        &[out[0], out[1], out[2], out[38], out[39], out[40]],
-        &[0, 5, 0, -7, 0, 1],
-    );
-    assert_same(&rt, &mix.position(&mut NeverStops)?.frame, &20);
+    assert!(rt; play(&mut player, &mut out)? == Ok(()));
+    assert!(rt; [out[0], out[1], out[2], out[38], out[39], out[40]] == [0, 5, 0, -7, 0, 1]);
+    assert!(rt; mix.position(&mut NeverStops)?.frame == 20);
     Ok(())
 }
 
@@ -78,20 +73,20 @@ fn a_frame_that_is_taken_is_published_later(rt: HostRuntime) -> Result<(), Fail>
     let mut ring = new_ring(rt.alloc(), 3, 0)?;
     let (seat, mut mix) = ring.seats();
     let mut player = CardPlayer::new(seat, 16);
-    assert_same(&rt, &place(&mut mix, 0, 2, 9)?, &Placed::In);
+    assert!(rt; place(&mut mix, 0, 2, 9)? == Placed::In);
     let mut out = [1i16; 4];
-    assert_same(&rt, &take_frame(&mut player, &mut out)?, &Ok(()));
-    assert_same(&rt, &out, &[0, 0, 9, 1]);
-    assert_same(&rt, &mix.position(&mut NeverStops)?.frame, &0);
+    assert!(rt; take_frame(&mut player, &mut out)? == Ok(()));
+    assert!(rt; out == [0, 0, 9, 1]);
+    assert!(rt; mix.position(&mut NeverStops)?.frame == 0);
     player.publish();
-    assert_same(&rt, &mix.position(&mut NeverStops)?.frame, &1);
+    assert!(rt; mix.position(&mut NeverStops)?.frame == 1);
     player.unplug();
     assert!(rt; mix.position(&mut NeverStops)?.gone);
     let next = Cursor {
         frame: 1,
         channel: 0,
     };
-    assert_same(&rt, &player.into_seat().next(), &next);
+    assert!(rt; player.into_seat().next() == next);
     Ok(())
 }
 
@@ -102,16 +97,12 @@ fn the_frames_before_the_last_lap_are_played(rt: HostRuntime) -> Result<(), Fail
     let (seat, mut mix) = ring.seats();
     let mut player = CardPlayer::new(seat, 100);
     let end = 4294967295 * 64;
-    assert_same(&rt, &(place(&mut mix, end - 1, 0, 3)?), &Placed::In);
+    assert!(rt; (place(&mut mix, end - 1, 0, 3)?) == Placed::In);
     let mut out = [1i16; 100];
-    assert_same(&rt, &play(&mut player, &mut out)?, &Err(PcmError::LapEnd));
-    assert_same(&rt, &[out[0], out[62], out[63], out[64]], &[0, 0, 3, 1]);
-    assert_same(&rt, &mix.position(&mut NeverStops)?.frame, &end);
-    assert_same(
-        &rt,
-        &take_frame(&mut player, &mut out)?,
-        &Err(PcmError::LapEnd),
-    );
-    assert_same(&rt, &out[0], &0);
+    assert!(rt; play(&mut player, &mut out)? == Err(PcmError::LapEnd));
+    assert!(rt; [out[0], out[62], out[63], out[64]] == [0, 0, 3, 1]);
+    assert!(rt; mix.position(&mut NeverStops)?.frame == end);
+    assert!(rt; take_frame(&mut player, &mut out)? == Err(PcmError::LapEnd));
+    assert!(rt; out[0] == 0);
     Ok(())
 }

@@ -6,7 +6,6 @@ ghost use Rattle.snoop_table.specs.Writers.{SameWriter};
 
 mod threads;
 
-use assertions::assert_same;
 use mix_core::{Gate, NeverStops, Pass, Position, StepKind};
 use snd_base::{Geometry, PcmError};
 use snoop_core::{Loaded, SnoopPort};
@@ -114,25 +113,17 @@ fn a_frame_is_overtaken_by_the_one_a_lap_later(rt: HostRuntime) -> Result<(), Fa
         frame: 64,
         gone: false,
     };
-    assert_same(&rt, &reader.position(&mut NeverStops)?, &wanted);
+    assert!(rt; reader.position(&mut NeverStops)? == wanted);
     store(&mut writer, &[7])?;
     let mut out = [0];
     let overtaken = Loaded::Overtaken {
         channel: 0,
         seen: 8589967367,
     };
-    assert_same(
-        &rt,
-        &load(&mut reader, &mut NeverStops, 0, &mut out)?,
-        &Ok(overtaken),
-    );
-    assert_same(
-        &rt,
-        &load(&mut reader, &mut NeverStops, 1, &mut out)?,
-        &Ok(Loaded::Got),
-    );
-    assert_same(&rt, &out[0], &1);
-    assert_same(&rt, &reader.close(writer), &64);
+    assert!(rt; load(&mut reader, &mut NeverStops, 0, &mut out)? == Ok(overtaken));
+    assert!(rt; load(&mut reader, &mut NeverStops, 1, &mut out)? == Ok(Loaded::Got));
+    assert!(rt; out[0] == 1);
+    assert!(rt; reader.close(writer) == 64);
     Ok(())
 }
 
@@ -147,21 +138,13 @@ fn a_load_is_stopped_at_each_of_its_asks(rt: HostRuntime) -> Result<(), Fail> {
     let mut out = [0; 2];
     for left in 0..2 {
         let mut gate = StopsAfter { left, stops: 0 };
-        assert_same(
-            &rt,
-            &load(&mut reader, &mut gate, 192, &mut out)?,
-            &Err(PcmError::Stopped),
-        );
-        assert_same(&rt, &gate.stops, &1);
+        assert!(rt; load(&mut reader, &mut gate, 192, &mut out)? == Err(PcmError::Stopped));
+        assert!(rt; gate.stops == 1);
     }
     let mut gate = StopsAfter { left: 2, stops: 0 };
-    assert_same(
-        &rt,
-        &load(&mut reader, &mut gate, 192, &mut out)?,
-        &Ok(Loaded::Got),
-    );
-    assert_same(&rt, &out.as_slice(), &[-1, 32767].as_slice());
-    assert_same(&rt, &reader.position(&mut gate), &Err(PcmError::Stopped));
+    assert!(rt; load(&mut reader, &mut gate, 192, &mut out)? == Ok(Loaded::Got));
+    assert!(rt; out.as_slice() == [-1, 32767].as_slice());
+    assert!(rt; reader.position(&mut gate) == Err(PcmError::Stopped));
     Ok(())
 }
 
@@ -172,26 +155,22 @@ fn what_one_seat_saw_the_others_hear(rt: HostRuntime) -> Result<(), Fail> {
     let mut second = first.split();
     store(&mut writer, &[5])?;
     writer.publish();
-    assert_same(&rt, &second.seen(), &0);
+    assert!(rt; second.seen() == 0);
     second.meet(writer.note());
-    assert_same(&rt, &second.seen(), &1);
+    assert!(rt; second.seen() == 1);
     writer.unplug();
     let gone = Position {
         frame: 1,
         gone: true,
     };
-    assert_same(&rt, &second.position(&mut NeverStops)?, &gone);
+    assert!(rt; second.position(&mut NeverStops)? == gone);
     let mut out = [0];
-    assert_same(
-        &rt,
-        &load(&mut second, &mut NeverStops, 0, &mut out)?,
-        &Ok(Loaded::Got),
-    );
+    assert!(rt; load(&mut second, &mut NeverStops, 0, &mut out)? == Ok(Loaded::Got));
     writer.meet(second.note());
     first.join(second);
-    assert_same(&rt, &first.seen(), &1);
-    assert_same(&rt, &writer.next(), &1);
-    assert_same(&rt, &first.close(writer), &1);
+    assert!(rt; first.seen() == 1);
+    assert!(rt; writer.next() == 1);
+    assert!(rt; first.close(writer) == 1);
     Ok(())
 }
 
@@ -202,19 +181,15 @@ fn the_last_lap_ends(rt: HostRuntime) -> Result<(), Fail> {
     for _ in 0..64 {
         store(&mut writer, &[5])?;
     }
-    assert_same(&rt, &try_store(&mut writer, &[5])?, &Err(PcmError::LapEnd));
+    assert!(rt; try_store(&mut writer, &[5])? == Err(PcmError::LapEnd));
     writer.publish();
     let end = Position {
         frame: 274877906880,
         gone: false,
     };
-    assert_same(&rt, &reader.position(&mut NeverStops)?, &end);
+    assert!(rt; reader.position(&mut NeverStops)? == end);
     let mut out = [0];
-    assert_same(
-        &rt,
-        &load(&mut reader, &mut NeverStops, 274877906879, &mut out)?,
-        &Ok(Loaded::Got),
-    );
-    assert_same(&rt, &out[0], &5);
+    assert!(rt; load(&mut reader, &mut NeverStops, 274877906879, &mut out)? == Ok(Loaded::Got));
+    assert!(rt; out[0] == 5);
     Ok(())
 }

@@ -3,7 +3,6 @@ ghost use Rattle.std.specs.Prelude.{◌<◌};
 ghost use Rattle.wav_io.specs.Reading.{wav_file, Reads};
 
 use super::{BEGIN, DATA, joined};
-use assertions::{assert_same, assert_same_at};
 use std::alloc::Global;
 use std::test::*;
 use wav_io::{RawReader, Samples, Wav, WavError, WavReader, read_wav};
@@ -64,14 +63,14 @@ fn a_pad_byte_behind_a_cut_is_skipped(rt: HostRuntime) -> Result<(), Fail> {
     let back = joined(alloc, &[&ODD[9..], &DATA[..9]])?;
     let mut reader = WavReader::new();
     let mut samples = Vec::new(alloc);
-    assert_same(&rt, &reader.feed(&front, &mut samples), &Ok(()));
-    assert_same(&rt, &reader.feed(&back, &mut samples), &Ok(()));
-    assert_same(&rt, &samples.len(), &0);
-    assert_same(&rt, &reader.feed(&DATA[9..], &mut samples), &Ok(()));
-    assert_same(&rt, &samples.as_slice(), &[1i16].as_slice());
+    assert!(rt; reader.feed(&front, &mut samples) == Ok(()));
+    assert!(rt; reader.feed(&back, &mut samples) == Ok(()));
+    assert!(rt; samples.len() == 0);
+    assert!(rt; reader.feed(&DATA[9..], &mut samples) == Ok(()));
+    assert!(rt; samples.as_slice() == [1i16].as_slice());
     let head = reader.finish().ok().ok_or("the file is read")?;
-    assert_same(&rt, &head.channels, &1);
-    assert_same(&rt, &head.rate, &48000);
+    assert!(rt; head.channels == 1);
+    assert!(rt; head.rate == 48000);
     Ok(())
 }
 
@@ -80,18 +79,10 @@ fn an_error_is_answered_again(rt: HostRuntime) -> Result<(), Fail> {
     let alloc = rt.alloc();
     let mut reader = WavReader::new();
     let mut samples = Vec::new(alloc);
-    assert_same(&rt, &reader.feed(&BEGIN[..11], &mut samples), &Ok(()));
-    assert_same(
-        &rt,
-        &reader.feed(b"ish", &mut samples),
-        &Err(WavError::NotWave),
-    );
-    assert_same(
-        &rt,
-        &reader.feed(&DATA, &mut samples),
-        &Err(WavError::NotWave),
-    );
-    assert_same(&rt, &reader.finish().err(), &Some(WavError::NotWave));
+    assert!(rt; reader.feed(&BEGIN[..11], &mut samples) == Ok(()));
+    assert!(rt; reader.feed(b"ish", &mut samples) == Err(WavError::NotWave));
+    assert!(rt; reader.feed(&DATA, &mut samples) == Err(WavError::NotWave));
+    assert!(rt; reader.finish().err() == Some(WavError::NotWave));
     Ok(())
 }
 
@@ -108,27 +99,19 @@ fn bytes_of_other_depths_are_read(rt: HostRuntime) -> Result<(), Fail> {
         let mut body = Vec::new(alloc);
         assert!(rt; reader.head().is_none(), "no bytes came");
         for piece in file.chunks(3) {
-            assert_same_at(&rt, &bits, &reader.feed(piece, &mut body), &Ok(()));
+            assert!(rt; reader.feed(piece, &mut body) == Ok(()), "{bits}");
         }
         let head = reader.head().ok_or("the data began")?;
-        assert_same(
-            &rt,
-            &(head.channels, head.rate, head.bits),
-            &(1, 48_000, u16::from(bits)),
-        );
-        assert_same_at(&rt, &bits, &body.as_slice(), &&[1u8, 2, 3, 4, 5][..count]);
+        assert!(rt; (head.channels, head.rate, head.bits) == (1, 48_000, u16::from(bits)));
+        assert!(rt; body.as_slice() == *&&[1u8, 2, 3, 4, 5][..count], "{bits}");
         let head = reader.finish().ok().ok_or("the file is read")?;
-        assert_same(&rt, &head.bits, &u16::from(bits));
+        assert!(rt; head.bits == u16::from(bits));
     }
     let mut file = joined(alloc, &[&BEGIN, &DATA])?;
     if let Some(place) = file.get_mut(34) {
         *place = 12;
     }
     let mut body = Vec::new(alloc);
-    assert_same(
-        &rt,
-        &RawReader::new().feed(&file, &mut body),
-        &Err(WavError::Bits(12)),
-    );
+    assert!(rt; RawReader::new().feed(&file, &mut body) == Err(WavError::Bits(12)));
     Ok(())
 }

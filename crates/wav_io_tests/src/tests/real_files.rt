@@ -3,7 +3,6 @@
 
 use super::pieces::is_alike_in_pieces;
 use super::refusal;
-use assertions::assert_same;
 use std::alloc::Global;
 use std::test::*;
 use wav_io::{WavError, read_wav};
@@ -274,29 +273,9 @@ fn files_of_sox_and_ffmpeg_are_read(rt: HostRuntime) {
 #[test]
 fn files_of_other_samples_are_refused(rt: HostRuntime) {
     let alloc = rt.alloc();
-    assert_same(
-        &rt,
-        &refusal(read_wav(alloc, &BITS_24)),
-        &Some(WavError::Bits(24)),
-    );
-    assert_same(
-        &rt,
-        &refusal(read_wav(alloc, &BITS_8)),
-        &Some(WavError::Bits(8)),
-    );
-    assert_same(
-        &rt,
-        &refusal(read_wav(alloc, &FLOAT)),
-        &Some(WavError::Tag(3)),
-    );
-    assert_same(
-        &rt,
-        &refusal(read_wav(alloc, &MU_LAW)),
-        &Some(WavError::Tag(7)),
-    );
-    assert_same(
-        &rt,
-        &refusal(read_wav(alloc, &BIG_ENDIAN)),
-        &Some(WavError::NotRiff),
-    );
+    assert!(rt; refusal(read_wav(alloc, &BITS_24)) == Some(WavError::Bits(24)));
+    assert!(rt; refusal(read_wav(alloc, &BITS_8)) == Some(WavError::Bits(8)));
+    assert!(rt; refusal(read_wav(alloc, &FLOAT)) == Some(WavError::Tag(3)));
+    assert!(rt; refusal(read_wav(alloc, &MU_LAW)) == Some(WavError::Tag(7)));
+    assert!(rt; refusal(read_wav(alloc, &BIG_ENDIAN)) == Some(WavError::NotRiff));
 }
