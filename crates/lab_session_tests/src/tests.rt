@@ -7,12 +7,15 @@ mod readers;
 mod runs;
 mod sessions;
 
-use lab_calls::{MONO, call, files_of, steps_of, text_in, wav_around, wav_of};
+use lab_calls::{Left, MONO, call, files_of, steps_of, text_in, wav_around, wav_of};
 use readers::READERS;
 use runs::RUNS;
 use sessions::{SESSIONS, Session};
 use std::alloc::{AllocError, Global};
+use std::marker::Sync;
+use std::process::Abort;
 use std::test::Fail;
+use std::thread::Threads;
 
 // Appends the lines of a phase.
 fn push_phase(text: &mut String, lines: &[(&str, &str)]) -> Result<(), AllocError> {
@@ -78,25 +81,33 @@ fn report_of(alloc: Global, session: &Session<'_>) -> Result<Vec<u8>, AllocError
     Ok(text.into_bytes())
 }
 
+// A session leaves its report and its file. A function of its own, so that no table is there where something is let go.
+fn leaves_its_report_and_file<R: Threads + Sync + Abort>(
+    rt: &R,
+    alloc: Global,
+    session: &Session<'_>,
+) -> Result<(), AllocError> {
+    let script = script_of(alloc, session)?;
+    let report = report_of(alloc, session)?;
+    let file = wav_of(alloc, session.head, session.played)?;
+    let files = files_of(alloc, script, session.wavs)?;
+    let left = call(rt, alloc, &["run", "s", "o"], files, (&[], &[]))?;
+    assert!(rt; left.status == 0, "{}", session.name);
+    assert!(rt;
+        text_in(left.out.bytes()) == text_in(&report),
+        "{}",
+        session.name
+    );
+    let held = left.shelf.file(b"o.wav").unwrap_or(&[]);
+    assert!(rt; held == file.as_slice(), "{}", session.name);
+    assert!(rt; left.errors.bytes().is_empty());
+    Ok(())
+}
+
 #[test]
 fn sessions_leave_their_report_and_file(rt: HostRuntime) -> Result<(), Fail> {
-    let alloc = rt.alloc();
     for session in &SESSIONS {
-        let script = script_of(alloc, session)?;
-        let report = report_of(alloc, session)?;
-        let file = wav_of(alloc, session.head, session.played)?;
-        let files = files_of(alloc, script, session.wavs)?;
-        let left = call(&rt, alloc, &["run", "s", "o"], files, (&[], &[]))?;
-        let text = text_in(left.out.bytes());
-        let wanted = text_in(&report);
-        assert!(rt; left.status == 0, "{}", session.name);
-        assert!(rt; text == wanted, "{}", session.name);
-        assert!(rt;
-            left.shelf.file(b"o.wav").unwrap_or(&[]) == file.as_slice(),
-            "{}",
-            session.name
-        );
-        assert!(rt; left.errors.bytes().is_empty());
+        leaves_its_report_and_file(&rt, rt.alloc(), session)?;
     }
     Ok(())
 }
@@ -238,26 +249,53 @@ fn files_of_run(
     Ok(files)
 }
 
+// The files that a run is to leave are there, byte for byte.
+fn has_stored(
+    rt: &impl Abort,
+    alloc: Global,
+    run: &Run<'_>,
+    left: &Left,
+) -> Result<(), AllocError> {
+    for (name, head, runs) in run.stored {
+        let samples = steps_of(alloc, runs)?;
+        let file = wav_around(alloc, head, &samples)?;
+        let held = left.shelf.file(name.as_bytes()).unwrap_or(&[]);
+        assert!(rt; held == file.as_slice(), "{name} of {}", run.name);
+    }
+    Ok(())
+}
+
+// A run leaves its report and its files. A function of its own, so that no table is there where something is let go.
+fn leaves_its_report_and_files<R: Threads + Sync + Abort>(
+    rt: &R,
+    alloc: Global,
+    run: &Run<'_>,
+) -> Result<(), AllocError> {
+    let report = report_of_run(alloc, run)?;
+    let files = files_of_run(alloc, run, "")?;
+    let left = call(rt, alloc, &["run", "s", "o"], files, (&[], &[]))?;
+    assert!(rt; text_in(left.errors.bytes()) == "", "{}", run.name);
+    assert!(rt; left.status == 0, "{}", run.name);
+    assert!(rt;
+        text_in(left.out.bytes()) == text_in(&report),
+        "{}",
+        run.name
+    );
+    has_stored(rt, alloc, run, &left)
+}
+
 #[test]
 fn runs_leave_their_report_and_files(rt: HostRuntime) -> Result<(), Fail> {
-    let alloc = rt.alloc();
-    for run in RUNS.iter().chain(READERS.iter()) {
-        let report = report_of_run(alloc, run)?;
-        let files = files_of_run(alloc, run, "")?;
-        let left = call(&rt, alloc, &["run", "s", "o"], files, (&[], &[]))?;
-        assert!(rt; text_in(left.errors.bytes()) == "", "{}", run.name);
-        assert!(rt; left.status == 0, "{}", run.name);
-        assert!(rt;
-            text_in(left.out.bytes()) == text_in(&report),
-            "{}",
-            run.name
-        );
-        for (name, head, runs) in run.stored {
-            let samples = steps_of(alloc, runs)?;
-            let file = wav_around(alloc, head, &samples)?;
-            let held = left.shelf.file(name.as_bytes()).unwrap_or(&[]);
-            assert_eq!(rt; held, file.as_slice(), "{name} of {}", run.name);
-        }
+    for run in &RUNS {
+        leaves_its_report_and_files(&rt, rt.alloc(), run)?;
+    }
+    Ok(())
+}
+
+#[test]
+fn runs_with_readers_leave_their_report_and_files(rt: HostRuntime) -> Result<(), Fail> {
+    for run in &READERS {
+        leaves_its_report_and_files(&rt, rt.alloc(), run)?;
     }
     Ok(())
 }
