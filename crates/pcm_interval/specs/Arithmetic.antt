@@ -18,7 +18,7 @@ rounded_up n d = if is_broken n d then n / d + 1 else n / d
 abbrev pub lower_end_of : ℕ → ℕ → ℕ
 lower_end_of n d = min (n / d) end_max
 
--- it is open where it was made of an open end, or was rounded; where it was cut it is closed
+-- it is open where it was made of an open end, or was rounded; where it was clamped it is closed
 abbrev pub lower_is_open : ℕ → ℕ → Bool → Bool
 lower_is_open n d is_open = nat_le (n / d) end_max && (is_open || is_broken n d)
 

@@ -33,11 +33,11 @@ quotient_order n d m e d_pos e_pos low =
           (omega arith, omega arith),
     )
 
--- a fraction that is not lower has a lower end that is not lower, if this is not cut
+-- a fraction that is not lower has a lower end that is not lower, if this is not clamped
 lower_end-le : (n d m e : ℕ) (n_open m_open : Bool) → 0 < d → 0 < e → n * e ≤ m * d
     → (n * e ≡ m * d → IsTrue n_open → IsTrue m_open) → m / e ≤ end_max
     → 2 * lower_end_of n d + bit_of (lower_is_open n d n_open) ≤ 2 * lower_end_of m e + bit_of (lower_is_open m e m_open)
-lower_end-le n d m e n_open m_open d_pos e_pos low opens uncut =
+lower_end-le n d m e n_open m_open d_pos e_pos low opens unclamped =
     let order = quotient_order n d m e d_pos e_pos low in
     elim (cases_lt (n / d) (m / e)) [
       | inl less ↦ grind (arith, nat_tests)
@@ -80,9 +80,9 @@ between-IsIntervalWithin : (low_n low_d low_m low_e : ℕ) (low_o low_p : Bool) 
     → (IsTrue whole → IsTrue part)
     → IsIntervalWithin (interval_between low_m low_e low_p high_m high_e high_p part) (interval_between low_n low_d low_o high_n high_d high_o whole)
 unfolding interval_between
-between-IsIntervalWithin low_n low_d low_m low_e low_o low_p high_n high_d high_m high_e high_o high_p whole part ld le low lows uncut hd he high highs integer =
+between-IsIntervalWithin low_n low_d low_m low_e low_o low_p high_n high_d high_m high_e high_o high_p whole part ld le low lows unclamped hd he high highs integer =
     IsIntervalWithin-from_places _ _
-    (lower_end-le low_n low_d low_m low_e low_o low_p ld le low lows uncut)
+    (lower_end-le low_n low_d low_m low_e low_o low_p ld le low lows unclamped)
     (upper_end-le high_m high_e high_n high_d high_p high_o he hd high highs)
     integer
 
@@ -148,7 +148,7 @@ mul-order_by x u y v k p q x_low y_low u_pos v_pos k_pos p_is q_is =
 max-positive : (a : Interval) → IsNonEmpty a → 1 ≤ a.min → 0 < a.max
 max-positive a filled min = omega (arith, IsNonEmpty-le a filled, min)
 
--- ---- smaller intervals give a smaller one, where its lower end was not cut
+-- ---- smaller intervals give a smaller one, where its lower end was not clamped
 
 -- a times b divided by k, integer as given
 abbrev product_by : Interval → Interval → ℕ → Bool → Interval
@@ -157,7 +157,7 @@ product_by a b k integer = interval_between (a.min * b.min) k (a.openmin || b.op
 product_by-IsIntervalWithin : (a b c d : Interval) (k : ℕ) (part whole : Bool) → IsNonEmpty a → IsNonEmpty b → IsIntervalWithin a c → IsIntervalWithin b d
     → 1 ≤ c.min → 1 ≤ d.min → 1 ≤ k → a.min * b.min / k ≤ end_max → (IsTrue whole → IsTrue part)
     → IsIntervalWithin (product_by a b k part) (product_by c d k whole)
-product_by-IsIntervalWithin a b c d k part whole filled_a filled_b in_c in_d c_min d_min k_min uncut integer =
+product_by-IsIntervalWithin a b c d k part whole filled_a filled_b in_c in_d c_min d_min k_min unclamped integer =
     let a_low = IsIntervalWithin-min a c in_c in
     let b_low = IsIntervalWithin-min b d in_d in
     let a_high = IsIntervalWithin-max a c in_c in
@@ -170,7 +170,7 @@ product_by-IsIntervalWithin a b c d k part whole filled_a filled_b in_c in_d c_m
     (c.max * d.max) k (a.max * b.max) k (c.openmax || d.openmax) (a.openmax || b.openmax) whole part
     k_min k_min low.0
     (λ same. let ends = low.3 same in either c.openmin d.openmin a.openmin b.openmin (open_lower a c in_c ends.0) (open_lower b d in_d ends.1))
-    uncut
+    unclamped
     k_min k_min high.0
     (λ same. let ends = high.3 same in either c.openmax d.openmax a.openmax b.openmax (open_upper a c in_c ends.0) (open_upper b d in_d ends.1))
     integer
@@ -178,7 +178,7 @@ product_by-IsIntervalWithin a b c d k part whole filled_a filled_b in_c in_d c_m
 pub product_of-IsIntervalWithin : (a b c d : Interval) → IsNonEmpty a → IsNonEmpty b → IsIntervalWithin a c → IsIntervalWithin b d
     → 1 ≤ c.min → 1 ≤ d.min → a.min * b.min ≤ end_max → IsIntervalWithin (product_of a b) (product_of c d)
 unfolding product_of
-product_of-IsIntervalWithin a b c d filled_a filled_b in_c in_d c_min d_min uncut =
+product_of-IsIntervalWithin a b c d filled_a filled_b in_c in_d c_min d_min unclamped =
     product_by-IsIntervalWithin a b c d 1 (a.integer && b.integer) (c.integer && d.integer) filled_a filled_b in_c in_d c_min d_min (omega arith)
     (omega (arith, div-one (a.min * b.min)))
     (both_flags c.integer d.integer a.integer b.integer in_c.integer in_d.integer)
@@ -186,13 +186,13 @@ product_of-IsIntervalWithin a b c d filled_a filled_b in_c in_d c_min d_min uncu
 pub scaled_product_of-IsIntervalWithin : (a b c d : Interval) (k : ℕ) → IsNonEmpty a → IsNonEmpty b → IsIntervalWithin a c → IsIntervalWithin b d
     → 1 ≤ c.min → 1 ≤ d.min → 1 ≤ k → a.min * b.min / k ≤ end_max → IsIntervalWithin (scaled_product_of a b k) (scaled_product_of c d k)
 unfolding scaled_product_of
-scaled_product_of-IsIntervalWithin a b c d k filled_a filled_b in_c in_d c_min d_min k_min uncut =
-    product_by-IsIntervalWithin a b c d k false false filled_a filled_b in_c in_d c_min d_min k_min uncut (λ h. h)
+scaled_product_of-IsIntervalWithin a b c d k filled_a filled_b in_c in_d c_min d_min k_min unclamped =
+    product_by-IsIntervalWithin a b c d k false false filled_a filled_b in_c in_d c_min d_min k_min unclamped (λ h. h)
 
 pub scaled_quotient_of-IsIntervalWithin : (a : Interval) (k : ℕ) (b c d : Interval) → IsNonEmpty a → IsNonEmpty b → IsIntervalWithin a c → IsIntervalWithin b d
     → 1 ≤ c.min → 1 ≤ d.min → 1 ≤ k → a.min * k / b.max ≤ end_max → IsIntervalWithin (scaled_quotient_of a k b) (scaled_quotient_of c k d)
 unfolding scaled_quotient_of
-scaled_quotient_of-IsIntervalWithin a k b c d filled_a filled_b in_c in_d c_min d_min k_min uncut =
+scaled_quotient_of-IsIntervalWithin a k b c d filled_a filled_b in_c in_d c_min d_min k_min unclamped =
     let a_low = IsIntervalWithin-min a c in_c in
     let b_low = IsIntervalWithin-min b d in_d in
     let a_high = IsIntervalWithin-max a c in_c in
@@ -207,7 +207,7 @@ scaled_quotient_of-IsIntervalWithin a k b c d filled_a filled_b in_c in_d c_min 
     (c.max * k) d.min (a.max * k) b.min (c.openmax || d.openmin) (a.openmax || b.openmin) false false
     (omega arith) b_pos low.0
     (λ same. let ends = low.3 same in either c.openmin d.openmax a.openmin b.openmax (open_lower a c in_c ends.0) (open_upper b d in_d ends.1))
-    uncut
+    unclamped
     d_min (omega arith) high.0
     (λ same. let ends = high.3 same in either c.openmax d.openmin a.openmax b.openmin (open_upper a c in_c ends.0) (open_lower b d in_d ends.1))
     (λ h. h)
@@ -219,8 +219,8 @@ quotient_of-scaled a b = simp mul-one
 
 pub quotient_of-IsIntervalWithin : (a b c d : Interval) → IsNonEmpty a → IsNonEmpty b → IsIntervalWithin a c → IsIntervalWithin b d
     → 1 ≤ c.min → 1 ≤ d.min → a.min / b.max ≤ end_max → IsIntervalWithin (quotient_of a b) (quotient_of c d)
-quotient_of-IsIntervalWithin a b c d filled_a filled_b in_c in_d c_min d_min uncut =
-    let uncut_one : a.min * 1 / b.max ≤ end_max = rw mul-one uncut in
+quotient_of-IsIntervalWithin a b c d filled_a filled_b in_c in_d c_min d_min unclamped =
+    let uncut_one : a.min * 1 / b.max ≤ end_max = rw mul-one unclamped in
     let scaled = scaled_quotient_of-IsIntervalWithin a 1 b c d filled_a filled_b in_c in_d c_min d_min (omega arith) uncut_one in
     subst (λ (q : Interval). IsIntervalWithin q (quotient_of c d)) (quotient_of-scaled a b)
     (subst (λ (q : Interval). IsIntervalWithin (scaled_quotient_of a 1 b) q) (quotient_of-scaled c d) scaled)
@@ -231,8 +231,8 @@ quotient_of-IsIntervalWithin a b c d filled_a filled_b in_c in_d c_min d_min unc
 lower_end-IsMember : (n d m e : ℕ) (is_open : Bool) → 0 < d → 0 < e → n * e ≤ m * d → (IsTrue is_open → n * e < m * d)
     → (lower_end_of n d * e ≤ m) × (IsTrue (lower_is_open n d is_open) → lower_end_of n d * e < m)
 lower_end-IsMember n d m e is_open d_pos e_pos low opens =
-    let cut : lower_end_of n d ≤ n / d = omega arith in
-    let cut_scaled : lower_end_of n d * e ≤ n / d * e = mul-le-mul_right e cut in
+    let clamped : lower_end_of n d ≤ n / d = omega arith in
+    let clamped_scaled : lower_end_of n d * e ≤ n / d * e = mul-le-mul_right e clamped in
     let parts : n / d * d + n % d ≡ n = div-add-mod' n d in
     let scaled : n / d * d * e + n % d * e ≡ n * e = omega (arith, ap (λ (v : ℕ). v * e) parts) in
     let under : n / d * e * d ≤ m * d = omega arith in
@@ -280,17 +280,17 @@ upper_end-IsMember n d m e is_open d_pos e_pos high opens low =
     let below : m ≤ rounded_up n d * e = le_of_mul-le-mul_right under d_pos in (
       elim (cases_lt end_max (rounded_up n d)) [
         | inl above ↦
-            let cut : upper_end_of n d ≡ end_max = omega arith in
-            omega (arith, ap (λ (v : ℕ). v * e) cut)
+            let clamped : upper_end_of n d ≡ end_max = omega arith in
+            omega (arith, ap (λ (v : ℕ). v * e) clamped)
         | inr fits ↦
-            let uncut : upper_end_of n d ≡ rounded_up n d = omega arith in
-            omega (arith, ap (λ (v : ℕ). v * e) uncut)
+            let unclamped : upper_end_of n d ≡ rounded_up n d = omega arith in
+            omega (arith, ap (λ (v : ℕ). v * e) unclamped)
       ],
       λ told.
           let parts = and_parts (nat_le (rounded_up n d) end_max) (is_open || is_broken n d) told in
           let fits : rounded_up n d ≤ end_max = leb-true (rounded_up n d) end_max parts.0 in
-          let uncut : upper_end_of n d ≡ rounded_up n d = omega arith in
-          let end_scaled : upper_end_of n d * e ≡ rounded_up n d * e = ap (λ (v : ℕ). v * e) uncut in
+          let unclamped : upper_end_of n d ≡ rounded_up n d = omega arith in
+          let end_scaled : upper_end_of n d * e ≡ rounded_up n d * e = ap (λ (v : ℕ). v * e) unclamped in
           elim (or_cases is_open (is_broken n d) parts.1) [
             | inl made_open ↦
                 let strict : m * d < rounded_up n d * e * d = omega (arith, opens made_open) in

@@ -157,7 +157,7 @@ fn lower_end(low: Fraction) -> (u32, bool)
     ensures is_open { result.1 ≡ lower_is_open low.numerator low.denominator low.made_open }
 {
     let broken = low.numerator % low.denominator > 0;
-    cut(low.numerator / low.denominator, low.made_open | broken)
+    clamp_end(low.numerator / low.denominator, low.made_open | broken)
 }
 
 /// A fraction as an upper end: rounded up, with whether it is open.
@@ -168,11 +168,11 @@ fn upper_end(high: Fraction) -> (u32, bool)
 {
     let broken = high.numerator % high.denominator > 0;
     let whole = high.numerator / high.denominator + u64::from(broken);
-    cut(whole, high.made_open | broken)
+    clamp_end(whole, high.made_open | broken)
 }
 
 /// An end with whether it is open. Above the greatest number it becomes that number, closed.
-fn cut(end: u64, is_open: bool) -> (u32, bool)
+fn clamp_end(end: u64, is_open: bool) -> (u32, bool)
     ensures end { result.0 ≡ min end end_max }
     ensures is_open { result.1 ≡ (nat_le end end_max && is_open) }
 {

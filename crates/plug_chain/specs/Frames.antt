@@ -1,4 +1,4 @@
--- Bytes cut into frames.
+-- Bytes divided into frames.
 use Rattle.std.specs.Prelude.{ℕ, zero, suc, ◌*◌, ◌/◌, List, [], ◌∷◌, length, take, drop, ℤ}
 use Rattle.plug_chain.specs.declared.wide.Wide.{Wide}
 use Rattle.plug_chain.specs.Samples.{bytes_of, wide_sample}

@@ -20,7 +20,7 @@ pub record Stage : Type 0 where
   pub last : List ℤ
   pub place : ℕ
 
--- the stage to which these bytes lead, however they were cut
+-- the stage to which these bytes lead, however they are divided
 pub record HasTakenBytes (s : Stage) (bytes : List ℕ) : Type 0 where
   pub part : s.part ≡ rest_of s.conversion bytes
   pub course : IsRateAt s.conversion.rates s.conversion.table.outputs

@@ -111,7 +111,7 @@ pub(super) const SESSIONS: [Session<'static>; 22] = [
     },
     // The sum is saturated once: 30000 + 10000 - 20000 is 20000.
     Session {
-        name: "a sum that is cut once",
+        name: "a sum that is saturated once",
         card: ONE,
         clients: &[
             ("a", "a.wav", OPENED),
@@ -140,7 +140,7 @@ pub(super) const SESSIONS: [Session<'static>; 22] = [
     },
     // 30000 + 10000 is saturated to 32767.
     Session {
-        name: "a sum that is cut",
+        name: "a sum that is saturated",
         card: ONE,
         clients: &[("a", "a.wav", OPENED), ("b", "b.wav", OPENED)],
         phases: &[
