@@ -1,5 +1,6 @@
 pub mod Answer
 pub mod Device
+pub mod ErrorText
 pub mod Grammar
 pub mod Key
 pub mod Node

@@ -1,4 +1,7 @@
 //! Why a configuration text, or a device in it, is refused.
+ghost use Rattle.std.specs.Prelude.{◌≡◌, Some};
+ghost use Rattle.asound_conf.specs.ErrorText.{error_text, why_name, why_number, why_text};
+
 use std::alloc::{AllocError, AllocFailed};
 use std::fmt;
 use thiserror::Error;
@@ -58,7 +61,9 @@ pub enum ConfWhy {
 
 impl ConfWhy {
     /// Its name, by which it is printed.
-    fn name(&self) -> &'static str {
+    fn name(&self) -> &'static str
+        ensures { result.now ≡ why_name self.now }
+    {
         match self {
             ConfWhy::TooLong => "TooLong",
             ConfWhy::Byte => "Byte",
@@ -86,6 +91,16 @@ impl ConfWhy {
             ConfWhy::Memory => "Memory",
         }
     }
+
+    /// Its number, where it has one.
+    fn number(&self) -> Option<u32>
+        ensures { result ≡ why_number self.now }
+    {
+        match self {
+            ConfWhy::BindingRange(number) | ConfWhy::BindingTwice(number) => Some(*number),
+            _ => None,
+        }
+    }
 }
 
 impl fmt::Debug for ConfWhy {
@@ -100,26 +115,33 @@ impl fmt::Debug for ConfWhy {
 }
 
 impl fmt::Display for ConfWhy {
+    ghost output = { λ why. Some (why_text why) };
+
     fn fmt<W: fmt::Write>(&self, f: &mut fmt::Formatter<W>) -> fmt::Result {
-        match self {
-            ConfWhy::BindingRange(number) | ConfWhy::BindingTwice(number) => {
-                write!(f, "{} {number}", self.name())
-            }
-            _ => f.write_str(self.name()),
+        f.write_str(self.name())?;
+        match self.number() {
+            Some(number) => write!(f, " {number}"),
+            None => Ok(()),
         }
     }
 }
 
 /// A refusal: why, and the number of the line that it is about, from 1 on, or 0 for the text as a whole.
 #[derive(Clone, Copy, Debug, PartialEq, Eq, Error)]
-#[error("line {line}: {why}")]
 pub struct ConfError {
     pub line: u32,
     pub why: ConfWhy,
 }
 
+impl fmt::Display for ConfError {
+    ghost output = { λ error. Some (error_text error) };
+
+    fn fmt<W: fmt::Write>(&self, f: &mut fmt::Formatter<W>) -> fmt::Result {
+        write!(f, "line {}: {}", self.line, self.why)
+    }
+}
+
 impl From<AllocError> for ConfWhy {
-    ghost use Rattle.std.specs.Prelude.{◌≡◌};
     ghost use Rattle.asound_conf.specs.declared.error.ConfWhy.TheVariants as why;
 
     ghost from_gives = { λ _ e. e ≡ why.Memory };
@@ -130,7 +152,6 @@ impl From<AllocError> for ConfWhy {
 }
 
 impl<T: Drop> From<AllocFailed<T>> for ConfWhy {
-    ghost use Rattle.std.specs.Prelude.{◌≡◌};
     ghost use Rattle.asound_conf.specs.declared.error.ConfWhy.TheVariants as why;
 
     ghost from_gives = { λ _ e. e ≡ why.Memory };

@@ -1,4 +1,4 @@
-//! What no clause says of the commands: that they are done where there is memory, the line on the errors' stream
+//! Calls of the commands: that they are done where there is memory, which no clause says, the line on the errors' stream
 //! for each refusal, and what a fault leaves.
 mod conf;
 mod refine;

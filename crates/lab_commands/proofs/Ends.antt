@@ -1,15 +1,17 @@
--- Exit statuses 2 and 3 come exactly where their causes do, and how a call ends where nothing fails.
+-- Exit statuses 2 and 3 come exactly where their causes do, how a call ends where nothing fails, which faults it counts, and the line that says why.
 use Rattle.std.proofs.Common.{◌≡◌, ◌≢◌, ◌⊎◌, ℕ, ap, refl, subst, inl, inr, List, arith}
-use Rattle.std.specs.Prelude.{Option, Some, None, IsSome, Result, Ok, Err, IfErr}
+use Rattle.std.specs.Prelude.{Option, Some, None, IsSome, Result, Ok, Err, IfErr, OnOk}
+use Rattle.std.specs.Option.{ForSome}
 use Rattle.wav_io.specs.declared.error.WavError.{WavError}
-use Rattle.lab_shelf.specs.Files.{Files}
+use Rattle.lab_shelf.specs.Files.{Files, TookPart}
 use Rattle.lab_shelf.specs.Counts.{Rose}
 use Rattle.lab_stop.specs.declared.stop.Stop.{Stop}
 use Rattle.lab_stop.specs.declared.stop.Stop.TheVariants.{Words, Script, Conf, Wav, Read, Write, Memory}
 use Rattle.lab_commands.specs.Words.{Form, form_of}
 use Rattle.lab_stop.specs.Causes.{Cause, wav_refused}
-use Rattle.lab_stop.specs.Stops.{status_of, EndsOf, EndsReliably, IsWriteStop, Refuses, InputFaults, OutputFaults, WriteFaults}
-use Rattle.lab_commands.specs.Top.{cause_in, ComesExactly, EndsWell, IsConfRefused, IsScriptRefused}
+use Rattle.lab_stop.specs.Lines.{stop_line}
+use Rattle.lab_stop.specs.Stops.{status_of, AreSameCounts, EndsOf, EndsReliably, IsWriteStop, Refuses, InputFaults, OutputFaults}
+use Rattle.lab_commands.specs.Top.{cause_in, cause_of, ComesExactly, EndsWell, IsConfRefused, IsScriptRefused, SaysWhy}
 
 -- words without a form have no cause
 none_caused : (form : Option Form) (files : Files) → form ≡ None → cause_in form files ≡ None
@@ -120,25 +122,45 @@ Refuses-written (Err (Read name)) form only = absurd only
 Refuses-written (Err Write) form only = refl
 Refuses-written (Err Memory) form only = refl
 
--- it stops at no fetch
-pub InputFaults-written : {X : Type 0} (r : Result X Stop) (before now : ℕ) → IfErr r IsWriteStop → InputFaults r before now
-InputFaults-written (Ok x) before now only = tt
-InputFaults-written (Err Words) before now only = absurd only
-InputFaults-written (Err (Script error)) before now only = absurd only
-InputFaults-written (Err (Conf error)) before now only = absurd only
-InputFaults-written (Err (Wav name why)) before now only = absurd only
-InputFaults-written (Err (Read name)) before now only = absurd only
-InputFaults-written (Err Write) before now only = tt
-InputFaults-written (Err Memory) before now only = tt
+-- a call that ends with another status than 4 counted no fetch that failed
+pub InputFaults-other : {T : Type 0} (end : Result T Stop) (before now : ℕ) → InputFaults end before now → status_of end ≢ 4 → now ≡ before
+InputFaults-other (Ok x) before now faults other = faults
+InputFaults-other (Err Words) before now faults other = faults
+InputFaults-other (Err (Script error)) before now faults other = faults
+InputFaults-other (Err (Conf error)) before now faults other = faults
+InputFaults-other (Err (Wav name why)) before now faults other = faults
+InputFaults-other (Err (Read name)) before now faults other = absurd (other refl)
+InputFaults-other (Err Write) before now faults other = faults
+InputFaults-other (Err Memory) before now faults other = faults
 
--- it stops at a write only where the output failed
-pub OutputFaults-written : {X : Type 0} (r : Result X Stop) (writes writes_now before now : ℕ) → IfErr r IsWriteStop → WriteFaults r before now
-    → OutputFaults r writes writes_now before now
-OutputFaults-written (Ok x) writes writes_now before now only faults = tt
-OutputFaults-written (Err Words) writes writes_now before now only faults = absurd only
-OutputFaults-written (Err (Script error)) writes writes_now before now only faults = absurd only
-OutputFaults-written (Err (Conf error)) writes writes_now before now only faults = absurd only
-OutputFaults-written (Err (Wav name why)) writes writes_now before now only faults = absurd only
-OutputFaults-written (Err (Read name)) writes writes_now before now only faults = absurd only
-OutputFaults-written (Err Write) writes writes_now before now only faults = inr faults.1
-OutputFaults-written (Err Memory) writes writes_now before now only faults = tt
+-- a call that ends with another status than 5 counted neither a write that failed nor a put
+pub OutputFaults-other : {T : Type 0} (end : Result T Stop) (writes writes_now puts puts_now : ℕ) → OutputFaults end writes writes_now puts puts_now
+    → status_of end ≢ 5 → AreSameCounts writes writes_now puts puts_now
+OutputFaults-other (Ok x) writes writes_now puts puts_now faults other = faults
+OutputFaults-other (Err Words) writes writes_now puts puts_now faults other = faults
+OutputFaults-other (Err (Script error)) writes writes_now puts puts_now faults other = faults
+OutputFaults-other (Err (Conf error)) writes writes_now puts puts_now faults other = faults
+OutputFaults-other (Err (Wav name why)) writes writes_now puts puts_now faults other = faults
+OutputFaults-other (Err (Read name)) writes writes_now puts puts_now faults other = faults
+OutputFaults-other (Err Write) writes writes_now puts puts_now faults other = absurd (other refl)
+OutputFaults-other (Err Memory) writes writes_now puts puts_now faults other = faults
+
+-- what holds of a call that is done holds with status 0
+pub OnOk-done : (end : Result (Unit {0}) Stop) (P : Type 0) → OnOk end P → status_of end ≡ 0 → P
+OnOk-done (Ok done) P holds zero = holds
+OnOk-done (Err Words) P holds zero = absurd (omega arith)
+OnOk-done (Err (Script error)) P holds zero = absurd (omega arith)
+OnOk-done (Err (Conf error)) P holds zero = absurd (omega arith)
+OnOk-done (Err (Wav name why)) P holds zero = absurd (omega arith)
+OnOk-done (Err (Read name)) P holds zero = absurd (omega arith)
+OnOk-done (Err Write) P holds zero = absurd (omega arith)
+OnOk-done (Err Memory) P holds zero = absurd (omega arith)
+
+-- a sink took the line that says why a call isn't done
+pub SaysWhy-stop : (end : Result (Unit {0}) Stop) (reliable : Type 0) (words : List (List ℕ)) (files : Option Files) (taken taken_after : Option (List ℕ))
+    → ForSome files (λ m. EndsOf end (cause_of words m)) → (reliable → ForSome files (λ m. EndsReliably end (cause_of words m)))
+    → IfErr end (λ stop. TookPart taken taken_after (stop_line stop)) → status_of end ≢ 0
+    → SaysWhy reliable (status_of end) words files taken taken_after
+SaysWhy-stop (Ok done) reliable words files taken taken_after cause missing took other = absurd (other refl)
+SaysWhy-stop (Err stop) reliable words files taken taken_after cause missing took other =
+    record { stop = stop; status = refl; cause = cause; missing = missing; took = took }

@@ -11,6 +11,8 @@ use Rattle.lab_refine.specs.Answered.{HasAnswered, AnsweredPart, request_in}
 use Rattle.lab_script.specs.declared.error.ScriptError.{ScriptError}
 use Rattle.lab_shelf.specs.Files.{Files, TookPart}
 use Rattle.lab_stop.specs.Causes.{Cause, cause, missing, script_refused, conf_refused, wav_refused}
+use Rattle.lab_stop.specs.Lines.{stop_line}
+use Rattle.lab_stop.specs.Stops.{EndsOf, EndsReliably, status_of}
 use Rattle.lab_stop.specs.declared.stop.Stop.{Stop}
 use Rattle.lab_stop.specs.declared.stop.Stop.TheVariants as stops
 use Rattle.wav_io.specs.declared.error.WavError.{WavError}
@@ -130,6 +132,16 @@ abbrev pub IsLeftByFault : ℕ → List (List ℕ) → Stops → Option Files �
 IsLeftByFault result words gates before after taken taken_after =
     IsUntouched before after taken taken_after
     ⊎ (((result ≡ 5) ⊎ (result ≡ 6)) × PartIn (form_of words) gates before after taken taken_after)
+
+-- a sink took the line that says why a call ended with a status, or the first bytes of it: with 2 and 3 the line of the
+-- first cause that the files give, and with 4, over reliable files, the line of the file that is missing
+pub record SaysWhy (reliable : Type 0) (result : ℕ) (words : List (List ℕ)) (files : Option Files)
+    (taken taken_after : Option (List ℕ)) : Type 0 where
+  pub stop : Stop
+  pub status : result ≡ status_of {T = Unit {0}} (Err stop)
+  pub cause : ForSome files (λ m. EndsOf {X = Unit {0}} (Err stop) (cause_of words m))
+  pub missing : reliable → ForSome files (λ m. EndsReliably {X = Unit {0}} (Err stop) (cause_of words m))
+  pub took : TookPart taken taken_after (stop_line stop)
 
 -- what a command leaves, by how it ended
 abbrev pub CommandLeaves : {X : Type 0} → Result X Stop → Option Form → Stops → Option Files

@@ -1,12 +1,14 @@
 //! The program's call: words, files and streams in, an exit status out.
-ghost use Rattle.std.specs.Prelude.{◌≡◌, ◌≢◌, ◌≤◌, ◌⊎◌, ◌↔◌, length, None};
+ghost use Rattle.std.specs.Prelude.{◌≡◌, ◌≢◌, ◌≤◌, ◌⊎◌, ◌↔◌, IfErr, OnOk, length, None};
 ghost use Rattle.std.specs.Option.{ForSome};
 ghost use Rattle.lab_phase.specs.PhaseRuns.{stops_by};
 ghost use Rattle.lab_play.specs.Played.{rises};
 ghost use Rattle.lab_shelf.specs.Counts.{Rose};
-ghost use Rattle.lab_stop.specs.Stops.{EndsOf, EndsReliably, InputFaults, OutputFaults, Refuses};
+ghost use Rattle.lab_shelf.specs.Files.{TookPart};
+ghost use Rattle.lab_stop.specs.Lines.{stop_line};
+ghost use Rattle.lab_stop.specs.Stops.{AreSameCounts, EndsOf, EndsReliably, InputFaults, OutputFaults, Refuses};
 ghost use Rattle.lab_commands.specs.Words.{form_of, texts};
-ghost use Rattle.lab_commands.specs.Top.{cause_in, ComesExactly, EndsWell, Headline, IsOnlyLeft, IsLeftByFault, IsMissing, IsTextRefused, IsValidCall, IsWavRefused, CommandLeaves};
+ghost use Rattle.lab_commands.specs.Top.{cause_in, ComesExactly, EndsWell, Headline, IsOnlyLeft, IsLeftByFault, IsMissing, IsTextRefused, IsValidCall, IsWavRefused, CommandLeaves, SaysWhy};
 
 use crate::commands::{conf_command, make_command, refine_command, run_command};
 use crate::words::{Command, help, read_command, version};
@@ -40,7 +42,8 @@ use std::thread::Threads;
 /// A word for a file is 1 to 4,096 bytes of UTF-8 without a zero byte; NAME is 1 to 64 visible ASCII
 /// characters; SEED, CLIENTS and PHASES are decimal numbers of 1 to 20 digits, below 2^64, from 1 to 64
 /// and from 1 to 1,000. The status is 0 where all was done, and then `errors` takes nothing. Otherwise
-/// one line on `errors` says why it is not, and a fault there changes nothing:
+/// one line on `errors` says why it is not, and a fault there changes nothing but that the line may be
+/// left out from some byte on, as it is where no memory is left for it:
 ///
 /// - 1: the words are none of these;
 /// - 2: the script has more than 1,048,576 bytes, or isn't a script as `lab_script::read_script`
@@ -53,8 +56,9 @@ use std::thread::Threads;
 /// - 6: memory ran out.
 ///
 /// The first cause in the order of the work decides: the words, the script, TEXT or FILE, the captured
-/// file, each client's file in the order of the clients' lines, and then what is written. Over a reliable
-/// shelf and a reliable `out` 4 comes only where a file isn't there, and 5 never.
+/// file, each client's file in the order of the clients' lines, and then what is written. A fault that a
+/// file or `out` counts is always answered: of a fetch with 4, and of a write or a put with 5. Over a
+/// reliable shelf and a reliable `out` 4 comes only where a file isn't there, and 5 never.
 ///
 /// A client or reader that the card can't serve, by its file's rate or number of channels, its bindings
 /// or its buffer, is no cause of a status: its opening is answered EINVAL in the report, and each of its
@@ -115,6 +119,13 @@ pub fn dmixlab<R: Threads + Sync, S: Shelf, K: Sink, E: Sink, G: Gate + Send>(
     ensures write { result ≡ 5 → Rose (S.write_faults shelf.old) (S.write_faults shelf.new)
         ⊎ Rose (K.faults out.old) (K.faults out.new) }
 
+    // A fault of a file or of `out` is counted only where the status says so.
+    ensures no_fetch_fault { result ≢ 4
+        → S.fetch_faults shelf.new ≡ S.fetch_faults shelf.old }
+    ensures no_write_fault { result ≢ 5
+        → AreSameCounts (S.write_faults shelf.old) (S.write_faults shelf.new)
+        (K.faults out.old) (K.faults out.new) }
+
     // Valid input is done where nothing fails, unless memory runs out.
     ensures complete { ForSome (S.files shelf.old) (λ files. IsValidCall (texts words.now) files
         → ¬ Rose (S.fetch_faults shelf.old) (S.fetch_faults shelf.new)
@@ -131,15 +142,27 @@ pub fn dmixlab<R: Threads + Sync, S: Shelf, K: Sink, E: Sink, G: Gate + Send>(
         (rises (stops_by G.stops gates.old) (stops_by G.stops gates.new))
         (S.files shelf.old) (S.files shelf.new) (K.taken out.old) (K.taken out.new) }
 
-    // `errors` takes nothing where all was done.
+    // `errors` takes nothing where all was done, and else the line that says why not.
     ensures silent { result ≡ 0 → E.taken errors.new ≡ E.taken errors.old }
+    ensures line { result ≢ 0 → SaysWhy (S.is_reliable shelf.old × K.is_reliable out.old) result
+        (texts words.now) (S.files shelf.old) (E.taken errors.old) (E.taken errors.new) }
 {
     scripts_have_one_session();
     let end = command(rt, alloc, words, shelf, out, gates);
-    if let Err(stop) = &end {
-        tell(alloc, errors, stop);
-    }
+    put_reason(alloc, errors, &end);
     status(&end)
+}
+
+/// Puts the line that says why a command stopped, if it did.
+fn put_reason<E: Sink>(alloc: Global, errors: &mut E, end: &Result<(), Stop>)
+    ensures silent { OnOk end.now (E.taken errors.new ≡ E.taken errors.old) }
+    ensures line { IfErr end.now
+        (λ stop. TookPart (E.taken errors.old) (E.taken errors.new) (stop_line stop)) }
+{
+    match end {
+        Ok(()) => (),
+        Err(stop) => tell(alloc, errors, stop),
+    }
 }
 
 /// Does what the words ask for.

@@ -1,5 +1,5 @@
 -- Why the device of a name in a configuration's file can't be had: the file is missing, or the configuration or the device is refused.
-use Rattle.std.proofs.Common.{◌≡◌, ◌⊎◌, ℕ, List, ap, sym, subst, inl, inr, ◌∙◌, refl, arith}
+use Rattle.std.proofs.Common.{◌≡◌, ◌⊎◌, ℕ, List, ap, sym, subst, inl, inr, ◌∙◌, refl}
 use Rattle.std.specs.Prelude.{Option, Result, Ok, Err}
 use Rattle.std.specs.Option.{ForSome}
 use Rattle.asound_conf.specs.declared.error.ConfError.{ConfError}
@@ -53,9 +53,9 @@ misses_none {Y} error stop given (inr is) = subst (λ (s : Stop). Misses {X = Un
 faults_none : (error : ConfError) (stop : Stop) (before now : ℕ) → (stop ≡ stops.Memory) ⊎ (stop ≡ stops.Conf error)
     → now ≡ before → FetchFaults {X = Unit {0}} (Err stop) before now
 faults_none error stop before now (inl is) same =
-    subst (λ (s : Stop). FetchFaults {X = Unit {0}} (Err s) before now) (sym is) (omega (arith, same))
+    subst (λ (s : Stop). FetchFaults {X = Unit {0}} (Err s) before now) (sym is) same
 faults_none error stop before now (inr is) same =
-    subst (λ (s : Stop). FetchFaults {X = Unit {0}} (Err s) before now) (sym is) (omega (arith, same))
+    subst (λ (s : Stop). FetchFaults {X = Unit {0}} (Err s) before now) (sym is) same
 
 -- a stop at a configuration that is refused is at no missing file
 pub Misses-conf : {Y : Type 0} (error : ConfError) (stop : Stop) (given : Result Y Cause) → IsConfStop error.why error stop

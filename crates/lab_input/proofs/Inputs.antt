@@ -1,5 +1,5 @@
 -- What a run reads: its script, the sound that its card captures, and its clients' sounds.
-use Rattle.std.proofs.Common.{◌≡◌, ◌⊎◌, ◌≤◌, ℕ, List, ap, sym, subst, inl, inr, ◌∙◌, arith}
+use Rattle.std.proofs.Common.{◌≡◌, ◌⊎◌, ℕ, List, ap, sym, subst, inl, inr, ◌∙◌}
 use Rattle.std.specs.Prelude.{Option, Result, Ok, Err}
 use Rattle.std.specs.Option.{ForSome}
 use Rattle.lab_script.specs.declared.error.ScriptError.{ScriptError}
@@ -101,9 +101,9 @@ misses_none {Y} error stop said given (inl is) = subst (λ (s : Stop). Misses {X
 misses_none {Y} error stop said given (inr is) = subst (λ (s : Stop). Misses {X = Unit {0}} (Err s) given) (sym is.0) tt
 
 faults_none : (error : ScriptError) (stop : Stop) (said : Result Script ScriptError) (before now : ℕ)
-    → IsRefused error stop said → before ≤ now → FetchFaults {X = Unit {0}} (Err stop) before now
-faults_none error stop said before now (inl is) few = subst (λ (s : Stop). FetchFaults {X = Unit {0}} (Err s) before now) (sym is) few
-faults_none error stop said before now (inr is) few = subst (λ (s : Stop). FetchFaults {X = Unit {0}} (Err s) before now) (sym is.0) few
+    → IsRefused error stop said → now ≡ before → FetchFaults {X = Unit {0}} (Err stop) before now
+faults_none error stop said before now (inl is) same = subst (λ (s : Stop). FetchFaults {X = Unit {0}} (Err s) before now) (sym is) same
+faults_none error stop said before now (inr is) same = subst (λ (s : Stop). FetchFaults {X = Unit {0}} (Err s) before now) (sym is.0) same
 
 -- a stop at a script that is refused is at no missing file
 pub Misses-refused : {Y : Type 0} (error : ScriptError) (stop : Stop) (said : Result Script ScriptError) (given : Result Y Cause)
@@ -117,7 +117,7 @@ pub FetchFaults-refused : (error : ScriptError) (stop : Stop) (said : Result Scr
     → RefusesAt error.why error said → IsScriptStop error.why error stop
     → now ≡ before → FetchFaults {X = Unit {0}} (Err stop) before now
 FetchFaults-refused error stop said before now refuses is same =
-    faults_none error stop said before now (IsRefused-of error.why error stop said refuses is) (omega (arith, same))
+    faults_none error stop said before now (IsRefused-of error.why error stop said refuses is) same
 
 -- ---- the sounds
 

@@ -124,8 +124,7 @@ IsWavStop-only holds wav_whys.TooLong name stop wav memory is = NamesWav-only ho
 pub FetchFaults-wav : (why : WavError) (name : List ℕ) (stop : Stop) (before now : ℕ) → IsWavStop why name stop
     → now ≡ before → FetchFaults {X = Unit {0}} (Err stop) before now
 FetchFaults-wav why name stop before now is same =
-    let few : before ≤ now = omega (arith, same) in
-    IsWavStop-only (λ (s : Stop). FetchFaults {X = Unit {0}} (Err s) before now) why name stop (λ file because. few) few is
+    IsWavStop-only (λ (s : Stop). FetchFaults {X = Unit {0}} (Err s) before now) why name stop (λ file because. same) same is
 
 -- it is at no missing file
 pub Misses-wav : {Y : Type 0} (why : WavError) (name : List ℕ) (stop : Stop) (given : Result Y Cause) → IsWavStop why name stop

@@ -1,5 +1,4 @@
 pub mod Appending
-pub mod Counts
 pub mod Ends
 pub mod Order
 pub mod Played

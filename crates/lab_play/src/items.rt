@@ -1,11 +1,10 @@
 //! The items of a script's body, one after the other.
 ghost use Rattle.std.specs.Prelude.{◌≡◌, ◌≢◌, ◌+◌, ◌≤◌, Err, IfErr, OnErr, OnOk, length};
 ghost use Rattle.lab_lines.specs.declared.line.Item.TheVariants as item;
-ghost use Rattle.lab_stop.specs.Stops.{IsWriteStop};
+ghost use Rattle.lab_stop.specs.Stops.{IsWriteStop, OutputFaults};
 ghost use Rattle.lab_stop.specs.declared.stop.Stop.TheVariants as stops;
 ghost use Rattle.lab_phase.specs.AtStage.{DoesItem, IsBorderItem, IsLab, IsNextItem, IsSameScript, items_done, played_of};
 ghost use Rattle.lab_phase.specs.PhaseRuns.{stops_by};
-ghost use Rattle.lab_play.specs.Counts.{PlayFaults};
 ghost use Rattle.lab_play.specs.Playing.{CanPlay, SceneGoesOn, IsKnownRun, StaysWritten, StopsAt, scene};
 
 use crate::write::write_phase;
@@ -52,7 +51,7 @@ pub(crate) fn do_items<R: Threads + Sync, S: Shelf, K: Sink, G: Gate + Send>(
         lab.new (S.files shelf.new) (K.taken out.new)) }
     ensures only { IfErr result IsWriteStop }
     ensures fetch_faults { S.fetch_faults shelf.new ≡ S.fetch_faults shelf.old }
-    ensures faults { PlayFaults result (S.write_faults shelf.old) (S.write_faults shelf.new)
+    ensures faults { OutputFaults result (S.write_faults shelf.old) (S.write_faults shelf.new)
         (K.faults out.old) (K.faults out.new) }
     ensures reliable { S.is_reliable shelf.old → S.is_reliable shelf.new }
     ensures reliable_out { K.is_reliable out.old → K.is_reliable out.new }
@@ -107,7 +106,7 @@ fn do_item<R: Threads + Sync, S: Shelf, K: Sink, G: Gate + Send>(
         lab.new (S.files shelf.new) (K.taken out.new)) }
     ensures only { IfErr result IsWriteStop }
     ensures fetch_faults { S.fetch_faults shelf.new ≡ S.fetch_faults shelf.old }
-    ensures faults { PlayFaults result (S.write_faults shelf.old) (S.write_faults shelf.new)
+    ensures faults { OutputFaults result (S.write_faults shelf.old) (S.write_faults shelf.new)
         (K.faults out.old) (K.faults out.new) }
     ensures reliable { S.is_reliable shelf.old → S.is_reliable shelf.new }
     ensures reliable_out { K.is_reliable out.old → K.is_reliable out.new }
@@ -161,7 +160,7 @@ fn do_phase<R: Threads + Sync, S: Shelf, K: Sink, G: Gate + Send>(
         lab.new (S.files shelf.new) (K.taken out.new)) }
     ensures only { IfErr result IsWriteStop }
     ensures fetch_faults { S.fetch_faults shelf.new ≡ S.fetch_faults shelf.old }
-    ensures faults { PlayFaults result (S.write_faults shelf.old) (S.write_faults shelf.new)
+    ensures faults { OutputFaults result (S.write_faults shelf.old) (S.write_faults shelf.new)
         (K.faults out.old) (K.faults out.new) }
     ensures reliable { S.is_reliable shelf.old → S.is_reliable shelf.new }
     ensures reliable_out { K.is_reliable out.old → K.is_reliable out.new }

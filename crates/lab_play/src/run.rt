@@ -8,7 +8,7 @@ ghost use Rattle.lab_input.specs.Input.{RunInput};
 ghost use Rattle.lab_input.specs.Read.{input_of};
 ghost use Rattle.lab_shelf.specs.Changes.{Changes};
 ghost use Rattle.lab_shelf.specs.Files.{TookPart};
-ghost use Rattle.lab_stop.specs.Stops.{IsWriteStop};
+ghost use Rattle.lab_stop.specs.Stops.{IsWriteStop, OutputFaults};
 ghost use Rattle.lab_stop.specs.declared.stop.Stop.TheVariants as stops;
 ghost use Rattle.lab_phase.specs.AtStage.{items_done};
 ghost use Rattle.lab_phase.specs.Ended.{outcome_in};
@@ -16,7 +16,6 @@ ghost use Rattle.lab_phase.specs.PhaseRuns.{stops_by};
 ghost use Rattle.lab_output.specs.Files.{MayHold, nothing};
 ghost use Rattle.lab_output.specs.Going.{AreOutputs, IsGoingOn};
 ghost use Rattle.lab_output.specs.Text.{head_text};
-ghost use Rattle.lab_play.specs.Counts.{PlayFaults};
 ghost use Rattle.lab_play.specs.Ends.{CanEnd, EndsWith, IsKnownAtEnd, IsNewRun, IsSomeNewRun, StopsAtEnd};
 ghost use Rattle.lab_play.specs.Played.{HasPlayed, HasPlayedPart, rises};
 ghost use Rattle.lab_play.specs.Playing.{HasStopped, scene};
@@ -74,7 +73,7 @@ pub fn play<R: Threads + Sync, S: Shelf, K: Sink, G: Gate + Send>(
 
     ensures only { IfErr result IsWriteStop }
     ensures fetch_faults { S.fetch_faults shelf.new ≡ S.fetch_faults shelf.old }
-    ensures faults { PlayFaults result (S.write_faults shelf.old) (S.write_faults shelf.new)
+    ensures faults { OutputFaults result (S.write_faults shelf.old) (S.write_faults shelf.new)
         (K.faults out.old) (K.faults out.new) }
 
     ensures reliable { S.is_reliable shelf.old → S.is_reliable shelf.new }
@@ -182,7 +181,7 @@ fn play_all<R: Threads + Sync, S: Shelf, K: Sink, G: Gate + Send>(
         (K.taken out.new)) }
     ensures only { IfErr result IsWriteStop }
     ensures fetch_faults { S.fetch_faults shelf.new ≡ S.fetch_faults shelf.old }
-    ensures faults { PlayFaults result (S.write_faults shelf.old) (S.write_faults shelf.new)
+    ensures faults { OutputFaults result (S.write_faults shelf.old) (S.write_faults shelf.new)
         (K.faults out.old) (K.faults out.new) }
     ensures reliable { S.is_reliable shelf.old → S.is_reliable shelf.new }
     ensures never { S.is_reliable shelf.old → K.is_reliable out.old → IsSome (S.files shelf.old)
@@ -214,7 +213,7 @@ fn begin<S: Shelf, K: Sink>(outputs: &Outputs, shelf: &mut S, out: &mut K) -> Re
     ensures text { OnErr result (TookPart (K.taken out.old) (K.taken out.new) head_text) }
     ensures only { IfErr result IsWriteStop }
     ensures fetch_faults { S.fetch_faults shelf.new ≡ S.fetch_faults shelf.old }
-    ensures faults { PlayFaults result (S.write_faults shelf.old) (S.write_faults shelf.new)
+    ensures faults { OutputFaults result (S.write_faults shelf.old) (S.write_faults shelf.new)
         (K.faults out.old) (K.faults out.new) }
     ensures reliable { S.is_reliable shelf.old → S.is_reliable shelf.new }
     ensures reliable_out { K.is_reliable out.old → K.is_reliable out.new }
@@ -244,7 +243,7 @@ fn end<S: Shelf, K: Sink>(
         (S.files shelf.new) (K.taken out.new)) }
     ensures only { IfErr result IsWriteStop }
     ensures fetch_faults { S.fetch_faults shelf.new ≡ S.fetch_faults shelf.old }
-    ensures faults { PlayFaults result (S.write_faults shelf.old) (S.write_faults shelf.new)
+    ensures faults { OutputFaults result (S.write_faults shelf.old) (S.write_faults shelf.new)
         (K.faults out.old) (K.faults out.new) }
     ensures reliable { S.is_reliable shelf.old → S.is_reliable shelf.new }
     ensures never { S.is_reliable shelf.old → K.is_reliable out.old

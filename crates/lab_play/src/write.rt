@@ -4,13 +4,12 @@ ghost use Rattle.lab_run.specs.Stage.{Stage};
 ghost use Rattle.lab_shelf.specs.Changes.{Changes};
 ghost use Rattle.lab_shelf.specs.Files.{Files};
 ghost use Rattle.lab_stop.specs.declared.stop.Stop.TheVariants as stops;
-ghost use Rattle.lab_stop.specs.Stops.{IsWriteStop, WriteFaults};
+ghost use Rattle.lab_stop.specs.Stops.{IsWriteStop, OutputFaults, WriteFaults};
 ghost use Rattle.lab_phase.specs.AtStage.{IsAtStage, readers_in};
 ghost use Rattle.lab_readers.specs.AtStage.{readers_of};
 ghost use Rattle.lab_output.specs.Files.{MayHold};
 ghost use Rattle.lab_output.specs.Going.{AreLonger, AreOutputs, IsGoingOn};
 ghost use Rattle.lab_play.specs.Appending.{CanAppend};
-ghost use Rattle.lab_play.specs.Counts.{PlayFaults};
 ghost use Rattle.lab_play.specs.Playing.{CanCatchUp, CatchesUp, IsKnownBehind, StopsBehind, scene, sounds_at};
 
 use lab_lines::Script;
@@ -95,7 +94,7 @@ pub(crate) fn write_phase<S: Shelf, K: Sink>(
         (S.files shelf.new) (K.taken out.new)) }
     ensures only { IfErr result IsWriteStop }
     ensures fetch_faults { S.fetch_faults shelf.new ≡ S.fetch_faults shelf.old }
-    ensures faults { PlayFaults result (S.write_faults shelf.old) (S.write_faults shelf.new)
+    ensures faults { OutputFaults result (S.write_faults shelf.old) (S.write_faults shelf.new)
         (K.faults out.old) (K.faults out.new) }
     ensures reliable { S.is_reliable shelf.old → S.is_reliable shelf.new }
     ensures reliable_out { K.is_reliable out.old → K.is_reliable out.new }

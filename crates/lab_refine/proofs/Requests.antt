@@ -1,5 +1,5 @@
 -- Why what the text in a file asks can't be had: the file is missing, or the text is refused.
-use Rattle.std.proofs.Common.{◌≡◌, ◌⊎◌, ℕ, List, ap, sym, subst, inl, inr, ◌∙◌, arith, refl}
+use Rattle.std.proofs.Common.{◌≡◌, ◌⊎◌, ℕ, List, ap, sym, subst, inl, inr, ◌∙◌, refl}
 use Rattle.std.specs.Prelude.{Option, Result, Ok, Err}
 use Rattle.std.specs.Option.{ForSome}
 use Rattle.lab_script.specs.declared.error.ScriptError.{ScriptError}
@@ -37,9 +37,9 @@ misses_none {Y} error stop asked given (inr is) = subst (λ (s : Stop). Misses {
 faults_none : (error : ScriptError) (stop : Stop) (asked : Result Request ScriptError) (before now : ℕ)
     → IsRefused error stop asked → now ≡ before → FetchFaults {X = Unit {0}} (Err stop) before now
 faults_none error stop asked before now (inl is) same =
-    subst (λ (s : Stop). FetchFaults {X = Unit {0}} (Err s) before now) (sym is) (omega (arith, same))
+    subst (λ (s : Stop). FetchFaults {X = Unit {0}} (Err s) before now) (sym is) same
 faults_none error stop asked before now (inr is) same =
-    subst (λ (s : Stop). FetchFaults {X = Unit {0}} (Err s) before now) (sym is.0) (omega (arith, same))
+    subst (λ (s : Stop). FetchFaults {X = Unit {0}} (Err s) before now) (sym is.0) same
 
 -- a stop at a text that is refused is at no missing file
 pub Misses-refused : {Y : Type 0} (error : ScriptError) (stop : Stop) (asked : Result Request ScriptError) (given : Result Y Cause)

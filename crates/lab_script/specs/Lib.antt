@@ -5,3 +5,4 @@ pub mod Keys
 pub mod Ops
 pub mod Draft
 pub mod Reading
+pub mod ErrorText

@@ -1,4 +1,7 @@
 //! Why a script is refused.
+ghost use Rattle.std.specs.Prelude.{◌≡◌, Some};
+ghost use Rattle.lab_script.specs.ErrorText.{error_text, why_name, why_number, why_text};
+
 use std::alloc::{AllocError, AllocFailed};
 use std::fmt;
 use thiserror::Error;
@@ -58,7 +61,9 @@ pub enum ScriptWhy {
 
 impl ScriptWhy {
     /// Its name, by which it is printed.
-    fn name(&self) -> &'static str {
+    fn name(&self) -> &'static str
+        ensures { result.now ≡ why_name self.now }
+    {
         match self {
             ScriptWhy::Order => "Order",
             ScriptWhy::Word => "Word",
@@ -86,6 +91,16 @@ impl ScriptWhy {
             ScriptWhy::Memory => "Memory",
         }
     }
+
+    /// Its number, where it has one.
+    fn number(&self) -> Option<u32>
+        ensures { result ≡ why_number self.now }
+    {
+        match self {
+            ScriptWhy::BindingRange(number) | ScriptWhy::BindingTwice(number) => Some(*number),
+            _ => None,
+        }
+    }
 }
 
 impl fmt::Debug for ScriptWhy {
@@ -100,12 +115,13 @@ impl fmt::Debug for ScriptWhy {
 }
 
 impl fmt::Display for ScriptWhy {
+    ghost output = { λ why. Some (why_text why) };
+
     fn fmt<W: fmt::Write>(&self, f: &mut fmt::Formatter<W>) -> fmt::Result {
-        match self {
-            ScriptWhy::BindingRange(number) | ScriptWhy::BindingTwice(number) => {
-                write!(f, "{} {number}", self.name())
-            }
-            _ => f.write_str(self.name()),
+        f.write_str(self.name())?;
+        match self.number() {
+            Some(number) => write!(f, " {number}"),
+            None => Ok(()),
         }
     }
 }
@@ -113,14 +129,20 @@ impl fmt::Display for ScriptWhy {
 /// A refusal of a script: why, and the number of the line that it is about, from 1 on, or 0 for the
 /// text as a whole.
 #[derive(Clone, Copy, Debug, PartialEq, Eq, Error)]
-#[error("line {line}: {why}")]
 pub struct ScriptError {
     pub line: u32,
     pub why: ScriptWhy,
 }
 
+impl fmt::Display for ScriptError {
+    ghost output = { λ error. Some (error_text error) };
+
+    fn fmt<W: fmt::Write>(&self, f: &mut fmt::Formatter<W>) -> fmt::Result {
+        write!(f, "line {}: {}", self.line, self.why)
+    }
+}
+
 impl From<AllocError> for ScriptWhy {
-    ghost use Rattle.std.specs.Prelude.{◌≡◌};
     ghost use Rattle.lab_script.specs.declared.error.ScriptWhy.TheVariants as why;
 
     ghost from_gives = { λ _ e. e ≡ why.Memory };
@@ -131,7 +153,6 @@ impl From<AllocError> for ScriptWhy {
 }
 
 impl<T: Drop> From<AllocFailed<T>> for ScriptWhy {
-    ghost use Rattle.std.specs.Prelude.{◌≡◌};
     ghost use Rattle.lab_script.specs.declared.error.ScriptWhy.TheVariants as why;
 
     ghost from_gives = { λ _ e. e ≡ why.Memory };

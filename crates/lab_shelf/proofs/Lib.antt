@@ -1,1 +1,2 @@
 pub mod EntryLists
+mod Foreseen

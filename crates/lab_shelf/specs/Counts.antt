@@ -11,18 +11,18 @@ count_more count = min (count + 1) (2 ^ 64 - 1)
 abbrev pub Rose : ℕ → ℕ → Type 0
 Rose before now = count_more before ≤ now
 
--- the count of a kind of call: it rises where such a call fails, and never falls
+-- the count of a kind of call: it rises exactly where such a call fails
 abbrev pub IsFaultCount : {T : Type 0} → Result T ShelfFault → ℕ → ℕ → Type 0
 IsFaultCount (Ok x) before now = now ≡ before
 IsFaultCount (Err Failed) before now = (before ≤ now) × Rose before now
-IsFaultCount (Err Memory) before now = before ≤ now
+IsFaultCount (Err Memory) before now = now ≡ before
 
--- a call answers as was known beforehand, but for memory
+-- a call answers as was known beforehand, and lacks memory only where it would have worked
 abbrev pub IsAsForeseen : {T : Type 0} → Result T ShelfFault → Option Bool → Type 0
 IsAsForeseen result None = ⊤
 IsAsForeseen (Ok x) (Some works) = works ≡ true
 IsAsForeseen (Err Failed) (Some works) = works ≡ false
-IsAsForeseen (Err Memory) (Some works) = ⊤
+IsAsForeseen (Err Memory) (Some works) = works ≡ true
 
 -- a count of faults after a call: one more where the call failed
 abbrev pub count_after : {T : Type 0} → Result T ShelfFault → ℕ → ℕ

@@ -1,6 +1,7 @@
 //! Names with their bytes, of which the first of a name counts.
-ghost use Rattle.std.specs.Prelude.{◌≡◌, ◌≤◌, ◌++◌, length, take, drop, position, bytes_eq, None, IfSome, IsSome, IfErr, IsErrOf, OnOk, OnErr, option_map};
+ghost use Rattle.std.specs.Prelude.{◌≡◌, ◌≤◌, ◌++◌, length, take, drop, position, bytes_eq, is_some, None, Some, IfSome, IsSome, IfErr, OnOk, OnErr, option_map};
 ghost use Rattle.std.specs.Option.{option_copied};
+ghost use Rattle.lab_shelf.specs.Counts.{IsAsForeseen};
 ghost use Rattle.lab_shelf.specs.Files.{bytes_under, with_file, with_change, with_first_bytes};
 ghost use Rattle.lab_shelf.specs.States.{files_of};
 
@@ -107,9 +108,8 @@ pub(crate) fn append_to(
         (files_of entries.new ≡ with_change (λ content. content ++ bytes.now)
         (files_of entries.old) name.now) }
     ensures err { OnErr result (files_of entries.new ≡ files_of entries.old) }
-    ensures held { OnOk result (IsSome (bytes_under (files_of entries.old) name.now)) }
-    ensures missing { IsErrOf result ShelfFault.Failed
-        → bytes_under (files_of entries.old) name.now ≡ None }
+    ensures foreseen { IsAsForeseen result
+        (Some (is_some (bytes_under (files_of entries.old) name.now))) }
 {
     match place_of(entries, name) {
         Some(place) => extend(&mut entries[place].1, bytes),

@@ -12,7 +12,8 @@ use std::alloc::Global;
 use std::marker::Model;
 
 /// Files in memory. Its calls are numbered together from 1, and one fails with `Failed` exactly where
-/// its number is listed, or where it fetches, appends to or finishes a name that isn't there.
+/// its number is listed, or where it fetches, appends to or finishes a name that isn't there, also
+/// where no memory is left.
 /// A call that fails changes no file. The shelf is reliable where no number is listed.
 pub struct MemoryShelf {
     entries: Vec<(Vec<u8>, Vec<u8>)>,

@@ -8,8 +8,8 @@ use crate::fault::ShelfFault;
 use std::alloc::Global;
 
 /// Files by name. A contract sees a finite map from names to bytes, where it is known, and
-/// two counts of faults: of fetches that failed, and of writes that failed. Neither count falls,
-/// and each stays at `u64::MAX`. A reliable shelf stays reliable: its fetches, appends and
+/// two counts of faults: of fetches that failed, and of writes that failed. A count rises exactly
+/// where such a call answers `Failed`, and stays at `u64::MAX`. A reliable shelf stays reliable: its fetches, appends and
 /// finishes fail only for names that it doesn't hold, and its stores and begins never fail, but for
 /// want of memory.
 pub trait Shelf {
@@ -125,8 +125,8 @@ pub trait Shelf {
 }
 
 /// A stream that takes bytes. A contract sees the bytes that it took, where they are known,
-/// and a count of faults, which never falls and stays at `u64::MAX`. A reliable sink stays
-/// reliable, and its puts never fail, but for want of memory.
+/// and a count of faults, which rises exactly where a put answers `Failed` and stays at `u64::MAX`.
+/// A reliable sink stays reliable, and its puts never fail, but for want of memory.
 pub trait Sink {
     // The bytes that were taken, in order, where they are known.
     ghost taken: { Self → Option (List ℕ) };

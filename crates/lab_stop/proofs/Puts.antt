@@ -18,4 +18,4 @@ TookPart-put (Err fault) before after bytes all part = part
 pub Counted-most : (result : Result (Unit {0}) ShelfFault) (before after : ℕ) → IsFaultCount result before after → before ≤ after
 Counted-most (Ok done) before after counted = omega (arith, counted)
 Counted-most (Err Failed) before after counted = counted.0
-Counted-most (Err Memory) before after counted = counted
+Counted-most (Err Memory) before after counted = omega (arith, counted)

@@ -1,4 +1,6 @@
 pub mod Causes
+pub mod FaultLaws
+pub mod Lines
 pub mod Passing
 pub mod Pieces
 pub mod Stops

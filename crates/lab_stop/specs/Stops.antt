@@ -5,6 +5,7 @@
 --     IsCauseOf stop given      a stop is at the cause that the files give, but for a fetch that failed and for memory
 --     FetchFaults, Misses      when a call that only reads stops at a fetch: by the count of faults, and over a reliable shelf
 --     IsWriteStop, WriteFaults      when a call that only writes stops at a write
+--     AreSameCounts      a call counted no fault of its writes and puts
 --     IsReadStop      why a call that writes nothing stops
 --     InputFaults, OutputFaults      when a command stops at a fetch, or at a write
 --     EndsOf, EndsReliably, Refuses      how a command ends, by the first cause that the files give and by its words
@@ -73,17 +74,17 @@ abbrev pub AnswersOrStops : {X Y : Type 0} → (X → Y) → Result X Stop → R
 AnswersOrStops view (Ok x) given = given ≡ Ok (view x)
 AnswersOrStops view (Err stop) given = IsCauseOf stop given
 
--- a call that only reads stops neither for the words nor for a write, and for a read only where the count of fetches that
--- failed rose; the count never falls
+-- a call that only reads stops neither for the words nor for a write; the count of fetches that failed rises exactly where it
+-- stops for a read
 abbrev pub FetchFaults : {X : Type 0} → Result X Stop → ℕ → ℕ → Type 0
 FetchFaults (Ok x) before now = now ≡ before
 FetchFaults (Err (Read name)) before now = (before ≤ now) × Rose before now
 FetchFaults (Err Words) before now = ⊥
-FetchFaults (Err (Script error)) before now = before ≤ now
-FetchFaults (Err (Conf error)) before now = before ≤ now
-FetchFaults (Err (Wav name why)) before now = before ≤ now
+FetchFaults (Err (Script error)) before now = now ≡ before
+FetchFaults (Err (Conf error)) before now = now ≡ before
+FetchFaults (Err (Wav name why)) before now = now ≡ before
 FetchFaults (Err Write) before now = ⊥
-FetchFaults (Err Memory) before now = before ≤ now
+FetchFaults (Err Memory) before now = now ≡ before
 
 -- a call that only reads, over reliable files, stops at a read only where the file is missing that the stop names
 abbrev pub Misses : {X Y : Type 0} → Result X Stop → Result Y Cause → Type 0
@@ -106,39 +107,44 @@ IsWriteStop (Read name) = ⊥
 IsWriteStop Write = ⊤
 IsWriteStop Memory = ⊤
 
--- a call that writes once stops for a write only where the count of those that failed rose; the count never falls
+-- the count of writes, or of puts, that failed rises exactly where a call stops for a write
 abbrev pub WriteFaults : {X : Type 0} → Result X Stop → ℕ → ℕ → Type 0
 WriteFaults (Ok x) before now = now ≡ before
 WriteFaults (Err Write) before now = (before ≤ now) × Rose before now
-WriteFaults (Err Words) before now = before ≤ now
-WriteFaults (Err (Script error)) before now = before ≤ now
-WriteFaults (Err (Conf error)) before now = before ≤ now
-WriteFaults (Err (Wav name why)) before now = before ≤ now
-WriteFaults (Err (Read name)) before now = before ≤ now
-WriteFaults (Err Memory) before now = before ≤ now
+WriteFaults (Err Words) before now = now ≡ before
+WriteFaults (Err (Script error)) before now = now ≡ before
+WriteFaults (Err (Conf error)) before now = now ≡ before
+WriteFaults (Err (Wav name why)) before now = now ≡ before
+WriteFaults (Err (Read name)) before now = now ≡ before
+WriteFaults (Err Memory) before now = now ≡ before
 
--- a call that stores and puts stops for a write only where one of the two counts rose
+-- neither count changed: that of writes that failed, nor that of puts
+pub record AreSameCounts (writes writes_now puts puts_now : ℕ) : Type 0 where
+  pub writes_same : writes_now ≡ writes
+  pub puts_same : puts_now ≡ puts
+
+-- one of the two counts rises exactly where a call that stores and puts stops for a write
 abbrev pub OutputFaults : {X : Type 0} → Result X Stop → ℕ → ℕ → ℕ → ℕ → Type 0
 OutputFaults (Err Write) writes writes_now puts puts_now = Rose writes writes_now
     ⊎ Rose puts puts_now
-OutputFaults (Ok x) writes writes_now puts puts_now = ⊤
-OutputFaults (Err Words) writes writes_now puts puts_now = ⊤
-OutputFaults (Err (Script error)) writes writes_now puts puts_now = ⊤
-OutputFaults (Err (Conf error)) writes writes_now puts puts_now = ⊤
-OutputFaults (Err (Wav name why)) writes writes_now puts puts_now = ⊤
-OutputFaults (Err (Read name)) writes writes_now puts puts_now = ⊤
-OutputFaults (Err Memory) writes writes_now puts puts_now = ⊤
+OutputFaults (Ok x) writes writes_now puts puts_now = AreSameCounts writes writes_now puts puts_now
+OutputFaults (Err Words) writes writes_now puts puts_now = AreSameCounts writes writes_now puts puts_now
+OutputFaults (Err (Script error)) writes writes_now puts puts_now = AreSameCounts writes writes_now puts puts_now
+OutputFaults (Err (Conf error)) writes writes_now puts puts_now = AreSameCounts writes writes_now puts puts_now
+OutputFaults (Err (Wav name why)) writes writes_now puts puts_now = AreSameCounts writes writes_now puts puts_now
+OutputFaults (Err (Read name)) writes writes_now puts puts_now = AreSameCounts writes writes_now puts puts_now
+OutputFaults (Err Memory) writes writes_now puts puts_now = AreSameCounts writes writes_now puts puts_now
 
--- a call stops at a fetch only where the count of those that failed rose
+-- the count of fetches that failed rises exactly where a call stops for a read
 abbrev pub InputFaults : {X : Type 0} → Result X Stop → ℕ → ℕ → Type 0
 InputFaults (Err (Read name)) before now = Rose before now
-InputFaults (Ok x) before now = ⊤
-InputFaults (Err Words) before now = ⊤
-InputFaults (Err (Script error)) before now = ⊤
-InputFaults (Err (Conf error)) before now = ⊤
-InputFaults (Err (Wav name why)) before now = ⊤
-InputFaults (Err Write) before now = ⊤
-InputFaults (Err Memory) before now = ⊤
+InputFaults (Ok x) before now = now ≡ before
+InputFaults (Err Words) before now = now ≡ before
+InputFaults (Err (Script error)) before now = now ≡ before
+InputFaults (Err (Conf error)) before now = now ≡ before
+InputFaults (Err (Wav name why)) before now = now ≡ before
+InputFaults (Err Write) before now = now ≡ before
+InputFaults (Err Memory) before now = now ≡ before
 
 -- a command that reads and writes ends as the first cause says, but for a fetch that fails and for memory; it writes only
 -- where there is none

@@ -18,7 +18,7 @@ pub const PIECE_BYTES: usize = 65_536;
 /// as there are. A piece that has fewer is the file's last; after a full one there may be another,
 /// also one of no byte.
 ///
-/// It stops with `Read` and the file's name where the shelf fails, which counts that, and with
+/// It stops with `Read` and the file's name exactly where the shelf fails, which counts that, and with
 /// `Memory` only where no memory is left.
 pub fn fetch_piece<S: Shelf>(
     shelf: &mut S,
@@ -37,11 +37,11 @@ pub fn fetch_piece<S: Shelf>(
     ensures missing { S.is_reliable shelf.old → ForSome (S.files shelf.old)
         (λ files. Misses result (fetched_from files name.now from piece_bytes)) }
 {
+    // The name is copied first, so that a fetch that fails is never answered as want of memory.
+    let named = Vec::from_slice(alloc, name)?;
     match shelf.fetch(alloc, name, from, PIECE_BYTES as u64) {
         Ok(bytes) => Ok(bytes),
-        Err(ShelfFault::Failed) => Err(Stop::Read {
-            name: Vec::from_slice(alloc, name)?,
-        }),
+        Err(ShelfFault::Failed) => Err(Stop::Read { name: named }),
         Err(ShelfFault::Memory) => Err(Stop::Memory),
     }
 }
@@ -49,7 +49,7 @@ pub fn fetch_piece<S: Shelf>(
 /// The first bytes of a file of the shelf, at most so many. They are fetched piece by piece, up to
 /// the piece that has the last of them.
 ///
-/// It stops with `Read` and the file's name where the shelf fails, which counts that, and with
+/// It stops with `Read` and the file's name exactly where the shelf fails, which counts that, and with
 /// `Memory` only where no memory is left.
 pub fn fetch_most<S: Shelf>(
     shelf: &mut S,
@@ -90,7 +90,7 @@ pub fn written(end: Result<(), ShelfFault>) -> Result<(), Stop>
     }
 }
 
-/// Puts a text on a sink. It stops with `Write` where the sink fails, which counts that, and with
+/// Puts a text on a sink. It stops with `Write` exactly where the sink fails, which counts that, and with
 /// `Memory` only where no memory is left; the sink took the first bytes of the text then.
 pub fn put<K: Sink>(out: &mut K, text: &[u8]) -> Result<(), Stop>
     ensures taken { OnOk result

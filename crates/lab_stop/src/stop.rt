@@ -1,7 +1,10 @@
 //! Why a command stops, the exit status that says so, and the line that it puts.
-ghost use Rattle.std.specs.Prelude.{◌≡◌, ◌≤◌, ◌∷◌, ◌++◌, [], codes, IfOk, List, ℕ, string_bytes};
-ghost use Rattle.std.specs.Str.{IsUtf8};
+ghost use Rattle.std.specs.Prelude.{◌≡◌, ◌≤◌, ◌++◌, codes, IfOk, string_bytes};
+ghost use Rattle.asound_conf.specs.ErrorText as conf;
+ghost use Rattle.lab_script.specs.ErrorText as script;
+ghost use Rattle.wav_io.specs.ErrorText as wav;
 ghost use Rattle.lab_shelf.specs.Files.{TookPart};
+ghost use Rattle.lab_stop.specs.Lines.{file_shown, stop_line};
 ghost use Rattle.lab_stop.specs.Stops.{IsConfStop, IsScriptStop, IsWavStop, status_of};
 
 use asound_conf::{ConfError, ConfWhy};
@@ -107,39 +110,52 @@ pub fn status(end: &Result<(), Stop>) -> u8
 
 /// The name of a file as a text, or none where it isn't UTF-8.
 fn name_text(name: &[u8]) -> &str
-    ensures utf8 { IsUtf8 name.now → result.now ≡ name.now }
-    ensures other { ¬ (IsUtf8 name.now) → result.now ≡ [] }
+    ensures { result.now ≡ file_shown name.now }
 {
-    str::from_utf8(name).unwrap_or("")
+    match str::from_utf8(name) {
+        Ok(text) => text,
+        Err(_) => "",
+    }
 }
 
 /// The line that says why the WAV file of this name is refused.
-fn wav_reason(alloc: Global, name: &[u8], why: WavError) -> Result<String, AllocError> {
+fn wav_reason(alloc: Global, name: &[u8], why: WavError) -> Result<String, AllocError>
+    ensures { IfOk result (λ line. string_bytes line ≡ codes "dmixlab: wav "
+        ++ (file_shown name.now ++ (codes ": " ++ (wav.error_text why ++ codes "\n")))) }
+{
     let name = name_text(name);
     format!(in alloc; "dmixlab: wav {name}: {why}\n")
 }
 
 /// The line that says that the file of this name can't be read.
 fn read_reason(alloc: Global, name: &[u8]) -> Result<String, AllocError>
-    ensures { IsUtf8 name.now → IfOk result (λ line. string_bytes line
-        ≡ codes "dmixlab: read " ++ name.now ++ 10 ∷ []) }
+    ensures { IfOk result (λ line. string_bytes line
+        ≡ codes "dmixlab: read " ++ (file_shown name.now ++ codes "\n")) }
 {
     let name = name_text(name);
     format!(in alloc; "dmixlab: read {name}\n")
 }
 
 /// The line that says why a script is refused.
-fn script_reason(alloc: Global, error: ScriptError) -> Result<String, AllocError> {
+fn script_reason(alloc: Global, error: ScriptError) -> Result<String, AllocError>
+    ensures { IfOk result (λ line. string_bytes line
+        ≡ codes "dmixlab: script " ++ (script.error_text error ++ codes "\n")) }
+{
     format!(in alloc; "dmixlab: script {error}\n")
 }
 
 /// The line that says why a configuration is refused.
-fn conf_reason(alloc: Global, error: ConfError) -> Result<String, AllocError> {
+fn conf_reason(alloc: Global, error: ConfError) -> Result<String, AllocError>
+    ensures { IfOk result (λ line. string_bytes line
+        ≡ codes "dmixlab: conf " ++ (conf.error_text error ++ codes "\n")) }
+{
     format!(in alloc; "dmixlab: conf {error}\n")
 }
 
 /// The line that says why a command stopped.
-fn reason(alloc: Global, stop: &Stop) -> Result<String, AllocError> {
+fn reason(alloc: Global, stop: &Stop) -> Result<String, AllocError>
+    ensures { IfOk result (λ line. string_bytes line ≡ stop_line stop.now) }
+{
     match stop {
         Stop::Words => String::from_str(alloc, "dmixlab: words\n"),
         Stop::Script(error) => script_reason(alloc, *error),
@@ -163,10 +179,10 @@ fn put_line<E: Sink>(errors: &mut E, line: &[u8])
 /// Puts the line that says why a command stopped on `errors`: `dmixlab: ` and then `words`,
 /// `script line L: WHY`, `conf line L: WHY`, `wav NAME: WHY`, `read NAME`, `write` or `memory`, where
 /// WHY is the variant's name, with its number where it has one. A name that isn't UTF-8 is left out.
-/// The line is left out where there is no memory for it or the sink fails; nothing else changes then. Whatever happens, the
-/// sink keeps what it took before, and takes no more than the first bytes of one line.
+/// Where there is no memory for the line the sink takes nothing, and where the sink fails, the first bytes of it; nothing else
+/// changes then.
 pub fn tell<E: Sink>(alloc: Global, errors: &mut E, stop: &Stop)
-    ensures took { (line : List ℕ) × TookPart (E.taken errors.old) (E.taken errors.new) line }
+    ensures took { TookPart (E.taken errors.old) (E.taken errors.new) (stop_line stop.now) }
     ensures faults { E.faults errors.old ≤ E.faults errors.new }
     ensures reliable { E.is_reliable errors.old → E.is_reliable errors.new }
 {

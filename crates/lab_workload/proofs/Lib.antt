@@ -1,3 +1,4 @@
+mod KeptFaults
 mod Making
 mod MemoryStops
 mod Reading

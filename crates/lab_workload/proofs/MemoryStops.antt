@@ -1,5 +1,5 @@
 -- A part of a workload that isn't made for want of memory: nothing is done or written then, and it stops for memory alone.
-use Rattle.std.proofs.Common.{◌≡◌, ◌≤◌, ℕ, List, refl, inl, arith, ap, ◌∙◌}
+use Rattle.std.proofs.Common.{◌≡◌, ℕ, List, refl, inl, ap, ◌∙◌}
 use Rattle.std.specs.Prelude.{◌≢◌, Option, Result, Err, IfErr, IsErrAnd, OnErr, OnOk}
 use Rattle.std.proofs.lemmas.Result.{err_from_is_err_and}
 use Rattle.lab_shelf.specs.Files.{Files, IsPartWritten}
@@ -22,7 +22,7 @@ pub IfErr-memory : {T : Type 0} (end : Result T Stop) → end ≡ Err Memory →
 IfErr-memory end is = rw is tt
 
 pub WriteFaults-memory : {T : Type 0} (count : ℕ) (end : Result T Stop) → end ≡ Err Memory → WriteFaults end count count
-WriteFaults-memory count end is = let same : count ≤ count = omega arith in rw is same
+WriteFaults-memory count end is = rw is refl
 
 pub memory-no_write : {T : Type 0} (end : Result T Stop) → end ≡ Err Memory → end ≢ Err Write
 memory-no_write end is failed = absurd (cc)

@@ -1,12 +1,11 @@
 //! The run of a workload.
-ghost use Rattle.std.specs.Prelude.{[], ◌≡◌, ◌≢◌, ◌≤◌, ℕ, Err, IfErr, IfOk, IsErrOf, IsSome, List, OnErr, OnOk, Some, length};
+ghost use Rattle.std.specs.Prelude.{[], ◌≡◌, ◌≢◌, ◌≤◌, ℕ, Err, IfErr, IfOk, IsSome, List, OnErr, Some, length};
 ghost use Rattle.lab_input.specs.Read.{input_of};
 ghost use Rattle.lab_phase.specs.Ended.{outcome_in};
 ghost use Rattle.lab_phase.specs.PhaseRuns.{stops_by};
 ghost use Rattle.lab_play.specs.Played.{HasPlayed, HasPlayedPart, rises};
 ghost use Rattle.lab_lines.specs.Limits.{IsScript};
-ghost use Rattle.lab_shelf.specs.Counts.{Rose};
-ghost use Rattle.lab_stop.specs.Stops.{IsWriteStop};
+ghost use Rattle.lab_stop.specs.Stops.{IsWriteStop, OutputFaults};
 ghost use Rattle.lab_stop.specs.declared.stop.Stop.TheVariants as stops;
 ghost use Rattle.lab_workload.specs.Made.{output_name};
 
@@ -42,8 +41,8 @@ impl Drop for MadeRun {
 /// Runs an input, writes the run's files, of which `made.wav` is the first, and keeps the text of the
 /// report in memory.
 ///
-/// It stops with `Write` where the shelf fails, which counts that, and with `Memory` only where no
-/// memory is left. The caller has 128 gates, as for `lab_play::play`.
+/// It stops with `Write` exactly where the shelf fails, which counts that, and with `Memory` only where
+/// no memory is left; the text in memory never fails. The caller has 128 gates, as for `lab_play::play`.
 pub(crate) fn run_input<R: Threads + Sync, S: Shelf, G: Gate + Send>(
     rt: &R,
     alloc: Global,
@@ -61,10 +60,8 @@ pub(crate) fn run_input<R: Threads + Sync, S: Shelf, G: Gate + Send>(
         (S.files shelf.old) (S.files shelf.new) (Some []) (Some report)) }
     ensures only { IfErr result IsWriteStop }
     ensures fetch_faults { S.fetch_faults shelf.new ≡ S.fetch_faults shelf.old }
-    ensures same { OnOk result (S.write_faults shelf.new ≡ S.write_faults shelf.old) }
+    ensures faults { OutputFaults result (S.write_faults shelf.old) (S.write_faults shelf.new) 0 0 }
     ensures reliable { S.is_reliable shelf.old → S.is_reliable shelf.new }
-    ensures rose { IsErrOf result stops.Write
-        → Rose (S.write_faults shelf.old) (S.write_faults shelf.new) }
     ensures never { S.is_reliable shelf.old → IsSome (S.files shelf.old)
         → result ≢ Err stops.Write }
 {

@@ -8,3 +8,4 @@ pub mod Pieces
 pub mod Frames
 pub mod Scans
 pub mod Readers
+pub mod ErrorText

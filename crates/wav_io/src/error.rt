@@ -1,7 +1,8 @@
 //! Why a WAV file isn't read or written.
 
-ghost use Rattle.std.specs.Prelude.{◌≡◌};
+ghost use Rattle.std.specs.Prelude.{◌≡◌, Some};
 ghost use Rattle.wav_io.specs.declared.error.WavError.TheVariants.{Memory};
+ghost use Rattle.wav_io.specs.ErrorText.{error_name, error_number, error_text};
 
 use std::alloc::{AllocError, AllocFailed};
 use std::fmt;
@@ -40,7 +41,9 @@ pub enum WavError {
 
 impl WavError {
     /// Its name, as it is printed.
-    fn name(&self) -> &'static str {
+    fn name(&self) -> &'static str
+        ensures { result.now ≡ error_name self.now }
+    {
         match self {
             WavError::NotRiff => "NotRiff",
             WavError::NotWave => "NotWave",
@@ -56,15 +59,28 @@ impl WavError {
             WavError::Memory => "Memory",
         }
     }
+
+    /// Its number, where it has one.
+    fn number(&self) -> Option<u16>
+        ensures { result ≡ error_number self.now }
+    {
+        match self {
+            WavError::Tag(number) | WavError::Bits(number) | WavError::Channels(number) => {
+                Some(*number)
+            }
+            _ => None,
+        }
+    }
 }
 
 impl fmt::Display for WavError {
+    ghost output = { λ error. Some (error_text error) };
+
     fn fmt<W: fmt::Write>(&self, f: &mut fmt::Formatter<W>) -> fmt::Result {
-        match self {
-            WavError::Tag(number) | WavError::Bits(number) | WavError::Channels(number) => {
-                write!(f, "{} {number}", self.name())
-            }
-            _ => f.write_str(self.name()),
+        f.write_str(self.name())?;
+        match self.number() {
+            Some(number) => write!(f, " {number}"),
+            None => Ok(()),
         }
     }
 }

@@ -1,4 +1,4 @@
-//! What no clause says of `conf`: its lines byte for byte, the line on the errors' stream for each kind of
+//! Calls of `conf`: the lines of devices byte for byte, the line on the errors' stream for each kind of
 //! refusal, and what a fault leaves.
 use lab_calls::{Left, call};
 use lab_script::read_script;

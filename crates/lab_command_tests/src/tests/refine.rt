@@ -1,5 +1,5 @@
-//! What no clause says of the call of `refine`: that it is done where there is memory, the line on the errors' stream for each
-//! status, and what a fault leaves.
+//! Calls of `refine`: that one is done where there is memory, the line on the errors' stream for each status, and what a fault
+//! leaves.
 use lab_calls::{Left, call};
 use std::alloc::{AllocError, Global};
 use std::test::Fail;

@@ -1,8 +1,10 @@
-use Rattle.std.specs.Prelude.{◌≡◌, ◌++◌, ℕ, List, Option, OnErr, OnOk, string_bytes}
+use Rattle.std.specs.Prelude.{◌≡◌, ◌++◌, ℕ, List, Option, Err, OnErr, OnOk, string_bytes}
 use Rattle.std.specs.Option.{option_map}
-use Rattle.std.proofs.Common.{subst}
+use Rattle.std.proofs.Common.{refl, subst}
+use Rattle.std.proofs.lemmas.Result.{err_from_is_err_and}
 use Rattle.lab_shelf.specs.Files.{Files, TookPart}
-use Rattle.lab_commands.proofs.Ends.{EndsOf-written, EndsReliably-written, InputFaults-written, OutputFaults-written, Refuses-written}
+use Rattle.lab_stop.specs.FaultLaws.{InputFaults-same, OutputFaults-puts, OutputFaults-reads}
+use Rattle.lab_commands.proofs.Ends.{EndsOf-written, EndsReliably-written, Refuses-written}
 use Rattle.lab_commands.proofs.Leaving.{CommandLeaves-answered}
 use Rattle.lab_commands.proofs.commands.refine_command.Goals as goal
 
@@ -27,7 +29,13 @@ pub returns-clause-words : goal.returns-clause-words
 returns-clause-words g c = Refuses-written c.put.result _ c.put.ensures.only
 
 pub returns-clause-reads : goal.returns-clause-reads
-returns-clause-reads g c = InputFaults-written c.put.result _ _ c.put.ensures.only
+returns-clause-reads g c = InputFaults-same c.put.result _ _ c.put.ensures.only c.in_ok-text.ensures.faults
 
 pub returns-clause-writes : goal.returns-clause-writes
-returns-clause-writes g c = OutputFaults-written c.put.result _ _ _ _ c.put.ensures.only c.put.ensures.faults
+returns-clause-writes g c = OutputFaults-puts c.put.result _ _ _ _ c.in_ok-text.ensures.write_faults c.put.ensures.faults
+
+pub returns-in_err-text-clause-writes : goal.returns-in_err-text-clause-writes
+returns-in_err-text-clause-writes g c =
+    let p = err_from_is_err_and c.from_residual.result c.from_residual.ensures.1 in
+    rw (p.1, p.2)
+    (OutputFaults-reads {X = Unit {0}} (Err c.in_err-text.field-0.0) _ _ _ _ c.in_err-text.ensures.only c.in_err-text.ensures.write_faults refl)

@@ -1,9 +1,11 @@
-use Rattle.std.specs.Prelude.{ℕ, List, Option}
+use Rattle.std.specs.Prelude.{ℕ, List, Option, Err}
+use Rattle.std.proofs.Common.{refl, ◌∙◌}
 use Rattle.std.proofs.lemmas.Result.{err_from_is_err_and}
 use Rattle.lab_input.specs.Read.{input_of}
 use Rattle.lab_phase.specs.PhaseRuns.{Stops, stops_by}
 use Rattle.lab_play.specs.Played.{rises}
 use Rattle.lab_shelf.specs.Files.{Files}
+use Rattle.lab_stop.specs.FaultLaws.{FetchFaults-only, InputFaults-reads, InputFaults-same, OutputFaults-after, OutputFaults-reads}
 use Rattle.lab_commands.proofs.Leaving.{Finished-played, CommandLeaves-stopped}
 use Rattle.lab_commands.proofs.commands.run_command.Goals as goal
 
@@ -30,3 +32,39 @@ returns-clause-leaves g c =
     let taken_after : Option (List ℕ) = g.K.Sink.taken c.play.new.out in
     Finished-played (record { exact = c.runs_are_exact.ensures; own = c.actors_do_their_own.ensures }) (input_of c.in_ok-input.input) c.args.script.now c.args.name.now gates before between
     after taken taken_after c.in_ok-input.ensures.input c.in_ok-input.ensures.script c.in_ok-input.ensures.files _ c.in_ok-play.ensures.done
+
+pub returns-in_err-input-clause-reads : goal.returns-in_err-input-clause-reads
+returns-in_err-input-clause-reads g c =
+    let p = err_from_is_err_and c.from_residual.result c.from_residual.ensures.1 in
+    rw (p.1, p.2)
+    (InputFaults-reads {X = Unit {0}} (Err c.in_err-input.field-0.0) _ _ c.in_err-input.ensures.faults)
+
+pub returns-in_err-input-clause-writes : goal.returns-in_err-input-clause-writes
+returns-in_err-input-clause-writes g c =
+    let p = err_from_is_err_and c.from_residual.result c.from_residual.ensures.1 in
+    rw (p.1, p.2)
+    (OutputFaults-reads {X = Unit {0}} (Err c.in_err-input.field-0.0) _ _ _ _
+    (FetchFaults-only {X = Unit {0}} (Err c.in_err-input.field-0.0) _ _ c.in_err-input.ensures.faults) c.in_err-input.ensures.write_faults refl)
+
+pub returns-in_err-play-clause-reads : goal.returns-in_err-play-clause-reads
+returns-in_err-play-clause-reads g c =
+    let p = err_from_is_err_and c.from_residual-in_err-play.result c.from_residual-in_err-play.ensures.1 in
+    rw (p.1, p.2)
+    (InputFaults-same {X = Unit {0}} (Err c.in_err-play.field-0.0) _ _ c.in_err-play.ensures.only
+    (c.in_err-play.ensures.fetch_faults ∙ c.in_ok-input.ensures.faults))
+
+pub returns-in_err-play-clause-writes : goal.returns-in_err-play-clause-writes
+returns-in_err-play-clause-writes g c =
+    let p = err_from_is_err_and c.from_residual-in_err-play.result c.from_residual-in_err-play.ensures.1 in
+    rw (p.1, p.2)
+    (OutputFaults-after {X = Unit {0}} (Err c.in_err-play.field-0.0) _ _ _ _ _ _
+    (record { writes_same = c.in_ok-input.ensures.write_faults; puts_same = refl }) c.in_err-play.ensures.faults)
+
+pub returns-clause-reads : goal.returns-clause-reads
+returns-clause-reads g c = c.in_ok-play.ensures.fetch_faults ∙ c.in_ok-input.ensures.faults
+
+pub returns-clause-writes : goal.returns-clause-writes
+returns-clause-writes g c = record {
+  writes_same = c.in_ok-play.ensures.faults.writes_same ∙ c.in_ok-input.ensures.write_faults;
+  puts_same = c.in_ok-play.ensures.faults.puts_same;
+}

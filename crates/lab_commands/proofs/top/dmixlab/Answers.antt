@@ -1,6 +1,6 @@
 use Rattle.std.proofs.Common.{sym, ◌∙◌}
 use Rattle.lab_commands.specs.Words.{form_of, texts}
-use Rattle.lab_commands.proofs.Ends.{status_of-text, status_of-wav, status_of-reliable}
+use Rattle.lab_commands.proofs.Ends.{InputFaults-other, OnOk-done, OutputFaults-other, SaysWhy-stop, status_of-text, status_of-wav, status_of-reliable}
 use Rattle.lab_commands.proofs.Only.{DoneIn-only}
 use Rattle.lab_commands.proofs.top.dmixlab.Goals as goal
 
@@ -25,3 +25,20 @@ returns-clause-reliable g c shelf out files told =
     rw c.status.ensures
     (status_of-reliable c.command-end.result (texts c.args.words.now) files (c.command-end.ensures.cause files told) c.command-end.ensures.words
     (c.command-end.ensures.reliable shelf out files told))
+
+pub returns-clause-no_fetch_fault : goal.returns-clause-no_fetch_fault
+returns-clause-no_fetch_fault g c other =
+    InputFaults-other c.command-end.result _ _ c.command-end.ensures.reads (λ is. other (c.status.ensures ∙ is))
+
+pub returns-clause-no_write_fault : goal.returns-clause-no_write_fault
+returns-clause-no_write_fault g c other =
+    OutputFaults-other c.command-end.result _ _ _ _ c.command-end.ensures.writes (λ is. other (c.status.ensures ∙ is))
+
+pub returns-clause-silent : goal.returns-clause-silent
+returns-clause-silent g c zero = OnOk-done c.command-end.result _ c.put_reason.ensures.silent (sym c.status.ensures ∙ zero)
+
+pub returns-clause-line : goal.returns-clause-line
+returns-clause-line g c other =
+    rw c.status.ensures
+    (SaysWhy-stop c.command-end.result _ (texts c.args.words.now) _ _ _ c.command-end.ensures.cause
+    (λ is. c.command-end.ensures.reliable is.0 is.1) c.put_reason.ensures.line (λ is. other (c.status.ensures ∙ is)))

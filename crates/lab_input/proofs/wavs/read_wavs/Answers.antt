@@ -1,5 +1,5 @@
 use Rattle.std.proofs.lemmas.Result.{err_from_is_err_and}
-use Rattle.std.proofs.Common.{ℕ, arith, subst, ◌∙◌}
+use Rattle.std.proofs.Common.{ℕ, subst, ◌∙◌}
 use Rattle.std.specs.Prelude.{Err}
 use Rattle.lab_stop.specs.Stops.{FetchFaults}
 use Rattle.lab_input.proofs.Sounds.{Loading-stop, Loading-missing, Loading-next, Loading-all}
@@ -43,7 +43,7 @@ returns-in_err-push-clause-sounds g c =
 pub returns-in_err-push-clause-faults : goal.returns-in_err-push-clause-faults
 returns-in_err-push-clause-faults g c =
     let p = err_from_is_err_and c.from_residual-in_err-push.result c.from_residual-in_err-push.ensures.1 in
-    rw (p.1, p.2) (omega (arith, c.in_ok-wav.ensures.faults, c.loop-client.invariant.no_fault))
+    rw (p.1, p.2) (c.in_ok-wav.ensures.faults ∙ c.loop-client.invariant.no_fault)
 
 pub returns-in_err-push-clause-missing : goal.returns-in_err-push-clause-missing
 returns-in_err-push-clause-missing g c reliable =

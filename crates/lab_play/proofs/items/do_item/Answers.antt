@@ -1,4 +1,5 @@
 use Rattle.lab_phase.specs.PhaseRuns.{Stops, stops_by}
+use Rattle.lab_stop.specs.FaultLaws.{OutputFaults-memory}
 use Rattle.lab_play.specs.Playing.{SceneGoesOn, Scene, StopsAt, scene}
 use Rattle.lab_play.proofs.ItemsResults.{OnErr-all, OnOk-all}
 use Rattle.lab_play.proofs.ItemsStopped.{IsStoppedAt-playing}
@@ -18,3 +19,6 @@ returns-in-Opens-clause-part g c =
     let after : Scene = scene c.do_border.new.lab before.outputs before.files before.taken in
     OnErr-all (StopsAt stops before after.lab before.files before.taken) c.do_border.result
     (λ start is. IsStoppedAt-playing start stops after (c.do_border.ensures.written stops before.outputs before.files before.taken start is))
+
+pub returns-in-Opens-clause-faults : goal.returns-in-Opens-clause-faults
+returns-in-Opens-clause-faults g c = OutputFaults-memory c.do_border.result _ _ c.do_border.ensures.only

@@ -1,9 +1,11 @@
-use Rattle.std.specs.Prelude.{ℕ, ◌+◌, List, length, slice_get}
+use Rattle.std.specs.Prelude.{ℕ, ◌+◌, Err, List, length, slice_get}
 use Rattle.std.proofs.Common.{refl, sym, ap, ◌∙◌}
 use Rattle.std.proofs.lemmas.Option.{slice_get_read}
+use Rattle.std.proofs.lemmas.Result.{err_from_is_err_and}
 use Rattle.lab_lines.specs.declared.line.Item.{Item}
 use Rattle.lab_phase.specs.AtStage.{IsNextItem-at}
 use Rattle.lab_phase.specs.PhaseRuns.{stops_by}
+use Rattle.lab_stop.specs.FaultLaws.{OutputFaults-after}
 use Rattle.lab_play.specs.Playing.{Scene, StopsAt, scene}
 use Rattle.lab_play.proofs.ItemsResults.{OnErr-all, stopped-with}
 use Rattle.lab_play.proofs.items.do_items.Goals as goal
@@ -73,3 +75,9 @@ returns-in_err-do_item-clause-reliable g c is = c.do_item.ensures.reliable (c.lo
 
 pub returns-in_err-do_item-clause-reliable_out : goal.returns-in_err-do_item-clause-reliable_out
 returns-in_err-do_item-clause-reliable_out g c is = c.do_item.ensures.reliable_out (c.loop-index.invariant.reliable_out is)
+
+pub returns-in_err-do_item-clause-faults : goal.returns-in_err-do_item-clause-faults
+returns-in_err-do_item-clause-faults g c =
+    let p = err_from_is_err_and c.from_residual.result c.from_residual.ensures.1 in
+    rw (p.1, p.2)
+    (OutputFaults-after {X = Unit {0}} (Err c.in_err-do_item.field-0.0) _ _ _ _ _ _ c.loop-index.invariant.faults c.in_err-do_item.ensures.faults)

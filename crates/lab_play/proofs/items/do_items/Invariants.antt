@@ -2,7 +2,7 @@
 use Rattle.std.proofs.Common.{◌≡◌}
 use Rattle.lab_phase.specs.AtStage.{items_done}
 use Rattle.lab_phase.specs.PhaseRuns.{stops_by}
-use Rattle.lab_play.specs.Counts.{AreSameCounts}
+use Rattle.lab_stop.specs.Stops.{AreSameCounts}
 use Rattle.lab_play.specs.Playing.{SceneGoesOn, scene}
 use Rattle.lab_play.proofs.items.do_items.Given as goal
 

@@ -1,11 +1,13 @@
 use Rattle.std.specs.Prelude.{◌≡◌, ◌++◌, ℕ, List, Option, Err, length}
 use Rattle.std.specs.Option.{option_map}
-use Rattle.std.proofs.Common.{ap, subst, sym, ◌∙◌}
+use Rattle.std.proofs.Common.{ap, refl, subst, sym, ◌∙◌}
+use Rattle.std.proofs.lemmas.Result.{err_from_is_err_and}
 use Rattle.lab_output.specs.Text.{tail_from}
 use Rattle.lab_phase.specs.AtStage.{items_done}
 use Rattle.lab_report.specs.Text.{IsReportOf}
 use Rattle.lab_lines.specs.declared.script.Script.{Script}
 use Rattle.lab_shelf.specs.Files.{TookPart}
+use Rattle.lab_stop.specs.FaultLaws.{OutputFaults-puts, OutputFaults-writes}
 use Rattle.lab_stop.specs.declared.stop.Stop.TheVariants as stop
 use Rattle.lab_play.specs.Ends.{StopsAtEnd}
 use Rattle.lab_play.specs.Playing.{Scene, scene, sounds_at}
@@ -85,3 +87,15 @@ returns-clause-done g c start stops is =
     c.runs_keep_headline.ensures (g.S.Shelf.files c.finish.new.shelf) taken_after
     (c.in_ok-finish.ensures.stored start.files (sounds_at c.args.lab is.stage) is.written.going_on)
     (subst (λ (s : Script). taken_after ≡ option_map (λ t. t ++ tail_from s c.args.outputs.now.rows c.finish-outcome.result.report) taken) same c.in_ok-put_tail.ensures.taken)
+
+pub returns-in_err-finish-clause-faults : goal.returns-in_err-finish-clause-faults
+returns-in_err-finish-clause-faults g c =
+    let p = err_from_is_err_and c.from_residual.result c.from_residual.ensures.1 in
+    rw (p.1, p.2)
+    (OutputFaults-writes {X = Unit {0}} (Err c.in_err-finish.field-0.0) _ _ _ _ c.in_err-finish.ensures.faults refl)
+
+pub returns-in_err-put_tail-clause-faults : goal.returns-in_err-put_tail-clause-faults
+returns-in_err-put_tail-clause-faults g c =
+    let p = err_from_is_err_and c.from_residual-in_err-put_tail.result c.from_residual-in_err-put_tail.ensures.1 in
+    rw (p.1, p.2)
+    (OutputFaults-puts {X = Unit {0}} (Err c.in_err-put_tail.field-0.0) _ _ _ _ c.in_ok-finish.ensures.faults c.in_err-put_tail.ensures.faults)

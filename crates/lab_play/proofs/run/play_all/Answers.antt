@@ -1,10 +1,12 @@
 use Rattle.std.specs.Prelude.{◌≡◌, ℕ, List, Option, Err}
-use Rattle.std.proofs.lemmas.Result.{IfOk-weaker}
+use Rattle.std.proofs.lemmas.Result.{err_from_is_err_and, IfOk-weaker}
 use Rattle.std.proofs.Common.{ap, ◌∙◌}
 use Rattle.lab_input.specs.Input.{RunInput}
+use Rattle.lab_phase.specs.declared.finish.Outcome.{Outcome}
 use Rattle.lab_phase.specs.Ended.{outcome_in}
 use Rattle.lab_phase.specs.PhaseRuns.{Stops, stops_by}
 use Rattle.lab_shelf.specs.Files.{Files}
+use Rattle.lab_stop.specs.FaultLaws.{OutputFaults-after}
 use Rattle.lab_stop.specs.declared.stop.Stop.TheVariants as stop
 use Rattle.lab_play.specs.Ends.{EndsWith, IsNewRun, StopsAtEnd}
 use Rattle.lab_play.specs.Played.{HasPlayed, rises}
@@ -159,3 +161,19 @@ returns-clause-reliable g c is = c.do_items.ensures.reliable (c.begin.ensures.re
 
 pub do_items-requires-clause-gates : goal.do_items-requires-clause-gates
 do_items-requires-clause-gates g c κs within = c.requires.gates
+
+pub returns-in_err-begin-clause-faults : goal.returns-in_err-begin-clause-faults
+returns-in_err-begin-clause-faults g c =
+    let p = err_from_is_err_and c.from_residual.result c.from_residual.ensures.1 in
+    rw (p.1, p.2) c.in_err-begin.ensures.faults
+
+pub returns-in-Ok-clause-faults : goal.returns-in-Ok-clause-faults
+returns-in-Ok-clause-faults g c =
+    let begun = c.in_ok-begin.ensures.faults in
+    let done = c.in-Ok.ensures.faults in
+    OutputFaults-after c.end.result _ _ _ _ _ _
+    (record { writes_same = done.writes_same ∙ begun.writes_same; puts_same = done.puts_same ∙ begun.puts_same })
+    c.end.ensures.faults
+
+pub returns-clause-faults : goal.returns-clause-faults
+returns-clause-faults g c = OutputFaults-after {X = Outcome} (Err c.in-Err.stop) _ _ _ _ _ _ c.in_ok-begin.ensures.faults c.in-Err.ensures.faults

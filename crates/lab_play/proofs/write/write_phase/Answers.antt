@@ -1,9 +1,11 @@
-use Rattle.std.proofs.Common.{◌≡◌, ◌++◌, List, ℕ, length, option_map, ◌∙◌}
-use Rattle.std.specs.Prelude.{Option}
+use Rattle.std.proofs.Common.{◌≡◌, ◌++◌, List, ℕ, length, option_map, refl, ◌∙◌}
+use Rattle.std.proofs.lemmas.Result.{err_from_is_err_and}
+use Rattle.std.specs.Prelude.{Err, Option}
 use Rattle.lab_lines.specs.declared.row.Row.{Row}
 use Rattle.lab_phase.specs.declared.lab.Lab.{Lab}
 use Rattle.lab_output.specs.Text.{rows_text}
 use Rattle.lab_shelf.specs.Files.{Files, TookPart}
+use Rattle.lab_stop.specs.FaultLaws.{OutputFaults-puts, OutputFaults-writes}
 use Rattle.lab_play.specs.Playing.{CatchesUp, StopsBehind, scene}
 use Rattle.lab_play.proofs.WritingPhase.{OnErr-always, OnErr-more, OnOk-both, can-append, can-put, catches-up, stops-appending, stops-putting}
 use Rattle.lab_play.proofs.write.write_phase.Goals as goal
@@ -63,3 +65,12 @@ returns-clause-part g c =
     stops-putting start stops lab c.args.outputs.now files files_after taken c.append_all.ensures.changes is c.args.script.now c.append_all.new.outputs rows taken_after
     (c.requires.is.lab_is.script_is.script_is ∙ c.requires.script_is) c.in_ok-append_all.ensures.going_on c.append_all.ensures.files c.append_all.ensures.rows c.rows.ensures part)
     c.put_rows.ensures.text
+
+pub returns-in_err-append_all-clause-faults : goal.returns-in_err-append_all-clause-faults
+returns-in_err-append_all-clause-faults g c =
+    let p = err_from_is_err_and c.from_residual.result c.from_residual.ensures.1 in
+    rw (p.1, p.2)
+    (OutputFaults-writes {X = Unit {0}} (Err c.in_err-append_all.field-0.0) _ _ _ _ c.in_err-append_all.ensures.faults refl)
+
+pub returns-clause-faults : goal.returns-clause-faults
+returns-clause-faults g c = OutputFaults-puts c.put_rows.result _ _ _ _ c.in_ok-append_all.ensures.faults c.put_rows.ensures.faults

@@ -1,7 +1,8 @@
-use Rattle.std.proofs.Common.{◌++◌, sym, subst, refl}
+use Rattle.std.proofs.Common.{◌++◌, ap, sym, refl}
 use Rattle.std.proofs.lemmas.Result.{on_ok_weaker, on_err_weaker}
-use Rattle.std.specs.Prelude.{IsSome}
+use Rattle.std.specs.Prelude.{is_some}
 use Rattle.lab_shelf.proofs.EntryLists.{set_is_changed, set_is_same, held_found, held_nowhere}
+use Rattle.lab_shelf.proofs.Foreseen.{IsAsForeseen-works}
 use Rattle.lab_shelf.proofs.entries.append_to.Goals as goal
 
 pub returns-in-Some-clause-ok : goal.returns-in-Some-clause-ok
@@ -16,11 +17,12 @@ returns-in-Some-clause-err c =
     (set_is_same (λ e. e.0.items) (λ e. e.1.items) c.args.entries.now c.in-Some.place _ c.index-entries-place.result refl)
     c.extend.ensures.err
 
-pub returns-in-Some-clause-held : goal.returns-in-Some-clause-held
-returns-in-Some-clause-held c =
-    on_ok_weaker c.extend.result
-    (λ _. subst (λ o. IsSome o) (sym (held_found (λ e. e.0.items) (λ e. e.1.items) c.args.name.now c.args.entries.now c.in-Some.place c.index-entries-place.result (sym c.in-Some.ensures))) refl)
-    c.extend.ensures.ok
+pub returns-in-Some-clause-foreseen : goal.returns-in-Some-clause-foreseen
+returns-in-Some-clause-foreseen c =
+    IsAsForeseen-works c.extend.result _
+    (ap is_some (held_found (λ e. e.0.items) (λ e. e.1.items) c.args.name.now c.args.entries.now c.in-Some.place c.index-entries-place.result (sym c.in-Some.ensures)))
+    c.extend.ensures.memory
 
-pub returns-in-None-clause-missing : goal.returns-in-None-clause-missing
-returns-in-None-clause-missing c _ = held_nowhere (λ e. e.0.items) (λ e. e.1.items) c.args.name.now c.args.entries.now (sym c.in-None.ensures)
+pub returns-in-None-clause-foreseen : goal.returns-in-None-clause-foreseen
+returns-in-None-clause-foreseen c =
+    ap is_some (held_nowhere (λ e. e.0.items) (λ e. e.1.items) c.args.name.now c.args.entries.now (sym c.in-None.ensures))

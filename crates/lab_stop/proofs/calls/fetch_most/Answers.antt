@@ -75,7 +75,7 @@ returns-in_err-extend_from_slice-clause-missing g c reliable =
 pub returns-in_err-extend_from_slice-clause-faults : goal.returns-in_err-extend_from_slice-clause-faults
 returns-in_err-extend_from_slice-clause-faults g c =
     let p = err_from_is_err_and c.from_residual-in_err-extend_from_slice.result c.from_residual-in_err-extend_from_slice.ensures.1 in
-    rw (p.1, p.2) (omega (arith, c.in_ok-piece.ensures.faults, c.loop-is_last.invariant.no_fault))
+    rw (p.1, p.2) (c.in_ok-piece.ensures.faults ∙ c.loop-is_last.invariant.no_fault)
 
 pub returns-clause-bytes : goal.returns-clause-bytes
 returns-clause-bytes g c = fetched-most _ _ _ _ _ _ c.loop-is_last.invariant.so_far

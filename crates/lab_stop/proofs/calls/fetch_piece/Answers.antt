@@ -6,8 +6,7 @@ use Rattle.lab_stop.proofs.calls.fetch_piece.Goals as goal
 pub returns-in-Ok-clause-bytes : goal.returns-in-Ok-clause-bytes
 returns-in-Ok-clause-bytes g c = piece-fetched _ _ _ c.args.from piece_bytes c.in-Ok.ensures.piece
 
-pub returns-in_ok-from_slice-in-Err-Failed-clause-missing :
-    goal.returns-in_ok-from_slice-in-Err-Failed-clause-missing
-returns-in_ok-from_slice-in-Err-Failed-clause-missing g c reliable =
+pub returns-in-Err-Failed-clause-missing : goal.returns-in-Err-Failed-clause-missing
+returns-in-Err-Failed-clause-missing g c reliable =
     piece-missing _ _ _ c.args.from piece_bytes (c.in-Err-Failed.ensures.missing reliable (ap Err c.in-Err-Failed.field-0-is))
-    c.in_ok-from_slice-in-Err-Failed.ensures.items
+    c.in_ok-named.ensures.items

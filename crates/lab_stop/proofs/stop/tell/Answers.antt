@@ -1,9 +1,14 @@
-use Rattle.std.proofs.Common.{[]}
+use Rattle.std.proofs.Common.{◌∙◌, subst}
+use Rattle.std.specs.Prelude.{List, ℕ}
 use Rattle.lab_shelf.specs.Changes.{TookPart-nothing}
+use Rattle.lab_shelf.specs.Files.{TookPart}
+use Rattle.lab_stop.specs.Lines.{stop_line}
 use Rattle.lab_stop.proofs.stop.tell.Goals as goal
 
 pub returns-in-Ok-clause-took : goal.returns-in-Ok-clause-took
-returns-in-Ok-clause-took g c = (c.as_bytes.result.now, c.put_line.ensures.took)
+returns-in-Ok-clause-took g c =
+    subst (λ (line : List ℕ). TookPart (g.E.Sink.taken c.args.errors.now) (g.E.Sink.taken c.put_line.new.errors) line)
+    (c.as_bytes.ensures.value ∙ c.in-Ok.ensures) c.put_line.ensures.took
 
 pub returns-in_default-clause-took : goal.returns-in_default-clause-took
-returns-in_default-clause-took g c = ([], TookPart-nothing (g.E.Sink.taken c.args.errors.now) [])
+returns-in_default-clause-took g c = TookPart-nothing (g.E.Sink.taken c.args.errors.now) (stop_line c.args.stop.now)

@@ -1,6 +1,6 @@
-use Rattle.std.specs.Prelude.{All, ℕ, List, Ok, Option}
+use Rattle.std.specs.Prelude.{All, ℕ, List, Err, Ok, Option}
 use Rattle.std.specs.Option.{option_map}
-use Rattle.std.proofs.Common.{◌≡◌, ap, sym, subst, inr, ◌∙◌}
+use Rattle.std.proofs.Common.{◌≡◌, ap, refl, sym, subst, inr, ◌∙◌}
 use Rattle.std.proofs.lemmas.Result.{err_from_is_err_and, on_err_weaker, on_ok_weaker}
 use Rattle.lab_input.specs.Input.{RunInput}
 use Rattle.lab_input.specs.Read.{input_of}
@@ -11,8 +11,10 @@ use Rattle.lab_phase.specs.PhaseRuns.{Stops, stops_by}
 use Rattle.lab_play.specs.Played.{rises}
 use Rattle.lab_lines.specs.Limits.{IsScript}
 use Rattle.lab_shelf.specs.Files.{Files, IsPartWritten, with_file}
+use Rattle.lab_stop.specs.FaultLaws.{OutputFaults-after, OutputFaults-memory, OutputFaults-puts, OutputFaults-writes}
 use Rattle.lab_workload.specs.Made.{report_name}
 use Rattle.lab_workload.specs.Stored.{IsReadBack}
+use Rattle.lab_workload.proofs.KeptFaults.{OutputFaults-kept}
 use Rattle.lab_workload.proofs.Making.{IsMade-all, IsMadePart-before, IsMadePart-report, IsMadePart-run, IsMadePart-summary}
 use Rattle.lab_workload.proofs.make.make_workload.Goals as goal
 
@@ -84,3 +86,37 @@ returns-clause-done g c =
     (subst (All IsMadeSound) (ap (λ (i : RunInput). i.sounds) input_is) c.in_ok-made.ensures.sounds)
     (subst (All IsReadBack) (c.as_slice.ensures.value ∙ ap (λ (i : RunInput). i.sounds) input_is) c.in_ok-store_input.ensures.read))
     c.put_summary.ensures.done
+
+pub returns-in_err-made-clause-faults : goal.returns-in_err-made-clause-faults
+returns-in_err-made-clause-faults g c =
+    let p = err_from_is_err_and c.from_residual.result c.from_residual.ensures.1 in
+    rw (p.1, p.2)
+    (OutputFaults-memory {X = Unit {0}} (Err c.in_err-made.field-0.0) _ _ c.in_err-made.ensures.only)
+
+pub returns-in_err-store_input-clause-faults : goal.returns-in_err-store_input-clause-faults
+returns-in_err-store_input-clause-faults g c =
+    let p = err_from_is_err_and c.from_residual-in_err-store_input.result c.from_residual-in_err-store_input.ensures.1 in
+    rw (p.1, p.2)
+    (OutputFaults-writes {X = Unit {0}} (Err c.in_err-store_input.field-0.0) _ _ _ _ c.in_err-store_input.ensures.faults refl)
+
+pub returns-in_err-run-clause-faults : goal.returns-in_err-run-clause-faults
+returns-in_err-run-clause-faults g c =
+    let p = err_from_is_err_and c.from_residual-in_err-run.result c.from_residual-in_err-run.ensures.1 in
+    rw (p.1, p.2)
+    (OutputFaults-after {X = Unit {0}} (Err c.in_err-run.field-0.0) _ _ _ _ _ _
+    (record { writes_same = c.in_ok-store_input.ensures.faults; puts_same = refl })
+    (OutputFaults-kept {X = Unit {0}} (Err c.in_err-run.field-0.0) _ _ _ c.in_err-run.ensures.faults))
+
+pub returns-in_err-store-clause-faults : goal.returns-in_err-store-clause-faults
+returns-in_err-store-clause-faults g c =
+    let p = err_from_is_err_and c.from_residual-in_err-store.result c.from_residual-in_err-store.ensures.1 in
+    rw (p.1, p.2)
+    (OutputFaults-after {X = Unit {0}} (Err c.in_err-store.field-0.0) _ _ _ _ _ _
+    (record { writes_same = c.in_ok-run.ensures.faults.writes_same ∙ c.in_ok-store_input.ensures.faults; puts_same = refl })
+    (OutputFaults-writes {X = Unit {0}} (Err c.in_err-store.field-0.0) _ _ _ _ c.in_err-store.ensures.faults refl))
+
+pub returns-clause-faults : goal.returns-clause-faults
+returns-clause-faults g c =
+    OutputFaults-puts c.put_summary.result _ _ _ _
+    (c.in_ok-store.ensures.faults ∙ c.in_ok-run.ensures.faults.writes_same ∙ c.in_ok-store_input.ensures.faults)
+    c.put_summary.ensures.faults

@@ -1,28 +1,14 @@
-use Rattle.std.specs.Prelude.{◌≡◌, ℕ, Err, List, Option, [], Some}
-use Rattle.std.proofs.Common.{◌⊎◌, ap, sym, subst, inl, inr, arith, ◌∙◌}
+use Rattle.std.specs.Prelude.{◌≡◌, ℕ, Err, List, [], Some}
+use Rattle.std.proofs.Common.{ap, sym, subst, ◌∙◌}
 use Rattle.std.proofs.lemmas.Result.{err_from_is_err_and}
 use Rattle.lab_input.specs.Input.{RunInput}
 use Rattle.lab_input.specs.Read.{input_of}
-use Rattle.lab_phase.specs.declared.finish.Outcome.{Outcome}
 use Rattle.lab_phase.specs.Ended.{outcome_in}
 use Rattle.lab_phase.specs.PhaseRuns.{Stops, stops_by}
-use Rattle.lab_play.specs.Counts.{PlayFaults}
 use Rattle.lab_play.specs.Played.{HasPlayed, HasPlayedPart, rises}
-use Rattle.lab_shelf.specs.Counts.{Rose}
-use Rattle.lab_shelf.specs.Files.{Files}
-use Rattle.lab_stop.specs.declared.stop.Stop.{Stop}
 use Rattle.lab_stop.specs.declared.stop.Stop.TheVariants as stops
 use Rattle.lab_workload.specs.Made.{output_name}
 use Rattle.lab_workload.proofs.run.run_input.Goals as goal
-
--- a count that is always 0 never rose
-one-rose : (writes writes_now : ℕ) → Rose writes writes_now ⊎ Rose 0 0 → Rose writes writes_now
-one-rose writes writes_now (inl rose) = rose
-one-rose writes writes_now (inr never) = absurd (omega (arith, never))
-
--- so a run whose text is kept stops at a write only where the shelf failed
-rose-if : (X : Type 0) (e : Stop) (writes writes_now : ℕ) → e ≡ stops.Write → PlayFaults {X = X} (Err e) writes writes_now 0 0 → Rose writes writes_now
-rose-if X e writes writes_now is faults = one-rose writes writes_now (subst (λ (s : Stop). PlayFaults {X = X} (Err s) writes writes_now 0 0) is faults)
 
 pub returns-in_err-outcome-clause-part : goal.returns-in_err-outcome-clause-part
 returns-in_err-outcome-clause-part g c =
@@ -34,11 +20,10 @@ returns-in_err-outcome-clause-part g c =
           c.in_err-outcome.ensures.part,
     )
 
-pub returns-in_err-outcome-clause-rose : goal.returns-in_err-outcome-clause-rose
-returns-in_err-outcome-clause-rose g c =
+pub returns-in_err-outcome-clause-faults : goal.returns-in_err-outcome-clause-faults
+returns-in_err-outcome-clause-faults g c =
     let p = err_from_is_err_and c.from_residual.result c.from_residual.ensures.1 in
-    rw (p.1, p.2)
-    (λ is. let same : c.in_err-outcome.field-0.0 ≡ stops.Write = cc in rose-if Outcome c.in_err-outcome.field-0.0 _ _ same c.in_err-outcome.ensures.faults)
+    rw (p.1, p.2) c.in_err-outcome.ensures.faults
 
 pub returns-in_err-outcome-clause-never : goal.returns-in_err-outcome-clause-never
 returns-in_err-outcome-clause-never g c shelf known failed =
@@ -55,5 +40,5 @@ returns-clause-done g c =
     subst (λ (text : List ℕ). played [] text) (sym c.into_bytes.ensures)
     (subst (λ (text : List ℕ). played text c.play.new.out) c.new-text.ensures c.in_ok-outcome.ensures.done)
 
-pub returns-clause-same : goal.returns-clause-same
-returns-clause-same g c = c.in_ok-outcome.ensures.faults.writes_same
+pub returns-clause-faults : goal.returns-clause-faults
+returns-clause-faults g c = c.in_ok-outcome.ensures.faults

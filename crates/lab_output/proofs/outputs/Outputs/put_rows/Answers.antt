@@ -1,4 +1,4 @@
-use Rattle.std.proofs.Common.{◌≡◌, arith, ◌∙◌}
+use Rattle.std.proofs.Common.{◌≡◌, refl, ◌∙◌}
 use Rattle.std.proofs.lemmas.List.Elements.{All-drop, All-take}
 use Rattle.std.proofs.lemmas.Result.{err_from_is_err_and}
 use Rattle.lab_shelf.specs.Changes.{TookPart-nothing}
@@ -46,7 +46,7 @@ returns-in_err-text-clause-only g c =
 pub returns-in_err-text-clause-faults : goal.returns-in_err-text-clause-faults
 returns-in_err-text-clause-faults g c =
     let p = err_from_is_err_and c.from_residual.result c.from_residual.ensures.1 in
-    rw (p.1, p.2, c.in_err-text.ensures.only) (omega arith)
+    rw (p.1, p.2, c.in_err-text.ensures.only) refl
 
 pub returns-in_err-text-clause-reliable : goal.returns-in_err-text-clause-reliable
 returns-in_err-text-clause-reliable g c reliable =

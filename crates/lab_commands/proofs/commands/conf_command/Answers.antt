@@ -1,0 +1,17 @@
+use Rattle.std.specs.Prelude.{Err}
+use Rattle.std.proofs.Common.{refl}
+use Rattle.std.proofs.lemmas.Result.{err_from_is_err_and}
+use Rattle.lab_stop.specs.FaultLaws.{InputFaults-same, OutputFaults-puts, OutputFaults-reads}
+use Rattle.lab_commands.proofs.commands.conf_command.Goals as goal
+
+pub returns-clause-reads : goal.returns-clause-reads
+returns-clause-reads g c = InputFaults-same c.put.result _ _ c.put.ensures.only c.in_ok-text.ensures.faults
+
+pub returns-clause-writes : goal.returns-clause-writes
+returns-clause-writes g c = OutputFaults-puts c.put.result _ _ _ _ c.in_ok-text.ensures.write_faults c.put.ensures.faults
+
+pub returns-in_err-text-clause-writes : goal.returns-in_err-text-clause-writes
+returns-in_err-text-clause-writes g c =
+    let p = err_from_is_err_and c.from_residual.result c.from_residual.ensures.1 in
+    rw (p.1, p.2)
+    (OutputFaults-reads {X = Unit {0}} (Err c.in_err-text.field-0.0) _ _ _ _ c.in_err-text.ensures.only c.in_err-text.ensures.write_faults refl)
