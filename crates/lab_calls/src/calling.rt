@@ -21,6 +21,27 @@ pub struct Left {
     pub errors: MemorySink,
 }
 
+impl Left {
+    /// Whether the call was done: with status 0, this text on standard output, and nothing on standard
+    /// error.
+    pub fn is_done(&self, text: &[u8]) -> bool {
+        self.status == 0 && self.out.bytes() == text && self.errors.bytes().is_empty()
+    }
+
+    /// Whether the call wasn't done: with this status, this line on standard error, and nothing on
+    /// standard output.
+    pub fn is_refused(&self, status: u8, line: &str) -> bool {
+        self.status == status
+            && self.errors.bytes() == line.as_bytes()
+            && self.out.bytes().is_empty()
+    }
+
+    /// What the file of this name holds, which is nothing where there is none.
+    pub fn held(&self, name: &str) -> &[u8] {
+        self.shelf.file(name.as_bytes()).unwrap_or(&[])
+    }
+}
+
 // One call wherever it is let go. A derive drops each part in turn there, and the proof goes through all of them.
 impl Drop for Left {
     fn drop(self) {

@@ -3,7 +3,7 @@ ghost use Rattle.lab_report.specs.Text.{IsReportOf};
 ghost use Rattle.lab_lines.specs.Limits.{IsScript};
 ghost use Rattle.std.specs.Prelude.{IfOk};
 
-use lab_lines::{Actor, Answer, Op, Report, Script};
+use lab_lines::{Actor, Answer, Op, Report, Row, Script};
 use lab_report::{ReportWhy, print_report, print_row, print_tail, read_report};
 use lab_script::read_script;
 use snd_base::{PcmError, XrunWhy};
@@ -119,6 +119,12 @@ fn report_of(alloc: Global, text: &str, script: &Script) -> Result<Report, Fail>
     Ok(report)
 }
 
+/// Whether a row has this phase, actor, call and answer.
+fn is_answered(row: &Row, answered: &(u32, Actor, Op, Answer)) -> bool {
+    let (phase, actor, op, answer) = *answered;
+    (row.phase, row.actor, row.op) == (phase, actor, op) && row.answer == answer
+}
+
 #[test]
 fn reads_a_report(rt: HostRuntime) -> Result<(), Fail> {
     let alloc = rt.alloc();
@@ -127,9 +133,8 @@ fn reads_a_report(rt: HostRuntime) -> Result<(), Fail> {
     let report = report_of(alloc, text.as_str(), &script)?;
     assert!(rt; report.rows.as_slice().len() == 8);
     assert!(rt; (report.first, report.frames) == (0, 7));
-    for (row, (phase, actor, op, answer)) in report.rows.as_slice().iter().zip(ANSWERS.iter()) {
-        assert!(rt; (row.phase, row.actor, row.op) == (*phase, *actor, *op));
-        assert!(rt; row.answer == *answer);
+    for (row, answered) in report.rows.as_slice().iter().zip(ANSWERS.iter()) {
+        assert!(rt; is_answered(row, answered));
     }
     assert!(rt; report.segments.as_slice().len() == 2);
     assert!(rt; report.runs.as_slice() == [(0, 0, 5)].as_slice());
@@ -186,15 +191,27 @@ fn printed_again(alloc: Global, text: &str, script: &Script) -> Result<Vec<u8>, 
     Ok(print_report(alloc, &report, script)?)
 }
 
+/// Whether the report in which each row has this answer is printed as it was read.
+fn is_printed_again(
+    alloc: Global,
+    words: &(&str, &str, &str),
+    script: &Script,
+) -> Result<bool, Fail>
+    requires { IsScript script.now }
+{
+    let (answer, state, seen) = *words;
+    let text = answered(alloc, answer, state, seen)?;
+    let bytes = printed_again(alloc, text.as_str(), script)?;
+    Ok(bytes.as_slice() == text.as_bytes())
+}
+
 /// The rows of that script with every answer and state, printed and read back.
 #[test]
 fn prints_what_it_read(rt: HostRuntime) -> Result<(), Fail> {
     let alloc = rt.alloc();
     let script = script(alloc)?;
-    for (answer, state, seen) in &ANSWER_WORDS {
-        let text = answered(alloc, answer, state, seen)?;
-        let bytes = printed_again(alloc, text.as_str(), &script)?;
-        assert!(rt; bytes.as_slice() == text.as_bytes(), "{answer}");
+    for words in &ANSWER_WORDS {
+        assert!(rt; is_printed_again(alloc, words, &script)?, "{}", words.0);
     }
     Ok(())
 }
@@ -213,6 +230,20 @@ fn prints_rows_and_tail_apart(rt: HostRuntime) -> Result<(), Fail> {
     print_tail(&report, &script, &mut bytes)?;
     assert!(rt; bytes.as_slice() == text.as_bytes());
     Ok(())
+}
+
+/// Whether rows and what is below them are refused on this line and for this cause.
+fn is_refused(
+    alloc: Global,
+    rows: &str,
+    refused: &(&str, u32, ReportWhy),
+    script: &Script,
+) -> Result<bool, AllocError>
+    requires { IsScript script.now }
+{
+    let (below, line, why) = *refused;
+    let text = format!(in alloc; "{rows}{below}")?;
+    Ok(refusal(alloc, text.as_str(), script) == Some((line, why)))
 }
 
 /// Texts that are refused, each with the line and the cause.
@@ -297,11 +328,8 @@ const REFUSED: [(&str, u32, ReportWhy); 34] = [
 fn refuses_each_defect_at_its_line(rt: HostRuntime) -> Result<(), Fail> {
     let alloc = rt.alloc();
     let script = script(alloc)?;
-    for (text, line, why) in &REFUSED {
-        assert!(rt;
-            refusal(alloc, text, &script) == Some((*line, *why)),
-            "{text}"
-        );
+    for refused in &REFUSED {
+        assert!(rt; is_refused(alloc, "", refused, &script)?, "{}", refused.0);
     }
     Ok(())
 }
@@ -340,12 +368,8 @@ const REFUSED_TAILS: [(&str, u32, ReportWhy); 22] = [
 fn refuses_each_defect_below_the_rows(rt: HostRuntime) -> Result<(), Fail> {
     let alloc = rt.alloc();
     let script = script(alloc)?;
-    for (tail, line, why) in &REFUSED_TAILS {
-        let text = format!(in alloc; "{ROWS}{tail}")?;
-        assert!(rt;
-            refusal(alloc, text.as_str(), &script) == Some((*line, *why)),
-            "{tail}"
-        );
+    for refused in &REFUSED_TAILS {
+        assert!(rt; is_refused(alloc, ROWS, refused, &script)?, "{}", refused.0);
     }
     Ok(())
 }

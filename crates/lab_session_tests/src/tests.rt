@@ -7,7 +7,7 @@ mod readers;
 mod runs;
 mod sessions;
 
-use lab_calls::{Left, MONO, call, files_of, steps_of, text_in, wav_around, wav_of};
+use lab_calls::{Left, MONO, call, files_of, steps_of, wav_around, wav_of};
 use readers::READERS;
 use runs::RUNS;
 use sessions::{SESSIONS, Session};
@@ -92,15 +92,11 @@ fn leaves_its_report_and_file<R: Threads + Sync + Abort>(
     let file = wav_of(alloc, session.head, session.played)?;
     let files = files_of(alloc, script, session.wavs)?;
     let left = call(rt, alloc, &["run", "s", "o"], files, (&[], &[]))?;
-    assert!(rt; left.status == 0, "{}", session.name);
     assert!(rt;
-        text_in(left.out.bytes()) == text_in(&report),
+        left.is_done(&report) && left.held("o.wav") == file.as_slice(),
         "{}",
         session.name
     );
-    let held = left.shelf.file(b"o.wav").unwrap_or(&[]);
-    assert!(rt; held == file.as_slice(), "{}", session.name);
-    assert!(rt; left.errors.bytes().is_empty());
     Ok(())
 }
 
@@ -141,11 +137,9 @@ fn sixty_four_clients_are_saturated_once(rt: HostRuntime) -> Result<(), Fail> {
         &[("a.wav", MONO, &[(64, -32768)])],
     )?;
     let left = call(&rt, alloc, &["run", "s", "o"], files, (&[], &[]))?;
-    assert!(rt; left.status == 0);
     let report = format!(in alloc; "dmixlab 1\n{rows}played 0 128\nend\n")?;
-    assert!(rt; left.out.bytes() == report.as_bytes());
     let file = wav_of(alloc, MONO, &[(64, 0), (64, -32768)])?;
-    assert!(rt; left.shelf.file(b"o.wav").unwrap_or(&[]) == file.as_slice());
+    assert!(rt; left.is_done(report.as_bytes()) && left.held("o.wav") == file.as_slice());
     Ok(())
 }
 
@@ -161,13 +155,11 @@ fn a_script_has_4096_phases(rt: HostRuntime) -> Result<(), Fail> {
     }
     let files = files_of(alloc, lines.into_bytes(), &[("a.wav", MONO, &[(1, 5)])])?;
     let left = call(&rt, alloc, &["run", "s", "o"], files, (&[], &[]))?;
-    assert!(rt; left.status == 0);
     let report = format!(in alloc;
         "dmixlab 1\n0 a open = ok PREPARED -\n{rows}played 0 4096\nend\n"
     )?;
-    assert!(rt; text_in(left.out.bytes()) == text_in(report.as_bytes()));
     let file = wav_of(alloc, MONO, &[(4096, 0)])?;
-    assert!(rt; left.shelf.file(b"o.wav").unwrap_or(&[]) == file.as_slice());
+    assert!(rt; left.is_done(report.as_bytes()) && left.held("o.wav") == file.as_slice());
     Ok(())
 }
 
@@ -259,8 +251,11 @@ fn has_stored(
     for (name, head, runs) in run.stored {
         let samples = steps_of(alloc, runs)?;
         let file = wav_around(alloc, head, &samples)?;
-        let held = left.shelf.file(name.as_bytes()).unwrap_or(&[]);
-        assert!(rt; held == file.as_slice(), "{name} of {}", run.name);
+        assert!(rt;
+            left.held(name) == file.as_slice(),
+            "{name} of {}",
+            run.name
+        );
     }
     Ok(())
 }
@@ -274,13 +269,7 @@ fn leaves_its_report_and_files<R: Threads + Sync + Abort>(
     let report = report_of_run(alloc, run)?;
     let files = files_of_run(alloc, run, "")?;
     let left = call(rt, alloc, &["run", "s", "o"], files, (&[], &[]))?;
-    assert!(rt; text_in(left.errors.bytes()) == "", "{}", run.name);
-    assert!(rt; left.status == 0, "{}", run.name);
-    assert!(rt;
-        text_in(left.out.bytes()) == text_in(&report),
-        "{}",
-        run.name
-    );
+    assert!(rt; left.is_done(&report), "{}", run.name);
     has_stored(rt, alloc, run, &left)
 }
 

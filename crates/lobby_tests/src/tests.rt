@@ -62,7 +62,6 @@ fn lay_frames(seat: &mut MixSeat<'_>, first: u64, count: u64, sample: i16) -> bo
 }
 
 // A lobby beside the player of its ring, and the seats that it handed out.
-#[derive(Drop)]
 struct Hall<'a> {
     player: PlayerSeat<'a>,
     lobby: Lobby<'a>,
@@ -72,6 +71,17 @@ struct Hall<'a> {
     ghost of_seats: { All (λ s. OneRing (ring_of s) (key_of s) (ring_of_lobby lobby)
         (key_of_lobby lobby)) out.items },
     ghost all_places: { places_of_lobby lobby ≡ (key_of_lobby lobby).places },
+}
+
+// One call wherever it is let go. A derive drops each part in turn there, and the proof goes through all of them.
+impl Drop for Hall<'_> {
+    fn drop(self) {
+        let Hall {
+            player: _,
+            lobby: _,
+            out: _,
+        } = self;
+    }
 }
 
 // The hall of a ring whose seats are not given yet.
@@ -87,7 +97,7 @@ fn open_hall(alloc: Global, ring: &mut SumRing) -> Result<Hall<'_>, Fail>
     })
 }
 
-impl Hall<'_> {
+impl<'a> Hall<'a> {
     // Attaches, and answers the number of the place.
     fn attach(&mut self) -> Result<Result<u32, PcmError>, Fail> {
         match self.lobby.attach() {
@@ -154,6 +164,16 @@ impl Hall<'_> {
         }
         self.player.publish();
         Ok(last)
+    }
+
+    // The player and the lobby, without the seats that were handed out.
+    fn into_parts(self) -> (PlayerSeat<'a>, Lobby<'a>) {
+        let Hall {
+            player,
+            lobby,
+            out: _,
+        } = self;
+        (player, lobby)
     }
 
     // Ends the lobby, and the ring with it.

@@ -3,6 +3,8 @@
 use lab_calls::{Left, call};
 use lab_script::read_script;
 use std::alloc::{AllocError, Global};
+use std::marker::Sync;
+use std::process::Abort;
 use std::test::Fail;
 use std::thread::Threads;
 
@@ -60,17 +62,25 @@ const DESCRIBED: [(&str, &str, &str, &str, &str); 4] = [
     ),
 ];
 
+// The lines of a device are put, and its card is a script. Here as below a row has a function of its own, so that no table is there
+// where something is let go.
+fn puts_device<R: Threads + Sync + Abort>(
+    rt: &R,
+    alloc: Global,
+    described: &(&str, &str, &str, &str, &str),
+) -> Result<(), AllocError> {
+    let (text, name, kind, card, bindings) = *described;
+    let left = conf(rt, alloc, ("c", name), text.as_bytes(), (&[], &[]))?;
+    let lines = format!(in alloc; "{kind}{card}{bindings}")?;
+    let is_script = read_script(alloc, card.as_bytes()).is_ok();
+    assert!(rt; left.is_done(lines.as_bytes()) && is_script, "{name}");
+    Ok(())
+}
+
 #[test]
 fn devices_are_put_line_by_line(rt: HostRuntime) -> Result<(), Fail> {
-    let alloc = rt.alloc();
-    for (text, name, kind, card, bindings) in &DESCRIBED {
-        let left = conf(&rt, alloc, ("c", name), text.as_bytes(), (&[], &[]))?;
-        let lines = format!(in alloc; "{kind}{card}{bindings}")?;
-        assert!(rt; left.status == 0, "{name}");
-        assert!(rt; left.out.bytes() == lines.as_bytes(), "{name}");
-        assert!(rt; left.errors.bytes().is_empty());
-        let script = read_script(alloc, card.as_bytes());
-        assert!(rt; script.is_ok(), "{name}");
+    for described in &DESCRIBED {
+        puts_device(&rt, rt.alloc(), described)?;
     }
     Ok(())
 }
@@ -96,15 +106,23 @@ const REFUSED: [(&str, &str); 8] = [
     ),
 ];
 
+// A text, or its device x, is refused on a line and for a cause.
+fn refuses_conf<R: Threads + Sync + Abort>(
+    rt: &R,
+    alloc: Global,
+    text: &str,
+    why: &str,
+) -> Result<(), AllocError> {
+    let line = format!(in alloc; "dmixlab: conf {why}\n")?;
+    let left = conf(rt, alloc, ("c", "x"), text.as_bytes(), (&[], &[]))?;
+    assert!(rt; left.is_refused(2, &line), "{text}");
+    Ok(())
+}
+
 #[test]
 fn refused_configurations_are_named(rt: HostRuntime) -> Result<(), Fail> {
-    let alloc = rt.alloc();
     for (text, why) in &REFUSED {
-        let line = format!(in alloc; "dmixlab: conf {why}\n")?;
-        let left = conf(&rt, alloc, ("c", "x"), text.as_bytes(), (&[], &[]))?;
-        assert!(rt; left.status == 2, "{text}");
-        assert!(rt; left.errors.bytes() == line.as_bytes(), "{text}");
-        assert!(rt; left.out.bytes().is_empty());
+        refuses_conf(&rt, rt.alloc(), text, why)?;
     }
     Ok(())
 }
@@ -112,40 +130,55 @@ fn refused_configurations_are_named(rt: HostRuntime) -> Result<(), Fail> {
 // A name of 64 bytes, which is the longest.
 const LONGEST: &str = "0123456789012345678901234567890123456789012345678901234567890123";
 
+// Of an empty configuration a device isn't there where the name is one, and otherwise the words have no form.
+fn takes_name<R: Threads + Sync + Abort>(
+    rt: &R,
+    alloc: Global,
+    name: &str,
+    is_name: bool,
+) -> Result<(), AllocError> {
+    let left = conf(rt, alloc, ("c", name), b"", (&[], &[]))?;
+    let (status, line) = if is_name {
+        (2, "dmixlab: conf line 0: Missing\n")
+    } else {
+        (1, "dmixlab: words\n")
+    };
+    assert!(rt; left.is_refused(status, line), "{name}");
+    Ok(())
+}
+
 #[test]
 fn a_name_has_1_to_64_visible_characters(rt: HostRuntime) -> Result<(), Fail> {
     let alloc = rt.alloc();
     let longer = format!(in alloc; "{LONGEST}4")?;
-    for (name, status) in [
-        (LONGEST, 2),
-        (longer.as_str(), 1),
-        ("", 1),
-        ("a b", 1),
-        ("!", 2),
-        ("~", 2),
-        ("\x7f", 1),
-        ("\u{e9}", 1),
-    ] {
-        let left = conf(&rt, alloc, ("c", name), b"", (&[], &[]))?;
-        assert!(rt; left.status == status, "{name}");
-        assert!(rt; left.out.bytes().is_empty());
+    for name in [LONGEST, "!", "~"] {
+        takes_name(&rt, alloc, name, true)?;
     }
+    for name in [longer.as_str(), "", "a b", "\x7f", "\u{e9}"] {
+        takes_name(&rt, alloc, name, false)?;
+    }
+    Ok(())
+}
+
+// A call over a file that can't be read, or whose text can't be put, says so.
+fn says_fault<R: Threads + Sync + Abort>(
+    rt: &R,
+    alloc: Global,
+    file: &str,
+    failing: (&[u64], &[u64]),
+    said: (u8, &str),
+) -> Result<(), AllocError> {
+    let left = conf(rt, alloc, (file, "dmixer"), DMIXER.as_bytes(), failing)?;
+    assert!(rt; left.is_refused(said.0, said.1), "{}", said.1);
     Ok(())
 }
 
 #[test]
 fn faults_leave_no_line(rt: HostRuntime) -> Result<(), Fail> {
     let alloc = rt.alloc();
-    for (file, failing, status, line) in [
-        ("u", ([].as_slice(), [].as_slice()), 4, "dmixlab: read u\n"),
-        ("c", ([1].as_slice(), [].as_slice()), 4, "dmixlab: read c\n"),
-        ("c", ([].as_slice(), [1].as_slice()), 5, "dmixlab: write\n"),
-        ("", ([].as_slice(), [].as_slice()), 1, "dmixlab: words\n"),
-    ] {
-        let left = conf(&rt, alloc, (file, "dmixer"), DMIXER.as_bytes(), failing)?;
-        assert!(rt; left.status == status, "{line}");
-        assert!(rt; left.errors.bytes() == line.as_bytes());
-        assert!(rt; left.out.bytes().is_empty());
-    }
+    says_fault(&rt, alloc, "u", (&[], &[]), (4, "dmixlab: read u\n"))?;
+    says_fault(&rt, alloc, "c", (&[1], &[]), (4, "dmixlab: read c\n"))?;
+    says_fault(&rt, alloc, "c", (&[], &[1]), (5, "dmixlab: write\n"))?;
+    says_fault(&rt, alloc, "", (&[], &[]), (1, "dmixlab: words\n"))?;
     Ok(())
 }

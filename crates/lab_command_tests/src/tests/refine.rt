@@ -2,6 +2,8 @@
 //! leaves.
 use lab_calls::{Left, call};
 use std::alloc::{AllocError, Global};
+use std::marker::Sync;
+use std::process::Abort;
 use std::test::Fail;
 use std::thread::Threads;
 
@@ -35,19 +37,27 @@ const ANSWERED: [(&str, &str); 3] = [
     ("slave channels 1 rate 192000 period 8192 ring 16384", ""),
 ];
 
+// The answers to a text are put. Here as below a row has a function of its own, so that no table is there where something is let go.
+fn puts_answers<R: Threads + Sync + Abort>(
+    rt: &R,
+    alloc: Global,
+    text: &str,
+    answers: &str,
+) -> Result<(), AllocError> {
+    let left = refine(rt, alloc, "t", text.as_bytes(), (&[], &[]))?;
+    assert!(rt; left.is_done(answers.as_bytes()), "{text}");
+    Ok(())
+}
+
 #[test]
 fn answers_are_put(rt: HostRuntime) -> Result<(), Fail> {
-    let alloc = rt.alloc();
     for (text, answers) in &ANSWERED {
-        let left = refine(&rt, alloc, "t", text.as_bytes(), (&[], &[]))?;
-        assert!(rt; left.status == 0, "{text}");
-        assert!(rt; left.out.bytes() == answers.as_bytes(), "{text}");
-        assert!(rt; left.errors.bytes().is_empty());
+        puts_answers(&rt, rt.alloc(), text, answers)?;
     }
     Ok(())
 }
 
-const SLAVE: &str = "slave channels 2 rate 48000 period 1024 ring 8192\n";
+const ASKED: &str = "slave channels 2 rate 48000 period 1024 ring 8192\nshow rate\n";
 
 // Texts that are refused, each with the line and the cause.
 const REFUSED: [(&str, &str); 4] = [
@@ -63,33 +73,46 @@ const REFUSED: [(&str, &str); 4] = [
     ),
 ];
 
+// A text is refused on a line and for a cause.
+fn refuses_text<R: Threads + Sync + Abort>(
+    rt: &R,
+    alloc: Global,
+    text: &str,
+    why: &str,
+) -> Result<(), AllocError> {
+    let line = format!(in alloc; "dmixlab: script {why}\n")?;
+    let left = refine(rt, alloc, "t", text.as_bytes(), (&[], &[]))?;
+    assert!(rt; left.is_refused(2, &line), "{text}");
+    Ok(())
+}
+
 #[test]
 fn refused_texts_are_named(rt: HostRuntime) -> Result<(), Fail> {
-    let alloc = rt.alloc();
     for (text, why) in &REFUSED {
-        let line = format!(in alloc; "dmixlab: script {why}\n")?;
-        let left = refine(&rt, alloc, "t", text.as_bytes(), (&[], &[]))?;
-        assert!(rt; left.status == 2, "{text}");
-        assert!(rt; left.errors.bytes() == line.as_bytes(), "{text}");
-        assert!(rt; left.out.bytes().is_empty());
+        refuses_text(&rt, rt.alloc(), text, why)?;
     }
+    Ok(())
+}
+
+// A call over a file that can't be read, or whose answer can't be put, says so.
+fn says_fault<R: Threads + Sync + Abort>(
+    rt: &R,
+    alloc: Global,
+    name: &str,
+    failing: (&[u64], &[u64]),
+    said: (u8, &str),
+) -> Result<(), AllocError> {
+    let left = refine(rt, alloc, name, ASKED.as_bytes(), failing)?;
+    assert!(rt; left.is_refused(said.0, said.1), "{}", said.1);
     Ok(())
 }
 
 #[test]
 fn faults_leave_no_answer(rt: HostRuntime) -> Result<(), Fail> {
     let alloc = rt.alloc();
-    let text = format!(in alloc; "{SLAVE}show rate\n")?;
-    for (name, failing, status, line) in [
-        ("u", ([].as_slice(), [].as_slice()), 4, "dmixlab: read u\n"),
-        ("t", ([1].as_slice(), [].as_slice()), 4, "dmixlab: read t\n"),
-        ("t", ([].as_slice(), [1].as_slice()), 5, "dmixlab: write\n"),
-        ("", ([].as_slice(), [].as_slice()), 1, "dmixlab: words\n"),
-    ] {
-        let left = refine(&rt, alloc, name, text.as_bytes(), failing)?;
-        assert!(rt; left.status == status, "{line}");
-        assert!(rt; left.errors.bytes() == line.as_bytes());
-        assert!(rt; left.out.bytes().is_empty());
-    }
+    says_fault(&rt, alloc, "u", (&[], &[]), (4, "dmixlab: read u\n"))?;
+    says_fault(&rt, alloc, "t", (&[1], &[]), (4, "dmixlab: read t\n"))?;
+    says_fault(&rt, alloc, "t", (&[], &[1]), (5, "dmixlab: write\n"))?;
+    says_fault(&rt, alloc, "", (&[], &[]), (1, "dmixlab: words\n"))?;
     Ok(())
 }

@@ -1,7 +1,7 @@
 //! The checker of mixed phases accepts a right report, and refuses it after each of these changes.
 use super::checker::{Plan, Sounds, check, check_report};
 use super::mixed::{SMALL, captured, left_of, opened, push_phase, sounds_of};
-use lab_calls::{Left, STEREO, text_in, wav_of};
+use lab_calls::{STEREO, text_in, wav_of};
 use lab_shelf::MemoryShelf;
 use std::alloc::{AllocError, Global};
 use std::process::Abort;
@@ -79,28 +79,68 @@ fn with_line(alloc: Global, report: &str, place: usize, text: &str) -> Result<St
     Ok(changed)
 }
 
+// A right report of a plan, and the files beside it.
+#[derive(Clone, Copy)]
+struct Checked<'a> {
+    plan: &'a Plan,
+    sounds: &'a Sounds<'a>,
+    report: &'a str,
+    files: &'a MemoryShelf,
+}
+
+impl Checked<'_> {
+    // Whether the report is refused in which a line is this text.
+    fn refuses_line(&self, alloc: Global, place: usize, text: &str) -> Result<bool, AllocError> {
+        let changed = with_line(alloc, self.report, place, text)?;
+        Ok(check_report(alloc, self.plan, self.sounds, &changed, self.files).is_err())
+    }
+
+    // Whether the report is refused without a line, and where it is there twice.
+    fn refuses_other_count(
+        &self,
+        alloc: Global,
+        place: usize,
+        line: &str,
+    ) -> Result<bool, AllocError> {
+        let twice = format!(in alloc; "{line}\n{line}")?;
+        Ok(self.refuses_line(alloc, place, "")? && self.refuses_line(alloc, place, &twice)?)
+    }
+
+    // Whether the report is refused where any word of a line is another one.
+    fn refuses_other_words(
+        &self,
+        alloc: Global,
+        place: usize,
+        line: &str,
+    ) -> Result<bool, AllocError> {
+        for word in 0..line.split(' ').count() {
+            let text = with_word(alloc, line, word)?;
+            if !self.refuses_line(alloc, place, &text)? {
+                return Ok(false);
+            }
+        }
+        Ok(true)
+    }
+
+    // Whether the report is refused in which another line is in the place of this one, which is there.
+    fn refuses_change(&self, alloc: Global, line: &str, other: &str) -> Result<bool, AllocError> {
+        match self.report.lines().position(|held| held == line) {
+            Some(place) => self.refuses_line(alloc, place, other),
+            None => Ok(false),
+        }
+    }
+}
+
 // Each line is dropped, each is there twice, and each word is another one.
 fn refuses_each_line<A: Abort>(
     rt: &A,
     alloc: Global,
-    plan: &Plan,
-    sounds: &Sounds<'_>,
-    left: &Left,
-) -> Result<(), Fail> {
-    let report = text_in(left.out.bytes());
-    for (place, line) in report.lines().enumerate() {
-        let twice = format!(in alloc; "{line}\n{line}")?;
-        for text in ["", twice.as_str()] {
-            let changed = with_line(alloc, report, place, text)?;
-            let refused = check_report(alloc, plan, sounds, changed.as_str(), &left.shelf);
-            assert!(rt; refused.is_err(), "{changed}");
-        }
-        for word in 0..line.split(' ').count() {
-            let text = with_word(alloc, line, word)?;
-            let changed = with_line(alloc, report, place, text.as_str())?;
-            let refused = check_report(alloc, plan, sounds, changed.as_str(), &left.shelf);
-            assert!(rt; refused.is_err(), "{changed}");
-        }
+    checked: &Checked<'_>,
+) -> Result<(), AllocError> {
+    for (place, line) in checked.report.lines().enumerate() {
+        let is_refused = checked.refuses_other_count(alloc, place, line)?
+            && checked.refuses_other_words(alloc, place, line)?;
+        assert!(rt; is_refused, "{line}");
     }
     Ok(())
 }
@@ -109,18 +149,11 @@ fn refuses_each_line<A: Abort>(
 fn refuses_changes<A: Abort>(
     rt: &A,
     alloc: Global,
-    plan: &Plan,
-    sounds: &Sounds<'_>,
-    given: (&str, &MemoryShelf),
+    checked: &Checked<'_>,
     changes: &[(&str, &str)],
-) -> Result<(), Fail> {
-    let (report, files) = given;
+) -> Result<(), AllocError> {
     for (line, other) in changes {
-        let place = report.lines().position(|l| l == *line);
-        assert!(rt; place.is_some(), "{report}");
-        let changed = with_line(alloc, report, place.unwrap_or(0), other)?;
-        let refused = check_report(alloc, plan, sounds, changed.as_str(), files);
-        assert!(rt; refused.is_err(), "{changed}");
+        assert!(rt; checked.refuses_change(alloc, line, other)?, "{other}");
     }
     Ok(())
 }
@@ -150,28 +183,36 @@ const CHANGES: &[(&str, &str)] = &[
     ),
 ];
 
+// The files that a run of one reader writes.
+const NAMES: [&[u8]; 2] = [b"o.wav", b"o.r0.wav"];
+
+// The files, in one of which a byte is another one.
+fn with_other_byte(
+    alloc: Global,
+    files: &MemoryShelf,
+    changed: &[u8],
+) -> Result<MemoryShelf, AllocError> {
+    let mut others = Vec::new(alloc);
+    for name in NAMES {
+        let mut bytes = Vec::from_slice(alloc, files.file(name).unwrap_or(&[]))?;
+        if let Some(byte) = bytes.get_mut(100) {
+            *byte ^= u8::from(name == changed);
+        }
+        others.push((Vec::from_slice(alloc, name)?, bytes))?;
+    }
+    Ok(MemoryShelf::new(others, Vec::new(alloc)))
+}
+
 // A byte of a file is another one.
 fn refuses_other_samples<A: Abort>(
     rt: &A,
     alloc: Global,
-    plan: &Plan,
-    sounds: &Sounds<'_>,
-    left: &Left,
-) -> Result<(), Fail> {
-    let names: [&[u8]; 2] = [b"o.wav", b"o.r0.wav"];
-    for changed in names {
-        let mut files = Vec::new(alloc);
-        for name in names {
-            let mut bytes = Vec::from_slice(alloc, left.shelf.file(name).unwrap_or(&[]))?;
-            if let Some(byte) = bytes.get_mut(100) {
-                *byte ^= u8::from(name == changed);
-            }
-            files.push((Vec::from_slice(alloc, name)?, bytes))?;
-        }
-        let shelf = MemoryShelf::new(files, Vec::new(alloc));
-        let report = text_in(left.out.bytes());
-        let refused = check_report(alloc, plan, sounds, report, &shelf);
-        assert!(rt; refused.is_err());
+    checked: &Checked<'_>,
+) -> Result<(), AllocError> {
+    for changed in NAMES {
+        let files = with_other_byte(alloc, checked.files, changed)?;
+        let end = check_report(alloc, checked.plan, checked.sounds, checked.report, &files);
+        assert!(rt; end.is_err());
     }
     Ok(())
 }
@@ -190,10 +231,16 @@ fn a_changed_report_is_refused(rt: HostRuntime) -> Result<(), Fail> {
     };
     let left = left_of(&rt, alloc, &plan, &sounds)?;
     check(alloc, &plan, &sounds, &left)?;
-    refuses_each_line(&rt, alloc, &plan, &sounds, &left)?;
-    let given = (text_in(left.out.bytes()), &left.shelf);
-    refuses_changes(&rt, alloc, &plan, &sounds, given, CHANGES)?;
-    refuses_other_samples(&rt, alloc, &plan, &sounds, &left)
+    let checked = Checked {
+        plan: &plan,
+        sounds: &sounds,
+        report: text_in(left.out.bytes()),
+        files: &left.shelf,
+    };
+    refuses_each_line(&rt, alloc, &checked)?;
+    refuses_changes(&rt, alloc, &checked, CHANGES)?;
+    refuses_other_samples(&rt, alloc, &checked)?;
+    Ok(())
 }
 
 // A report of a mixed phase in which the card plays 320 frames: the client starts at frame 128 and is late there, and the reader is
@@ -262,6 +309,12 @@ fn a_row_that_no_order_of_the_threads_gives_is_refused(rt: HostRuntime) -> Resul
     )?;
     let files = silent_files(alloc)?;
     check_report(alloc, &plan, &sounds, report.as_str(), &files)?;
-    let given = (report.as_str(), &files);
-    refuses_changes(&rt, alloc, &plan, &sounds, given, IMPOSSIBLE)
+    let checked = Checked {
+        plan: &plan,
+        sounds: &sounds,
+        report: report.as_str(),
+        files: &files,
+    };
+    refuses_changes(&rt, alloc, &checked, IMPOSSIBLE)?;
+    Ok(())
 }

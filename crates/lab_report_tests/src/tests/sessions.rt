@@ -1,5 +1,6 @@
 //! Whole sessions: a script and a report of it, which is read and printed as it is.
 use super::{printed_again, script_of};
+use std::alloc::Global;
 use std::test::*;
 
 /// One client, which the card plays.
@@ -232,13 +233,18 @@ const SESSIONS: [(&str, &str); 7] = [
     REWOUND,
 ];
 
+// Whether the report of a session is printed as it was read.
+fn is_printed_as_read(alloc: Global, session: &(&str, &str)) -> Result<bool, Fail> {
+    let (text, printed) = *session;
+    let script = script_of(alloc, text.as_bytes())?;
+    let bytes = printed_again(alloc, printed, &script)?;
+    Ok(bytes.as_slice() == printed.as_bytes())
+}
+
 #[test]
 fn reads_and_prints_whole_sessions(rt: HostRuntime) -> Result<(), Fail> {
-    let alloc = rt.alloc();
-    for (text, printed) in &SESSIONS {
-        let script = script_of(alloc, text.as_bytes())?;
-        let bytes = printed_again(alloc, printed, &script)?;
-        assert!(rt; bytes.as_slice() == printed.as_bytes(), "{text}");
+    for session in &SESSIONS {
+        assert!(rt; is_printed_as_read(rt.alloc(), session)?, "{}", session.0);
     }
     Ok(())
 }

@@ -1,5 +1,5 @@
 //! The calls that a run makes: the shelf's and the output's, counted by letting one of them fail.
-use lab_calls::{Left, MONO, call, files_of, text_in, wav_of};
+use lab_calls::{Left, MONO, call, files_of, wav_of};
 use std::alloc::{AllocError, Global};
 use std::marker::Sync;
 use std::process::Abort;
@@ -61,43 +61,78 @@ fn held_after(alloc: Global, failing: u64) -> Result<Vec<u8>, AllocError> {
     Ok(held)
 }
 
+// A run of which this call of the shelf fails ends with this status, and leaves in `o.wav` what it had by then.
+fn leaves_file_so_far<R: Threads + Sync + Abort>(
+    rt: &R,
+    alloc: Global,
+    failing: u64,
+    status: u8,
+) -> Result<(), AllocError> {
+    let left = run(rt, alloc, SCRIPT, 64, (&[failing], &[]))?;
+    let held = held_after(alloc, failing)?;
+    assert!(rt;
+        left.status == status && left.held("o.wav") == held.as_slice(),
+        "{failing}"
+    );
+    Ok(())
+}
+
 #[test]
 fn a_run_makes_five_calls_of_the_shelf(rt: HostRuntime) -> Result<(), Fail> {
-    let alloc = rt.alloc();
-    for failing in 1..7u64 {
-        let left = run(&rt, alloc, SCRIPT, 64, (&[failing], &[]))?;
-        let held = held_after(alloc, failing)?;
-        let status = match failing {
-            1..=2 => 4,
-            3..=5 => 5,
-            _ => 0,
-        };
-        assert!(rt; left.status == status, "{failing}");
-        assert!(rt;
-            left.shelf.file(b"o.wav").unwrap_or(&[]) == held.as_slice(),
-            "{failing}"
-        );
+    for (failing, status) in [(1, 4), (2, 4), (3, 5), (4, 5), (5, 5), (6, 0)] {
+        leaves_file_so_far(&rt, rt.alloc(), failing, status)?;
     }
+    Ok(())
+}
+
+// A run of which this put fails ends with this status, and has put this text.
+fn leaves_text_so_far<R: Threads + Sync + Abort>(
+    rt: &R,
+    alloc: Global,
+    failing: u64,
+    status: u8,
+    text: &str,
+) -> Result<(), AllocError> {
+    let left = run(rt, alloc, SCRIPT, 64, (&[], &[failing]))?;
+    let line: &[u8] = if status == 0 {
+        b""
+    } else {
+        b"dmixlab: write\n"
+    };
+    assert!(rt;
+        left.status == status && left.out.bytes() == text.as_bytes() && left.errors.bytes() == line,
+        "{failing}"
+    );
     Ok(())
 }
 
 #[test]
 fn a_run_puts_its_report_in_four_pieces(rt: HostRuntime) -> Result<(), Fail> {
     let alloc = rt.alloc();
-    let mut taken = String::new(alloc);
+    let mut text = String::new(alloc);
     let mut number = 0u64;
     for piece in PIECES {
         number = number.wrapping_add(1);
-        let left = run(&rt, alloc, SCRIPT, 64, (&[], &[number]))?;
-        assert!(rt; left.status == 5);
-        assert!(rt; left.errors.bytes() == b"dmixlab: write\n".as_slice());
-        assert!(rt; left.out.bytes() == taken.as_bytes(), "{number}");
-        taken.push_str(piece)?;
+        leaves_text_so_far(&rt, alloc, number, 5, &text)?;
+        text.push_str(piece)?;
     }
-    let left = run(&rt, alloc, SCRIPT, 64, (&[], &[5]))?;
-    assert!(rt; left.status == 0);
-    assert!(rt; left.out.bytes() == taken.as_bytes());
-    assert!(rt; taken.len() == 134);
+    leaves_text_so_far(&rt, alloc, 5, 0, &text)?;
+    assert!(rt; text.len() == 134);
+    Ok(())
+}
+
+// A run of a script, with a WAV file of so many frames, of which this call of the shelf fails ends with this status, and leaves so many
+// bytes in `o.wav` and in `o.r.wav`.
+fn leaves_sizes<R: Threads + Sync + Abort>(
+    rt: &R,
+    alloc: Global,
+    given: (&str, u16),
+    failing: u64,
+    leaves: (u8, usize, usize),
+) -> Result<(), AllocError> {
+    let left = run(rt, alloc, given.0, given.1, (&[failing], &[]))?;
+    let sizes = (left.held("o.wav").len(), left.held("o.r.wav").len());
+    assert!(rt; (left.status, sizes.0, sizes.1) == leaves, "{failing}");
     Ok(())
 }
 
@@ -105,27 +140,23 @@ fn a_run_puts_its_report_in_four_pieces(rt: HostRuntime) -> Result<(), Fail> {
 // two appends and a finish.
 #[test]
 fn a_file_is_fetched_in_pieces(rt: HostRuntime) -> Result<(), Fail> {
-    let alloc = rt.alloc();
-    for (failing, status) in [
-        (1, 4),
-        (2, 4),
-        (3, 4),
-        (4, 5),
-        (5, 5),
-        (6, 5),
-        (7, 5),
-        (8, 0),
+    for (failing, status, played) in [
+        (1, 4, 3),
+        (2, 4, 3),
+        (3, 4, 3),
+        (4, 5, 3),
+        (5, 5, 44),
+        (6, 5, 300),
+        (7, 5, 556),
+        (8, 0, 556),
     ] {
-        let left = run(&rt, alloc, IN_TWO, 32746, (&[failing], &[]))?;
-        assert!(rt; left.status == status, "{failing}");
-        let held = left.shelf.file(b"o.wav").unwrap_or(&[]).len();
-        let wanted = match failing {
-            1..=4 => 3,
-            5 => 44,
-            6 => 300,
-            _ => 556,
-        };
-        assert!(rt; held == wanted, "{failing}");
+        leaves_sizes(
+            &rt,
+            rt.alloc(),
+            (IN_TWO, 32746),
+            failing,
+            (status, played, 0),
+        )?;
     }
     Ok(())
 }
@@ -133,34 +164,25 @@ fn a_file_is_fetched_in_pieces(rt: HostRuntime) -> Result<(), Fail> {
 // A reader's file is begun, appended to and finished after the card's. A phase in which nothing is played or recorded appends nothing.
 #[test]
 fn the_files_of_readers_follow_the_cards(rt: HostRuntime) -> Result<(), Fail> {
-    let alloc = rt.alloc();
     let script =
         "card channels 1 rate 48000 period 64 ring 256\nreader r\nopen r\nphase\nr start\nend\nphase\ncard play 8\nend\nphase\nr read 8\nend\n";
-    for (failing, played, recorded) in [
-        (1, 3, 0),
-        (2, 3, 0),
-        (3, 44, 0),
-        (4, 44, 44),
-        (5, 60, 44),
-        (6, 60, 60),
-        (7, 60, 60),
-        (8, 60, 60),
+    for (failing, status, played, recorded) in [
+        (1, 4, 3, 0),
+        (2, 5, 3, 0),
+        (3, 5, 44, 0),
+        (4, 5, 44, 44),
+        (5, 5, 60, 44),
+        (6, 5, 60, 60),
+        (7, 5, 60, 60),
+        (8, 0, 60, 60),
     ] {
-        let left = run(&rt, alloc, script, 1, (&[failing], &[]))?;
-        let status = match failing {
-            1 => 4,
-            2..=7 => 5,
-            _ => 0,
-        };
-        assert!(rt; left.status == status, "{failing}");
-        assert!(rt;
-            left.shelf.file(b"o.wav").unwrap_or(&[]).len() == played,
-            "{failing}"
-        );
-        assert!(rt;
-            left.shelf.file(b"o.r.wav").unwrap_or(&[]).len() == recorded,
-            "{failing}"
-        );
+        leaves_sizes(
+            &rt,
+            rt.alloc(),
+            (script, 1),
+            failing,
+            (status, played, recorded),
+        )?;
     }
     Ok(())
 }
@@ -268,29 +290,43 @@ fn run_session<R: Threads + Sync>(
     call(rt, alloc, &["run", "s", "o"], files, failing)
 }
 
-// The files and the texts are as expected, and no file that is read has changed.
+// Whether no file that is read has changed.
+fn has_kept_input(alloc: Global, left: &Left) -> Result<bool, AllocError> {
+    let client = wav_of(alloc, MONO, &[(64, 1000)])?;
+    let captured = wav_of(alloc, MONO, &[(300, 7)])?;
+    Ok(
+        left.held("s") == SESSION.as_bytes()
+            && left.held("a.wav") == client.as_slice()
+            && left.held("c.wav") == captured.as_slice(),
+    )
+}
+
+// The status, the line, the text and the files are as expected, and no file that is read has changed.
 fn expect_left<R: Abort>(
     rt: &R,
     alloc: Global,
     left: &Left,
     expected: &Expected,
-    message: &str,
+    end: (u8, &str),
 ) -> Result<(), AllocError> {
-    let card = left.shelf.file(b"o.wav").unwrap_or(&[]);
-    let reader = left.shelf.file(b"o.r.wav");
-    assert!(rt; text_in(left.errors.bytes()) == message);
-    assert!(rt; text_in(left.out.bytes()) == text_in(&expected.text));
-    assert!(rt; card == expected.card.as_slice(), "o.wav");
-    assert!(rt; reader.is_some() == !expected.reader.is_empty());
+    let has_reader = left.shelf.file(b"o.r.wav").is_some();
     assert!(rt;
-        reader.unwrap_or(&[]) == expected.reader.as_slice(),
-        "o.r.wav"
+        left.status == end.0
+            && left.errors.bytes() == end.1.as_bytes()
+            && left.out.bytes() == expected.text.as_slice(),
+        "{} {}",
+        end.0,
+        end.1
     );
-    let client = wav_of(alloc, MONO, &[(64, 1000)])?;
-    let captured = wav_of(alloc, MONO, &[(300, 7)])?;
-    assert!(rt; left.shelf.file(b"s").unwrap_or(&[]) == SESSION.as_bytes());
-    assert!(rt; left.shelf.file(b"a.wav").unwrap_or(&[]) == client.as_slice());
-    assert!(rt; left.shelf.file(b"c.wav").unwrap_or(&[]) == captured.as_slice());
+    assert!(rt;
+        left.held("o.wav") == expected.card.as_slice()
+            && left.held("o.r.wav") == expected.reader.as_slice()
+            && has_reader == !expected.reader.is_empty()
+            && has_kept_input(alloc, left)?,
+        "{} {}",
+        end.0,
+        end.1
+    );
     Ok(())
 }
 
@@ -300,6 +336,23 @@ fn refusal_of(alloc: Global, step: &Step<'_>) -> Result<(u8, String), AllocError
         Step::Fetch(name) => Ok((4, format!(in alloc; "dmixlab: read {name}\n")?)),
         _ => Ok((5, format!(in alloc; "dmixlab: write\n")?)),
     }
+}
+
+// Where a step fails, which is the call of the shelf or the put of this number, the session leaves what is expected. A function of its
+// own, so that no table is there where something is let go.
+fn fails_at<R: Threads + Sync + Abort>(
+    rt: &R,
+    alloc: Global,
+    step: &Step<'_>,
+    numbers: (u64, u64),
+    expected: &Expected,
+) -> Result<(), AllocError> {
+    let left = match step {
+        Step::Put(_) => run_session(rt, alloc, (&[], &[numbers.1]))?,
+        _ => run_session(rt, alloc, (&[numbers.0], &[]))?,
+    };
+    let (status, message) = refusal_of(alloc, step)?;
+    expect_left(rt, alloc, &left, expected, (status, &message))
 }
 
 #[test]
@@ -312,22 +365,15 @@ fn a_call_that_fails_leaves_what_the_calls_before_it_left(rt: HostRuntime) -> Re
     };
     let (mut calls, mut puts) = (1u64, 1u64);
     for step in &STEPS {
-        let left = match step {
-            Step::Put(_) => run_session(&rt, alloc, (&[], &[puts]))?,
-            _ => run_session(&rt, alloc, (&[calls], &[]))?,
-        };
-        let (status, message) = refusal_of(alloc, step)?;
-        assert!(rt; left.status == status, "{message}");
-        expect_left(&rt, alloc, &left, &expected, &message)?;
+        fails_at(&rt, alloc, step, (calls, puts), &expected)?;
         expected.advance(alloc, step)?;
         match step {
             Step::Put(_) => puts = puts.wrapping_add(1),
             _ => calls = calls.wrapping_add(1),
         }
     }
-    // A call behind the last one isn't made.
+    // A call after the last one isn't made.
     let left = run_session(&rt, alloc, (&[calls], &[puts]))?;
-    assert!(rt; left.status == 0);
-    expect_left(&rt, alloc, &left, &expected, "")?;
+    expect_left(&rt, alloc, &left, &expected, (0, ""))?;
     Ok(())
 }

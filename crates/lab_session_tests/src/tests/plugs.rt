@@ -1,7 +1,10 @@
 //! Clients whose files have other samples, rates and channels than the card: what is played of them.
-use lab_calls::{MONO, call, text_in, wav_around};
+use lab_calls::{MONO, call, wav_around};
 use std::alloc::{AllocError, Global};
+use std::marker::Sync;
+use std::process::Abort;
 use std::test::Fail;
+use std::thread::Threads;
 
 // A file: what is between its RIFF size and its data, and the bytes of its data; and the samples that are played of it.
 struct Converted<'a> {
@@ -69,28 +72,45 @@ fn played_of(alloc: Global, samples: &[i16]) -> Result<Vec<u8>, AllocError> {
     wav_around(alloc, MONO, &played)
 }
 
+// The files of a run of a client with this file.
+fn files_of_plug(
+    alloc: Global,
+    converted: &Converted<'_>,
+) -> Result<Vec<(Vec<u8>, Vec<u8>)>, AllocError> {
+    let mut files = Vec::new(alloc);
+    let file = file_of(alloc, converted.head, converted.data)?;
+    files.push((Vec::from_slice(alloc, b"a.wav")?, file))?;
+    files.push((
+        Vec::from_slice(alloc, b"s")?,
+        Vec::from_slice(alloc, SCRIPT.as_bytes())?,
+    ))?;
+    Ok(files)
+}
+
+// A file is converted to these samples. A function of its own, so that no table is there where something is let go.
+fn is_converted<R: Threads + Sync + Abort>(
+    rt: &R,
+    alloc: Global,
+    converted: &Converted<'_>,
+) -> Result<(), AllocError> {
+    let count = converted.samples.len();
+    let report = format!(in alloc;
+        "dmixlab 1\n0 a open = ok PREPARED -\n1 a write 64 = {count} RUNNING 0\n2 card play 128 = 128 RUNNING 128\nsegment a 0 64 {count} 0\nplayed 0 128\nend\n"
+    )?;
+    let played = played_of(alloc, converted.samples)?;
+    let files = files_of_plug(alloc, converted)?;
+    let left = call(rt, alloc, &["run", "s", "o"], files, (&[], &[]))?;
+    assert!(rt;
+        left.is_done(report.as_bytes()) && left.held("o.wav") == played.as_slice(),
+        "{report}"
+    );
+    Ok(())
+}
+
 #[test]
 fn files_of_clients_with_plug_are_converted(rt: HostRuntime) -> Result<(), Fail> {
-    let alloc = rt.alloc();
     for converted in &CONVERTED {
-        let mut files = Vec::new(alloc);
-        let file = file_of(alloc, converted.head, converted.data)?;
-        files.push((Vec::from_slice(alloc, b"a.wav")?, file))?;
-        files.push((
-            Vec::from_slice(alloc, b"s")?,
-            Vec::from_slice(alloc, SCRIPT.as_bytes())?,
-        ))?;
-        let left = call(&rt, alloc, &["run", "s", "o"], files, (&[], &[]))?;
-        let count = converted.samples.len();
-        let report = format!(in alloc;
-            "dmixlab 1\n0 a open = ok PREPARED -\n1 a write 64 = {count} RUNNING 0\n2 card play 128 = 128 RUNNING 128\nsegment a 0 64 {count} 0\nplayed 0 128\nend\n"
-        )?;
-        assert!(rt; text_in(left.errors.bytes()) == "");
-        assert!(rt; left.status == 0);
-        assert!(rt; text_in(left.out.bytes()) == report.as_str());
-        let played = played_of(alloc, converted.samples)?;
-        let held = left.shelf.file(b"o.wav").unwrap_or(&[]);
-        assert!(rt; held == played.as_slice());
+        is_converted(&rt, rt.alloc(), converted)?;
     }
     Ok(())
 }

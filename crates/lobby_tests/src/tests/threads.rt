@@ -98,8 +98,8 @@ fn a_lobby_attaches_while_the_card_plays(rt: HostRuntime) -> Result<(), Fail> {
     assert!(rt; hall.attach()? == Ok(0));
     hall.lay(64, 64, 5)?;
     assert!(rt; hall.detach()? == 128);
-    let Hall { player, lobby, out } = hall;
-    assert!(rt; out.is_empty());
+    assert!(rt; hall.out.is_empty());
+    let (player, lobby) = hall.into_parts();
     let mut playing = Playing { player };
     let mut waiting = Waiting { lobby, seen: 0 };
     play_beside(&rt, &mut playing, &mut waiting);
