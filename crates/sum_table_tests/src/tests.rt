@@ -15,7 +15,7 @@ use std::marker::Brand;
 use std::process::Abort;
 use std::sync::ledger::{Blank, Ledger};
 use std::test::Fail;
-use sum_table::{Closed, MixSeat, SumRing};
+use sum_table::{Closed, MixSeat, PlayerSeat, SumRing};
 
 // A ring of 64 frames from lap 0 on.
 fn new_ring(alloc: Global, channels: u8, places: u32) -> Result<SumRing, Fail>
@@ -86,6 +86,50 @@ fn try_exchange<L: Ledger>(
     Ok(seat.exchange_word(frame, 0, old, sample, steps))
 }
 
+// Loads a word of channel 0, which the seat notes.
+fn try_load<L: Ledger>(
+    seat: &mut MixSeat<'_>,
+    frame: u64,
+    steps: &mut Steps<L>,
+) -> Result<u64, Fail>
+    ensures noted { IfOk result (λ word. noted_word seat.new frame 0 ≡ Some word) }
+{
+    if seat.geometry().channels == 0 {
+        return Err("no channel".into());
+    }
+    Ok(seat.load_word(frame, 0, steps))
+}
+
+// The last value of so many that the player takes, and whether those before it are silent.
+fn last_played(player: &mut PlayerSeat<'_>, count: u32) -> Result<(i16, bool), Fail> {
+    let mut value = 0;
+    let mut is_silent = true;
+    for _ in 0..count {
+        is_silent = is_silent && value == 0;
+        value = player.take_word()?.value;
+    }
+    Ok((value, is_silent))
+}
+
+// Both seats have found one word. A function that is lent them, here as below, so that none is let go where something fails.
+fn loses_once<L: Ledger, A: Abort>(
+    rt: &A,
+    a: &mut MixSeat<'_>,
+    b: &mut MixSeat<'_>,
+    steps: &mut Steps<L>,
+) -> Result<(), Fail> {
+    let word = try_load(a, 5, steps)?;
+    assert!(rt; word == 8388608);
+    assert!(rt; try_place(b, 5, 0, 10000)? == Placed::In);
+    let Err(found) = try_exchange(a, 5, word, 30000, steps)? else {
+        return Err("the exchange was won".into());
+    };
+    assert!(rt; found == 25175824);
+    assert!(rt; try_exchange(a, 5, found, 30000, steps)? == Ok(()));
+    assert!(rt; try_load(a, 5, steps)? == 41983040);
+    Ok(())
+}
+
 fn lose_once<L: Ledger, A: Abort>(rt: &A, alloc: Global, blank: Blank) -> Result<(), Fail>
     requires name { blank.name ≡ L.name }
     requires parts { blank.parts ≡ L.parts }
@@ -95,19 +139,8 @@ fn lose_once<L: Ledger, A: Abort>(rt: &A, alloc: Global, blank: Blank) -> Result
     let mut ring = new_ring(alloc, 1, 2)?;
     let (mut player, mut a) = ring.seats();
     let mut b = a.split(1, 1);
-    let word = a.load_word(5, 0, &mut steps);
-    assert!(rt; word == 8388608);
-    assert!(rt; try_place(&mut b, 5, 0, 10000)? == Placed::In);
-    let Err(found) = try_exchange(&mut a, 5, word, 30000, &mut steps)? else {
-        return Err("the exchange was won".into());
-    };
-    assert!(rt; found == 25175824);
-    assert!(rt; try_exchange(&mut a, 5, found, 30000, &mut steps)? == Ok(()));
-    assert!(rt; a.load_word(5, 0, &mut steps) == 41983040);
-    for _ in 0..5 {
-        assert!(rt; player.take_word()?.value == 0);
-    }
-    assert!(rt; player.take_word()?.value == 32767);
+    loses_once(rt, &mut a, &mut b, &mut steps)?;
+    assert!(rt; last_played(&mut player, 6)? == (32767, true));
     Ok(())
 }
 
@@ -117,13 +150,8 @@ fn a_lost_exchange_is_tried_again(rt: HostRuntime) -> Result<(), Fail> {
     lose_once::<Brand, _>(&rt, rt.alloc(), Blank::new(1))
 }
 
-#[test]
-fn a_place_at_a_taken_frame_is_late(rt: HostRuntime) -> Result<(), Fail> {
-    let mut ring = new_ring(rt.alloc(), 1, 1)?;
-    let (mut player, mut a) = ring.seats();
-    for _ in 0..10 {
-        assert!(rt; player.take_word()?.value == 0);
-    }
+fn is_late<A: Abort>(rt: &A, player: &mut PlayerSeat<'_>, a: &mut MixSeat<'_>) -> Result<(), Fail> {
+    assert!(rt; last_played(player, 10)? == (0, true));
     player.publish();
     let position = Position {
         frame: 10,
@@ -132,15 +160,32 @@ fn a_place_at_a_taken_frame_is_late(rt: HostRuntime) -> Result<(), Fail> {
     let before = a.cursor();
     assert!(rt; a.position(&mut NeverStops)? == position);
     let late = Placed::Late { seen: 4303355904 };
-    assert!(rt; try_place(&mut a, 7, 0, 1)? == late);
-    assert!(rt; a.cursor() == before);
-    assert!(rt; a.last() == None);
+    assert!(rt; try_place(a, 7, 0, 1)? == late);
+    assert!(rt; (a.cursor(), a.last()) == (before, None));
     player.unplug();
     assert!(rt; a.position(&mut NeverStops)?.gone);
     Ok(())
 }
 
-fn lay_anew<L: Ledger, A: Abort>(rt: &A, alloc: Global, blank: Blank) -> Result<(), Fail>
+#[test]
+fn a_place_at_a_taken_frame_is_late(rt: HostRuntime) -> Result<(), Fail> {
+    let mut ring = new_ring(rt.alloc(), 1, 1)?;
+    let (mut player, mut a) = ring.seats();
+    is_late(&rt, &mut player, &mut a)
+}
+
+fn places_anew<L: Ledger, A: Abort>(
+    rt: &A,
+    a: &mut MixSeat<'_>,
+    steps: &mut Steps<L>,
+) -> Result<(), Fail> {
+    assert!(rt; place_and_withdraw(a, 0, 30000)? == Placed::In);
+    assert!(rt; try_place(a, 0, 0, 7)? == Placed::In);
+    assert!(rt; try_load(a, 0, steps)? == 58720263);
+    Ok(())
+}
+
+fn place_anew<L: Ledger, A: Abort>(rt: &A, alloc: Global, blank: Blank) -> Result<(), Fail>
     requires name { blank.name ≡ L.name }
     requires parts { blank.parts ≡ L.parts }
     requires some { 0 < blank.parts }
@@ -148,17 +193,15 @@ fn lay_anew<L: Ledger, A: Abort>(rt: &A, alloc: Global, blank: Blank) -> Result<
     let mut steps: Steps<L> = Steps::open(blank);
     let mut ring = new_ring(alloc, 1, 1)?;
     let (mut player, mut a) = ring.seats();
-    assert!(rt; place_and_withdraw(&mut a, 0, 30000)? == Placed::In);
-    assert!(rt; try_place(&mut a, 0, 0, 7)? == Placed::In);
-    assert!(rt; a.load_word(0, 0, &mut steps) == 58720263);
-    assert!(rt; player.take_word()?.value == 7);
+    places_anew(rt, &mut a, &mut steps)?;
+    assert!(rt; last_played(&mut player, 1)? == (7, true));
     Ok(())
 }
 
 // A sample that is placed, withdrawn and placed anew is three changes of one word, and the last sample is played.
 #[test]
 fn a_withdrawn_sample_is_placed_anew(rt: HostRuntime) -> Result<(), Fail> {
-    lay_anew::<Brand, _>(&rt, rt.alloc(), Blank::new(1))
+    place_anew::<Brand, _>(&rt, rt.alloc(), Blank::new(1))
 }
 
 // The largest ring is made where there is memory for it, and a sample is placed in its last word.
@@ -177,6 +220,21 @@ fn the_largest_ring_is_made(rt: HostRuntime) -> Result<(), Fail> {
     Ok(())
 }
 
+// A sample of each seat in the first word.
+fn places_three<L: Ledger, A: Abort>(
+    rt: &A,
+    a: &mut MixSeat<'_>,
+    b: &mut MixSeat<'_>,
+    c: &mut MixSeat<'_>,
+    steps: &mut Steps<L>,
+) -> Result<(), Fail> {
+    assert!(rt; try_place(a, 0, 0, 30000)? == Placed::In);
+    assert!(rt; try_place(b, 0, 0, 10000)? == Placed::In);
+    assert!(rt; try_place(c, 0, 0, -20000)? == Placed::In);
+    assert!(rt; try_load(a, 0, steps)? == 58740256);
+    Ok(())
+}
+
 fn sum_three<L: Ledger, A: Abort>(rt: &A, alloc: Global, blank: Blank) -> Result<(), Fail>
     requires name { blank.name ≡ L.name }
     requires parts { blank.parts ≡ L.parts }
@@ -187,11 +245,8 @@ fn sum_three<L: Ledger, A: Abort>(rt: &A, alloc: Global, blank: Blank) -> Result
     let (mut player, mut a) = ring.seats();
     let mut b = a.split(1, 1);
     let mut c = a.split(1, 2);
-    assert!(rt; try_place(&mut a, 0, 0, 30000)? == Placed::In);
-    assert!(rt; try_place(&mut b, 0, 0, 10000)? == Placed::In);
-    assert!(rt; try_place(&mut c, 0, 0, -20000)? == Placed::In);
-    assert!(rt; a.load_word(0, 0, &mut steps) == 58740256);
-    assert!(rt; player.take_word()?.value == 20000);
+    places_three(rt, &mut a, &mut b, &mut c, &mut steps)?;
+    assert!(rt; last_played(&mut player, 1)? == (20000, true));
     Ok(())
 }
 

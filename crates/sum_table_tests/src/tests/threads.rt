@@ -4,7 +4,6 @@ ghost use Rattle.sum_table.specs.Seats.{CanAdd};
 
 use super::*;
 use std::thread::{Threads, join_mut, yield_now};
-use sum_table::PlayerSeat;
 
 // How many words are played, and how often a seat looks before it gives up.
 const PLAYED: usize = 25600;
@@ -144,18 +143,18 @@ fn run_two<R: Threads + Sync>(
 // The samples of two clients pass the range together.
 #[test]
 fn two_threads_lay_while_another_takes(rt: HostRuntime) -> Result<(), Fail> {
+    let played = vec![in rt.alloc(); 0i16; PLAYED]?;
+    let (laid_a, laid_b) = (counts(rt.alloc())?, counts(rt.alloc())?);
+    let mut totals = counts(rt.alloc())?;
     let mut ring = new_ring(rt.alloc(), 2, 2)?;
     let (player, mut seat) = ring.seats();
-    let played = vec![in rt.alloc(); 0i16; PLAYED]?;
     let mut player = Playing {
         seat: player,
         played,
     };
-    let (laid_a, laid_b) = (counts(rt.alloc())?, counts(rt.alloc())?);
     let mut b = new_client(seat.split(1, 1), 15000, laid_b);
     let mut a = new_client(seat, 20000, laid_a);
     run_two(&rt, &mut player, &mut a, &mut b, 12800);
-    let mut totals = counts(rt.alloc())?;
     a.add_to(totals.as_mut_slice());
     b.add_to(totals.as_mut_slice());
     compare(totals.as_slice(), player.played.as_slice())
@@ -209,15 +208,16 @@ fn run_four<R: Threads + Sync>(
 
 #[test]
 fn four_threads_lay_while_another_takes(rt: HostRuntime) -> Result<(), Fail> {
+    let played = vec![in rt.alloc(); 0i16; PLAYED]?;
+    let (laid_a, laid_b) = (counts(rt.alloc())?, counts(rt.alloc())?);
+    let (laid_c, laid_d) = (counts(rt.alloc())?, counts(rt.alloc())?);
+    let mut totals = counts(rt.alloc())?;
     let mut ring = new_ring(rt.alloc(), 1, 4)?;
     let (player, mut seat) = ring.seats();
-    let played = vec![in rt.alloc(); 0i16; PLAYED]?;
     let mut player = Playing {
         seat: player,
         played,
     };
-    let (laid_a, laid_b) = (counts(rt.alloc())?, counts(rt.alloc())?);
-    let (laid_c, laid_d) = (counts(rt.alloc())?, counts(rt.alloc())?);
     let b = new_client(seat.split(1, 1), 15000, laid_b);
     let c = new_client(seat.split(1, 2), -32768, laid_c);
     let d = new_client(seat.split(1, 3), 9, laid_d);
@@ -225,7 +225,6 @@ fn four_threads_lay_while_another_takes(rt: HostRuntime) -> Result<(), Fail> {
     let mut first = Pair { left: a, right: b };
     let mut second = Pair { left: c, right: d };
     run_four(&rt, &mut player, &mut first, &mut second, 25600);
-    let mut totals = counts(rt.alloc())?;
     first.add_to(totals.as_mut_slice());
     second.add_to(totals.as_mut_slice());
     compare(totals.as_slice(), player.played.as_slice())
