@@ -87,7 +87,7 @@ const BUSY: PcmError = PcmError::Busy {
 };
 
 /// What the report says: the phase, the actor, what it was asked and its answer, row by row.
-const ANSWERS: [(u32, Actor, Op, Answer); 8] = [
+const ANSWERS: &[(u32, Actor, Op, Answer)] = &[
     (0, Actor::Client(1), Op::Opens, Answer::Done),
     (1, Actor::Card, Op::Play(7), Answer::Count(7)),
     (
@@ -142,7 +142,7 @@ fn reads_a_report(rt: HostRuntime) -> Result<(), Fail> {
 }
 
 /// Answers, states and what was seen, as rows have them.
-const ANSWER_WORDS: [(&str, &str, &str); 16] = [
+const ANSWER_WORDS: &[(&str, &str, &str)] = &[
     ("ok", "PREPARED", "-"),
     ("0", "RUNNING", "0"),
     ("18446744073709551615", "RUNNING", "18446744073709551615"),
@@ -162,7 +162,7 @@ const ANSWER_WORDS: [(&str, &str, &str); 16] = [
 ];
 
 /// What the script asks, row by row.
-const ASKED: [&str; 8] = [
+const ASKED: &[&str] = &[
     "0 b open",
     "1 card play 7",
     "1 a sync",
@@ -176,7 +176,7 @@ const ASKED: [&str; 8] = [
 /// The report in which each row has the same answer.
 fn answered(alloc: Global, answer: &str, state: &str, seen: &str) -> Result<String, AllocError> {
     let mut text = String::from_str(alloc, "dmixlab 1\n")?;
-    for asked in &ASKED {
+    for asked in ASKED {
         writeln!(text, "{asked} = {answer} {state} {seen}")?;
     }
     text.push_str(TAIL)?;
@@ -210,7 +210,7 @@ fn is_printed_again(
 fn prints_what_it_read(rt: HostRuntime) -> Result<(), Fail> {
     let alloc = rt.alloc();
     let script = script(alloc)?;
-    for words in &ANSWER_WORDS {
+    for words in ANSWER_WORDS {
         assert!(rt; is_printed_again(alloc, words, &script)?, "{}", words.0);
     }
     Ok(())
@@ -247,7 +247,7 @@ fn is_refused(
 }
 
 /// Texts that are refused, each with the line and the cause.
-const REFUSED: [(&str, u32, ReportWhy); 34] = [
+const REFUSED: &[(&str, u32, ReportWhy)] = &[
     ("", 0, ReportWhy::Ended),
     ("dmixlab", 1, ReportWhy::Ended),
     ("dmixlab 1", 1, ReportWhy::Ended),
@@ -328,14 +328,14 @@ const REFUSED: [(&str, u32, ReportWhy); 34] = [
 fn refuses_each_defect_at_its_line(rt: HostRuntime) -> Result<(), Fail> {
     let alloc = rt.alloc();
     let script = script(alloc)?;
-    for refused in &REFUSED {
+    for refused in REFUSED {
         assert!(rt; is_refused(alloc, "", refused, &script)?, "{}", refused.0);
     }
     Ok(())
 }
 
 /// What is refused below the rows, each with the line and the cause.
-const REFUSED_TAILS: [(&str, u32, ReportWhy); 22] = [
+const REFUSED_TAILS: &[(&str, u32, ReportWhy)] = &[
     ("", 9, ReportWhy::Ended),
     ("end\n", 10, ReportWhy::Word),
     ("2 card unplug = ok DISCONNECTED 7\n", 10, ReportWhy::Word),
@@ -368,7 +368,7 @@ const REFUSED_TAILS: [(&str, u32, ReportWhy); 22] = [
 fn refuses_each_defect_below_the_rows(rt: HostRuntime) -> Result<(), Fail> {
     let alloc = rt.alloc();
     let script = script(alloc)?;
-    for refused in &REFUSED_TAILS {
+    for refused in REFUSED_TAILS {
         assert!(rt; is_refused(alloc, ROWS, refused, &script)?, "{}", refused.0);
     }
     Ok(())

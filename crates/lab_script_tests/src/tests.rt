@@ -23,7 +23,7 @@ fn repeated(alloc: Global, text: &str, times: u32) -> Result<String, AllocError>
 }
 
 /// Texts that are refused, each with the line and the cause.
-const REFUSED: [(&str, u32, Why); 69] = [
+const REFUSED: &[(&str, u32, Why)] = &[
     ("# no words\n\n \t\r\n", 0, Why::NoCard),
     ("client a f", 1, Why::Order),
     ("foo", 1, Why::Word),
@@ -119,7 +119,7 @@ fn is_refused(alloc: Global, refused: &(&str, u32, Why)) -> bool {
 
 #[test]
 fn refuses_each_line_of_its_own(rt: HostRuntime) -> Result<(), Fail> {
-    for refused in &REFUSED {
+    for refused in REFUSED {
         assert!(rt; is_refused(rt.alloc(), refused), "{}", refused.0);
     }
     assert!(rt; refusal(rt.alloc(), b"card rate 0000000000000048000") == None);
@@ -271,7 +271,7 @@ fn reads_a_script_with_everything(rt: HostRuntime) -> Result<(), Fail> {
 }
 
 /// What the lines of the first phase of that script ask for.
-const OPS: [Op; 22] = [
+const OPS: &[Op] = &[
     Op::Write(4_194_304),
     Op::Start,
     Op::Sync,

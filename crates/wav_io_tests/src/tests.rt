@@ -8,7 +8,7 @@ use std::test::*;
 use wav_io::{Samples, Wav, WavError, header, open_header, read_wav, write_wav};
 
 /// The canonical mono file of no frame at 48000 Hz.
-const EMPTY: [u8; 44] = [
+const EMPTY: &[u8] = &[
     0x52, 0x49, 0x46, 0x46, 0x24, 0x00, 0x00, 0x00, 0x57, 0x41, 0x56, 0x45, 0x66, 0x6d, 0x74, 0x20,
     0x10, 0x00, 0x00, 0x00, 0x01, 0x00, 0x01, 0x00, 0x80, 0xbb, 0x00, 0x00, 0x00, 0x77, 0x01, 0x00,
     0x02, 0x00, 0x10, 0x00, 0x64, 0x61, 0x74, 0x61, 0x00, 0x00, 0x00, 0x00,
@@ -16,13 +16,13 @@ const EMPTY: [u8; 44] = [
 
 #[test]
 fn the_empty_file_both_ways(rt: HostRuntime) -> Result<(), Fail> {
-    assert!(rt; header(1, 48000, 0) == EMPTY);
+    assert!(rt; header(1, 48000, 0).as_slice() == EMPTY);
     let open = open_header(1, 48000);
     assert!(rt; *&&open[..4] == *&&EMPTY[..4]);
     assert!(rt; *&&open[4..8] == [0xffu8; 4].as_slice());
     assert!(rt; *&&open[8..40] == *&&EMPTY[8..40]);
     assert!(rt; *&&open[40..] == [0xffu8; 4].as_slice());
-    let read = read_wav(rt.alloc(), &EMPTY).ok().ok_or("the file is read")?;
+    let read = read_wav(rt.alloc(), EMPTY).ok().ok_or("the file is read")?;
     assert!(rt; read.channels == 1);
     assert!(rt; read.rate == 48000);
     assert!(rt; read.samples.is_empty());
@@ -37,7 +37,7 @@ fn the_empty_file_both_ways(rt: HostRuntime) -> Result<(), Fail> {
     )
     .ok()
     .ok_or("the file is written")?;
-    assert!(rt; written.as_slice() == EMPTY.as_slice());
+    assert!(rt; written.as_slice() == EMPTY);
     Ok(())
 }
 
@@ -62,7 +62,7 @@ fn one_frame_both_ways(rt: HostRuntime) -> Result<(), Fail> {
 }
 
 /// The head of a mono file at 48000 Hz up to its format chunk's end, with a RIFF size that says nothing.
-const BEGIN: [u8; 36] = [
+const BEGIN: &[u8] = &[
     0x52, 0x49, 0x46, 0x46, 0xff, 0xff, 0xff, 0xff, 0x57, 0x41, 0x56, 0x45, 0x66, 0x6d, 0x74, 0x20,
     0x10, 0x00, 0x00, 0x00, 0x01, 0x00, 0x01, 0x00, 0x80, 0xbb, 0x00, 0x00, 0x00, 0x77, 0x01, 0x00,
     0x02, 0x00, 0x10, 0x00,
@@ -72,17 +72,17 @@ const BEGIN: [u8; 36] = [
 const LIMIT: usize = 67_108_864;
 
 /// A LIST chunk of three bytes and a pad byte.
-const LIST: [u8; 12] = [0x4c, 0x49, 0x53, 0x54, 3, 0, 0, 0, 0x61, 0x62, 0x63, 0];
+const LIST: &[u8] = &[0x4c, 0x49, 0x53, 0x54, 3, 0, 0, 0, 0x61, 0x62, 0x63, 0];
 
 /// An extensible format chunk, mono at 48000 Hz, whose sub-format begins with tag 1.
-const EXTENSIBLE: [u8; 48] = [
+const EXTENSIBLE: &[u8] = &[
     0x66, 0x6d, 0x74, 0x20, 40, 0, 0, 0, 0xfe, 0xff, 1, 0, 0x80, 0xbb, 0, 0, 0, 0x77, 1, 0, 2, 0,
     16, 0, 22, 0, 16, 0, 4, 0, 0, 0, 1, 0, 0, 0, 0, 0, 0x10, 0, 0x80, 0, 0, 0xaa, 0, 0x38, 0x9b,
     0x71,
 ];
 
 /// The data chunk's head, with a size past the end of the file, and a sample of 1.
-const DATA: [u8; 10] = [0x64, 0x61, 0x74, 0x61, 0xff, 0xff, 0xff, 0xff, 1, 0];
+const DATA: &[u8] = &[0x64, 0x61, 0x74, 0x61, 0xff, 0xff, 0xff, 0xff, 1, 0];
 
 fn joined(alloc: Global, parts: &[&[u8]]) -> Result<Vec<u8>, AllocError> {
     let mut bytes = Vec::new(alloc);
@@ -111,10 +111,10 @@ fn refusal(read: Result<Wav, WavError>) -> Option<WavError> {
 #[test]
 fn list_chunks_and_extensible_formats_are_read(rt: HostRuntime) -> Result<(), Fail> {
     let alloc = rt.alloc();
-    let list = joined(alloc, &[&BEGIN, &LIST, &DATA])?;
+    let list = joined(alloc, &[BEGIN, LIST, DATA])?;
     assert!(rt; is_one_sample(read_wav(alloc, &list)));
     assert!(rt; is_alike_in_pieces(alloc, &list));
-    let mut bytes = joined(alloc, &[&BEGIN[..12], &EXTENSIBLE, &DATA])?;
+    let mut bytes = joined(alloc, &[&BEGIN[..12], EXTENSIBLE, DATA])?;
     assert!(rt; is_one_sample(read_wav(alloc, &bytes)));
     assert!(rt; is_alike_in_pieces(alloc, &bytes));
     if let Some(tag) = bytes.get_mut(12 + 8 + 24) {
@@ -128,7 +128,7 @@ fn list_chunks_and_extensible_formats_are_read(rt: HostRuntime) -> Result<(), Fa
 #[test]
 fn cut_files(rt: HostRuntime) -> Result<(), Fail> {
     let alloc = rt.alloc();
-    let rest = joined(alloc, &[&BEGIN, &DATA[..4], &[4, 0, 0, 0, 1, 0, 2]])?;
+    let rest = joined(alloc, &[BEGIN, &DATA[..4], &[4, 0, 0, 0, 1, 0, 2]])?;
     assert!(rt; is_one_sample(read_wav(alloc, &rest)));
     assert!(rt; is_alike_in_pieces(alloc, &rest));
     assert!(rt; is_alike_in_pieces(alloc, &BEGIN[..30]));
@@ -176,15 +176,15 @@ fn refusals_of_the_format(rt: HostRuntime) -> Result<(), Fail> {
         (12, 0x46, WavError::NoFormat),
     ];
     for (at, byte, want) in table {
-        let mut bytes = joined(alloc, &[&BEGIN, &DATA])?;
+        let mut bytes = joined(alloc, &[BEGIN, DATA])?;
         if let Some(place) = bytes.get_mut(at) {
             *place = byte;
         }
         assert!(rt; refusal(read_wav(alloc, &bytes)) == Some(want), "{at}");
     }
-    let twice = joined(alloc, &[&BEGIN, &BEGIN[12..], &DATA])?;
+    let twice = joined(alloc, &[BEGIN, &BEGIN[12..], DATA])?;
     assert!(rt; refusal(read_wav(alloc, &twice)) == Some(WavError::FormatTwice));
-    let mut bytes = joined(alloc, &[&BEGIN, &DATA])?;
+    let mut bytes = joined(alloc, &[BEGIN, DATA])?;
     for at in [24usize, 25, 26, 27, 34] {
         if let Some(place) = bytes.get_mut(at) {
             *place = 0;
@@ -197,7 +197,7 @@ fn refusals_of_the_format(rt: HostRuntime) -> Result<(), Fail> {
 #[test]
 fn a_file_past_the_limit_is_too_long(rt: HostRuntime) -> Result<(), Fail> {
     let alloc = rt.alloc();
-    let mut bytes = joined(alloc, &[&BEGIN, &DATA])?;
+    let mut bytes = joined(alloc, &[BEGIN, DATA])?;
     bytes.resize(LIMIT + 1, 0)?;
     assert!(rt; refusal(read_wav(alloc, &bytes)) == Some(WavError::TooLong));
     let cut = bytes.get(..LIMIT).ok_or("the file has so many bytes")?;

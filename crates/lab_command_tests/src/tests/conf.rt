@@ -31,7 +31,7 @@ const OVERRIDE: &str =
     "pcm.x.slave.period_size 512\npcm.!x { type dsnoop slave { pcm \"hw:0\" periods = 4 } }\n";
 
 // Configurations, the name of a device, and its lines: its type, its card and its bindings.
-const DESCRIBED: [(&str, &str, &str, &str, &str); 4] = [
+const DESCRIBED: &[(&str, &str, &str, &str, &str)] = &[
     (
         DMIXER,
         "dmixer",
@@ -79,14 +79,14 @@ fn puts_device<R: Threads + Sync + Abort>(
 
 #[test]
 fn devices_are_put_line_by_line(rt: HostRuntime) -> Result<(), Fail> {
-    for described in &DESCRIBED {
+    for described in DESCRIBED {
         puts_device(&rt, rt.alloc(), described)?;
     }
     Ok(())
 }
 
 // Texts that are refused, or whose device x is, each with the line and the cause.
-const REFUSED: [(&str, &str); 8] = [
+const REFUSED: &[(&str, &str)] = &[
     ("</etc/a.conf>", "line 1: Include"),
     ("", "line 0: Missing"),
     ("pcm.x {\n type dmix\n", "line 1: Unclosed"),
@@ -121,7 +121,7 @@ fn refuses_conf<R: Threads + Sync + Abort>(
 
 #[test]
 fn refused_configurations_are_named(rt: HostRuntime) -> Result<(), Fail> {
-    for (text, why) in &REFUSED {
+    for (text, why) in REFUSED {
         refuses_conf(&rt, rt.alloc(), text, why)?;
     }
     Ok(())

@@ -22,7 +22,7 @@ fn refine<R: Threads + Sync>(
 }
 
 // Texts and their answers.
-const ANSWERED: [(&str, &str); 3] = [
+const ANSWERED: &[(&str, &str)] = &[
     // A period of 1024 frames at 48000 Hz lasts 21333.3 microseconds, so no whole number of them.
     (
         "slave channels 2 rate 48000 period 1024 ring 8192\nset period_size 1024\nshow period_time\ninteger period_time\nchoose\n",
@@ -51,7 +51,7 @@ fn puts_answers<R: Threads + Sync + Abort>(
 
 #[test]
 fn answers_are_put(rt: HostRuntime) -> Result<(), Fail> {
-    for (text, answers) in &ANSWERED {
+    for (text, answers) in ANSWERED {
         puts_answers(&rt, rt.alloc(), text, answers)?;
     }
     Ok(())
@@ -60,7 +60,7 @@ fn answers_are_put(rt: HostRuntime) -> Result<(), Fail> {
 const ASKED: &str = "slave channels 2 rate 48000 period 1024 ring 8192\nshow rate\n";
 
 // Texts that are refused, each with the line and the cause.
-const REFUSED: [(&str, &str); 4] = [
+const REFUSED: &[(&str, &str)] = &[
     ("", "line 0: NoCard"),
     ("show rate\n", "line 1: Order"),
     (
@@ -88,7 +88,7 @@ fn refuses_text<R: Threads + Sync + Abort>(
 
 #[test]
 fn refused_texts_are_named(rt: HostRuntime) -> Result<(), Fail> {
-    for (text, why) in &REFUSED {
+    for (text, why) in REFUSED {
         refuses_text(&rt, rt.alloc(), text, why)?;
     }
     Ok(())

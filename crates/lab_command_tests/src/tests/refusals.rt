@@ -22,7 +22,7 @@ const RIGHT: &str =
 const EMPTY_FILE: &str =
     "card channels 1 rate 48000 period 64 ring 256\nclient a a.wav\nclient b none\nopen a\nopen b\n";
 
-const REFUSALS: [Refusal<'static>; 8] = [
+const REFUSALS: &[Refusal<'static>] = &[
     Refusal {
         words: &["run", "s"],
         script: RIGHT,
@@ -105,14 +105,14 @@ fn says_why<R: Threads + Sync + Abort>(
 
 #[test]
 fn calls_that_are_not_done_say_why(rt: HostRuntime) -> Result<(), Fail> {
-    for refusal in &REFUSALS {
+    for refusal in REFUSALS {
         says_why(&rt, rt.alloc(), refusal)?;
     }
     Ok(())
 }
 
 // A script for each cause but want of memory and `BindingsEmpty`, which no script has, each with the line and the cause.
-const REFUSED: [(&str, &str); 24] = [
+const REFUSED: &[(&str, &str)] = &[
     ("\nclient a a.wav\n", "line 2: Order"),
     ("card\nclient a a.wav\nopen b\n", "line 3: Word"),
     ("card channels\n", "line 1: Missing"),
@@ -184,7 +184,7 @@ fn refuses_script<R: Threads + Sync + Abort>(
 #[test]
 fn refused_scripts_are_named(rt: HostRuntime) -> Result<(), Fail> {
     let alloc = rt.alloc();
-    for (script, why) in &REFUSED {
+    for (script, why) in REFUSED {
         let script = Vec::from_slice(alloc, script.as_bytes())?;
         refuses_script(&rt, alloc, script, why)?;
     }
@@ -228,7 +228,7 @@ fn a_script_has_64_clients_64_readers_and_a_mebibyte(rt: HostRuntime) -> Result<
 const FRAME: &[u8] =
     b"RIFF\x26\x00\x00\x00WAVEfmt \x10\x00\x00\x00\x01\x00\x01\x00\x80\xbb\x00\x00\x00\x77\x01\x00\x02\x00\x10\x00data\x02\x00\x00\x00\x05\x00";
 
-const EARLY_ENDS: [(usize, &str); 6] = [
+const EARLY_ENDS: &[(usize, &str)] = &[
     (4, "NotRiff"),
     (12, "NotWave"),
     (20, "NoFormat"),
@@ -261,16 +261,16 @@ fn names_early_end<R: Threads + Sync + Abort>(
 fn files_that_end_too_early_are_named(rt: HostRuntime) -> Result<(), Fail> {
     let mut first = 0;
     for (end, why) in EARLY_ENDS {
-        for length in first..end {
+        for length in first..*end {
             names_early_end(&rt, rt.alloc(), length, why)?;
         }
-        first = end;
+        first = *end;
     }
     Ok(())
 }
 
 // What is before the data of files that are no 16-bit PCM.
-const FORMATS: [(&[u8], &str); 6] = [
+const FORMATS: &[(&[u8], &str)] = &[
     (
         b"WAVEfmt \x10\x00\x00\x00\x03\x00\x01\x00\x80\xbb\x00\x00\x00\x77\x01\x00\x02\x00\x10\x00",
         "Tag 3",
@@ -321,8 +321,8 @@ fn names_format<R: Threads + Sync + Abort>(
 #[test]
 fn files_of_other_formats_are_named(rt: HostRuntime) -> Result<(), Fail> {
     for format in FORMATS {
-        names_format(&rt, rt.alloc(), RIGHT, "a.wav", format)?;
-        names_format(&rt, rt.alloc(), CAPTURING, "c.wav", format)?;
+        names_format(&rt, rt.alloc(), RIGHT, "a.wav", *format)?;
+        names_format(&rt, rt.alloc(), CAPTURING, "c.wav", *format)?;
     }
     Ok(())
 }

@@ -4,7 +4,7 @@ use std::alloc::{AllocError, Global};
 use std::test::Fail;
 
 // Words that give no workload: a number out of its range, of no digit or of too many, with a sign, or one word too few or too many.
-const REFUSED: [&[&str]; 12] = [
+const REFUSED: &[&[&str]] = &[
     &["make", "18446744073709551616", "1", "1"],
     &["make", "1", "0", "1"],
     &["make", "1", "65", "1"],

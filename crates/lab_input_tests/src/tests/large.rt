@@ -6,7 +6,7 @@ use lab_shelf::{Shelf, ShelfFault};
 use std::alloc::{AllocError, Global};
 
 /// A WAV file of one frame, mono at 48000 Hz.
-const SMALL: [u8; 46] = [
+const SMALL: &[u8] = &[
     0x52, 0x49, 0x46, 0x46, 38, 0, 0, 0, 0x57, 0x41, 0x56, 0x45, 0x66, 0x6d, 0x74, 0x20, 16, 0, 0,
     0, 1, 0, 1, 0, 0x80, 0xbb, 0, 0, 0, 0x77, 1, 0, 2, 0, 16, 0, 0x64, 0x61, 0x74, 0x61, 2, 0, 0,
     0, 7, 0,
@@ -78,7 +78,7 @@ impl Shelf for LargeShelf {
             } else {
                 46
             };
-            piece_of(alloc, &SMALL, &self.zeros, bytes, from, most)
+            piece_of(alloc, SMALL, &self.zeros, bytes, from, most)
         }
     }
 

@@ -184,7 +184,7 @@ const CHANGES: &[(&str, &str)] = &[
 ];
 
 // The files that a run of one reader writes.
-const NAMES: [&[u8]; 2] = [b"o.wav", b"o.r0.wav"];
+const NAMES: &[&[u8]] = &[b"o.wav", b"o.r0.wav"];
 
 // The files, in one of which a byte is another one.
 fn with_other_byte(
@@ -196,7 +196,7 @@ fn with_other_byte(
     for name in NAMES {
         let mut bytes = Vec::from_slice(alloc, files.file(name).unwrap_or(&[]))?;
         if let Some(byte) = bytes.get_mut(100) {
-            *byte ^= u8::from(name == changed);
+            *byte ^= u8::from(*name == changed);
         }
         others.push((Vec::from_slice(alloc, name)?, bytes))?;
     }

@@ -223,7 +223,7 @@ end
 ",
 );
 
-const SESSIONS: [(&str, &str); 7] = [
+const SESSIONS: &[(&str, &str)] = &[
     ONE_WRITE,
     LAST_LAP,
     UNPLUGGED,
@@ -243,7 +243,7 @@ fn is_printed_as_read(alloc: Global, session: &(&str, &str)) -> Result<bool, Fai
 
 #[test]
 fn reads_and_prints_whole_sessions(rt: HostRuntime) -> Result<(), Fail> {
-    for session in &SESSIONS {
+    for session in SESSIONS {
         assert!(rt; is_printed_as_read(rt.alloc(), session)?, "{}", session.0);
     }
     Ok(())

@@ -14,7 +14,7 @@ const IN_TWO: &str =
     "card channels 1 rate 48000 period 64 ring 256\nclient a a.wav\nopen a\nphase\na write 64\nend\nphase\ncard play 128\nend\nphase\ncard play 128\nend\n";
 
 // The report of the first script, in the four pieces in which it is put.
-const PIECES: [&str; 4] = [
+const PIECES: &[&str] = &[
     "dmixlab 1\n",
     "0 a open = ok PREPARED -\n1 a write 64 = 64 RUNNING 0\n",
     "2 card play 256 = 256 RUNNING 256\n",
@@ -209,7 +209,7 @@ enum Step<'a> {
 
 // The session's steps in their order, worked out by hand. The frames of a phase are appended before its rows are put, and the true heads
 // are there before the end of the report is put.
-const STEPS: [Step<'static>; 16] = [
+const STEPS: &[Step<'static>] = &[
     Step::Fetch("s"),
     Step::Fetch("c.wav"),
     Step::Fetch("a.wav"),
@@ -364,7 +364,7 @@ fn a_call_that_fails_leaves_what_the_calls_before_it_left(rt: HostRuntime) -> Re
         text: Vec::new(alloc),
     };
     let (mut calls, mut puts) = (1u64, 1u64);
-    for step in &STEPS {
+    for step in STEPS {
         fails_at(&rt, alloc, step, (calls, puts), &expected)?;
         expected.advance(alloc, step)?;
         match step {

@@ -13,7 +13,7 @@ struct Converted<'a> {
     samples: &'a [i16],
 }
 
-const CONVERTED: [Converted<'static>; 3] = [
+const CONVERTED: &[Converted<'static>] = &[
     // Unsigned bytes at half the card's rate: between each sample and the next is their mean, and the last is repeated.
     Converted {
         head: b"WAVEfmt \x10\x00\x00\x00\x01\x00\x01\x00\xc0\x5d\x00\x00\xc0\x5d\x00\x00\x01\x00\x08\x00",
@@ -109,7 +109,7 @@ fn is_converted<R: Threads + Sync + Abort>(
 
 #[test]
 fn files_of_clients_with_plug_are_converted(rt: HostRuntime) -> Result<(), Fail> {
-    for converted in &CONVERTED {
+    for converted in CONVERTED {
         is_converted(&rt, rt.alloc(), converted)?;
     }
     Ok(())

@@ -26,7 +26,7 @@ fn refusal(alloc: Global, text: &str) -> Result<String, AllocError> {
 }
 
 // Texts and their answers.
-const ANSWERED: [(&str, &str); 3] = [
+const ANSWERED: &[(&str, &str)] = &[
     // After `empty` the space is as before.
     (
         "slave channels 2 rate 48000 period 1024 ring 8192\nset channels 3\nshow channels\nmin channels 2\nmax channels 1\nshow channels\nset access 3\nset access 0\nshow access\n",
@@ -46,7 +46,7 @@ const ANSWERED: [(&str, &str); 3] = [
 
 #[test]
 fn texts_are_answered_line_by_line(rt: HostRuntime) -> Result<(), Fail> {
-    for (text, answers) in &ANSWERED {
+    for (text, answers) in ANSWERED {
         match refine(rt.alloc(), text)? {
             Ok(answered) => assert!(rt; answered.as_str() == *answers, "{text}"),
             Err(_) => return Err("the text was refused")?,
@@ -58,7 +58,7 @@ fn texts_are_answered_line_by_line(rt: HostRuntime) -> Result<(), Fail> {
 const SLAVE: &str = "slave channels 2 rate 48000 period 1024 ring 8192\n";
 
 // Lines after the slave's line that are refused, each with its cause. The line is the second.
-const REFUSED: [(&str, &str); 26] = [
+const REFUSED: &[(&str, &str)] = &[
     ("slave channels 2 rate 48000 period 1024 ring 8192", "Order"),
     ("foo", "Word"),
     ("set", "Missing"),
@@ -90,7 +90,7 @@ const REFUSED: [(&str, &str); 26] = [
 #[test]
 fn refused_lines_are_named(rt: HostRuntime) -> Result<(), Fail> {
     let alloc = rt.alloc();
-    for (line, why) in &REFUSED {
+    for (line, why) in REFUSED {
         let text = format!(in alloc; "{SLAVE}{line}\nfoo\n")?;
         let named = format!(in alloc; "line 2: {why}")?;
         assert!(rt; refusal(alloc, &text)? == named, "{line}");
@@ -99,7 +99,7 @@ fn refused_lines_are_named(rt: HostRuntime) -> Result<(), Fail> {
 }
 
 // Texts that are refused for their slave, or as a whole, each with the line and the cause.
-const REFUSED_SLAVES: [(&str, &str); 25] = [
+const REFUSED_SLAVES: &[(&str, &str)] = &[
     ("", "line 0: NoCard"),
     ("\n # nothing\n\t\n", "line 0: NoCard"),
     ("show rate\n", "line 1: Order"),
@@ -174,7 +174,7 @@ const REFUSED_SLAVES: [(&str, &str); 25] = [
 
 #[test]
 fn refused_slaves_are_named(rt: HostRuntime) -> Result<(), Fail> {
-    for (text, why) in &REFUSED_SLAVES {
+    for (text, why) in REFUSED_SLAVES {
         assert!(rt; refusal(rt.alloc(), text)?.as_str() == *why, "{text}");
     }
     Ok(())

@@ -4,7 +4,7 @@ use snd_base::{PcmError, XrunWhy};
 use std::process::Abort;
 use std::test::Fail;
 
-const STATES: [State; 9] = [
+const STATES: &[State] = &[
     State::Open,
     State::Setup,
     State::Prepared,
@@ -43,7 +43,7 @@ fn states_have_the_numbers_and_names_of_alsa(rt: HostRuntime) -> Result<(), Fail
 // The table: the next state, or the refusal's number with the state unchanged, or `?` where the facts decide. The
 // columns are OPEN SETUP PREPARED RUNNING XRUN DRAINING PAUSED SUSPENDED DISCONNECTED. The last three rows are for
 // capture.
-const TABLE: [(Call, &str); 14] = [
+const TABLE: &[(Call, &str)] = &[
     (
         Call::HwParams,
         "PREPARED PREPARED PREPARED 77 77 77 77 77 19",
@@ -132,7 +132,7 @@ fn check_row(rt: &(impl Abort + Alloc), call: Call, facts: Facts, row: &str) -> 
 }
 
 // The cells where the facts decide: a call in a state, what happened, the next state and the answer.
-const RULES: [(Call, State, &str, State, &str); 42] = [
+const RULES: &[(Call, State, &str, State, &str)] = &[
     // An empty playback does not start, whatever else happened. An empty capture does.
     (
         Call::Start,

@@ -54,12 +54,12 @@ pub fn is_alike_in_pieces(alloc: Global, bytes: &[u8]) -> bool {
 }
 
 /// A chunk of one byte and its pad byte.
-const ODD: [u8; 10] = [0x4f, 0x44, 0x44, 0x20, 1, 0, 0, 0, 0x61, 0];
+const ODD: &[u8] = &[0x4f, 0x44, 0x44, 0x20, 1, 0, 0, 0, 0x61, 0];
 
 #[test]
 fn a_pad_byte_behind_a_cut_is_skipped(rt: HostRuntime) -> Result<(), Fail> {
     let alloc = rt.alloc();
-    let front = joined(alloc, &[&BEGIN, &ODD[..9]])?;
+    let front = joined(alloc, &[BEGIN, &ODD[..9]])?;
     let back = joined(alloc, &[&ODD[9..], &DATA[..9]])?;
     let mut reader = WavReader::new();
     let mut samples = Vec::new(alloc);
@@ -81,7 +81,7 @@ fn an_error_is_answered_again(rt: HostRuntime) -> Result<(), Fail> {
     let mut samples = Vec::new(alloc);
     assert!(rt; reader.feed(&BEGIN[..11], &mut samples) == Ok(()));
     assert!(rt; reader.feed(b"ish", &mut samples) == Err(WavError::NotWave));
-    assert!(rt; reader.feed(&DATA, &mut samples) == Err(WavError::NotWave));
+    assert!(rt; reader.feed(DATA, &mut samples) == Err(WavError::NotWave));
     assert!(rt; reader.finish().err() == Some(WavError::NotWave));
     Ok(())
 }
@@ -91,7 +91,7 @@ fn bytes_of_other_depths_are_read(rt: HostRuntime) -> Result<(), Fail> {
     let alloc = rt.alloc();
     let table = [(8u8, 5usize), (16, 4), (24, 3), (32, 4)];
     for (bits, count) in table {
-        let mut file = joined(alloc, &[&BEGIN, &DATA[..8], &[1, 2, 3, 4, 5]])?;
+        let mut file = joined(alloc, &[BEGIN, &DATA[..8], &[1, 2, 3, 4, 5]])?;
         if let Some(place) = file.get_mut(34) {
             *place = bits;
         }
@@ -107,7 +107,7 @@ fn bytes_of_other_depths_are_read(rt: HostRuntime) -> Result<(), Fail> {
         let head = reader.finish().ok().ok_or("the file is read")?;
         assert!(rt; head.bits == u16::from(bits));
     }
-    let mut file = joined(alloc, &[&BEGIN, &DATA])?;
+    let mut file = joined(alloc, &[BEGIN, DATA])?;
     if let Some(place) = file.get_mut(34) {
         *place = 12;
     }
