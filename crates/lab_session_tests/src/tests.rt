@@ -102,7 +102,7 @@ fn leaves_its_report_and_file<R: Threads + Sync + Abort>(
 
 #[test]
 fn sessions_leave_their_report_and_file(rt: HostRuntime) -> Result<(), Fail> {
-    for session in SESSIONS {
+    for session in &SESSIONS {
         leaves_its_report_and_file(&rt, rt.alloc(), session)?;
     }
     Ok(())
@@ -275,7 +275,7 @@ fn leaves_its_report_and_files<R: Threads + Sync + Abort>(
 
 #[test]
 fn runs_leave_their_report_and_files(rt: HostRuntime) -> Result<(), Fail> {
-    for run in RUNS {
+    for run in &RUNS {
         leaves_its_report_and_files(&rt, rt.alloc(), run)?;
     }
     Ok(())
@@ -283,7 +283,7 @@ fn runs_leave_their_report_and_files(rt: HostRuntime) -> Result<(), Fail> {
 
 #[test]
 fn runs_with_readers_leave_their_report_and_files(rt: HostRuntime) -> Result<(), Fail> {
-    for run in READERS {
+    for run in &READERS {
         leaves_its_report_and_files(&rt, rt.alloc(), run)?;
     }
     Ok(())

@@ -26,7 +26,7 @@ const CAPTURED_PAIRS: (&str, &[u8], &[(u16, i16, i16)]) = (
     ],
 );
 
-pub(super) const READERS: &[Run<'static>] = &[
+pub(super) const READERS: [Run<'static>; 9] = [
     // A reader that isn't called in time has an xrun, with 384 - 64 frames waiting. It goes on at 384, and its file has what it
     // read before and after.
     Run {

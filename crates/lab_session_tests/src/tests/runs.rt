@@ -15,7 +15,7 @@ const SHORT: (&str, &[u8], &[(u16, i16, i16)]) = ("a.wav", MONO, &[(64, 1000, -1
 // A mono file of 512 frames, 1, 2 and so on.
 const LONG: (&str, &[u8], &[(u16, i16, i16)]) = ("a.wav", MONO, &[(512, 1, 1)]);
 
-pub(super) const RUNS: &[Run<'static>] = &[
+pub(super) const RUNS: [Run<'static>; 20] = [
     // A card that was unplugged: the calls that look for it find it gone, and what was placed was never played. Openings and
     // closings go on.
     Run {

@@ -42,7 +42,7 @@ const WIDE: &str = "card channels 3 rate 48000 period 64 ring 256";
 
 const OPENED: &str = "ok PREPARED -";
 
-pub(super) const SESSIONS: &[Session<'static>] = &[
+pub(super) const SESSIONS: [Session<'static>; 22] = [
     // Eight channels, each bound to the card's of the opposite number, in a ring of 16,384 frames.
     Session {
         name: "eight channels",
