@@ -80,6 +80,13 @@ impl MemoryShelf {
         content_of(&self.entries, name)
     }
 
+    /// The files, each a name and its bytes. Of two with one name the first counts.
+    pub fn entries(&self) -> &[(Vec<u8>, Vec<u8>)]
+        ensures { files_of result.now ≡ self.now.files }
+    {
+        self.entries.as_slice()
+    }
+
     /// Whether the file of this name, if there is one, has as many bytes as a head, as `finish` asks.
     pub fn has_room(&self, name: &[u8], head: &[u8]) -> bool
         ensures { IsTrue result ↔ HasRoom (Some self.now.files) name.now head.now }
