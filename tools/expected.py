@@ -1,29 +1,10 @@
-#!/usr/bin/env python3
-"""Runs the sessions of examples/ and compares each report with the one beside it, the samples that were played with those that
-the report's segments place, and the samples that were recorded with the captured frames of the report's runs.
-
-    check_examples.py                       every session, by ./dmixlab
-    check_examples.py drain xrun            these alone
-    check_examples.py --program PROGRAM     by another program
-
-Its status is 0 where all is as it should be, and otherwise 1.
-"""
+"""What a run leaves in its files, by definitions that are written apart from the program: the samples that a report's segments place,
+and the captured frames of its runs."""
 from __future__ import annotations
 
-import argparse
-import glob
 import os
 import struct
-import subprocess
-import sys
-import tempfile
 import wave
-
-HERE = os.path.dirname(os.path.abspath(__file__))
-ROOT = os.path.dirname(HERE)
-sys.path.insert(0, HERE)
-
-import read_report
 
 LEAST, GREATEST = -32768, 32767
 
@@ -106,58 +87,3 @@ def recorded_samples(script, report, root, name):
                     recorded.append(samples[index] if channel < width and index < len(samples) else 0)
     return tuple(recorded)
 
-
-def text_of(path):
-    with open(path, encoding="ascii") as file:
-        return file.read()
-
-
-def report_beside(script):
-    return os.path.splitext(script)[0] + ".report"
-
-
-def faults_of(program, root, script):
-    """What isn't as it should be of a session that is run."""
-    wanted, text = text_of(report_beside(script)), text_of(script)
-    with tempfile.TemporaryDirectory() as folder:
-        ran = subprocess.run([program, "run", script, f"{folder}/out"], cwd=root, capture_output=True, text=True)
-        if ran.returncode != 0:
-            return [f"status {ran.returncode}: {ran.stderr.strip()}"]
-        if ran.stdout != wanted:
-            return ["another report:", *ran.stdout.splitlines()]
-        report = read_report.parse(wanted)
-        _, played = samples_of(f"{folder}/out.wav")
-        if played != played_samples(text, report, root):
-            return ["other samples than the segments place"]
-        return [
-            f"other samples of {name} than its runs have"
-            for name in readers_of(text)
-            if samples_of(f"{folder}/out.{name}.wav")[1] != recorded_samples(text, report, root, name)
-        ]
-
-
-def arguments():
-    words = argparse.ArgumentParser(description="Runs the sessions of examples/ and compares their reports and samples.")
-    words.add_argument("names", nargs="*", help="names of sessions (default: all)")
-    words.add_argument("--program", default=os.path.join(ROOT, "dmixlab"), help="the program (default: ./dmixlab)")
-    words.add_argument("--root", default=ROOT, help="the folder in which examples/ is (default: that of the repository)")
-    return words.parse_args()
-
-
-def main():
-    asked = arguments()
-    program, root = os.path.abspath(asked.program), os.path.abspath(asked.root)
-    scripts = sorted(glob.glob(f"{root}/examples/*.script"))
-    bad = 0
-    for script in scripts:
-        name = os.path.splitext(os.path.basename(script))[0]
-        if asked.names and name not in asked.names:
-            continue
-        faults = faults_of(program, root, script)
-        print(f"{name}: {'; '.join(faults) if faults else 'as it should be'}")
-        bad += bool(faults)
-    return 1 if bad else 0
-
-
-if __name__ == "__main__":
-    sys.exit(main())
