@@ -1,3 +1,4 @@
 //! Runs with gates.
 mod at_once;
-mod dying;
+mod calls;
+mod stops;

@@ -1,6 +1,6 @@
 //! Clients that run at the same time: gates of the tests' own let each go on only once the other one has got so far. A run that did
 //! one after the other would wait in vain, and stop one of them.
-use lab_calls::{MONO, call_gated, files_of, text_in, wav_of};
+use super::calls::{files_of, mono_of, run_gated};
 use mix_core::{Gate, Pass, StepKind};
 use std::sync::atomic::{AtomicU64, Ordering};
 use std::test::Fail;
@@ -88,10 +88,7 @@ const BOTH_64: &str =
 const ONE_AND_TWO: &str =
     "card channels 1 rate 48000 period 64 ring 256\nclient a a.wav\nclient b b.wav\nopen a\nopen b\nphase\na write 1\nb write 2\nend\nphase\ncard play 128\nend\n";
 
-const WAVS: &[(&str, &[u8], &[(u16, i16)])] = &[
-    ("a.wav", MONO, &[(64, 30000)]),
-    ("b.wav", MONO, &[(64, 10000)]),
-];
+const WAVS: &[(&str, &[(u16, i16)])] = &[("a.wav", &[(64, 30000)]), ("b.wav", &[(64, 10000)])];
 
 #[test]
 fn two_clients_wait_for_each_other(rt: HostRuntime) -> Result<(), Fail> {
@@ -117,21 +114,10 @@ fn two_clients_wait_for_each_other(rt: HostRuntime) -> Result<(), Fail> {
         wanted: 1,
         ..idle
     };
-    let files = files_of(alloc, Vec::from_slice(alloc, BOTH_64.as_bytes())?, WAVS)?;
-    let left = call_gated(
-        &rt,
-        alloc,
-        &["run", "s", "o"],
-        files,
-        (&[], &[]),
-        &mut gates,
-    )?;
+    let left = run_gated(&rt, alloc, files_of(alloc, BOTH_64, WAVS)?, &mut gates)?;
     let report =
         "dmixlab 1\n0 a open = ok PREPARED -\n0 b open = ok PREPARED -\n1 a write 64 = 64 RUNNING 0\n1 b write 64 = 64 RUNNING 0\n2 card play 128 = 128 RUNNING 128\nsegment a 0 64 64 0\nsegment b 0 64 64 0\nplayed 0 128\nend\n";
-    assert!(rt; left.status == 0);
-    assert!(rt; text_in(left.out.bytes()) == report);
-    let file = wav_of(alloc, MONO, &[(64, 0), (64, 32767)])?;
-    assert!(rt; left.shelf.file(b"o.wav").unwrap_or(&[]) == file.as_slice());
+    assert!(rt; left.is_done(report, &mono_of(alloc, &[(64, 0), (64, 32767)])?));
     Ok(())
 }
 
@@ -161,21 +147,15 @@ fn a_lost_exchange_is_made_again(rt: HostRuntime) -> Result<(), Fail> {
         wanted: 1,
         ..idle
     };
-    let files = files_of(alloc, Vec::from_slice(alloc, ONE_AND_TWO.as_bytes())?, WAVS)?;
-    let left = call_gated(
-        &rt,
-        alloc,
-        &["run", "s", "o"],
-        files,
-        (&[], &[]),
-        &mut gates,
-    )?;
+    let left = run_gated(&rt, alloc, files_of(alloc, ONE_AND_TWO, WAVS)?, &mut gates)?;
     let report =
         "dmixlab 1\n0 a open = ok PREPARED -\n0 b open = ok PREPARED -\n1 a write 1 = 1 RUNNING 0\n1 b write 2 = 2 RUNNING 0\n2 card play 128 = 128 RUNNING 128\nsegment a 0 64 1 0\nsegment b 0 64 2 0\nplayed 0 128\nend\n";
-    assert!(rt; left.status == 0);
-    assert!(rt; text_in(left.out.bytes()) == report);
-    let file = wav_of(alloc, MONO, &[(64, 0), (1, 32767), (1, 10000), (62, 0)])?;
-    assert!(rt; left.shelf.file(b"o.wav").unwrap_or(&[]) == file.as_slice());
+    assert!(rt;
+        left.is_done(
+            report,
+            &mono_of(alloc, &[(64, 0), (1, 32767), (1, 10000), (62, 0)])?
+        )
+    );
     assert!(rt; a.further.load(Ordering::SeqCst) == 1);
     assert!(rt; b.further.load(Ordering::SeqCst) == 0);
     assert!(rt; a.all.load(Ordering::SeqCst) == 4);
