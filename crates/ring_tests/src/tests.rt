@@ -1,4 +1,7 @@
-//! Each module tries one crate: what no clause says of it.
-mod cores;
-mod players;
-mod tables;
+//! Each module tries one crate: what no clause says of it, and no session shows.
+mod card_player;
+mod card_sim;
+mod lobby;
+mod snoop_core;
+mod snoop_table;
+mod sum_table;

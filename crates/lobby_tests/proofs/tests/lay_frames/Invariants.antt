@@ -1,5 +1,0 @@
-use Rattle.sum_table.specs.Seats.{IsLaterSeat}
-use Rattle.lobby_tests.proofs.tests.lay_frames.Given as goal
-
-abbrev pub invariant-loop-frame : goal.invariant-loop-frame
-invariant-loop-frame l = IsLaterSeat l.fn.seat l.seat

@@ -1,5 +1,0 @@
-use Rattle.sum_table.proofs.Going.{ends_in_one}
-use Rattle.sum_table_tests.proofs.tests.place_and_withdraw.Goals as goal
-
-pub withdraw-requires-clause-last : goal.withdraw-requires-clause-last
-withdraw-requires-clause-last c = ends_in_one c.args.seat.now c.try_place.new.seat _ c.args.frame 0 _ c.in-In.is c.in_ok-try_place.ensures.laid
