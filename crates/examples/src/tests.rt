@@ -1,8 +1,13 @@
 //! Each caller once, where there is memory, with values worked out by hand.
 use super::*;
+use bindings::Bindings;
+use dmix_client::Client;
+use dsnoop_client::Reader;
 use hw_space::Config;
-use mix_core::Taken;
+use mix_core::{Core, Taken};
+use pcm_states::State;
 use snd_base::{Geometry, PcmError, Segment, Why};
+use snoop_core::SnoopCore;
 use std::test::*;
 use wav_io::WavError;
 
@@ -95,5 +100,39 @@ fn a_file_in_pieces_is_the_whole_file(rt: HostRuntime) -> Result<(), Fail> {
     let other: [&[u8]; 2] = [b"RI", b"FX"];
     let refused = read_pieces(rt.alloc(), &other).err();
     assert_eq!(rt; refused, Some(WavError::NotRiff));
+    Ok(())
+}
+
+// The calls that no line of a script makes, each once: what is set up is configured until it is freed.
+#[test]
+fn a_client_gives_its_configuration_up(rt: HostRuntime) -> Result<(), Fail> {
+    let mut core = Core::new(rt.alloc(), MONO_RING, 1)?;
+    let mut client = Client::new(rt.alloc(), MONO_RING, 0, 0);
+    assert!(rt; client.config() == None);
+    client.hw_params(rt.alloc(), MONO, Bindings::identity(1))?;
+    assert!(rt; client.config() == Some(MONO));
+    assert!(rt; core.members() > 0);
+    assert!(rt; client.can_use(&core.turn(0)));
+    assert!(rt; client.hw_free() == Ok(()));
+    assert!(rt; client.state() == State::Open);
+    assert!(rt; client.config() == None);
+    Ok(())
+}
+
+// The same of a reader, whose room for frames is any number of samples of one channel.
+#[test]
+fn a_reader_gives_its_configuration_up(rt: HostRuntime) -> Result<(), Fail> {
+    let mut core = SnoopCore::new(rt.alloc(), MONO_RING)?;
+    let mut reader = Reader::new(rt.alloc(), MONO_RING);
+    assert!(rt; reader.config() == None);
+    let bindings = Bindings::identity(1);
+    assert!(rt; reader.can_run_with(&MONO, &bindings));
+    reader.hw_params(rt.alloc(), MONO, bindings)?;
+    assert!(rt; reader.config() == Some(MONO));
+    assert!(rt; reader.can_use(&core.turn()));
+    assert!(rt; reader.can_read(&[0; 5]));
+    assert!(rt; reader.hw_free() == Ok(()));
+    assert!(rt; reader.state() == State::Open);
+    assert!(rt; reader.config() == None);
     Ok(())
 }
