@@ -2,6 +2,5 @@
 mod card_player;
 mod card_sim;
 mod lobby;
-mod snoop_core;
 mod snoop_table;
 mod sum_table;
