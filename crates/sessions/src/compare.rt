@@ -20,7 +20,7 @@ fn first_difference(wanted: &[u8], found: &[u8]) -> usize {
     place
 }
 
-/// The line round a byte of a text, and its number.
+/// The line round a byte of a text, and its number. After the last line it is another one, which isn't there.
 fn line_at(text: &[u8], place: usize) -> (usize, &str) {
     let (mut number, mut first, mut at) = (1usize, 0usize, 0usize);
     for byte in text {
@@ -34,6 +34,9 @@ fn line_at(text: &[u8], place: usize) -> (usize, &str) {
         at = at.wrapping_add(1);
     }
     let line = text.get(first..at).unwrap_or(&[]);
+    if first >= text.len() {
+        return (number, "(no line)");
+    }
     (number, text_of(line))
 }
 
@@ -42,15 +45,22 @@ fn text_of(bytes: &[u8]) -> &str {
     str::from_utf8(bytes).unwrap_or("(bytes)")
 }
 
-/// Says which sample of a WAV file is another one.
-fn push_sample_difference(
+/// Says which byte of a WAV file's head, or which sample, is another one.
+fn push_wav_difference(
     differences: &mut String,
     what: &str,
     wanted: &[u8],
     found: &[u8],
-    number: usize,
+    place: usize,
 ) -> Result<(), AllocError> {
     let (length, count) = (found.len(), wanted.len());
+    if place < 44 {
+        return writeln!(
+            differences,
+            "  {what}: another head from byte {place} on, {length} bytes (wanted {count})"
+        );
+    }
+    let number = place.wrapping_sub(44) / 2;
     let found = sample_at(samples_in(found), number).unwrap_or(0);
     let wanted = sample_at(samples_in(wanted), number).unwrap_or(0);
     writeln!(
@@ -70,9 +80,8 @@ fn push_difference(
         return Ok(());
     }
     let place = first_difference(wanted, found);
-    if wanted.starts_with(b"RIFF") && found.starts_with(b"RIFF") && place >= 44 {
-        let number = place.wrapping_sub(44) / 2;
-        return push_sample_difference(differences, what, wanted, found, number);
+    if wanted.starts_with(b"RIFF") && found.starts_with(b"RIFF") {
+        return push_wav_difference(differences, what, wanted, found, place);
     }
     let (length, count) = (found.len(), wanted.len());
     let (number, line) = line_at(wanted, place);

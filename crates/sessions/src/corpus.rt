@@ -1,5 +1,5 @@
 //! The files of cases that are run, and how many cases went as they must.
-use crate::reader::{Count, Reader};
+use crate::reader::{Reader, Tally};
 use std::alloc::Global;
 use std::fs::Files;
 use std::io::Write;
@@ -31,9 +31,9 @@ fn short_name(path: &str) -> &str {
 }
 
 /// Puts how many cases of a file passed and failed.
-fn put_count<W: Write>(out: &mut W, file: &str, count: &Count, must_fail: bool) -> io::Result<()> {
-    let (passed, failed) = (count.passed, count.failed);
-    if !must_fail {
+fn put_tally<W: Write>(out: &mut W, file: &str, tally: &Tally) -> io::Result<()> {
+    let (passed, failed) = (tally.passed, tally.failed);
+    if !tally.must_fail {
         return writeln!(out, "{file}: {passed} passed, {failed} failed");
     }
     writeln!(out, "{file}: {failed} failed, as they must")?;
@@ -53,7 +53,7 @@ impl Corpus {
         }
     }
 
-    /// Takes a word of the command: a text, a file whose cases must fail, or a file whose cases must pass.
+    /// Takes a word of the command: a text after `=`, or a file.
     pub(crate) fn take_word<R: Threads + Sync + Files + Alloc<A = Global>, W: Write>(
         &mut self,
         rt: &R,
@@ -64,10 +64,7 @@ impl Corpus {
             self.picked = String::from_str(rt.alloc(), text)?;
             return Ok(());
         }
-        match word.strip_prefix("!") {
-            Some(path) => self.run_file(rt, out, path, true),
-            None => self.run_file(rt, out, word, false),
-        }
+        self.run_file(rt, out, word)
     }
 
     /// Runs the cases of a file.
@@ -76,23 +73,22 @@ impl Corpus {
         rt: &R,
         out: &mut W,
         path: &str,
-        must_fail: bool,
     ) -> io::Result<()> {
         let file = short_name(path);
         let Ok(text) = fs::read_to_string(rt, path) else {
             self.failed = self.failed.wrapping_add(1);
             return writeln!(out, "{file}: it can't be read, or is no text");
         };
-        let mut reader = Reader::new(rt.alloc(), file, self.picked.as_str(), must_fail);
+        let mut reader = Reader::new(rt.alloc(), file, self.picked.as_str());
         reader.read_all(rt, rt.alloc(), text.as_str())?;
-        let count = reader.count();
-        out.write_all(count.findings.as_bytes())?;
-        put_count(out, file, count, must_fail)?;
-        if must_fail {
-            self.failed = self.failed.wrapping_add(count.passed);
+        let tally = reader.tally();
+        out.write_all(tally.findings.as_bytes())?;
+        put_tally(out, file, tally)?;
+        if tally.must_fail {
+            self.failed = self.failed.wrapping_add(tally.passed);
         } else {
-            self.passed = self.passed.wrapping_add(count.passed);
-            self.failed = self.failed.wrapping_add(count.failed);
+            self.passed = self.passed.wrapping_add(tally.passed);
+            self.failed = self.failed.wrapping_add(tally.failed);
         }
         Ok(())
     }

@@ -211,7 +211,7 @@ fn append_frame(
 }
 
 /// Appends the captured frames of a run: its words are `run`, the reader, the first frame and how many.
-fn append_run(
+fn append_captured(
     samples: &mut Vec<u8>,
     captured: &[u8],
     channels: u16,
@@ -248,7 +248,7 @@ fn recorded_samples(
     for line in report.lines() {
         let words = words_of(alloc, line)?;
         if words.first() == Some(&"run") && words.get(1) == Some(&reader) {
-            append_run(&mut samples, captured, sound.channels, &words, first)?;
+            append_captured(&mut samples, captured, sound.channels, &words, first)?;
         }
     }
     Ok(samples)
