@@ -108,10 +108,15 @@ def text_faults(case, ran):
 def wanted_files(case, out):
     """The files that must be there afterwards; those that the report decides follow from the one that was found."""
     wanted = case.after()
-    if case.mixed or case.recorded:
-        sounds = sounds_of(case, read_report.parse(out.decode()))
-        for name in (*case.mixed, *case.recorded):
-            wanted[name] = corpus.wav(*sounds[name])
+    if not case.mixed and not case.recorded:
+        return wanted
+    script, report = script_of(case), read_report.parse(out.decode())
+    with tempfile.TemporaryDirectory() as room:
+        store_all(room, case.files)
+        for name, (channels, rate) in case.mixed.items():
+            wanted[name] = corpus.wav(channels, rate, packed(expected.played_samples(script, report, room)))
+        for name, (reader, channels, rate) in case.recorded.items():
+            wanted[name] = corpus.wav(channels, rate, packed(expected.recorded_samples(script, report, room, reader)))
     return wanted
 
 
@@ -152,38 +157,44 @@ def can_run(case):
     return not case.has_faults and not any(b"\0" in word for word in case.words)
 
 
-def run_file(program, path, cases, pool):
-    """Runs the cases of a file, and gives how many failed."""
-    runnable = [case for case in cases if can_run(case)]
+def run_file(program, path, found, pool):
+    """Runs the cases of a file, and gives how many failed, or passed where they must fail."""
+    runnable = [case for case in found.cases if can_run(case)]
     failed = 0
     for case, faults in zip(runnable, pool.map(lambda it: faults_of(it, program), runnable)):
         failed += bool(faults)
-        for it in faults:
+        for it in faults if not found.must_fail else () if faults else ("it passed, and must fail",):
             print(f"FAIL {case.path}:{case.line} {case.name}: {it}")
-    skipped = len(cases) - len(runnable)
-    print(f"{os.path.basename(path)}: {len(runnable) - failed} passed, {failed} failed, {skipped} skipped")
+    passed, skipped = len(runnable) - failed, len(found.cases) - len(runnable)
+    if found.must_fail:
+        failed += found.refusal is not None
+        print(f"{os.path.basename(path)}: {failed} failed, as they must, {passed} passed, {skipped} skipped")
+        return passed
+    print(f"{os.path.basename(path)}: {passed} passed, {failed} failed, {skipped} skipped")
     return failed
 
 
 def picked(words):
     """The paths among words, each with its cases that are picked."""
     texts = [word[1:] for word in words if word.startswith("=")]
-    paths = [word for word in words if not word.startswith("=")]
-    return {path: [it for it in corpus.read(path) if all(text in it.name for text in texts)] for path in paths}
+    found = {word: corpus.read(word) for word in words if not word.startswith("=")}
+    for it in found.values():
+        it.cases = [case for case in it.cases if all(text in case.name for text in texts)]
+    return found
 
 
 def run(program, *words):
     failed = 0
     with ThreadPoolExecutor(os.cpu_count()) as pool:
-        for path, cases in picked(words).items():
-            failed += run_file(program, path, cases, pool)
+        for path, found in picked(words).items():
+            failed += run_file(program, path, found, pool)
     return 1 if failed else 0
 
 
 def unpack(folder, *words):
     """Writes the files that a case finds into a folder of its own, and what it must leave into the folder `expected` in it."""
-    for path, cases in picked(words).items():
-        for case in cases:
+    for path, found in picked(words).items():
+        for case in found.cases:
             name = re.sub(r"[^a-z0-9]+", "-", case.name.lower()).strip("-")
             room = os.path.join(folder, os.path.basename(path).removesuffix(".cases"), name)
             store_all(room, case.files)
@@ -248,7 +259,7 @@ def is_incomplete(case):
 def complete(path):
     """Prints a file of cases, in which each case of a run that has no sounds has those that follow from its report."""
     lines_after = {}
-    for case in corpus.read(path):
+    for case in corpus.read(path).cases:
         if is_incomplete(case):
             sounds = sounds_of(case, read_report.parse(case.out.decode()))
             lines = lines_after.setdefault(case.last, [])

@@ -45,6 +45,15 @@ class Case:
         return {**self.files, **self.leaves}
 
 
+@dataclass
+class Corpus:
+    """The cases of a file; whether each must fail, as a test of who runs them; and of such a file the line that can't be read, if any."""
+
+    cases: list[Case]
+    must_fail: bool = False
+    refusal: NotACorpus | None = None
+
+
 def escaped(text: str, number: int = 0) -> bytes:
     """The bytes of a text with escapes."""
     first, *pieces = text.split("\\")
@@ -123,6 +132,7 @@ class Reading:
         self.cases: list[Case] = []
         self.shared: dict[str, bytes] = {}
         self.put = None
+        self.must_fail = False
 
     def begin(self, word, name, path, line):
         """A case; `also` has the words and files of the one before it, and `then` what that one leaves."""
@@ -151,6 +161,11 @@ class Reading:
 
     def item(self, word, rest):
         """A line of a case that has no content."""
+        if word == "must-fail":
+            self.must_fail = True
+            return
+        if not self.cases:
+            raise ValueError(f"{word} before any case")
         case = self.cases[-1]
         words = rest.split(" ")
         if word == "call":
@@ -182,8 +197,8 @@ class Reading:
             self.cases[-1].last = number
 
 
-def read(path: str) -> list[Case]:
-    """The cases of a file."""
+def read(path: str) -> Corpus:
+    """The cases of a file. A line that can't be read ends it, which only a file whose cases must fail may have."""
     reading = Reading()
     with open(path, encoding="utf-8") as file:
         for number, line in enumerate(file.read().split("\n"), 1):
@@ -192,5 +207,8 @@ def read(path: str) -> list[Case]:
             try:
                 reading.add(line, path, number)
             except (ValueError, KeyError, IndexError, TypeError, AttributeError) as error:
-                raise NotACorpus(path, number, error) from error
-    return reading.cases
+                refusal = NotACorpus(os.path.basename(path), number, error)
+                if not reading.must_fail:
+                    raise refusal from error
+                return Corpus(reading.cases, True, refusal)
+    return Corpus(reading.cases, reading.must_fail)

@@ -95,13 +95,13 @@ class Contents(unittest.TestCase):
 class Reading(unittest.TestCase):
     def test_a_further_case_has_words_and_files_but_not_what_is_left(self):
         text = ONE + "leaves o.wav\n~ 1 48000\n\nalso with status 5\nstatus 5\n"
-        first, second = with_file(text, lambda path, _: corpus.read(path))
+        first, second = with_file(text, lambda path, _: corpus.read(path).cases)
         self.assertEqual((second.words, second.files), (first.words, first.files))
         self.assertEqual((second.status, second.out, second.leaves), (5, b"", {}))
 
     def test_a_case_after_another_finds_what_that_one_leaves(self):
         text = ONE + "leaves o.wav\n|x\nleaves s\n|y\n\nthen once more\ncall conf s hw\n"
-        second = with_file(text, lambda path, _: corpus.read(path))[1]
+        second = with_file(text, lambda path, _: corpus.read(path).cases)[1]
         self.assertEqual((second.words[0], second.files["s"], second.files["o.wav"]), (b"conf", b"y", b"x"))
 
     def test_a_line_that_is_not_known_is_refused_with_its_number(self):
@@ -114,7 +114,7 @@ class Reading(unittest.TestCase):
 
     def test_the_corpus_is_read(self):
         for path in glob.glob(f"{ROOT}/crates/sessions/data/*.cases"):
-            found = corpus.read(path)
+            found = corpus.read(path).cases
             self.assertTrue(found, path)
             self.assertEqual(len({it.name for it in found}), len(found), path)
 
@@ -154,6 +154,13 @@ class Running(unittest.TestCase):
     def test_a_case_that_needs_faults_is_skipped(self):
         for fault in ("shelf-fails 1", "puts-fail 2", "errors-fail 1"):
             self.assertEqual(ran(f"case it\ncall x\n{fault}\nstatus 5\n", "exit 1")[:2], (0, "it.cases: 0 passed, 0 failed, 1 skipped\n"))
+
+    def test_cases_that_must_fail_do(self):
+        text = "must-fail\ncase one\ncall x\nstatus 3\n\nnonsense\n"
+        self.assertEqual(ran(text, "exit 0")[:2], (0, "it.cases: 2 failed, as they must, 0 passed, 0 skipped\n"))
+        status, out, _ = ran(text, "exit 3")
+        self.assertEqual(status, 1)
+        self.assertIn("FAIL it.cases:2 one: it passed, and must fail\n", out)
 
     def test_cases_are_picked_by_their_names(self):
         self.assertEqual(ran("case one\ncall x\n\ncase two\ncall y\n", "exit 0", "=tw")[1], "it.cases: 1 passed, 0 failed, 0 skipped\n")

@@ -13,7 +13,7 @@ import corpus
 import expected
 import read_report
 
-EXAMPLES = {it.name: it for it in corpus.read(f"{ROOT}/crates/sessions/data/examples.cases")}
+EXAMPLES = {it.name: it for it in corpus.read(f"{ROOT}/crates/sessions/data/examples.cases").cases}
 
 
 def with_report(name, ask):
