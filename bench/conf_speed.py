@@ -1,7 +1,7 @@
 #!/usr/bin/env python3
 """Times the reader of configuration files on texts of 1 MiB.
 
-usage: bench/conf_speed.py        from the top of the repository; proves and builds crates/conf_bench if needed
+usage: bench/conf_speed.py        from the top of the repository; proves and builds crates/bench if needed
 
 Each text is read nine times in one run, and there are ROUNDS runs; the least time counts. The limit is 40 ms for each
 text. The second time has the letting go of what was read too. It ends with an error that names the rows above the limit.
@@ -12,8 +12,8 @@ import tempfile
 from pathlib import Path
 
 TOP = Path(__file__).resolve().parent.parent
-CRATE = TOP / "crates/conf_bench"
-PROGRAM = CRATE / "out/conf_bench"
+CRATE = TOP / "crates/bench"
+PROGRAM = CRATE / "out/bench"
 SIZE, ROUNDS, LIMIT = 1 << 20, 5, 40.0
 
 DEVICE = """pcm.{name} {{
@@ -100,7 +100,7 @@ def milliseconds(path):
     """The least time of some runs, and the least with what was read let go."""
     best = whole = float("inf")
     for _ in range(ROUNDS):
-        answer = subprocess.run([PROGRAM, path], stdout=subprocess.PIPE, text=True, check=True).stdout.split()
+        answer = subprocess.run([PROGRAM, "conf", path], stdout=subprocess.PIPE, text=True, check=True).stdout.split()
         if answer[-1] != "ok":
             sys.exit(f"{path}: {' '.join(answer)}")
         best = min(best, int(answer[0]) / 1e6)
@@ -112,7 +112,7 @@ def main():
     """Builds the program, and prints the table."""
     subprocess.run(["rt", "run"], cwd=CRATE, stdout=subprocess.DEVNULL, stderr=subprocess.DEVNULL)
     if not PROGRAM.exists():
-        sys.exit("crates/conf_bench isn't built: see `rt run` there")
+        sys.exit("crates/bench isn't built: see `rt run` there")
     late = []
     with tempfile.TemporaryDirectory() as folder:
         path = Path(folder) / "asound.conf"

@@ -4,7 +4,7 @@
 usage: bench/plug.py compare      every width, table and pair of usual rates, in pieces of several sizes, against the definition below
        bench/plug.py time         16-bit stereo at equal rates, and from 44,100 to 48,000, beside `sox` where it is installed
 
-Both prove and build crates/plug_bench if needed. Run it from the top of the repository.
+Both prove and build crates/bench if needed. Run it from the top of the repository.
 """
 import random
 import shutil
@@ -16,8 +16,8 @@ import time
 from pathlib import Path
 
 TOP = Path(__file__).resolve().parent.parent
-CRATE = TOP / "crates/plug_bench"
-PROGRAM = CRATE / "out/plug_bench"
+CRATE = TOP / "crates/bench"
+PROGRAM = CRATE / "out/bench"
 RATES = (8000, 11025, 12000, 16000, 22050, 24000, 32000, 44100, 48000, 64000, 88200, 96000)
 WIDTHS = {"s8": 1, "u8": 1, "s16le": 2, "s16be": 2, "s24": 3, "s32": 4}
 # A round is short, so that some of many aren't interrupted by what else runs on the machine; sox gets more samples.
@@ -62,13 +62,13 @@ def build():
     """The program is proved and built only where it has changed."""
     subprocess.run(["rt", "run"], cwd=CRATE, stdout=subprocess.DEVNULL, stderr=subprocess.DEVNULL)
     if not PROGRAM.exists():
-        sys.exit("crates/plug_bench isn't built: see `rt run` there")
+        sys.exit("crates/bench isn't built: see `rt run` there")
 
 
 def run(folder, data, form, inputs, outputs, in_rate, out_rate, piece, rounds):
     """The samples that the program writes, and the nanoseconds of its fastest round."""
     (folder / "in").write_bytes(data)
-    words = [PROGRAM, folder / "in", folder / "out", form, inputs, outputs, in_rate, out_rate, piece, rounds]
+    words = [PROGRAM, "plug", folder / "in", folder / "out", form, inputs, outputs, in_rate, out_rate, piece, rounds]
     process = subprocess.run([str(w) for w in words], stdout=subprocess.PIPE, text=True, check=True)
     raw = (folder / "out").read_bytes()
     return list(struct.unpack(f"<{len(raw) // 2}h", raw)), int(process.stdout)

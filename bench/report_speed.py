@@ -1,7 +1,7 @@
 #!/usr/bin/env python3
 """Times the reading and the printing of reports of about 100,000 rows (a script of 1 MiB has no more of these actors' lines).
 
-usage: bench/report_speed.py        from the top of the repository; proves and builds crates/report_bench if needed
+usage: bench/report_speed.py        from the top of the repository; proves and builds crates/bench if needed
 
 Each report is read and printed nine times in one run, and there are ROUNDS runs; the least times count. The limits are those
 of 200,000 rows, 100 ms to read and 60 ms to print, in proportion.
@@ -12,8 +12,8 @@ import tempfile
 from pathlib import Path
 
 TOP = Path(__file__).resolve().parent.parent
-CRATE = TOP / "crates/report_bench"
-PROGRAM = CRATE / "out/report_bench"
+CRATE = TOP / "crates/bench"
+PROGRAM = CRATE / "out/bench"
 SIZE, ROUNDS, ACTORS = 1 << 20, 5, 64
 READ, PRINTED, ROWS = 100.0, 60.0, 200_000
 
@@ -38,7 +38,7 @@ def milliseconds(script, report):
     """The least times of some runs, of reading and of printing."""
     best = [float("inf"), float("inf")]
     for _ in range(ROUNDS):
-        answer = subprocess.run([PROGRAM, script, report], stdout=subprocess.PIPE, text=True, check=True).stdout.split()
+        answer = subprocess.run([PROGRAM, "report", script, report], stdout=subprocess.PIPE, text=True, check=True).stdout.split()
         if answer[-1] != "ok":
             sys.exit(f"{report}: {' '.join(answer)}")
         best = [min(old, int(new) / 1e6) for old, new in zip(best, answer)]
@@ -49,7 +49,7 @@ def main():
     """Builds the program, and prints the table."""
     subprocess.run(["rt", "run"], cwd=CRATE, stdout=subprocess.DEVNULL, stderr=subprocess.DEVNULL)
     if not PROGRAM.exists():
-        sys.exit("crates/report_bench isn't built: see `rt run` there")
+        sys.exit("crates/bench isn't built: see `rt run` there")
     late = []
     with tempfile.TemporaryDirectory() as folder:
         script, report = Path(folder) / "script", Path(folder) / "report"

@@ -1,7 +1,7 @@
 #!/usr/bin/env python3
 """Times the reader of scripts on texts of 1 MiB.
 
-usage: bench/script_speed.py        from the top of the repository; proves and builds crates/script_bench if needed
+usage: bench/script_speed.py        from the top of the repository; proves and builds crates/bench if needed
 
 Each text is read nine times in one run, and there are ROUNDS runs; the least time counts. The limit is 30 ms for a script
 with 64 clients, 64 readers and 4,096 phases.
@@ -12,8 +12,8 @@ import tempfile
 from pathlib import Path
 
 TOP = Path(__file__).resolve().parent.parent
-CRATE = TOP / "crates/script_bench"
-PROGRAM = CRATE / "out/script_bench"
+CRATE = TOP / "crates/bench"
+PROGRAM = CRATE / "out/bench"
 SIZE, ROUNDS, LIMIT, PHASES, ACTORS = 1 << 20, 5, 30.0, 4096, 64
 
 
@@ -58,7 +58,7 @@ def milliseconds(path):
     """The least time of some runs."""
     best = float("inf")
     for _ in range(ROUNDS):
-        answer = subprocess.run([PROGRAM, path], stdout=subprocess.PIPE, text=True, check=True).stdout.split()
+        answer = subprocess.run([PROGRAM, "script", path], stdout=subprocess.PIPE, text=True, check=True).stdout.split()
         if answer[-1] != "ok":
             sys.exit(f"{path}: {' '.join(answer)}")
         best = min(best, int(answer[0]) / 1e6)
@@ -69,7 +69,7 @@ def main():
     """Builds the program, and prints the table."""
     subprocess.run(["rt", "run"], cwd=CRATE, stdout=subprocess.DEVNULL, stderr=subprocess.DEVNULL)
     if not PROGRAM.exists():
-        sys.exit("crates/script_bench isn't built: see `rt run` there")
+        sys.exit("crates/bench isn't built: see `rt run` there")
     late = []
     with tempfile.TemporaryDirectory() as folder:
         path = Path(folder) / "script"

@@ -1,4 +1,4 @@
-/* The loops of crates/snoop_bench by hand: a ring of 64-bit words, each with one more than the lap of its frame in its upper
+/* The loops of `bench snoop` by hand: a ring of 64-bit words, each with one more than the lap of its frame in its upper
  * half, and in its lowest 16 bits its sample plus 2^15. The ring's length is a constant, so nothing is divided. It prints the
  * same lines. CALLED is what is before the two functions that store and load a frame: nothing, or that they aren't inlined. */
 #include <stdint.h>

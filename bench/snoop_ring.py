@@ -1,7 +1,7 @@
 #!/usr/bin/env python3
 """Times stores and loads of the snoop ring, beside the same loops written in C.
 
-usage: bench/snoop_ring.py      from the top of the repository; wants cc, and proves and builds crates/snoop_bench if needed
+usage: bench/snoop_ring.py      from the top of the repository; wants cc, and proves and builds crates/bench if needed
 
 The C program has the ring's length as a constant. It is compiled twice: with functions that are called for each frame, and with
 these inlined. All programs store and load a ring of 16,384 frames lap by lap, and give for each measurement the time on the clock
@@ -18,8 +18,8 @@ import tempfile
 from pathlib import Path
 
 TOP = Path(__file__).resolve().parent.parent
-CRATE = TOP / "crates/snoop_bench"
-COMPILED = CRATE / "out/snoop_bench.o"
+CRATE = TOP / "crates/bench"
+COMPILED = CRATE / "out/bench.o"
 FRAMES, ROUNDS = 16384, 3
 CHANNELS = (1, 2, 8)
 PLACES = range(1, 33, 4)
@@ -44,8 +44,8 @@ def build(folder):
     """The C programs, which are compiled anew; the crate is proved and built only where it has changed."""
     subprocess.run(["rt", "run"], cwd=CRATE, stdout=subprocess.DEVNULL, stderr=subprocess.DEVNULL)
     if not COMPILED.exists():
-        sys.exit("crates/snoop_bench isn't built: see `rt run` there")
-    kinds = [linked(folder, "ring", COMPILED, ".text.snoop_bench::main+start", LIBRARIES)]
+        sys.exit("crates/bench isn't built: see `rt run` there")
+    kinds = [linked(folder, "ring", COMPILED, ".text.bench::main+start", LIBRARIES)]
     for name, section, flags in (("called", ".text", ["-DCALLED=__attribute__((noinline))"]), ("inlined", ".text.startup", [])):
         compiled = folder / f"{name}_c.o"
         subprocess.run(["cc", "-O2", *flags, "-c", "-o", compiled, TOP / "bench/snoop_ring.c"], check=True)
@@ -55,7 +55,7 @@ def build(folder):
 
 def measure(program, best):
     """Runs a program, and keeps the lesser time of each of its lines."""
-    process = subprocess.run([program, "time"], stdout=subprocess.PIPE, text=True, check=True)
+    process = subprocess.run([program, "snoop", "time"], stdout=subprocess.PIPE, text=True, check=True)
     for line in process.stdout.splitlines():
         what, nanoseconds = line.rsplit(" ", 1)
         best[what] = min(best.get(what, float("inf")), int(nanoseconds))

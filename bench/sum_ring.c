@@ -1,4 +1,4 @@
-/* The loops of crates/sum_bench by hand: a ring of 64-bit words, each with the lap of the ring in its upper half, below it
+/* The loops of `bench sum` by hand: a ring of 64-bit words, each with the lap of the ring in its upper half, below it
  * the number of samples that were placed there, and in its lowest 24 bits their sum plus 2^23. The ring's length is a constant, so
  * nothing is divided. It prints the same lines. */
 #include <pthread.h>

@@ -1,7 +1,7 @@
 #!/usr/bin/env python3
 """Times placements and takes of the sum ring between threads, beside the same loops written in C.
 
-usage: bench/sum_ring.py        from the top of the repository; wants cc, and proves and builds crates/sum_bench if needed
+usage: bench/sum_ring.py        from the top of the repository; wants cc, and proves and builds crates/bench if needed
 
 The C program has the ring's length as a constant. Both programs fill and take a ring of 16,384 frames lap by lap, and give for
 each measurement the time on the clock of the fastest of 400 laps. They are run in turn, ROUNDS times each, and the least time
@@ -13,8 +13,8 @@ import tempfile
 from pathlib import Path
 
 TOP = Path(__file__).resolve().parent.parent
-CRATE = TOP / "crates/sum_bench"
-PROGRAM = CRATE / "out/sum_bench"
+CRATE = TOP / "crates/bench"
+PROGRAM = CRATE / "out/bench"
 FRAMES, ROUNDS = 16384, 5
 ROWS = (
     ("alone 1", "1 thread, 1 channel"),
@@ -32,13 +32,13 @@ def build(folder):
     subprocess.run(["cc", "-O2", "-pthread", "-o", by_hand, TOP / "bench/sum_ring.c"], check=True)
     subprocess.run(["rt", "run"], cwd=CRATE, stdout=subprocess.DEVNULL, stderr=subprocess.DEVNULL)
     if not PROGRAM.exists():
-        sys.exit("crates/sum_bench isn't built: see `rt run` there")
+        sys.exit("crates/bench isn't built: see `rt run` there")
     return [PROGRAM, by_hand]
 
 
 def measure(program, best):
     """Runs a program, and keeps the lesser time of each of its lines."""
-    process = subprocess.run([program, "time"], stdout=subprocess.PIPE, text=True, check=True)
+    process = subprocess.run([program, "sum", "time"], stdout=subprocess.PIPE, text=True, check=True)
     for line in process.stdout.splitlines():
         what, nanoseconds = line.rsplit(" ", 1)
         best[what] = min(best.get(what, float("inf")), int(nanoseconds))

@@ -1,7 +1,7 @@
 #!/usr/bin/env python3
 """Times the reading and the writing of a WAV file of 64 MiB, and sox's own conversion of the same file.
 
-usage: bench/wav_files.py        from the top of the repository; wants sox, and proves and builds crates/wav_copy if needed
+usage: bench/wav_files.py        from the top of the repository; wants sox, and proves and builds crates/bench if needed
 
 Times are of whole commands, the best of ten runs: processor time, and in parentheses the time on the clock. The files lie in a
 temporary folder, so mostly in memory.
@@ -15,8 +15,8 @@ import time
 from pathlib import Path
 
 TOP = Path(__file__).resolve().parent.parent
-CRATE = TOP / "crates/wav_copy"
-PROGRAM = CRATE / "out/wav_copy"
+CRATE = TOP / "crates/bench"
+PROGRAM = CRATE / "out/bench"
 SIZE, RUNS = 67108864, 10
 
 
@@ -44,13 +44,14 @@ def timed(command, folder):
 
 
 def main():
-    # with no words the program answers 1, so only whether it was built counts
     subprocess.run(["rt", "run"], cwd=CRATE, stdout=subprocess.DEVNULL, stderr=subprocess.DEVNULL)
+    if not PROGRAM.exists():
+        sys.exit("crates/bench isn't built: see `rt run` there")
     with tempfile.TemporaryDirectory() as name:
         folder = Path(name)
         make(folder / "in.wav")
-        read = timed([str(PROGRAM), "in.wav"], folder)
-        copy = timed([str(PROGRAM), "in.wav", "out.wav"], folder)
+        read = timed([str(PROGRAM), "copy", "in.wav"], folder)
+        copy = timed([str(PROGRAM), "copy", "in.wav", "out.wav"], folder)
         sox = timed(["sox", "in.wav", "sox.wav"], folder)
         if (folder / "in.wav").read_bytes() != (folder / "out.wav").read_bytes():
             sys.exit("the copy differs")

@@ -1,7 +1,7 @@
 #!/usr/bin/env python3
 """Times the reading and the writing of a stereo WAV file of 64 MiB in memory, in pieces of 65,536 bytes.
 
-usage: bench/wav_pieces.py        from the top of the repository; proves and builds crates/wav_bench if needed
+usage: bench/wav_pieces.py        from the top of the repository; proves and builds crates/bench if needed
 
 A run reads or writes the file ten times. Each reading makes a new vector of samples, so that its time has the first use of the
 memory in it (the system's part); a written piece takes the place of the one before. The best of ten runs counts.
@@ -12,8 +12,8 @@ import sys
 from pathlib import Path
 
 TOP = Path(__file__).resolve().parent.parent
-CRATE = TOP / "crates/wav_bench"
-PROGRAM = CRATE / "out/wav_bench"
+CRATE = TOP / "crates/bench"
+PROGRAM = CRATE / "out/bench"
 BYTES, RUNS = 10 * 67108864, 10
 
 
@@ -21,18 +21,19 @@ def timed(word):
     """Processor time of the best run: all of it, and the program's own part."""
     best = None
     for _ in range(RUNS):
-        process = subprocess.Popen([str(PROGRAM), word])
+        process = subprocess.Popen([str(PROGRAM), "wav", word])
         _, status, usage = os.wait4(process.pid, 0)
         if status != 0:
-            sys.exit(f"wav_bench {word} ended with {status}")
+            sys.exit(f"bench wav {word} ended with {status}")
         spent = (usage.ru_utime + usage.ru_stime, usage.ru_utime)
         best = spent if best is None else min(best, spent)
     return best
 
 
 def main():
-    # with no words the program answers 1, so only whether it was built counts
     subprocess.run(["rt", "run"], cwd=CRATE, stdout=subprocess.DEVNULL, stderr=subprocess.DEVNULL)
+    if not PROGRAM.exists():
+        sys.exit("crates/bench isn't built: see `rt run` there")
     print("| what | ms for 64 MiB, processor (own part) | MB/s | MB/s of the own part |")
     print("|---|---|---|---|")
     for word in ("read", "write"):

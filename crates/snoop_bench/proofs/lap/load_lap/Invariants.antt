@@ -1,5 +1,0 @@
-use Rattle.std.proofs.Common.{◌≡◌}
-use Rattle.snoop_bench.proofs.lap.load_lap.Given as goal
-
-abbrev pub invariant-loop-frame : goal.invariant-loop-frame
-invariant-loop-frame l = (l.reader.geometry ≡ l.fn.reader.geometry) × (l.reader.seen ≡ l.fn.reader.seen)

@@ -1,5 +1,0 @@
-use Rattle.sum_table.specs.Players.{PlayerGoes}
-use Rattle.sum_bench.proofs.lap.play.Given as goal
-
-abbrev pub invariant-loop : goal.invariant-loop
-invariant-loop l = PlayerGoes l.fn.player l.player
