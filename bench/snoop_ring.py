@@ -40,12 +40,23 @@ def linked(folder, name, compiled, section, libraries):
     return programs
 
 
+def moved_first(folder):
+    """The compiled crate with what is measured in a section that the linker puts before all others, as it does C's `main`."""
+    table = subprocess.run(["objdump", "-h", COMPILED], stdout=subprocess.PIPE, text=True, check=True).stdout
+    names = [word for word in table.split() if word.startswith(".text.bench::snoop::run")]
+    if len(names) != 1:
+        sys.exit("crates/bench doesn't have `snoop::run` as a function of its own")
+    compiled = folder / "bench.o"
+    subprocess.run(["objcopy", f"--rename-section={names[0]}=.text.startup", COMPILED, compiled], check=True)
+    return compiled
+
+
 def build(folder):
     """The C programs, which are compiled anew; the crate is proved and built only where it has changed."""
     subprocess.run(["rt", "run"], cwd=CRATE, stdout=subprocess.DEVNULL, stderr=subprocess.DEVNULL)
     if not COMPILED.exists():
         sys.exit("crates/bench isn't built: see `rt run` there")
-    kinds = [linked(folder, "ring", COMPILED, ".text.bench::main+start", LIBRARIES)]
+    kinds = [linked(folder, "ring", moved_first(folder), ".text.startup", LIBRARIES)]
     for name, section, flags in (("called", ".text", ["-DCALLED=__attribute__((noinline))"]), ("inlined", ".text.startup", [])):
         compiled = folder / f"{name}_c.o"
         subprocess.run(["cc", "-O2", *flags, "-c", "-o", compiled, TOP / "bench/snoop_ring.c"], check=True)
