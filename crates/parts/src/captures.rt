@@ -14,7 +14,16 @@ pub(crate) fn capture(alloc: Global, line: &str) -> Result<SnoopCore, Refusal> {
     }
 }
 
-/// `store COUNT SAMPLE..`: stores a frame so often, and publishes it. The answer is the number of the next frame.
+/// `publish`: the position that is published.
+pub(crate) fn published(alloc: Global, core: &mut Option<SnoopCore>) -> Result<String, Refusal> {
+    let Some(core) = core else {
+        return Err("no capture was begun".into());
+    };
+    core.publish();
+    Ok(format!(in alloc; "{}", core.position().frame)?)
+}
+
+/// `store COUNT SAMPLE..`: stores a frame so often. The answer is the number of the next frame.
 pub(crate) fn stored(
     alloc: Global,
     core: &mut Option<SnoopCore>,
@@ -36,7 +45,6 @@ pub(crate) fn stored(
         if let Err(error) = core.store(&frame) {
             return Ok(format!(in alloc; "{error}")?);
         }
-        core.publish();
     }
     Ok(format!(in alloc; "{}", core.next())?)
 }

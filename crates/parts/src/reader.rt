@@ -131,6 +131,7 @@ impl Reader {
         match word(&mut rest) {
             "call" => cores::replies(alloc, &mut self.core, rest),
             "store" => captures::stored(alloc, &mut self.capture, rest),
+            "publish" => captures::published(alloc, &mut self.capture),
             "load" => captures::loaded(alloc, &mut self.capture, rest),
             "read" => reports::read(alloc, self.script.as_str(), self.text.as_str(), rest),
             "next" => states::outcome(alloc, rest),
