@@ -1,11 +1,13 @@
 //! A worked value for what a clause defines, where neither a session nor a line of `parts` shows one.
 use hw_space::Config;
+use mix_core::NeverStops;
 use pcm_format::{Areas, Format, copy_frames, silence_frames};
 use pcm_states::{Call, State};
 use pcm_stream::{Direction, Status};
 use plug_chain::{Plug, Table, Wide};
 use ring_pointers::Pointers;
-use snd_base::{PcmError, Why};
+use snd_base::{Geometry, PcmError, Why};
+use snoop_core::{Loaded, SnoopCore, SnoopPort, can_load};
 use std::test::Fail;
 use sw_limits::{SwParams, boundary};
 
@@ -130,4 +132,47 @@ fn frames_are_copied_between_layouts(rt: HostRuntime) {
     assert!(rt; samples == [1, 3, 2, 4]);
     silence_frames(&mut samples, &to, 1, 1);
     assert!(rt; samples == [1, 0, 2, 0]);
+}
+
+// Stores a frame of a core with one channel.
+fn store(core: &mut SnoopCore, sample: i16) -> Result<(), Fail> {
+    if core.geometry().channels != 1 {
+        return Err("a core with one channel".into());
+    }
+    Ok(core.store(&[sample])?)
+}
+
+// Loads a frame of such a core where a reader may.
+fn load(core: &mut SnoopCore, frame: u64) -> Result<(Loaded, i16), Fail> {
+    let mut out = [0i16];
+    let mut turn = core.turn();
+    if !can_load(&turn, frame, &out) {
+        return Err("a frame that is published".into());
+    }
+    let loaded = turn.load_frame(&mut NeverStops, frame, &mut out)?;
+    Ok((loaded, out[0]))
+}
+
+// A frame is stored over frame 0, whose slot it has, before it is published, and leaves frame 1. Its word has lap 2, one more
+// than its own, and the sample 7: 2 * 4294967296 + 32768 + 7.
+#[test]
+fn a_frame_is_overtaken_by_the_one_a_lap_later(rt: HostRuntime) -> Result<(), Fail> {
+    let geometry = Geometry {
+        frames: 64,
+        channels: 1,
+        first_lap: 0,
+    };
+    let mut core = SnoopCore::new(rt.alloc(), geometry)?;
+    for number in 0..64_u8 {
+        store(&mut core, number as i16)?;
+    }
+    core.publish();
+    store(&mut core, 7)?;
+    let overtaken = Loaded::Overtaken {
+        channel: 0,
+        seen: 8589967367,
+    };
+    assert!(rt; load(&mut core, 0)? == (overtaken, 0));
+    assert!(rt; load(&mut core, 1)? == (Loaded::Got, 1));
+    Ok(())
 }

@@ -5,7 +5,7 @@ use snd_base::Geometry;
 use std::alloc::Global;
 
 /// A ring's geometry: `CHANNELS FRAMES LAP`.
-pub(crate) fn geometry(rest: &mut &str) -> Result<Geometry, Refusal> {
+fn geometry(rest: &mut &str) -> Result<Geometry, Refusal> {
     let channels = byte(rest)?;
     let frames = count(rest)?;
     let first_lap = count(rest)?;
@@ -47,7 +47,7 @@ fn event(text: &str) -> Result<Event, Refusal> {
     let member = count(&mut rest)?;
     let frame = number(&mut rest)?;
     let channel = byte(&mut rest)?;
-    let sample = sample(&mut rest)?;
+    let sample = sample(rest)?;
     match name {
         "add" => Ok(Event::Add {
             member,

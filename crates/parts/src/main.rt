@@ -1,7 +1,6 @@
 //! Runs cases from text files over calls of the libraries that no command shows: a line for each call, its answer behind `=`.
 #![tactic(auto)]
 
-mod captures;
 mod cores;
 mod intervals;
 mod reader;

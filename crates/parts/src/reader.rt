@@ -1,15 +1,13 @@
 //! The reader of a file of cases, which makes each call as it comes to its line.
 use crate::words::{Refusal, word};
-use crate::{captures, cores, intervals, reports, states};
+use crate::{cores, intervals, reports, states};
 use mix_core::Core;
-use snoop_core::SnoopCore;
 use std::alloc::Global;
 
 /// A file that is read: what was begun in the case so far, the text that lines of content go to, the number of the line that
 /// was read last, what is to be said of the lines that failed, and how many passed and failed.
 pub(crate) struct Reader {
     core: Option<Core>,
-    capture: Option<SnoopCore>,
     script: String,
     text: String,
     is_script: bool,
@@ -24,7 +22,6 @@ impl Drop for Reader {
     fn drop(self) {
         let Reader {
             core: _,
-            capture: _,
             script: _,
             text: _,
             is_script: _,
@@ -41,7 +38,6 @@ impl Reader {
     pub(crate) fn new(alloc: Global) -> Reader {
         Reader {
             core: None,
-            capture: None,
             script: String::new(alloc),
             text: String::new(alloc),
             is_script: false,
@@ -107,10 +103,7 @@ impl Reader {
     fn begin(&mut self, alloc: Global, line: &str) -> Result<(), Refusal> {
         let mut rest = line;
         match word(&mut rest) {
-            "case" => {
-                self.core = None;
-                self.capture = None;
-            }
+            "case" => self.core = None,
             "script" | "text" => {
                 self.is_script = line == "script";
                 if self.is_script {
@@ -119,7 +112,6 @@ impl Reader {
                 self.text.clear();
             }
             "core" => self.core = Some(cores::core(alloc, rest)?),
-            "capture" => self.capture = Some(captures::capture(alloc, rest)?),
             _ => return Err("a word that isn't known".into()),
         }
         Ok(())
@@ -130,9 +122,6 @@ impl Reader {
         let mut rest = call;
         match word(&mut rest) {
             "call" => cores::replies(alloc, &mut self.core, rest),
-            "store" => captures::stored(alloc, &mut self.capture, rest),
-            "publish" => captures::published(alloc, &mut self.capture),
-            "load" => captures::loaded(alloc, &mut self.capture, rest),
             "read" => reports::read(alloc, self.script.as_str(), self.text.as_str(), rest),
             "next" => states::outcome(alloc, rest),
             "row" => states::row(alloc, rest),

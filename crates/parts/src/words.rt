@@ -66,9 +66,9 @@ pub(crate) fn byte(rest: &mut &str) -> Result<u8, Refusal> {
     }
 }
 
-/// The sample that the next word is.
-pub(crate) fn sample(rest: &mut &str) -> Result<i16, Refusal> {
-    match word(rest).parse::<i16>() {
+/// The sample that a word is.
+pub(crate) fn sample(word: &str) -> Result<i16, Refusal> {
+    match word.parse::<i16>() {
         Ok(sample) => Ok(sample),
         Err(_) => Err("a sample is expected".into()),
     }
