@@ -1,5 +1,0 @@
-//! The tests of the crates that a PCM stream is made of, a module for each. They are a crate of their own so that what proves them doesn't prove the libraries again.
-#![tactic(auto)]
-
-#[cfg(test)]
-mod tests;
