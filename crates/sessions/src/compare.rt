@@ -1,7 +1,7 @@
 //! What a call leaves is compared with what a case says.
 use crate::call::{Left, call};
-use crate::case::{Case, File, copy_of, find};
-use crate::pattern::push_pattern_difference;
+use crate::case::{Case, File, Sound, copy_of, find, put_file};
+use crate::pattern::{push_lines, push_pattern_difference};
 use crate::sound::sound_file;
 use crate::wav::{sample_at, samples_in};
 use std::alloc::{AllocError, Global};
@@ -83,53 +83,79 @@ fn push_difference(
     if wanted.starts_with(b"RIFF") && found.starts_with(b"RIFF") {
         return push_wav_difference(differences, what, wanted, found, place);
     }
-    let (length, count) = (found.len(), wanted.len());
+    push_text_difference(differences, what, wanted, found, place)
+}
+
+/// Says at which byte a text is another one, with its lines there.
+fn push_text_difference(
+    differences: &mut String,
+    what: &str,
+    wanted: &[u8],
+    found: &[u8],
+    place: usize,
+) -> Result<(), AllocError> {
     let (number, line) = line_at(wanted, place);
-    let (_, other) = line_at(found, place);
+    let (length, count) = (found.len(), wanted.len());
     writeln!(
         differences,
-        "  {what}: line {number}, byte {place} of {length} (wanted {count})\n    wanted: {line}\n    found:  {other}"
-    )
+        "  {what}: line {number}, byte {place} of {length} (wanted {count})"
+    )?;
+    push_lines(differences, line, line_at(found, place).1)
 }
 
-/// Compares the status and the outputs.
-fn push_end_difference(
+/// Compares the status.
+fn push_status_difference(
+    differences: &mut String,
+    wanted: u8,
+    found: u8,
+) -> Result<(), AllocError> {
+    if wanted == found {
+        return Ok(());
+    }
+    writeln!(differences, "  status: {found} (wanted {wanted})")
+}
+
+/// Compares standard output.
+fn push_out_difference(
     alloc: Global,
     differences: &mut String,
     case: &Case,
-    left: &Left,
+    found: &[u8],
 ) -> Result<(), AllocError> {
-    if left.status != case.status {
-        let (found, wanted) = (left.status, case.status);
-        writeln!(differences, "  status: {found} (wanted {wanted})")?;
-    }
     if case.is_any_order {
-        let (pattern, report) = (text_of(&case.out), text_of(left.out.bytes()));
-        push_pattern_difference(alloc, differences, pattern, report)?;
+        push_pattern_difference(alloc, differences, text_of(&case.out), text_of(found))
     } else {
-        push_difference(differences, "out", &case.out, left.out.bytes())?;
+        push_difference(differences, "out", &case.out, found)
     }
-    push_difference(differences, "errors", &case.errors, left.errors.bytes())
 }
 
-/// The files that must be other ones than before: those that a case names, and those that follow from its report. It says why one can't
-/// be worked out.
-fn leaves_of(
+/// Appends the file that follows from a report, or says why it can't be worked out.
+fn push_sound_file(
     alloc: Global,
     differences: &mut String,
+    leaves: &mut Vec<File>,
+    case: &Case,
+    sound: &Sound,
+    report: &str,
+) -> Result<(), AllocError> {
+    match sound_file(alloc, case, sound, report) {
+        Ok(bytes) => put_file(alloc, leaves, &sound.name, bytes),
+        Err(why) => writeln!(differences, "  {}: {}", text_of(&sound.name), why.text()),
+    }
+}
+
+/// Appends the files that follow from a report.
+fn push_sound_files(
+    alloc: Global,
+    differences: &mut String,
+    leaves: &mut Vec<File>,
     case: &Case,
     report: &str,
-) -> Result<Vec<File>, AllocError> {
-    let mut leaves = copy_of(alloc, &case.leaves)?;
+) -> Result<(), AllocError> {
     for sound in &case.sounds {
-        match sound_file(alloc, case, sound, report) {
-            Ok(bytes) => {
-                leaves.push((Vec::from_slice(alloc, &sound.name)?, bytes))?;
-            }
-            Err(why) => writeln!(differences, "  {}: {}", text_of(&sound.name), why.text())?,
-        }
+        push_sound_file(alloc, differences, leaves, case, sound, report)?;
     }
-    Ok(leaves)
+    Ok(())
 }
 
 /// Compares a file that is there.
@@ -150,23 +176,57 @@ fn push_file_difference(
     }
 }
 
-/// Runs a case, and says what is other than it must be: nothing where it passes.
-pub(crate) fn differences<R: Threads + Sync>(
-    rt: &R,
-    alloc: Global,
-    case: &Case,
-) -> Result<String, AllocError> {
-    let left = call(rt, alloc, case)?;
-    let mut differences = String::new(alloc);
-    push_end_difference(alloc, &mut differences, case, &left)?;
-    let leaves = leaves_of(alloc, &mut differences, case, text_of(left.out.bytes()))?;
-    for file in left.shelf.entries() {
-        push_file_difference(&mut differences, &leaves, &case.files, file)?;
+/// Compares the files that are there.
+fn push_file_differences(
+    differences: &mut String,
+    leaves: &[File],
+    files: &[File],
+    found: &[File],
+) -> Result<(), AllocError> {
+    for file in found {
+        push_file_difference(differences, leaves, files, file)?;
     }
-    for (name, _) in &leaves {
-        if left.shelf.file(name).is_none() {
+    Ok(())
+}
+
+/// Says which files aren't there.
+fn push_missing(
+    differences: &mut String,
+    leaves: &[File],
+    found: &[File],
+) -> Result<(), AllocError> {
+    for (name, _) in leaves {
+        if find(found, name).is_none() {
             writeln!(differences, "  {}: it wasn't made", text_of(name))?;
         }
     }
-    Ok(differences)
+    Ok(())
+}
+
+/// Compares the files.
+fn push_files_difference(
+    alloc: Global,
+    differences: &mut String,
+    case: &Case,
+    left: &Left,
+) -> Result<(), AllocError> {
+    let mut leaves = copy_of(alloc, &case.leaves)?;
+    let (report, found) = (text_of(left.out.bytes()), left.shelf.entries());
+    push_sound_files(alloc, differences, &mut leaves, case, report)?;
+    push_file_differences(differences, &leaves, &case.files, found)?;
+    push_missing(differences, &leaves, found)
+}
+
+/// Runs a case, and says what is other than it must be: nothing where it passes.
+pub(crate) fn push_differences<R: Threads + Sync>(
+    rt: &R,
+    alloc: Global,
+    differences: &mut String,
+    case: &Case,
+) -> Result<(), AllocError> {
+    let left = call(rt, alloc, case)?;
+    push_status_difference(differences, case.status, left.status)?;
+    push_out_difference(alloc, differences, case, left.out.bytes())?;
+    push_difference(differences, "errors", &case.errors, left.errors.bytes())?;
+    push_files_difference(alloc, differences, case, &left)
 }

@@ -46,15 +46,14 @@ fn first_ends(alloc: Global, pattern: &[&str]) -> Result<Vec<bool>, AllocError> 
 
 /// The line of the pattern after the last end.
 fn next_line<'a>(ends: &[bool], pattern: &[&'a str]) -> &'a str {
-    let mut next = pattern.first().copied().unwrap_or("");
-    let mut is_before = false;
-    for (end, wanted) in ends.iter().zip(pattern) {
-        if is_before {
-            next = *wanted;
+    let (mut number, mut next) = (0usize, 0usize);
+    for end in ends {
+        number = number.wrapping_add(1);
+        if *end {
+            next = number;
         }
-        is_before = *end;
     }
-    if is_before { "(no line)" } else { next }
+    pattern.get(next).copied().unwrap_or("(no line)")
 }
 
 /// The lines of a text.
@@ -66,6 +65,39 @@ fn lines_of(alloc: Global, text: &str) -> Result<Vec<&str>, AllocError> {
     Ok(lines)
 }
 
+/// Says at which line a text is other than a pattern, where it is: the ends are those to which no line leads.
+fn push_line_difference(
+    differences: &mut String,
+    ends: &mut [bool],
+    pattern: &[&str],
+    text: &str,
+) -> Result<(), AllocError> {
+    let mut number = 0usize;
+    for line in text.lines() {
+        let next = next_line(ends, pattern);
+        take_line(ends, pattern, number == 0, line);
+        number = number.wrapping_add(1);
+        if !ends.contains(&true) {
+            writeln!(differences, "  out: line {number}")?;
+            return push_lines(differences, next, line);
+        }
+    }
+    if ends.last() != Some(&true) {
+        writeln!(differences, "  out: it ends after line {number}")?;
+        return push_lines(differences, next_line(ends, pattern), "(no line)");
+    }
+    Ok(())
+}
+
+/// Appends a line that is wanted, and the one that was found.
+pub(crate) fn push_lines(
+    differences: &mut String,
+    wanted: &str,
+    found: &str,
+) -> Result<(), AllocError> {
+    writeln!(differences, "    wanted: {wanted}\n    found:  {found}")
+}
+
 /// Says at which line a text is other than a pattern, where it is.
 pub(crate) fn push_pattern_difference(
     alloc: Global,
@@ -75,24 +107,5 @@ pub(crate) fn push_pattern_difference(
 ) -> Result<(), AllocError> {
     let pattern = lines_of(alloc, pattern)?;
     let mut ends = first_ends(alloc, &pattern)?;
-    let mut number = 0usize;
-    for line in text.lines() {
-        let next = next_line(&ends, &pattern);
-        take_line(&mut ends, &pattern, number == 0, line);
-        number = number.wrapping_add(1);
-        if !ends.contains(&true) {
-            return writeln!(
-                differences,
-                "  out: line {number}\n    wanted: {next}\n    found:  {line}"
-            );
-        }
-    }
-    if ends.last() != Some(&true) {
-        let next = next_line(&ends, &pattern);
-        writeln!(
-            differences,
-            "  out: it ends after line {number}\n    wanted: {next}"
-        )?;
-    }
-    Ok(())
+    push_line_difference(differences, &mut ends, &pattern, text)
 }

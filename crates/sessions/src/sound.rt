@@ -227,6 +227,34 @@ fn append_captured(
     Ok(())
 }
 
+/// Refuses a reader whose channels aren't the card's of the same numbers.
+fn refuse_reader(alloc: Global, case: &Case, reader: &str) -> Result<(), Refusal> {
+    let words = line_of(
+        alloc,
+        script_of(case)?,
+        ("reader", reader),
+        "the script has no such reader",
+    )?;
+    refuse_keys(&words)
+}
+
+/// Appends the captured frames of a line of the report, where it is a run of the reader.
+fn append_line(
+    alloc: Global,
+    samples: &mut Vec<u8>,
+    captured: &[u8],
+    channels: u16,
+    reader: &str,
+    line: &str,
+    first: usize,
+) -> Result<(), Refusal> {
+    let words = words_of(alloc, line)?;
+    if words.first() == Some(&"run") && words.get(1) == Some(&reader) {
+        append_captured(samples, captured, channels, &words, first)?;
+    }
+    Ok(())
+}
+
 /// The samples that a reader recorded.
 fn recorded_samples(
     alloc: Global,
@@ -235,21 +263,20 @@ fn recorded_samples(
     reader: &str,
     report: &str,
 ) -> Result<Vec<u8>, Refusal> {
+    refuse_reader(alloc, case, reader)?;
     let (first, _) = played(alloc, report)?;
-    let words = line_of(
-        alloc,
-        script_of(case)?,
-        ("reader", reader),
-        "the script has no such reader",
-    )?;
-    refuse_keys(&words)?;
     let captured = captured_file(alloc, case)?;
     let mut samples = Vec::new(alloc);
     for line in report.lines() {
-        let words = words_of(alloc, line)?;
-        if words.first() == Some(&"run") && words.get(1) == Some(&reader) {
-            append_captured(&mut samples, captured, sound.channels, &words, first)?;
-        }
+        append_line(
+            alloc,
+            &mut samples,
+            captured,
+            sound.channels,
+            reader,
+            line,
+            first,
+        )?;
     }
     Ok(samples)
 }
