@@ -1,5 +1,5 @@
 use Rattle.sum_table.specs.Seats.{IsLaterSeat-joined, IsLaterSeat-same}
-use Rattle.ring_tests.proofs.tests.lobby.lay_frames.Goals as goal
+use Rattle.ring_tests.proofs.tests.lobbies.lay_frames.Goals as goal
 
 pub loop-frame-init : goal.loop-frame-init
 loop-frame-init c = IsLaterSeat-same c.args.seat.now

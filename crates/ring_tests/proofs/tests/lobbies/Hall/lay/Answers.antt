@@ -1,6 +1,6 @@
-use Rattle.ring_tests.specs.declared.tests.lobby.Hall.{Hall}
+use Rattle.ring_tests.specs.declared.tests.lobbies.Hall.{Hall}
 use Rattle.ring_tests.proofs.Trying.{seat_put_back}
-use Rattle.ring_tests.proofs.tests.lobby.Hall.lay.Goals as goal
+use Rattle.ring_tests.proofs.tests.lobbies.Hall.lay.Goals as goal
 
 pub invariant_of-self-2 : goal.invariant_of-self-2
 invariant_of-self-2 c =

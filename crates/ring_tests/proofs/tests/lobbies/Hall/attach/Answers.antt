@@ -1,8 +1,8 @@
 use Rattle.std.proofs.Common.{◌∙◌, ap, sym}
 use Rattle.sum_table.specs.declared.view.Key.{Key}
-use Rattle.ring_tests.specs.declared.tests.lobby.Hall.{Hall}
+use Rattle.ring_tests.specs.declared.tests.lobbies.Hall.{Hall}
 use Rattle.ring_tests.proofs.Trying.{seats_out}
-use Rattle.ring_tests.proofs.tests.lobby.Hall.attach.Goals as goal
+use Rattle.ring_tests.proofs.tests.lobbies.Hall.attach.Goals as goal
 
 pub invariant_of-self : goal.invariant_of-self
 invariant_of-self c =

@@ -8,7 +8,7 @@ ghost use Rattle.lobby.specs.Lobbies.{key_of_lobby, places_of_lobby, ring_of_lob
 
 mod threads;
 
-use super::sum_table::try_place;
+use super::sums::try_place;
 use lobby::Lobby;
 use mix_core::{MixPort, Placed};
 use snd_base::{Geometry, PcmError};

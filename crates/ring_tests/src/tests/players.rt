@@ -2,7 +2,7 @@
 ghost use Rattle.std.specs.Prelude.{◌≤◌, IfOk};
 ghost use Rattle.sum_table.specs.Rings.{GaveNone};
 
-use super::sum_table::try_place;
+use super::sums::try_place;
 use card_player::CardPlayer;
 use mix_core::{MixPort, NeverStops, Placed};
 use snd_base::{Geometry, PcmError};
