@@ -1,6 +1,6 @@
 //! Random stores, publications and loads at a capture ring between threads and at a core: both give the same answers.
 use super::dice::Dice;
-use crate::tests::snoop_table::try_store;
+use crate::tests::captures::try_store;
 use mix_core::NeverStops;
 use snd_base::PcmError;
 use snoop_core::{Loaded, SnoopCore, SnoopPort};
