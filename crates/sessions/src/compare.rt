@@ -106,8 +106,8 @@ fn push_text_difference(
 /// Compares the status.
 fn push_status_difference(
     differences: &mut String,
-    wanted: u8,
-    found: u8,
+    wanted: usize,
+    found: usize,
 ) -> Result<(), AllocError> {
     if wanted == found {
         return Ok(());
@@ -225,7 +225,11 @@ pub(crate) fn push_differences<R: Threads + Sync>(
     case: &Case,
 ) -> Result<(), AllocError> {
     let left = call(rt, alloc, case)?;
-    push_status_difference(differences, case.status, left.status)?;
+    push_status_difference(
+        differences,
+        usize::from(case.status),
+        usize::from(left.status),
+    )?;
     push_out_difference(alloc, differences, case, left.out.bytes())?;
     push_difference(differences, "errors", &case.errors, left.errors.bytes())?;
     push_files_difference(alloc, differences, case, &left)

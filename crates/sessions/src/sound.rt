@@ -1,6 +1,7 @@
 //! The WAV files that follow from a report: what the card played is the saturated sum of what the segments place, and what a reader
 //! recorded is the captured frames of its runs. Each channel of a client's file is the card's of the same number, and likewise of a reader.
 use crate::case::{Case, Sound, find};
+use crate::content::number;
 use crate::refusal::Refusal;
 use crate::wav::{append_wav, channels_in, is_canonical, sample_at, samples_in};
 use std::alloc::{AllocError, Global};
@@ -19,12 +20,9 @@ fn words_of(alloc: Global, line: &str) -> Result<Vec<&str>, AllocError> {
 
 /// The number that the word at this place is.
 fn number_at(words: &[&str], place: usize) -> Result<usize, Refusal> {
-    let Some(word) = words.get(place) else {
-        return Err("a line of the report is too short".into());
-    };
-    match word.parse::<usize>() {
-        Ok(number) => Ok(number),
-        Err(_) => Err("a line of the report has no number where one must be".into()),
+    match words.get(place) {
+        Some(word) => Ok(number(word)? as usize),
+        None => Err("a line of the report is too short".into()),
     }
 }
 
