@@ -198,7 +198,7 @@ class Reading:
 
 
 def read(path: str) -> Corpus:
-    """The cases of a file. A line that can't be read ends it, which only a file whose cases must fail may have."""
+    """The cases of a file. A line that can't be read ends it and isn't of a case that is run; only a file whose cases must fail may have one."""
     reading = Reading()
     with open(path, encoding="utf-8") as file:
         for number, line in enumerate(file.read().split("\n"), 1):
@@ -210,5 +210,5 @@ def read(path: str) -> Corpus:
                 refusal = NotACorpus(os.path.basename(path), number, error)
                 if not reading.must_fail:
                     raise refusal from error
-                return Corpus(reading.cases, True, refusal)
+                return Corpus(reading.cases[:-1], True, refusal)
     return Corpus(reading.cases, reading.must_fail)
