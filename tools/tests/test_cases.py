@@ -156,7 +156,7 @@ class Running(unittest.TestCase):
             self.assertEqual(ran(f"case it\ncall x\n{fault}\nstatus 5\n", "exit 1")[:2], (0, "it.cases: 0 passed, 0 failed, 1 skipped\n"))
 
     def test_cases_that_must_fail_do(self):
-        text = "must-fail\ncase one\ncall x\nstatus 3\n\nnonsense\n"
+        text = "must-fail\ncase one\ncall x\nstatus 3\n\ncase two\nnonsense\n"
         self.assertEqual(ran(text, "exit 0")[:2], (0, "it.cases: 2 failed, as they must, 0 passed, 0 skipped\n"))
         status, out, _ = ran(text, "exit 3")
         self.assertEqual(status, 1)
