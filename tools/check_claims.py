@@ -10,7 +10,7 @@ A call is a function of the crate's src, and its clause one of its lines `ensure
 the source. Each crate of crates.txt has to be named, too.
 
 A public call is a `pub fn`, by itself or of a type, that the crate's lib.rt hands on. Where it takes a value by `&mut` and has a
-clause, a line of its crate has to name it. Crates without a table are left out, as those of tests and benchmarks are. The status is
+clause, a line of its crate has to name it. Crates without a table are left out, as those of tests are. The status is
 0 where all is as it should be, and otherwise 1.
 """
 from __future__ import annotations

@@ -35,7 +35,7 @@ def recorded(name, reader):
 class Samples(unittest.TestCase):
     def test_what_two_clients_place_is_summed_and_saturated(self):
         sums = [0] * 64 + [32760 + frame for frame in range(8)] + [32767] * 56
-        self.assertEqual(played("two clients in one place"), tuple(sums))
+        self.assertEqual(played("the sum of two clients is saturated"), tuple(sums))
 
     def test_bindings_exchange_the_channels(self):
         self.assertEqual(played("exchanged channels")[126:132], (0, 0, -1000, 1000, -1001, 1001))
