@@ -19,6 +19,12 @@ SCRIPT = "card channels 1 rate 48000 period 64 ring 256\nclient a a.wav\nopen a\
 REPORT = "dmixlab 1\n0 a open = ok PREPARED -\n1 a write 64 = 64 RUNNING 0\n2 card play 128 = 128 RUNNING 128\nsegment a 0 64 64 0\nplayed 0 128\nend\n"
 
 
+def read(path):
+    """The text of a file."""
+    with open(path, encoding="utf-8") as file:
+        return file.read()
+
+
 def indented(text):
     return "".join(f"  {line}\n" for line in text.splitlines())
 
@@ -117,6 +123,18 @@ class Reading(unittest.TestCase):
             found = corpus.read(path).cases
             self.assertTrue(found, path)
             self.assertEqual(len({it.name for it in found}), len(found), path)
+
+    def test_each_file_is_run_in_the_gate_counted_and_described(self):
+        crate = f"{ROOT}/crates/sessions"
+        names = read(f"{crate}/args").split()
+        self.assertEqual(sorted(names), sorted(os.listdir(f"{crate}/data")))
+        counts = [len(corpus.read(f"{crate}/data/{name}").cases) for name in names[:-1]]
+        lines = [f"{name}: {count} passed, 0 failed" for name, count in zip(names, counts)]
+        printed = read(f"{crate}/stdout").splitlines()
+        self.assertEqual((printed[:len(lines)], printed[-1]), (lines, f"sessions: {sum(counts)} passed, 0 failed"))
+        self.assertIn(f" {sum(counts)} calls of the program", read(f"{ROOT}/README.md"))
+        rows = read(f"{ROOT}/docs/CASES.md").split("## The files of the corpus")[1].split("\n## ")[0]
+        self.assertEqual([name for name in names if f"`{name[:-len('.cases')]}`" not in rows], [])
 
 
 class Patterns(unittest.TestCase):
