@@ -132,7 +132,6 @@ class Reading(unittest.TestCase):
         lines = [f"{name}: {count} passed, 0 failed" for name, count in zip(names, counts)]
         printed = read(f"{crate}/stdout").splitlines()
         self.assertEqual((printed[:len(lines)], printed[-1]), (lines, f"sessions: {sum(counts)} passed, 0 failed"))
-        self.assertIn(f" {sum(counts)} calls of the program", read(f"{ROOT}/README.md"))
         rows = read(f"{ROOT}/docs/CASES.md").split("## The files of the corpus")[1].split("\n## ")[0]
         self.assertEqual([name for name in names if f"`{name[:-len('.cases')]}`" not in rows], [])
 
