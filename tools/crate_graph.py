@@ -1,0 +1,77 @@
+"""The crates of a repository, by its crates.txt: what each uses, its files, and the work that waits for it.
+
+It is for the tools that build and test crates, and no command of its own."""
+import hashlib
+import os
+
+# what a crate states that another uses is read in the time in which so many bytes of functions are proved
+LIBRARY_SIZE = 400
+PROVED_FILES = ("src", "specs", "proofs")
+
+
+def read_lines(root):
+    """What stands behind the colon of each crate's line in crates.txt, by the crate's name."""
+    with open(f"{root}/crates.txt", encoding="utf-8") as file:
+        lines = [line.split("#")[0].strip() for line in file]
+    parts = [line.partition(":") for line in lines if line]
+    return {head.split()[0]: tail.split() for head, _, tail in parts}
+
+
+def uses_of(lines):
+    """The crates of the repository that each crate uses."""
+    return {name: [it for it in used if it in lines] for name, used in lines.items()}
+
+
+def below(uses, name):
+    """The crates that a crate uses, and those below them."""
+    found, left = set(), list(uses[name])
+    while left:
+        it = left.pop()
+        if it not in found:
+            found.add(it)
+            left += uses[it]
+    return found
+
+
+def files_in(folder):
+    """The files below a folder, by name."""
+    return sorted(f"{at}/{name}" for at, _, names in os.walk(folder) for name in names)
+
+
+def source_size(crate):
+    """The bytes of a crate's functions, without its tests."""
+    files = [it for it in files_in(f"{crate}/src") if it.endswith(".rt")]
+    return sum(os.path.getsize(it) for it in files if "tests" not in os.path.relpath(it, crate))
+
+
+def chains(root, uses, wanted):
+    """The work of the longest chain that begins with each wanted crate, up to the topmost: the greatest goes first."""
+    found = {}
+
+    def chain(name):
+        if name not in found:
+            above = [it for it in wanted if name in uses[it]]
+            own = source_size(f"{root}/crates/{name}") + LIBRARY_SIZE * len(below(uses, name))
+            found[name] = own + max(map(chain, above), default=0)
+        return found[name]
+
+    return {name: chain(name) for name in wanted}
+
+
+def keys_of(root, lines, said):
+    """A key for each crate, which changes with its files, its line, what is said with it (as the prover's words), and the keys of those below."""
+    uses, found = uses_of(lines), {}
+
+    def key(name):
+        if name not in found:
+            made = hashlib.sha256(f"{name} {lines[name]} {said}".encode())
+            crate = f"{root}/crates/{name}"
+            for file in [it for part in PROVED_FILES for it in files_in(f"{crate}/{part}")]:
+                with open(file, "rb") as bytes_of:
+                    content = bytes_of.read()
+                made.update(f"{os.path.relpath(file, crate)} {len(content)}\n".encode() + content)
+            made.update(" ".join(key(it) for it in uses[name]).encode())
+            found[name] = made.hexdigest()
+        return found[name]
+
+    return {name: key(name) for name in lines}

@@ -1,0 +1,187 @@
+#!/usr/bin/env python3
+"""try_run.py WHY WORD..: answers the words run SCRIPT OUT, refine TEXT or conf FILE NAME by the unproved program, compiled with checks at run time.
+
+`./dmixlab` calls it where the program isn't built as its sources stand. `rt try` compiles the program and runs it in a folder of its own, so
+the words get absolute names, and files that the script names are given to it. The report is put on standard output and the exit status is the
+program's own; one line on standard error then says what this was. WHY is the reason, which that line repeats.
+
+The exit status is 70 where rt try gave no answer: it needs more than 1 MiB for the report or more time than it gives, or rt itself failed."""
+import contextlib
+import os
+import re
+import signal
+import stat
+import subprocess
+import sys
+import tempfile
+import time
+
+ROOT = os.path.dirname(os.path.dirname(os.path.abspath(__file__)))
+NO_ANSWER, WORDS, NOT_READ = 70, 1, 4
+# the words after each command
+COMMANDS = {"run": 2, "refine": 1, "conf": 2, "make": 3}
+# a script's last byte is within these; one of more is refused, and the rest of it needn't be read
+SCRIPT_SIZE = 1 << 20
+# the time that rt try gives the program
+SECONDS = 300
+# names that rt try keeps for itself begin with one of these
+KEPT_NAMES = ("program", "stdin", "stdout", "stderr")
+STREAMS = ("/dev/stdin", "/dev/fd/0", "/proc/self/fd/0")
+# rt's lines behind what the program wrote on standard error
+RT_LINES = re.compile(rb"^(interpreter|checked|races|run)[:=].*\n", re.M)
+NO_ANSWER_LINE = re.compile(rb"^checked: no-answer: (.*)$", re.M)
+ENDED_LINE = re.compile(rb"^run=ended status=(\d+) ", re.M)
+
+
+def say(text):
+    print(f"dmixlab: {text}", file=sys.stderr, flush=True)
+
+
+def places_of_names(script):
+    """Where the script's lines `client NAME FILE` and `card .. capture FILE` have a file's name: its first byte and the one behind its last."""
+    for line in re.finditer(rb"[^\n]*", script):
+        words = list(re.finditer(rb"[^ \t\r]+", line.group().split(b"#")[0]))
+        texts = [it.group() for it in words]
+        found = texts[:1] == [b"client"] and words[2:3]
+        if texts[:1] == [b"card"] and b"capture" in texts:
+            found = words[texts.index(b"capture") + 1 :][:1]
+        for it in found or []:
+            yield line.start() + it.start(), line.start() + it.end()
+
+
+def can_be_given(name):
+    """Whether rt try can give the program a file under this name, in the folder in which it runs."""
+    return ".." not in name.split("/") and "=" not in name and not os.path.normpath(name).startswith(KEPT_NAMES)
+
+
+class Try:
+    """A call of the program in the user's folder, and what rt try is asked for it."""
+
+    def __init__(self, folder, room):
+        self.folder, self.room, self.data, self.renamed = folder, room, {}, {}
+
+    def absolute(self, name):
+        """The absolute name of a file of the user, which isn't changed beyond that; what is empty or absolute stays."""
+        return name if not name or name.startswith("/") else f"{self.folder}/{name}"
+
+    def text(self, name):
+        """The absolute name of a text that is read by the program; of one that is read only once, as a pipe, a copy."""
+        path = self.absolute(name)
+        if stat.S_ISREG(os.stat(path).st_mode):
+            with open(path, "rb"):
+                return path
+        with open(path, "rb") as file:
+            return self.copy(file.read(SCRIPT_SIZE + 1))
+
+    def copy(self, content):
+        path = f"{self.room}/text"
+        with open(path, "wb") as file:
+            file.write(content)
+        return path
+
+    def script(self, name):
+        """The absolute name of a script whose files are given to rt try; those that it can't be given have absolute names in a copy."""
+        path = self.text(name)
+        with open(path, "rb") as file:
+            text = file.read(SCRIPT_SIZE + 1)
+        parts, end = [], 0
+        for first, behind in places_of_names(text):
+            word = os.fsdecode(text[first:behind])
+            given = self.absolute(word)
+            if word == given or not os.path.exists(given):
+                continue
+            if os.path.isfile(given) and can_be_given(word):
+                self.data[word] = given
+            else:
+                self.renamed[os.fsencode(given)] = os.fsencode(word)
+                parts += [text[end:first], os.fsencode(given)]
+                end = behind
+        return self.copy(b"".join([*parts, text[end:]])) if parts else path
+
+    def words(self, command, given):
+        """The program's words with absolute names."""
+        if command == "run":
+            return [command, self.script(given[0]), self.absolute(given[1])]
+        return [command, self.text(given[0]), *given[1:]]
+
+    def said(self, errors):
+        """What the program itself wrote on standard error, with the names that the user gave."""
+        own = RT_LINES.sub(b"", errors)
+        for path, word in self.renamed.items():
+            own = own.replace(path, word)
+        return own
+
+
+def run_rt(given, words, reads_input):
+    """Runs rt try, whose standard output is this one's, and returns what it wrote on standard error."""
+    data = [word for name, path in given.data.items() for word in ("--data", f"{name}={path}")]
+    call = ["rt", "try", "--seconds", str(SECONDS), *data, "--", *words]
+    how = {"cwd": f"{ROOT}/crates/dmixlab", "stderr": subprocess.PIPE, "stdin": None if reads_input else subprocess.DEVNULL}
+    ran = subprocess.Popen(call, **how)
+    try:
+        return ran.communicate()[1]
+    finally:
+        ran.terminate()
+        ran.wait()
+
+
+def tell_no_answer(errors):
+    """Says why rt try gave no answer."""
+    found = NO_ANSWER_LINE.search(errors)
+    if not found:
+        sys.stderr.buffer.write(errors)
+        say(f"the unproved program with checks at run time gave no answer, as rt try says above. {real_one()}")
+        return
+    why = found.group(1).decode(errors="replace")
+    why = why.replace("within the time limit", f"within {SECONDS} seconds, the time that rt try gives it here")
+    say(f"no answer: {why}. That is a limit of rt try, and files that were begun may be there in part. {real_one()}")
+
+
+def real_one():
+    """The command that proves and builds the program."""
+    folder = "" if os.path.realpath(os.getcwd()) == os.path.realpath(ROOT) else f" -C {ROOT}"
+    return f"`make{folder}` proves and builds the real one, which has no such limit and answers at once"
+
+
+def answer(why, command, given, room):
+    """Runs the program for these words, and returns the exit status."""
+    asked, began = Try(os.getcwd(), room), time.monotonic()
+    try:
+        words = asked.words(command, given)
+    except OSError as error:
+        say(f"can't read {given[0]}: {error.strerror}")
+        return NOT_READ
+    is_seen = sys.stderr.isatty()
+    if is_seen:
+        print(f"dmixlab: {why}, so it is compiled without a proof, which takes about a minute ..", end="", file=sys.stderr, flush=True)
+    errors = run_rt(asked, words, any(it in STREAMS for it in given))
+    if is_seen:
+        print("\r\033[K", end="", file=sys.stderr, flush=True)
+    ended = ENDED_LINE.search(errors)
+    if not ended:
+        tell_no_answer(errors)
+        return NO_ANSWER
+    sys.stderr.buffer.write(asked.said(errors))
+    sys.stderr.buffer.flush()
+    took = f"{time.monotonic() - began:.0f} s"
+    say(f"{why}, so this was the unproved program with checks at run time, which took {took}. {real_one()}")
+    return int(ended.group(1))
+
+
+def main(why, *words):
+    command, given = words[0] if words else "", words[1:]
+    if COMMANDS.get(command) != len(given):
+        say("these words are no command; ./dmixlab --help has those that are")
+        return WORDS
+    if command == "make":
+        say(f"{why}, and `make`, which stores files where it runs, needs the built one. {real_one()}")
+        return NO_ANSWER
+    for it in (signal.SIGTERM, signal.SIGHUP):
+        signal.signal(it, lambda number, _: sys.exit(128 + number))
+    with tempfile.TemporaryDirectory(prefix="dmixlab-") as room, contextlib.suppress(KeyboardInterrupt):
+        return answer(why, command, given, room)
+    return 130
+
+
+if __name__ == "__main__":
+    sys.exit(main(*sys.argv[1:]))
