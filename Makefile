@@ -10,7 +10,7 @@ PYTHON = python3
 JOBS =
 jobs = $(if $(JOBS),--jobs $(JOBS))
 
-.PHONY: build test proof ci tools-test install clean
+.PHONY: build test proof ci install clean
 
 build:
 	@$(PYTHON) tools/build_program.py $(jobs)
@@ -21,11 +21,8 @@ test:
 proof:
 	@RT_JOBS=$${RT_JOBS-$$($(PYTHON) tools/machine.py)} rt ci
 
-ci: tools-test
-	@$(MAKE) --no-print-directory proof
-
-tools-test:
-	@tools/check_all.sh
+ci:
+	@tools/ci.sh
 
 install:
 	@[ -x build/dmixlab ] || { echo "make install: there is no build/dmixlab yet; make builds it" >&2; exit 1; }
