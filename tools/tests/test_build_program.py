@@ -1,0 +1,182 @@
+"""In what order the crates of a build are proved, what is kept of an earlier one, and what is said, with a stand-in for the kit."""
+import fcntl
+import os
+import shutil
+import subprocess
+import sys
+import tempfile
+import unittest
+
+ROOT = os.path.join(os.path.dirname(os.path.abspath(__file__)), "..", "..")
+sys.path.insert(0, f"{ROOT}/tools")
+import build_program
+import crate_graph
+
+CRATES = """# a comment
+low: thiserror
+wide:
+middle backend=rattle: low
+top: middle low wide
+dmixlab: top
+beside: top
+"""
+
+# it says which kit this is; the prover notes its words and makes what -o names, and the crate that FAILS names isn't proved
+RT = """#!/bin/sh
+case $1 in
+  version) echo kit-1 logic 7 ;;
+  doc) echo "$(dirname "$(dirname "$0")")/START.md" ;;
+esac
+"""
+RATTLE = """#!/bin/sh
+echo "$*" >>"$CALLS"
+name=$3
+echo "$name was checked"
+[ "$name" != "$FAILS" ] || exit 1
+for made; do :; done
+case $made in *.rlib) mkdir "$made" ;; *) echo "$name" >"$made" ;; esac
+"""
+LINK = """#!/bin/sh
+while [ "$1" != -o ]; do shift; done
+cp "$3" "$2"
+"""
+
+
+class BuildProgram(unittest.TestCase):
+    def setUp(self):
+        self.room = tempfile.TemporaryDirectory()
+        self.addCleanup(self.room.cleanup)
+        self.at = os.path.realpath(self.room.name)
+        for name in ("low", "wide", "middle", "top", "beside"):
+            self.write(f"repo/crates/{name}/src/lib.rt", "fn f() {}\n")
+        self.write("repo/crates/dmixlab/src/main.rt", "fn main() {}\n")
+        self.write("repo/crates.txt", CRATES)
+        self.write("repo/README.md", "Proved with `kit-1 logic 7`.\n")
+        for name in ("build_program.py", "crate_graph.py", "machine.py"):
+            os.makedirs(f"{self.at}/repo/tools", exist_ok=True)
+            shutil.copy(f"{ROOT}/tools/{name}", f"{self.at}/repo/tools")
+        for name, text in (("rt", RT), ("rattle", RATTLE), ("rattle-link", LINK)):
+            self.write(f"kit/bin/{name}", text)
+            os.chmod(f"{self.at}/kit/bin/{name}", 0o755)
+        self.libraries = f"{self.at}/repo/{build_program.LIBRARIES}"
+
+    def write(self, name, text):
+        os.makedirs(os.path.dirname(f"{self.at}/{name}"), exist_ok=True)
+        with open(f"{self.at}/{name}", "w", encoding="utf-8") as file:
+            file.write(text)
+
+    def read(self, name):
+        with open(f"{self.at}/{name}", encoding="utf-8") as file:
+            return file.read()
+
+    def start(self, *words, **variables):
+        self.write("calls", "")
+        variables = {"PATH": f"{self.at}/kit/bin:{os.environ['PATH']}", "CALLS": f"{self.at}/calls", "FAILS": "", **variables}
+        words = [sys.executable, f"{self.at}/repo/tools/build_program.py", *words]
+        return subprocess.Popen(words, env=variables, stdout=subprocess.PIPE, stderr=subprocess.PIPE, text=True)
+
+    def run_it(self, *words, **variables):
+        """Builds, and returns what is said and the crates that were proved, each with its words."""
+        ran = self.start(*words, **variables)
+        ran.out, ran.said = ran.communicate()
+        return ran, {it.split()[2]: it for it in self.read("calls").splitlines()}
+
+    def test_a_line_gives_the_crates_of_the_repository_that_a_crate_uses(self):
+        uses = crate_graph.uses_of(crate_graph.read_lines(f"{self.at}/repo"))
+        self.assertEqual(uses["middle"], ["low"])
+        self.assertEqual(crate_graph.below(uses, "dmixlab"), {"low", "wide", "middle", "top"})
+
+    def test_each_crate_is_proved_once_and_after_those_that_it_uses(self):
+        ran, calls = self.run_it("--jobs", "1")
+        names = list(calls)
+        self.assertEqual((ran.returncode, ran.said, sorted(names[:3]), names[3:]), (0, "", ["low", "middle", "wide"], ["top", "dmixlab"]))
+        self.assertLess(names.index("low"), names.index("middle"))
+        # the longest chain first
+        self.assertEqual(ran.out.splitlines()[:2], ["[1/5] proving low", "[2/5] proving middle"])
+        self.assertEqual(self.read("repo/build/dmixlab"), "dmixlab\n")
+        self.assertEqual(sorted(self.read("repo/build/built").split()), ["dmixlab", "low", "middle", "top", "wide"])
+        self.assertEqual(self.read("repo/build/logs/low.log"), "low was checked\n")
+
+    def test_a_crate_is_proved_over_what_those_below_state(self):
+        calls = self.run_it()[1]
+        kit, libraries = f"{self.at}/kit", "../../crates/dmixlab/out/rlib"
+        self.assertIn(f"--extern thiserror={kit}/rlibs/thiserror.rlib", calls["low"])
+        self.assertIn(f"src/lib.rt --extern std={kit}/rlibs/std.rlib --extern low={libraries}/low.rlib -L", calls["middle"])
+        self.assertTrue(calls["middle"].endswith(f"--statements -o {self.libraries}/middle.rlib"))
+        self.assertIn("--backend llvm", calls["dmixlab"])
+
+    def test_a_later_build_proves_what_changed_and_the_crates_above(self):
+        self.run_it()
+        self.write("repo/crates/middle/src/lib.rt", "fn g() {}\n")
+        ran, calls = self.run_it()
+        self.assertEqual((list(calls), ran.out.splitlines()[0]), (["middle", "top", "dmixlab"], "[3/5] proving middle"))
+        self.assertEqual(list(self.run_it()[1]), [])
+        os.remove(f"{self.at}/repo/build/dmixlab")
+        self.assertEqual(list(self.run_it()[1]), ["dmixlab"])
+
+    def test_another_kit_is_named_and_proves_anew(self):
+        self.run_it()
+        self.write("kit/bin/rt", RT.replace("kit-1", "kit-2"))
+        ran, calls = self.run_it()
+        self.assertEqual((ran.returncode, len(calls)), (0, 5))
+        self.assertEqual(ran.said, "dmixlab: this is kit-2 logic 7; README.md names kit-1 logic 7. It is taken all the same\n")
+
+    def test_a_crate_that_is_not_proved_ends_the_build_and_its_log_is_named(self):
+        ran, calls = self.run_it(FAILS="middle")
+        self.assertEqual(ran.returncode, build_program.NOT_PROVED)
+        self.assertNotIn("top", calls)
+        log = f"{self.at}/repo/build/logs/middle.log"
+        self.assertIn(f"middle isn't proved. All that was said of it is in {log}, which ends with\nmiddle was checked\n", ran.said)
+        self.assertFalse(os.path.exists(f"{self.at}/repo/build/built"))
+
+    def test_a_build_that_was_stopped_goes_on_where_it_was(self):
+        self.run_it(FAILS="top")
+        # what was half written counts for nothing
+        os.makedirs(f"{self.libraries}/top.rlib")
+        ran, calls = self.run_it()
+        self.assertEqual((list(calls), ran.out.splitlines()[0], ran.returncode), (["top", "dmixlab"], "[4/5] proving top", 0))
+
+    def test_a_change_during_the_build_is_newer_than_what_was_built(self):
+        self.write("kit/bin/rattle", RATTLE + 'sleep 0.05; echo >>"$ROOT/crates/low/src/lib.rt"\n')
+        self.run_it(ROOT=f"{self.at}/repo")
+        changed = os.stat(f"{self.at}/repo/crates/low/src/lib.rt").st_mtime_ns
+        self.assertLess(os.stat(f"{self.at}/repo/build/built").st_mtime_ns, changed)
+        self.assertIn("low", self.run_it(ROOT=f"{self.at}/repo")[1])
+
+    def test_a_second_build_waits_for_the_first(self):
+        os.makedirs(f"{self.at}/repo/build")
+        held = os.open(f"{self.at}/repo/build", os.O_RDONLY)
+        fcntl.flock(held, fcntl.LOCK_EX)
+        second = self.start()
+        self.assertEqual(second.stderr.readline(), "dmixlab: waiting for another build of the program to end\n")
+        os.close(held)
+        self.assertIn("[5/5] proving dmixlab", second.communicate()[0])
+
+    def test_one_crate_alone_has_all_processors_where_memory_allows(self):
+        build, taken = self.build(), []
+        build.prove = lambda name, jobs, niceness: taken.append((name, jobs)) or True
+        length = {"low": 9, "middle": 5, "top": 3, "wide": 2, "dmixlab": 1}
+        self.assertTrue(build_program.prove_all(build, length, 4, 20_000_000_000))
+        self.assertIn(("top", 4), taken)
+
+    def test_one_crate_is_proved_at_a_time_by_one_job_where_memory_is_short(self):
+        build, taken = self.build(), []
+        build.prove = lambda name, jobs, niceness: taken.append(jobs) or True
+        self.assertTrue(build_program.prove_all(build, dict.fromkeys(build.wanted, 1), 4, 2_000_000_000))
+        self.assertEqual(taken, [1] * 5)
+
+    def build(self):
+        class Kit:
+            at, version = "/kit", "kit-1"
+
+        return build_program.Build(Kit, f"{self.at}/repo")
+
+    def test_a_missing_kit_is_said(self):
+        self.write("kit/bin/rt", "#!/bin/sh\nexit 4\n")
+        ran, calls = self.run_it()
+        self.assertEqual((ran.returncode, calls), (70, {}))
+        self.assertIn("`rt version` ends with status 4", ran.said)
+
+
+if __name__ == "__main__":
+    unittest.main()
