@@ -13,6 +13,7 @@ import argparse
 import contextlib
 import fcntl
 import os
+import re
 import shutil
 import signal
 import subprocess
@@ -33,8 +34,8 @@ LONG, JOBS_OF_LONG = 0.95, 2
 A_PROOF, A_FURTHER_JOB = 2_500_000_000, 250_000_000
 # the prover's allocator, mimalloc, otherwise gives memory back to the system and soon asks for it anew
 KEPT_MEMORY = ("MIMALLOC_PURGE_DELAY", "-1")
-# so many of a log's last lines are shown
-SHOWN = 12
+# so many of a log's last lines are shown, but for those that only say what was loaded and proved
+SHOWN, WELL = 12, re.compile(r"fn \S+: proved$|statements \S+: |logic /|logic=not-proved")
 
 
 def memory_of(jobs):
@@ -136,9 +137,9 @@ class Build:
         """Says that a crate isn't proved, and where all is that was said of it."""
         log = f"{self.out}/logs/{name}.log"
         with open(log, encoding="utf-8", errors="replace") as file:
-            last = file.readlines()[-SHOWN:]
+            last = [it for it in file if not WELL.match(it)][-SHOWN:]
         with self.lock:
-            say(f"{name} isn't proved. All that was said of it is in {log}, which ends with")
+            say(f"{name} isn't proved. All that was said of it is in {log}, which has")
             sys.stderr.writelines(last)
             others = len(self.running)
             if others:

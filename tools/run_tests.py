@@ -11,13 +11,12 @@ counts as many tests as it says that passed or failed, another one is one test.
 
 The last line is `N passed, M failed`, and the exit status 0 where M is 0, else 1; it is 70 where there is no toolchain."""
 import argparse
+import difflib
 import os
 import re
-import shutil
 import signal
 import subprocess
 import sys
-import tempfile
 import threading
 import time
 from concurrent.futures import ThreadPoolExecutor
@@ -29,7 +28,8 @@ FAILED, NO_KIT = 1, 70
 # the most bytes that rt try holds at once, and the time that it gives a program or all tests of a crate
 A_TRY, SECONDS = 1_500_000_000, 600
 TEST_RESULT = re.compile(r"^test result: .*?(\d+) passed; (\d+) failed", re.M)
-CASES_RESULT = re.compile(r"^\w+: (\d+) passed, (\d+) failed$", re.M)
+CASES_RESULT = re.compile(r"^[\w.]+: (\d+) passed, (\d+) failed$", re.M)
+TOTAL = re.compile(r"^\w+: ")
 ENDED_LINE = re.compile(r"^run=ended status=(\d+) ", re.M)
 
 
@@ -47,6 +47,14 @@ def lines_in(path):
         return []
     with open(path, encoding="utf-8") as file:
         return file.read().splitlines()
+
+
+def cases_in(out):
+    """How many cases passed and failed by the lines of a program that runs cases, of which the last may count them all; None of another one."""
+    counts = [it for it in out.splitlines() if CASES_RESULT.match(it)]
+    counts = counts[-1:] if counts and TOTAL.match(counts[-1]) else counts
+    found = [tuple(map(int, CASES_RESULT.match(it).groups())) for it in counts]
+    return tuple(map(sum, zip(*found))) if found else None
 
 
 class Tests:
@@ -73,9 +81,9 @@ class Tests:
         with self.lock:
             if self.is_stopped:
                 return FAILED, "", "stopped"
-            ran = subprocess.Popen(words, text=True, errors="replace", **how)
+            ran = subprocess.Popen(words, **how)
             self.running.add(ran)
-        out, errors = ran.communicate()
+        out, errors = [it.decode(errors="replace") for it in ran.communicate()]
         with self.lock:
             self.running.discard(ran)
         return ran.returncode, out, errors
@@ -100,24 +108,19 @@ class Tests:
         return int(found.group(1)), int(found.group(2)), out + errors
 
     def program(self, name):
-        """A program on the files beside its source: likewise. Its files are copied, as it may change them."""
+        """A program on copies of the files beside its source: likewise."""
         crate = self.crate(name)
-        with tempfile.TemporaryDirectory(prefix="dmixlab-") as room, open(self.stdin(crate), "rb") as given:
-            data = []
-            if os.path.isdir(f"{crate}/data"):
-                shutil.copytree(f"{crate}/data", f"{room}/data")
-                data = [f"{os.path.relpath(it, f'{room}/data')}={it}" for it in files_in(f"{room}/data")]
-            words = [word for it in data for word in ("--data", it)]
+        data = [f"{os.path.relpath(it, f'{crate}/data')}={it}" for it in files_in(f"{crate}/data")]
+        words = [word for it in data for word in ("--data", it)]
+        with open(self.stdin(crate), "rb") as given:
             _, out, errors = self.call(name, [*words, "--", *lines_in(f"{crate}/args")], given)
-        with open(f"{crate}/stdout", encoding="utf-8") as file:
-            is_right = out == file.read()
+        with open(f"{crate}/stdout", encoding="utf-8", errors="replace") as file:
+            wanted = file.read()
         ended = ENDED_LINE.search(errors)
-        is_right = is_right and ended is not None and ended.group(1) == "".join(lines_in(f"{crate}/status") or ["0"])
-        # the last line of a program that runs cases has all of them
-        counts = CASES_RESULT.findall(out)[-1:]
-        passed, failed = map(int, counts[0]) if counts else (int(is_right), 0)
-        why = "" if is_right else f"the output, whose end is above, isn't that of crates/{name}/stdout, or the status another one"
-        return passed, failed or int(not is_right), f"{out}{errors}{why}"
+        is_right = out == wanted and ended is not None and ended.group(1) == "".join(lines_in(f"{crate}/status") or ["0"])
+        passed, failed = cases_in(out) or (int(is_right), 0)
+        differs = difflib.unified_diff(wanted.splitlines(True), out.splitlines(True), f"crates/{name}/stdout", "what was put")
+        return passed, failed or int(not is_right), f"{errors}{''.join(differs)}"
 
     @staticmethod
     def stdin(crate):

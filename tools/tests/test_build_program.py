@@ -126,7 +126,7 @@ class BuildProgram(unittest.TestCase):
         self.assertEqual(ran.returncode, build_program.NOT_PROVED)
         self.assertNotIn("top", calls)
         log = f"{self.at}/repo/build/logs/middle.log"
-        self.assertIn(f"middle isn't proved. All that was said of it is in {log}, which ends with\nmiddle was checked\n", ran.said)
+        self.assertIn(f"middle isn't proved. All that was said of it is in {log}, which has\nmiddle was checked\n", ran.said)
         self.assertFalse(os.path.exists(f"{self.at}/repo/build/built"))
 
     def test_a_build_that_was_stopped_goes_on_where_it_was(self):
