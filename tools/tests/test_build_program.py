@@ -2,9 +2,11 @@
 import fcntl
 import os
 import shutil
+import signal
 import subprocess
 import sys
 import tempfile
+import time
 import unittest
 
 ROOT = os.path.join(os.path.dirname(os.path.abspath(__file__)), "..", "..")
@@ -135,6 +137,21 @@ class BuildProgram(unittest.TestCase):
         os.makedirs(f"{self.libraries}/top.rlib")
         ran, calls = self.run_it()
         self.assertEqual((list(calls), ran.out.splitlines()[0], ran.returncode), (["top", "dmixlab"], "[4/5] proving top", 0))
+
+    def test_a_build_that_is_told_to_end_ends_its_proofs(self):
+        self.write("kit/bin/rattle", RATTLE + 'echo $$ >"$CALLS.pid"\nexec sleep 60\n')
+        started = self.start("--jobs", "1")
+        started.stdout.readline()
+        while not os.path.exists(f"{self.at}/calls.pid") or not self.read("calls.pid"):
+            time.sleep(0.02)
+        started.terminate()
+        started.communicate()
+        self.assertEqual(started.returncode, 128 + signal.SIGTERM)
+        with self.assertRaises(ProcessLookupError):
+            for _ in range(100):
+                os.kill(int(self.read("calls.pid")), 0)
+                time.sleep(0.02)
+        self.assertEqual([it for it in os.listdir(self.libraries) if it.endswith(".key")], [])
 
     def test_a_change_during_the_build_is_newer_than_what_was_built(self):
         self.write("kit/bin/rattle", RATTLE + 'sleep 0.05; echo >>"$ROOT/crates/low/src/lib.rt"\n')
