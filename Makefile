@@ -1,5 +1,6 @@
 # make            proves every crate that the program uses, side by side, and builds it as build/dmixlab
-# make test       every test and every case, without a proof
+#                 (-jN: at most N proofs at once; else as many as there are processors and memory holds)
+# make test       every test and every case, without a proof (JOBS=N: at most N crates at once)
 # make proof      the gate: every proof from nothing, every test, every edit that must be refused
 # make ci         the tools' own tests and the checks of the documents, and then the gate
 # make install    PREFIX=/usr/local: program, manual page, completion, examples; DESTDIR is put before it
@@ -8,15 +9,21 @@
 PREFIX = /usr/local
 PYTHON = python3
 JOBS =
-jobs = $(if $(JOBS),--jobs $(JOBS))
 
 .PHONY: build test proof ci install clean
 
+# build/rules.mk has a rule for each crate, by crates.txt
+rules = $(MAKE) --no-print-directory -f build/rules.mk build/dmixlab
+side = $(if $(filter -j%,$(MAKEFLAGS)),,-j$(shell $(PYTHON) tools/machine.py))
+
 build:
-	@$(PYTHON) tools/build_program.py $(jobs)
+	@$(PYTHON) tools/build_rules.py
+	@rm -rf build/count && mkdir build/count
+	+@TOTAL=$$($(rules) --dry-run | grep -c '^tools/prove_crate.sh'); export TOTAL; exec $(rules) --silent $(side)
+	@mv build/begun build/built && echo "$(CURDIR)/build/dmixlab is proved and built"
 
 test:
-	@$(PYTHON) tools/run_tests.py $(jobs)
+	@$(PYTHON) tools/run_tests.py $(if $(JOBS),--jobs $(JOBS))
 
 proof:
 	@RT_JOBS=$${RT_JOBS-$$($(PYTHON) tools/machine.py)} rt ci

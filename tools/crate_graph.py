@@ -1,7 +1,6 @@
 """The crates of a repository, by its crates.txt: what each uses, its files, and the work that waits for it.
 
 It is for the tools that build and test crates, and no command of its own."""
-import hashlib
 import os
 
 # what a crate states that another uses is read in the time in which so many bytes of functions are proved
@@ -57,21 +56,3 @@ def chains(root, uses, wanted):
 
     return {name: chain(name) for name in wanted}
 
-
-def keys_of(root, lines, said):
-    """A key for each crate, which changes with its files, its line, what is said with it (as the prover's words), and the keys of those below."""
-    uses, found = uses_of(lines), {}
-
-    def key(name):
-        if name not in found:
-            made = hashlib.sha256(f"{name} {lines[name]} {said}".encode())
-            crate = f"{root}/crates/{name}"
-            for file in [it for part in PROVED_FILES for it in files_in(f"{crate}/{part}")]:
-                with open(file, "rb") as bytes_of:
-                    content = bytes_of.read()
-                made.update(f"{os.path.relpath(file, crate)} {len(content)}\n".encode() + content)
-            made.update(" ".join(key(it) for it in uses[name]).encode())
-            found[name] = made.hexdigest()
-        return found[name]
-
-    return {name: key(name) for name in lines}

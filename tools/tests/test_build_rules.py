@@ -1,5 +1,4 @@
 """In what order the crates of a build are proved, what is kept of an earlier one, and what is said, with a stand-in for the kit."""
-import fcntl
 import os
 import shutil
 import signal
@@ -11,7 +10,7 @@ import unittest
 
 ROOT = os.path.join(os.path.dirname(os.path.abspath(__file__)), "..", "..")
 sys.path.insert(0, f"{ROOT}/tools")
-import build_program
+import build_rules
 import crate_graph
 
 CRATES = """# a comment
@@ -44,7 +43,7 @@ cp "$3" "$2"
 """
 
 
-class BuildProgram(unittest.TestCase):
+class BuildRules(unittest.TestCase):
     def setUp(self):
         self.room = tempfile.TemporaryDirectory()
         self.addCleanup(self.room.cleanup)
@@ -54,13 +53,14 @@ class BuildProgram(unittest.TestCase):
         self.write("repo/crates/dmixlab/src/main.rt", "fn main() {}\n")
         self.write("repo/crates.txt", CRATES)
         self.write("repo/README.md", "Proved with `kit-1 logic 7`.\n")
-        for name in ("build_program.py", "crate_graph.py", "machine.py"):
+        for name in ("build_rules.py", "prove_crate.sh", "crate_graph.py", "machine.py"):
             os.makedirs(f"{self.at}/repo/tools", exist_ok=True)
             shutil.copy(f"{ROOT}/tools/{name}", f"{self.at}/repo/tools")
+        shutil.copy(f"{ROOT}/Makefile", f"{self.at}/repo")
         for name, text in (("rt", RT), ("rattle", RATTLE), ("rattle-link", LINK)):
             self.write(f"kit/bin/{name}", text)
             os.chmod(f"{self.at}/kit/bin/{name}", 0o755)
-        self.libraries = f"{self.at}/repo/{build_program.LIBRARIES}"
+        self.libraries = f"{self.at}/repo/{build_rules.LIBRARIES}"
 
     def write(self, name, text):
         os.makedirs(os.path.dirname(f"{self.at}/{name}"), exist_ok=True)
@@ -74,7 +74,7 @@ class BuildProgram(unittest.TestCase):
     def start(self, *words, **variables):
         self.write("calls", "")
         variables = {"PATH": f"{self.at}/kit/bin:{os.environ['PATH']}", "CALLS": f"{self.at}/calls", "FAILS": "", **variables}
-        words = [sys.executable, f"{self.at}/repo/tools/build_program.py", *words]
+        words = ["make", "-C", f"{self.at}/repo", "--no-print-directory", *words]
         return subprocess.Popen(words, env=variables, stdout=subprocess.PIPE, stderr=subprocess.PIPE, text=True)
 
     def run_it(self, *words, **variables):
@@ -89,7 +89,7 @@ class BuildProgram(unittest.TestCase):
         self.assertEqual(crate_graph.below(uses, "dmixlab"), {"low", "wide", "middle", "top"})
 
     def test_each_crate_is_proved_once_and_after_those_that_it_uses(self):
-        ran, calls = self.run_it("--jobs", "1")
+        ran, calls = self.run_it("-j1")
         names = list(calls)
         self.assertEqual((ran.returncode, ran.said, sorted(names[:3]), names[3:]), (0, "", ["low", "middle", "wide"], ["top", "dmixlab"]))
         self.assertLess(names.index("low"), names.index("middle"))
@@ -104,16 +104,24 @@ class BuildProgram(unittest.TestCase):
         kit, libraries = f"{self.at}/kit", "../../crates/dmixlab/out/rlib"
         self.assertIn(f"--extern thiserror={kit}/rlibs/thiserror.rlib", calls["low"])
         self.assertIn(f"src/lib.rt --extern std={kit}/rlibs/std.rlib --extern low={libraries}/low.rlib -L", calls["middle"])
-        self.assertTrue(calls["middle"].endswith(f"--statements -o {self.libraries}/middle.rlib"))
+        self.assertTrue(calls["middle"].endswith(f"--statements -o {libraries}/middle.rlib"), calls)
         self.assertIn("--backend llvm", calls["dmixlab"])
 
     def test_a_later_build_proves_what_changed_and_the_crates_above(self):
         self.run_it()
         self.write("repo/crates/middle/src/lib.rt", "fn g() {}\n")
         ran, calls = self.run_it()
-        self.assertEqual((list(calls), ran.out.splitlines()[0]), (["middle", "top", "dmixlab"], "[3/5] proving middle"))
+        self.assertEqual((list(calls), ran.out.splitlines()[0]), (["middle", "top", "dmixlab"], "[1/3] proving middle"))
         self.assertEqual(list(self.run_it()[1]), [])
         os.remove(f"{self.at}/repo/build/dmixlab")
+        self.assertEqual((list(self.run_it()[1]), self.read("repo/build/dmixlab")), ([], "dmixlab\n"))
+
+    def test_a_file_that_is_gone_and_another_line_are_changes(self):
+        self.write("repo/crates/top/proofs/Lib.antt", "one")
+        self.run_it()
+        os.remove(f"{self.at}/repo/crates/top/proofs/Lib.antt")
+        self.assertEqual(list(self.run_it()[1]), ["top", "dmixlab"])
+        self.write("repo/crates.txt", CRATES.replace("dmixlab: top", "dmixlab: top low"))
         self.assertEqual(list(self.run_it()[1]), ["dmixlab"])
 
     def test_another_kit_is_named_and_proves_anew(self):
@@ -125,7 +133,7 @@ class BuildProgram(unittest.TestCase):
 
     def test_a_crate_that_is_not_proved_ends_the_build_and_its_log_is_named(self):
         ran, calls = self.run_it(FAILS="middle")
-        self.assertEqual(ran.returncode, build_program.NOT_PROVED)
+        self.assertEqual(ran.returncode, 2)
         self.assertNotIn("top", calls)
         log = f"{self.at}/repo/build/logs/middle.log"
         self.assertIn(f"middle isn't proved. All that was said of it is in {log}, which has\nmiddle was checked\n", ran.said)
@@ -136,22 +144,22 @@ class BuildProgram(unittest.TestCase):
         # what was half written counts for nothing
         os.makedirs(f"{self.libraries}/top.rlib")
         ran, calls = self.run_it()
-        self.assertEqual((list(calls), ran.out.splitlines()[0], ran.returncode), (["top", "dmixlab"], "[4/5] proving top", 0))
+        self.assertEqual((list(calls), ran.out.splitlines()[0], ran.returncode), (["top", "dmixlab"], "[1/2] proving top", 0))
 
     def test_a_build_that_is_told_to_end_ends_its_proofs(self):
         self.write("kit/bin/rattle", RATTLE + 'echo $$ >"$CALLS.pid"\nexec sleep 60\n')
-        started = self.start("--jobs", "1")
+        started = self.start("-j1")
         started.stdout.readline()
         while not os.path.exists(f"{self.at}/calls.pid") or not self.read("calls.pid"):
             time.sleep(0.02)
         started.terminate()
         started.communicate()
-        self.assertEqual(started.returncode, 128 + signal.SIGTERM)
+        self.assertEqual(started.returncode, -signal.SIGTERM)
         with self.assertRaises(ProcessLookupError):
             for _ in range(100):
                 os.kill(int(self.read("calls.pid")), 0)
                 time.sleep(0.02)
-        self.assertEqual([it for it in os.listdir(self.libraries) if it.endswith(".key")], [])
+        self.assertEqual([it for it in os.listdir(self.libraries) if it.endswith(".proved")], [])
 
     def test_a_change_during_the_build_is_newer_than_what_was_built(self):
         self.write("kit/bin/rattle", RATTLE + 'sleep 0.05; echo >>"$ROOT/crates/low/src/lib.rt"\n')
@@ -160,38 +168,10 @@ class BuildProgram(unittest.TestCase):
         self.assertLess(os.stat(f"{self.at}/repo/build/built").st_mtime_ns, changed)
         self.assertIn("low", self.run_it(ROOT=f"{self.at}/repo")[1])
 
-    def test_a_second_build_waits_for_the_first(self):
-        os.makedirs(f"{self.at}/repo/build")
-        held = os.open(f"{self.at}/repo/build", os.O_RDONLY)
-        fcntl.flock(held, fcntl.LOCK_EX)
-        second = self.start()
-        self.assertEqual(second.stderr.readline(), "dmixlab: waiting for another build of the program to end\n")
-        os.close(held)
-        self.assertIn("[5/5] proving dmixlab", second.communicate()[0])
-
-    def test_one_crate_alone_has_all_processors_where_memory_allows(self):
-        build, taken = self.build(), []
-        build.prove = lambda name, jobs, niceness: taken.append((name, jobs)) or True
-        length = {"low": 9, "middle": 5, "top": 3, "wide": 2, "dmixlab": 1}
-        self.assertTrue(build_program.prove_all(build, length, 4, 20_000_000_000))
-        self.assertIn(("top", 4), taken)
-
-    def test_one_crate_is_proved_at_a_time_by_one_job_where_memory_is_short(self):
-        build, taken = self.build(), []
-        build.prove = lambda name, jobs, niceness: taken.append(jobs) or True
-        self.assertTrue(build_program.prove_all(build, dict.fromkeys(build.wanted, 1), 4, 2_000_000_000))
-        self.assertEqual(taken, [1] * 5)
-
-    def build(self):
-        class Kit:
-            at, version = "/kit", "kit-1"
-
-        return build_program.Build(Kit, f"{self.at}/repo")
-
     def test_a_missing_kit_is_said(self):
         self.write("kit/bin/rt", "#!/bin/sh\nexit 4\n")
         ran, calls = self.run_it()
-        self.assertEqual((ran.returncode, calls), (70, {}))
+        self.assertEqual((ran.returncode, calls), (2, {}))
         self.assertIn("`rt version` ends with status 4", ran.said)
 
 

@@ -1,0 +1,108 @@
+#!/usr/bin/env python3
+"""build_rules.py: writes build/rules.mk, the rules by which `make` proves the crates that the program dmixlab uses, and builds it.
+
+Each crate has a rule. Its recipe is the kit's `rattle build --statements` in the crate's folder, over what the libraries below it state, and
+it makes a mark once the crate is proved. It has to be run anew where one of the crate's files is newer than its mark, where a crate below was
+proved anew, and where its line, the list of its files or the kit is another one. The longest chain of crates comes first among what the
+program needs.
+
+The exit status is 70 where there is no toolchain. `make` calls it; it is fast, and writes no file that would be the same."""
+import os
+import sys
+
+from crate_graph import PROVED_FILES, below, chains, files_in, read_lines, uses_of
+from machine import Kit, NoKit, say
+
+PROGRAM, NO_KIT = "dmixlab", 70
+# rt refuses files of crates anywhere but in the crates, and in their folders out/rlib, which no commit has
+LIBRARIES = f"crates/{PROGRAM}/out/rlib"
+HEAD = f"""# Made by tools/build_rules.py.
+.DELETE_ON_ERROR:
+.SUFFIXES:
+MAKEFLAGS += --no-builtin-rules
+# the prover's allocator otherwise gives memory back to the system and soon asks for it anew
+export MIMALLOC_PURGE_DELAY ?= -1
+
+build/{PROGRAM}: {LIBRARIES}/{PROGRAM}.proved
+"""
+
+
+def write_if_new(path, text):
+    """Writes a file, where it isn't as it is to be."""
+    try:
+        with open(path, encoding="utf-8") as file:
+            if file.read() == text:
+                return
+    except FileNotFoundError:
+        os.makedirs(os.path.dirname(path), exist_ok=True)
+    with open(path, "w", encoding="utf-8") as file:
+        file.write(text)
+
+
+def words_for(kit, lines, name):
+    """The words of the prover for a crate, in the crate's folder: `rattle build --help` explains them."""
+    libraries = f"../../{LIBRARIES}"
+    used = [f"{it}={libraries if it in lines else kit.at + '/rlibs'}/{it}.rlib" for it in lines[name]]
+    is_program = name == PROGRAM
+    how = ["--toolchain", f"{kit.at}/toolchain", "--backend", "llvm"] if is_program else ["--statements"]
+    return [
+        *(f"{kit.at}/bin/rattle", "build", "--crate-name", name, f"src/{'main' if is_program else 'lib'}.rt"),
+        *(word for it in [f"std={kit.at}/rlibs/std.rlib", *used] for word in ("--extern", it)),
+        *("-L", f"dependency={kit.at}/rlibs", "-L", f"dependency={libraries}"),
+        *("--antt-project", f"{kit.at}/rattle/logic/antt-project.json", "--logic-built", f"{kit.at}/logic_built", "--links", f"{name}="),
+        *(*how, "-o", f"{libraries}/{name}.{'o' if is_program else 'rlib'}"),
+    ]
+
+
+def link_words(kit):
+    """The words that link the program."""
+    c_library = [f"{kit.at}/c/{it}" for it in ("libos_c.a", "liblibc_c.a")]
+    place = ["--target", "x86_64-unknown-linux-gnu", "--toolchain", f"{kit.at}/toolchain", "-o", f"build/{PROGRAM}"]
+    return [f"{kit.at}/bin/rattle-link", *place, f"{LIBRARIES}/{PROGRAM}.o", *c_library]
+
+
+def rule_of(root, kit, lines, name, order):
+    """The rule of a crate, whose words and list of files are a file of their own: where they change, so does it."""
+    crate = f"{root}/crates/{name}"
+    files = [os.path.relpath(it, root) for part in PROVED_FILES for it in files_in(f"{crate}/{part}")]
+    words = " ".join(words_for(kit, lines, name))
+    write_if_new(f"{root}/build/words/{name}", "\n".join([kit.version, words, *files, ""]))
+    marks = [f"{LIBRARIES}/{it}.proved" for it in order if it in lines[name]]
+    needed = " ".join([f"build/words/{name}", *files, *marks])
+    return f"\n{LIBRARIES}/{name}.proved: {needed}\n\t@tools/prove_crate.sh {name} $@ {words}\n"
+
+
+def rules(root, kit):
+    """All rules, with the longest chain of crates first, and the names of the program's crates."""
+    lines = read_lines(root)
+    uses = uses_of(lines)
+    wanted = [PROGRAM, *below(uses, PROGRAM)]
+    length = chains(root, uses, wanted)
+    order = sorted(wanted, key=lambda it: (-length[it], it))
+    # GNU make begins what is ready in this order
+    marks = " ".join(f"{LIBRARIES}/{it}.proved" for it in order)
+    link = " ".join(link_words(kit))
+    text = HEAD.replace(f": {LIBRARIES}/{PROGRAM}.proved", f": {marks}") + f"\t@{link}\n"
+    return text + "".join(rule_of(root, kit, lines, it, order) for it in order), order
+
+
+def main():
+    root = os.path.dirname(os.path.dirname(os.path.abspath(__file__)))
+    try:
+        kit = Kit()
+        kit.warn_of_another(f"{root}/README.md")
+    except NoKit as error:
+        say(error)
+        return NO_KIT
+    for it in (f"{root}/build/logs", f"{root}/{LIBRARIES}"):
+        os.makedirs(it, exist_ok=True)
+    text, names = rules(root, kit)
+    write_if_new(f"{root}/build/rules.mk", text)
+    # what is changed from now on is newer than this file, which names the program's crates, and becomes build/built once it is built
+    with open(f"{root}/build/begun", "w", encoding="utf-8") as file:
+        file.writelines(f"{it}\n" for it in names)
+    return 0
+
+
+if __name__ == "__main__":
+    sys.exit(main())
