@@ -3,7 +3,7 @@
 # make test       every test and every case, without a proof (JOBS=N: at most N crates at once)
 # make proof      the gate: every proof from nothing, every test, every edit that must be refused
 # make ci         the tools' own tests and the checks of the documents, and then the gate
-# make install    PREFIX=/usr/local: program, manual page, completion, examples; DESTDIR is put before it
+# make install    PREFIX=/usr/local: program, manual page, completion, demo; DESTDIR is put before it
 # make clean      removes what was built
 
 PREFIX = /usr/local
@@ -23,6 +23,7 @@ build:
 	@mv build/begun build/built && echo "$(CURDIR)/build/dmixlab is proved and built"
 
 test:
+	@$(PYTHON) tools/tests/with_real_rt.py
 	@$(PYTHON) tools/run_tests.py $(if $(JOBS),--jobs $(JOBS))
 
 proof:

@@ -68,7 +68,7 @@ def main():
         program = str(Path(sys.argv[1]).resolve())
     else:
         subprocess.run([str(TOP / "dmixlab"), "--version"], check=True)
-        program = str(TOP / "crates/dmixlab/out/dmixlab")
+        program = str(TOP / "build/dmixlab")
     random.seed(1)
     with tempfile.TemporaryDirectory() as name:
         folder = Path(name)

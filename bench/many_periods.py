@@ -40,7 +40,7 @@ def main():
         program = str(Path(sys.argv[1]).resolve())
     else:
         subprocess.run([str(TOP / "dmixlab"), "--version"], check=True)
-        program = str(TOP / "crates/dmixlab/out/dmixlab")
+        program = str(TOP / "build/dmixlab")
     runs = int(sys.argv[2]) if len(sys.argv) > 2 else 20
     random.seed(1)
     counts = []

@@ -15,7 +15,7 @@ import tempfile
 from pathlib import Path
 
 TOP = Path(__file__).resolve().parent.parent
-PROGRAM = TOP / "crates/dmixlab/out/dmixlab"
+PROGRAM = TOP / "build/dmixlab"
 PARAMETERS = ["sample_bits", "frame_bits", "channels", "rate", "period_time", "period_size", "period_bytes", "periods",
               "buffer_time", "buffer_size", "buffer_bytes"]
 
