@@ -2,6 +2,7 @@
 #                 (-jN: at most N proofs at once; else as many as there are processors and memory holds)
 # make test       every test and every case, without a proof (JOBS=N: at most N crates at once)
 # make proof      the gate: every proof from nothing, every test, every edit that must be refused
+# make tools-test the tools' own tests, also with the real rt on two small crates, and the checks of the documents
 # make ci         the tools' own tests and the checks of the documents, and then the gate
 # make install    PREFIX=/usr/local: program, manual page, completion, demo; DESTDIR is put before it
 # make clean      removes what was built
@@ -10,7 +11,7 @@ PREFIX = /usr/local
 PYTHON = python3
 JOBS =
 
-.PHONY: build test proof ci install clean
+.PHONY: build test tools-test proof ci install clean
 
 # build/rules.mk has a rule for each crate, by crates.txt
 rules = $(MAKE) --no-print-directory -f build/rules.mk build/dmixlab
@@ -23,8 +24,11 @@ build:
 	@mv build/begun build/built && echo "$(CURDIR)/build/dmixlab is proved and built"
 
 test:
-	@$(PYTHON) tools/tests/with_real_rt.py
 	@$(PYTHON) tools/run_tests.py $(if $(JOBS),--jobs $(JOBS))
+
+tools-test:
+	@tools/check_all.sh
+	@$(PYTHON) tools/tests/with_real_rt.py
 
 proof:
 	@RT_JOBS=$${RT_JOBS-$$($(PYTHON) tools/machine.py)} rt ci

@@ -134,13 +134,13 @@ def tell_no_answer(errors):
         return
     why = found.group(1).decode(errors="replace")
     why = why.replace("within the time limit", f"within {SECONDS} seconds, the time that rt try gives it here")
-    say(f"no answer: {why}. That is a limit of rt try, and files that were begun may be there in part. {real_one()}")
+    say(f"no answer: {why}. That is a limit of rt try and not of the program, and files that were begun may be there in part. {real_one()}")
 
 
 def real_one():
     """The command that proves and builds the program."""
     folder = "" if os.path.realpath(os.getcwd()) == os.path.realpath(ROOT) else f" -C {ROOT}"
-    return f"`make{folder}` proves and builds the real one, which has no such limit and answers at once"
+    return f"`make{folder}` proves and builds the real one, which answers at once"
 
 
 def answer(why, command, given, room):
