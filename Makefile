@@ -34,7 +34,7 @@ proof:
 	@RT_JOBS=$${RT_JOBS-$$($(PYTHON) tools/machine.py)} rt ci
 
 ci:
-	@tools/ci.sh
+	@bash .ci/run
 
 install:
 	@[ -x build/dmixlab ] || { echo "make install: there is no build/dmixlab yet; make builds it" >&2; exit 1; }
