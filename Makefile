@@ -2,8 +2,9 @@
 #                 (-jN: at most N proofs at once; else as many as there are processors and memory holds)
 # make test       every test and every case, without a proof (JOBS=N: at most N crates at once)
 # make proof      the gate: every proof from nothing, every test, every edit that must be refused
-# make tools-test the tools' own tests, also with the real rt on two small crates, and the checks of the documents
-# make ci         the tools' own tests and the checks of the documents, and then the gate
+# make tools-test the tests of tools/, maintenance/ and faults/, also with the real rt on two small crates, and the checks of the documents
+# make ci         the tests of tools/, maintenance/ and faults/ and the checks of the documents, and then the gate
+# make docs       writes build/DEFINITIONS.md: the words of all contracts, from the comments above their definitions
 # make install    PREFIX=/usr/local: program, manual page, completion, demo; DESTDIR is put before it
 # make clean      removes what was built
 
@@ -11,24 +12,31 @@ PREFIX = /usr/local
 PYTHON = python3
 JOBS =
 
-.PHONY: build test tools-test proof ci install clean
+.PHONY: build build-alone test tools-test proof ci docs install clean
 
 # build/rules.mk has a rule for each crate, by crates.txt
 rules = $(MAKE) --no-print-directory -f build/rules.mk build/dmixlab
-side = $(if $(filter -j%,$(MAKEFLAGS)),,-j$(shell $(PYTHON) tools/machine.py))
+given = $(filter -j%,$(MAKEFLAGS))
+lanes = $(or $(filter-out -j,$(given:-j%=%)),$(shell $(PYTHON) tools/machine.py))
+side = $(if $(given),,-j$(lanes))
 
+# another make in this folder waits, and then finds what this one proved
 build:
-	@$(PYTHON) tools/build_rules.py
-	@rm -rf build/count && mkdir build/count
-	+@TOTAL=$$($(rules) --dry-run | grep -c '^tools/prove_crate.sh'); export TOTAL; exec $(rules) --silent $(side)
+	+@mkdir -p build && exec 9>build/lock && { flock -n 9 || { echo "waiting for another make in $(CURDIR)"; flock 9; }; } \
+	  && exec $(MAKE) --no-print-directory build-alone
+
+build-alone:
+	+@$(PYTHON) maintenance/build_rules.py
+	@rm -rf build/count build/running && mkdir build/count build/running
+	+@LANES=$(lanes) TOTAL=$$($(rules) --dry-run | grep -c '^maintenance/prove_crate.sh'); export LANES TOTAL; exec $(rules) --silent $(side)
 	@mv build/begun build/built && echo "$(CURDIR)/build/dmixlab is proved and built"
 
 test:
-	@$(PYTHON) tools/run_tests.py $(if $(JOBS),--jobs $(JOBS))
+	@$(PYTHON) maintenance/run_tests.py $(if $(JOBS),--jobs $(JOBS))
 
 tools-test:
-	@tools/check_all.sh
-	@$(PYTHON) tools/tests/with_real_rt.py
+	@maintenance/check_all.sh
+	@$(PYTHON) maintenance/tests/with_real_rt.py
 
 proof:
 	@RT_JOBS=$${RT_JOBS-$$($(PYTHON) tools/machine.py)} rt ci
@@ -36,9 +44,11 @@ proof:
 ci:
 	@bash .ci/run
 
+docs:
+	@$(PYTHON) maintenance/definitions.py && echo "$(CURDIR)/build/DEFINITIONS.md is written"
+
 install:
-	@[ -x build/dmixlab ] || { echo "make install: there is no build/dmixlab yet; make builds it" >&2; exit 1; }
-	@tools/install.sh "$(DESTDIR)" "$(PREFIX)"
+	@maintenance/install.sh "$(DESTDIR)" "$(PREFIX)"
 
 clean:
 	rm -rf build crates/dmixlab/out/rlib

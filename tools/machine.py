@@ -1,11 +1,15 @@
-"""What the machine has, and the kit that is on the path. It is for the tools that build and test crates.
+"""What the machine has, and the kit that is on the path. It is for what builds and tests crates.
 
-As a command it prints how many proofs fit side by side, which is what `make proof` gives as RT_JOBS."""
+As a command it has no words, and prints how many proofs fit side by side, which is what `make proof` gives as RT_JOBS."""
 import os
 import re
 import shutil
 import subprocess
 import sys
+
+sys.path.insert(0, os.path.dirname(os.path.abspath(__file__)))
+
+import command
 
 # the rest of the memory is left to others
 PART_OF_MEMORY = 0.85
@@ -88,6 +92,12 @@ class Kit:
             say(f"this is {self.version}; README.md names {named.group(1)}. It is taken all the same")
 
 
-if __name__ == "__main__":
-    # as many proofs as fit side by side, for RT_JOBS
+def main():
+    """Prints as many proofs as fit side by side, for RT_JOBS."""
+    command.no_words(__doc__)
     print(lanes_for(2_500_000_000))
+    return 0
+
+
+if __name__ == "__main__":
+    command.run(main)

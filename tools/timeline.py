@@ -7,17 +7,18 @@
 
 A bar is a segment of a client, or a run of a reader. A mark is an opening, a closing or a refusal, at the card's position
 then; one that is about a frame that was late or overtaken is at that frame.
+
+The status is 2 where the report can't be read or isn't one, and 5 where the picture can't be written.
 """
 from __future__ import annotations
 
-import argparse
 import os
 import shutil
-import signal
 import sys
 
 sys.path.insert(0, os.path.dirname(os.path.abspath(__file__)))
 
+import command
 import read_report
 from draw_svg import svg_of
 from draw_text import text_of
@@ -25,31 +26,21 @@ from session import session_of
 
 
 def arguments():
-    words = argparse.ArgumentParser(
-        description="Draws a report of dmixlab: as SVG on standard output, where nothing else is asked for."
-    )
+    words = command.Words(__doc__)
     words.add_argument("report", help="a file, or - for standard input")
     words.add_argument("--svg", metavar="OUT", help="writes the picture to this file")
     words.add_argument("--text", action="store_true", help="draws in letters on standard output")
-    words.add_argument("--columns", type=int, help="of the letters (default: the terminal's)")
+    words.add_argument("--columns", type=command.positive_number, metavar="N", help="of the letters (default: the terminal's)")
     return words.parse_args()
 
 
 def main():
-    # a reader such as head may close the pipe
-    signal.signal(signal.SIGPIPE, signal.SIG_DFL)
     asked = arguments()
-    try:
-        session = session_of(read_report.read(asked.report))
-        if asked.svg is not None:
-            with open(asked.svg, "w", encoding="utf-8") as file:
-                file.write(svg_of(session))
-    except read_report.NotAReport as cause:
-        print(f"timeline: {asked.report}: {cause}", file=sys.stderr)
-        return 2
-    except OSError as cause:
-        print(f"timeline: {cause}", file=sys.stderr)
-        return 2
+    if asked.columns is not None and not asked.text:
+        raise command.Refused("--columns is of the letters that --text draws, and there is no --text")
+    session = session_of(read_report.read_for_command(asked.report))
+    if asked.svg is not None:
+        command.store(asked.svg, svg_of(session).encode())
     if asked.text:
         sys.stdout.write(text_of(session, asked.columns or shutil.get_terminal_size().columns))
     elif asked.svg is None:
@@ -58,4 +49,4 @@ def main():
 
 
 if __name__ == "__main__":
-    sys.exit(main())
+    command.run(main)

@@ -5,7 +5,8 @@
 the words get absolute names, and files that the script names are given to it. The report is put on standard output and the exit status is the
 program's own; one line on standard error then says what this was. WHY is the reason, which that line repeats.
 
-The exit status is 70 where rt try gave no answer: it needs more than 1 MiB for the report or more time than it gives, or rt itself failed."""
+What can be told without the program is said in the program's own lines. The exit status is 70 where rt try gave no answer: it needs more
+than 1 MiB for the report or more time than it gives, or rt itself failed; and of make, whose files rt try wouldn't keep."""
 import contextlib
 import os
 import re
@@ -16,10 +17,13 @@ import sys
 import tempfile
 import time
 
+import explain
+from explanation import MADE, of_file_word, of_made
+
 ROOT = os.path.dirname(os.path.dirname(os.path.abspath(__file__)))
 NO_ANSWER, WORDS, NOT_READ = 70, 1, 4
-# the words after each command
-COMMANDS = {"run": 2, "refine": 1, "conf": 2, "make": 3}
+# the words after each command; those that aren't numbers of make or the name of a device are names of files
+COMMANDS = {"run": ["SCRIPT", "OUT"], "refine": ["TEXT"], "conf": ["FILE", "NAME"], "make": list(MADE)}
 # a script's last byte is within these; one of more is refused, and the rest of it needn't be read
 SCRIPT_SIZE = 1 << 20
 # the time that rt try gives the program
@@ -35,6 +39,11 @@ ENDED_LINE = re.compile(rb"^run=ended status=(\d+) ", re.M)
 
 def say(text):
     print(f"dmixlab: {text}", file=sys.stderr, flush=True)
+
+
+def tell(said, words):
+    """Puts what the program wrote on standard error there; a terminal gets what it means too."""
+    explain.put(explain.text_shown(said, words, explain.width_of(2)) if explain.is_wanted() else said)
 
 
 def places_of_names(script):
@@ -143,35 +152,50 @@ def real_one():
     return f"`make{folder}` proves and builds the real one, which answers at once"
 
 
+def is_command(command, given):
+    """Whether words are a command of the program."""
+    forms = COMMANDS.get(command, [])
+    if not forms or len(forms) != len(given):
+        return False
+    checks = {"NAME": lambda _, text: None if re.fullmatch("[!-~]{1,64}", text) else text, **dict.fromkeys(MADE, of_made)}
+    return all(checks.get(form, of_file_word)(form, text) is None for form, text in zip(forms, given))
+
+
 def answer(why, command, given, room):
     """Runs the program for these words, and returns the exit status."""
     asked, began = Try(os.getcwd(), room), time.monotonic()
     try:
         words = asked.words(command, given)
-    except OSError as error:
-        say(f"can't read {given[0]}: {error.strerror}")
+    except OSError:
+        tell(b"dmixlab: read %s\n" % os.fsencode(given[0]), [command, *given])
         return NOT_READ
     is_seen = sys.stderr.isatty()
     if is_seen:
         print(f"dmixlab: {why}, so it is compiled without a proof, which takes about a minute ..", end="", file=sys.stderr, flush=True)
-    errors = run_rt(asked, words, any(it in STREAMS for it in given))
+    try:
+        errors = run_rt(asked, words, any(it in STREAMS for it in given))
+    except OSError as error:
+        say(f"can't run the command rt: {error.strerror}")
+        return NO_ANSWER
     if is_seen:
         print("\r\033[K", end="", file=sys.stderr, flush=True)
     ended = ENDED_LINE.search(errors)
     if not ended:
         tell_no_answer(errors)
         return NO_ANSWER
-    sys.stderr.buffer.write(asked.said(errors))
-    sys.stderr.buffer.flush()
+    tell(asked.said(errors), [command, *given])
     took = f"{time.monotonic() - began:.0f} s"
     say(f"{why}, so this was the unproved program with checks at run time, which took {took}. {real_one()}")
     return int(ended.group(1))
 
 
-def main(why, *words):
+def main(why="", *words):
+    if not why:
+        say("try_run.py has the words WHY and those of ./dmixlab, which calls it")
+        return WORDS
     command, given = words[0] if words else "", words[1:]
-    if COMMANDS.get(command) != len(given):
-        say("these words are no command; ./dmixlab --help has those that are")
+    if not is_command(command, given):
+        tell(b"dmixlab: words\n", list(words))
         return WORDS
     if command == "make":
         say(f"{why}, and `make`, which stores files where it runs, needs the built one. {real_one()}")

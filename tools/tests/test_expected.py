@@ -52,6 +52,30 @@ class Samples(unittest.TestCase):
         self.assertEqual(expected.clients_of(script), {"a": ("a.wav", [1, 0])})
         self.assertEqual(expected.readers_of(script), {"r": [0, 1, 2, 3]})
 
+    def test_a_path_in_place_of_a_script_is_refused(self):
+        with self.assertRaisesRegex(expected.NotDerived, "line 1 of the script is refused as Word"):
+            with_report("exchanged channels", lambda _, report, room: expected.played_samples(f"{room}/s", report, room))
+
+    def test_a_client_with_a_plug_is_refused(self):
+        def ask(script, report, room):
+            return expected.played_samples(script.replace("bindings 1,0", "bindings 1,0 plug linear"), report, room)
+
+        with self.assertRaisesRegex(expected.NotDerived, "a has plug"):
+            with_report("exchanged channels", ask)
+
+    def test_frames_before_the_card_s_first_one_are_refused(self):
+        script = "card channels 1 capture c.wav\nclient a a.wav\nreader r\n"
+        row = "dmixlab 1\n0 a open = ok PREPARED -\n"
+        with tempfile.TemporaryDirectory() as room:
+            cases.store_all(room, {"a.wav": corpus.sound("1 48000 5 6"), "c.wav": corpus.sound("1 48000 7")})
+            early = read_report.parse(row + "segment a 0 63 2 0\nplayed 64 64\nend\n")
+            with self.assertRaisesRegex(expected.NotDerived, "begins at the card's frame 63, and the first is 64"):
+                expected.played_samples(script, early, room)
+            for run in ("63 1", "127 2"):
+                report = read_report.parse(row + f"run r {run}\nplayed 64 64\nend\n")
+                with self.assertRaisesRegex(expected.NotDerived, "frames that the card didn't play"):
+                    expected.recorded_samples(script, report, room, "r")
+
     def test_a_part_of_a_frame_goes_to_its_first_channels(self):
         segment = read_report.Segment("a", 5, 64, 1, 1)
         places = [(5, 1, 64, 0), (5, 0, 64, 1), (6, 1, 65, 0)]

@@ -1,7 +1,6 @@
 """What the reader takes as a report, and what it refuses, at which line."""
 import json
 import os
-import subprocess
 import sys
 import tempfile
 import unittest
@@ -11,6 +10,7 @@ sys.path.insert(0, os.path.dirname(HERE))
 
 import read_report
 import samples
+from calls import called
 
 # as crates/lab_report reads and prints them
 ANSWERS = [
@@ -105,8 +105,7 @@ class Command(unittest.TestCase):
         with tempfile.NamedTemporaryFile("w", suffix=".report") as file:
             file.write(text)
             file.flush()
-            words = [sys.executable, os.path.join(HERE, "..", "read_report.py"), file.name, *words]
-            return subprocess.run(words, capture_output=True, text=True)
+            return called(read_report, file.name, *words)
 
     def test_status_says_whether_a_row_matches(self):
         for words, status, lines in [
@@ -123,7 +122,122 @@ class Command(unittest.TestCase):
     def test_status_2_and_the_line_where_it_is_no_report(self):
         ran = self.run_on("dmixlab 1\nx\n", "--none")
         self.assertEqual((ran.returncode, ran.stdout), (2, ""))
-        self.assertIn("line 2: 'x' isn't a row's phase", ran.stderr)
+        self.assertIn("line 2: 'x' isn't the number of a phase", ran.stderr)
+
+    def test_a_report_whose_lines_end_with_carriage_returns(self):
+        ran = self.run_on(samples.EMPTY.replace("\n", "\r\n"))
+        self.assertEqual((ran.returncode, ran.stdout), (2, ""))
+        self.assertIn("line 1: it ends with a carriage return, which no report has; `tr -d '\\r' <IN >OUT` drops each one", ran.stderr)
+
+    def test_quiet_prints_no_row_and_has_the_same_status(self):
+        for words, status in (((), 0), (("--strict",), 3), (("--op", "open", "--all", "ok"), 1), (("--op", "open", "--not", "ok"), 0)):
+            ran = self.run_on(samples.REFUSED, "--quiet", *words)
+            self.assertEqual((ran.returncode, ran.stdout, ran.stderr), (status, "", ""), words)
+        ran = self.run_on(samples.REFUSED, "--quiet", "--json")
+        self.assertEqual((ran.returncode, ran.stdout), (2, ""))
+
+    def check(self, text, *calls):
+        """Each call's words, its status, and the numbers of the rows that it prints, from 0 on."""
+        rows = text.splitlines()[1:]
+        for words, status, numbers in calls:
+            ran = self.run_on(text, *words)
+            self.assertEqual((ran.returncode, ran.stdout.splitlines()), (status, [rows[it] for it in numbers]), (words, ran.stderr))
+
+    def test_the_first_words_of_an_answer_are_compared_each_whole(self):
+        self.check(
+            samples.LATE,
+            (("--answer", "EPIPE late"), 0, [3]),
+            (("--answer", "EPIPE  late 128"), 0, [3]),
+            (("--answer", "EPIPE late 128 1"), 0, [3]),
+            (("--answer", "EPIPE late 12"), 1, []),
+            (("--answer", "EPIPE avail"), 1, []),
+            (("--answer", "6"), 1, []),
+            (("--not", "EPIPE late", "--actor", "a"), 0, [0, 1]),
+            (("--not", "EPIPE avail", "--op", "write"), 0, [1, 3]),
+        )
+
+    def test_rows_of_a_state_and_of_a_phase(self):
+        self.check(
+            samples.LATE,
+            (("--state", "XRUN"), 0, [3]),
+            (("--state", "DRAINING"), 1, []),
+            (("--phase", "0"), 0, [0]),
+            (("--phase", "2"), 0, [2, 3]),
+            (("--phase", "2", "--state", "RUNNING"), 0, [2]),
+            (("--phase", "7"), 1, []),
+        )
+
+    def test_at_least_so_many_rows(self):
+        self.check(
+            samples.LATE,
+            (("--at-least", "4"), 0, [0, 1, 2, 3]),
+            (("--at-least", "5"), 1, [0, 1, 2, 3]),
+            (("--op", "write", "--at-least", "2"), 0, [1, 3]),
+            (("--op", "close", "--at-least", "1"), 1, []),
+        )
+
+    def test_all_rows_have_an_answer_and_there_is_one(self):
+        self.check(
+            samples.REFUSED,
+            (("--op", "open", "--all", "ok"), 1, [3, 4]),
+            (("--op", "open", "--actor", "a", "--all", "ok"), 0, []),
+            (("--op", "open", "--actor", "a", "--all", "ok", "--at-least", "2"), 1, []),
+            (("--op", "drain", "--all", "ok"), 1, []),
+            (("--op", "write", "--all", "64"), 0, []),
+        )
+
+    def test_a_report_that_opens_nothing_has_no_good_openings(self):
+        text = "dmixlab 1\n1 a write 64 = EBADFD OPEN -\nplayed 0 0\nend\n"
+        self.check(text, (("--op", "open", "--all", "ok"), 1, []), (("--op", "open", "--not", "ok", "--none"), 0, []))
+
+    def test_strict_finds_any_error_that_isn_t_allowed(self):
+        self.check(
+            samples.REFUSED,
+            (("--strict",), 3, [3, 4, 7]),
+            (("--strict", "--allow", "EBUSY 128", "--allow", "EBADFD"), 3, [4]),
+            (("--strict", "--allow", "EBUSY", "--allow", "EBADFD", "--allow", "EINVAL"), 0, range(8)),
+            # an error of another row than those that match counts all the same
+            (("--strict", "--allow", "EBUSY", "--allow", "EBADFD", "--op", "write"), 3, [4]),
+            (("--strict", "--op", "close", "--allow", "EBUSY", "--allow", "EBADFD", "--allow", "EINVAL", "--at-least", "2"), 1, [2]),
+            (("--strict", "--op", "drain", "--allow", "EBUSY", "--allow", "EBADFD", "--allow", "EINVAL"), 0, []),
+            (("--strict", "--op", "drain", "--all", "ok", "--allow", "EBUSY", "--allow", "EBADFD", "--allow", "EINVAL"), 1, []),
+        )
+        self.check(samples.EMPTY, (("--strict",), 0, []), ((), 1, []))
+        self.check(samples.GONE, (("--strict", "--allow", "ENODEV"), 3, [5]), (("--strict", "--allow", "stopped"), 3, [7]))
+
+    def test_what_a_report_can_t_have_is_refused_with_what_it_can(self):
+        for words, line in [
+            (("--op", "opne", "--not", "ok", "--none"), "'opne' is no op (did you mean open?); there are: play, unplug, write, "),
+            (("--op", "write 64"), "'write 64' is no op"),
+            (("--op", ""), "'' is no op"),
+            (("--actor", "d", "--answer", "EPIPE", "--none"), "'d' is no actor of this report; there are: card, a, b, c"),
+            (("--actor", "A"), "'A' is no actor of this report"),
+            (("--state", "XRUM", "--none"), "'XRUM' is no state (did you mean XRUN?); there are: OPEN, SETUP, "),
+            (("--state", "running"), "'running' is no state"),
+            (("--answer", "EPIP", "--none"), "'EPIP' is no number and no answer's first word (did you mean EPIPE?); there are: ok, "),
+            (("--answer", "EPIPE lat"), "'lat' is no cause of EPIPE (did you mean late?); there are: empty, already, avail, late, overtaken"),
+            (("--answer", "EPIPE late x"), "'EPIPE late x' begins no answer"),
+            (("--answer", "ok ok"), "'ok ok' begins no answer"),
+            (("--answer", "064"), "'064' begins no answer"),
+            (("--not", "OK"), "'OK' is no number and no answer's first word"),
+            (("--all", ""), "'' is no number and no answer's first word"),
+            (("--strict", "--allow", "ok"), "'ok' is no error"),
+            (("--allow", "EAGAIN"), "there is no --strict"),
+            (("--none", "--all", "ok"), "--none asks for no row"),
+            (("--none", "--at-least", "1"), "--none asks for no row"),
+            (("--at-least", "0"), "'0' is no number from 1 on"),
+            (("--phase", "-1"), "'-1' is no phase's number"),
+            (("--phase", "x"), "'x' is no phase's number"),
+            (("--stat", "XRUN"), "unrecognized arguments"),
+        ]:
+            ran = self.run_on(samples.REFUSED, *words)
+            self.assertEqual((ran.returncode, ran.stdout, len(ran.stderr.splitlines())), (2, "", 1), words)
+            self.assertIn(line, ran.stderr)
+
+    def test_an_actor_is_known_by_a_row_a_segment_or_a_run(self):
+        text = "dmixlab 1\n0 a open = ok PREPARED -\nsegment b 0 0 1 0\nrun r 0 1\nplayed 0 1\nend\n"
+        for name, status in (("a", 0), ("b", 1), ("r", 1), ("card", 1), ("c", 2)):
+            self.assertEqual(self.run_on(text, "--actor", name).returncode, status, name)
 
     def test_json_has_the_whole_report(self):
         said = json.loads(self.run_on(samples.LATE, "--json", "--answer", "EPIPE").stdout)

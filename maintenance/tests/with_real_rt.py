@@ -92,7 +92,8 @@ class RealRt(unittest.TestCase):
             cls.write(name, text)
         for name in ("dmixlab", "Makefile"):
             shutil.copy(f"{ROOT}/{name}", cls.at)
-        shutil.copytree(f"{ROOT}/tools", f"{cls.at}/tools", ignore=shutil.ignore_patterns("tests", "__pycache__"))
+        for name in ("tools", "maintenance"):
+            shutil.copytree(f"{ROOT}/{name}", f"{cls.at}/{name}", ignore=shutil.ignore_patterns("tests", "__pycache__"))
         os.mkdir(f"{cls.at}/.git")
         # side by side, as each takes its time
         cls.tried = cls.start([f"{cls.at}/dmixlab", "run", "s", "o"], "user/in")

@@ -9,8 +9,8 @@ has a file `stdout` by `rt try`, on its arguments and files.
 They are compiled with checks at run time. Contracts and proofs aren't looked at: that is the gate's, `rt ci`. A program that runs cases
 counts as many tests as it says that passed or failed, another one is one test.
 
-The last line is `N passed, M failed`, and the exit status 0 where M is 0, else 1; it is 70 where there is no toolchain."""
-import argparse
+The last line is `N passed, M failed`, and the exit status 0 where M is 0, else 1. It is 2 where crates.txt doesn't have a crate that is
+named, 5 where standard output takes no more, and 70 where there is no toolchain."""
 import difflib
 import os
 import re
@@ -21,6 +21,10 @@ import threading
 import time
 from concurrent.futures import ThreadPoolExecutor
 
+ROOT = os.path.dirname(os.path.dirname(os.path.abspath(__file__)))
+sys.path.insert(0, f"{ROOT}/tools")
+
+import command
 from crate_graph import below, files_in, read_lines, uses_of
 from machine import Kit, NoKit, lanes_for, processors, say
 
@@ -147,26 +151,24 @@ def run_all(tests, lanes):
 
 
 def main():
-    reader = argparse.ArgumentParser(description=__doc__, formatter_class=argparse.RawDescriptionHelpFormatter)
+    reader = command.Words(__doc__)
     reader.add_argument("crates", nargs="*", help="the crates whose tests are run; none: all")
-    reader.add_argument("--jobs", type=int, help="the most crates at once")
+    reader.add_argument("--jobs", type=command.positive_number, help="the most crates at once")
     given = reader.parse_args()
-    root = os.path.dirname(os.path.dirname(os.path.abspath(__file__)))
+    for it in given.crates:
+        command.check_known(it, list(read_lines(ROOT)), "crate of crates.txt")
     for it in (signal.SIGTERM, signal.SIGHUP):
         signal.signal(it, lambda number, _: sys.exit(128 + number))
     try:
-        Kit().warn_of_another(f"{root}/README.md")
+        Kit().warn_of_another(f"{ROOT}/README.md")
     except NoKit as error:
         say(error)
         return NO_KIT
-    unknown = set(given.crates) - set(read_lines(root))
-    if unknown:
-        reader.error(f"crates.txt has no crate {min(unknown)}")
-    tests = Tests(root, given.crates)
+    tests = Tests(ROOT, given.crates)
     run_all(tests, max(1, min(given.jobs, processors())) if given.jobs else lanes_for(A_TRY))
     print(f"{tests.passed} passed, {tests.failed} failed")
     return FAILED if tests.failed else 0
 
 
 if __name__ == "__main__":
-    sys.exit(main())
+    command.run(main)

@@ -1,12 +1,17 @@
 #!/usr/bin/env python3
 """check_help.py: compares docs/help.txt and docs/version.txt with what the program puts for --help and --version.
 
-`./dmixlab` answers these two words from the files where the program isn't built. With --write it writes the files anew."""
+`./dmixlab` answers these two words from the files where the program isn't built. With --write it writes the files anew. The status is 0
+where they are the same, and otherwise 1."""
 import os
 import re
 import sys
 
 ROOT = os.path.dirname(os.path.dirname(os.path.abspath(__file__)))
+sys.path.insert(0, f"{ROOT}/tools")
+
+import command
+
 SOURCE = "crates/lab_commands/src/words.rt"
 ESCAPES = {"\\n": "\n", '\\"': '"', "\\\\": "\\"}
 # each file, and how its text begins in the source
@@ -38,18 +43,19 @@ def check(root, writes=False):
         if text is None:
             faults.append(f"{SOURCE} has no text for {name} where it is looked for")
         elif writes:
-            with open(f"{root}/{name}", "w", encoding="utf-8") as file:
-                file.write(text)
+            command.store(f"{root}/{name}", text.encode())
         elif read(f"{root}/{name}") != text:
-            faults.append(f"{name} isn't the program's own text, which stands in {SOURCE}: tools/check_help.py --write")
+            faults.append(f"{name} isn't the program's own text, which stands in {SOURCE}: maintenance/check_help.py --write")
     return faults
 
 
-def main(words):
-    faults = check(ROOT, "--write" in words)
+def main():
+    words = command.Words(__doc__)
+    words.add_argument("--write", action="store_true", help="writes the files anew")
+    faults = check(ROOT, words.parse_args().write)
     print("\n".join(faults) or f"{len(TEXTS)} texts are the program's own")
     return 1 if faults else 0
 
 
 if __name__ == "__main__":
-    sys.exit(main(sys.argv[1:]))
+    command.run(main)

@@ -7,11 +7,11 @@
 A run has one of many reports, as the threads go on in another order each time. From a row only what that order decides is taken: the
 position seen, and whether the call was stopped, or found a sample late or overtaken, and where. The check tests that this can be, and
 works out all else from the script (mixed_actors.py): each answer and state, each segment and run, each sample of each file. The status
-is 0 where every run is right, and otherwise 1, with the first wrong run of a plan kept in a folder that is named.
+is 0 where every run is right, and 1 where one isn't, with the first wrong run of a plan kept in a folder that is named. It is 2 where
+there is no such program, or --runs isn't a number from 1 on.
 """
 from __future__ import annotations
 
-import argparse
 import os
 import struct
 import subprocess
@@ -20,9 +20,11 @@ import tempfile
 from concurrent.futures import ThreadPoolExecutor
 from dataclasses import dataclass
 
-HERE = os.path.dirname(os.path.abspath(__file__))
-sys.path.insert(0, HERE)
+ROOT = os.path.dirname(os.path.dirname(os.path.abspath(__file__)))
+sys.path.insert(0, f"{ROOT}/maintenance")
+sys.path.insert(0, f"{ROOT}/tools")
 
+import command
 import corpus
 from mixed_actors import CHANNELS, Call, Geometry, Outcome, Playback, Recording, Refusal
 
@@ -202,7 +204,10 @@ def run(program, plan, clients, captured):
         for name, data in files_of(plan, clients, captured).items():
             with open(os.path.join(room, name), "wb") as file:
                 file.write(data)
-        ran = subprocess.run([program, "run", "s", "o"], cwd=room, capture_output=True, text=True, timeout=MOST_SECONDS)
+        try:
+            ran = subprocess.run([program, "run", "s", "o"], cwd=room, capture_output=True, text=True, timeout=MOST_SECONDS)
+        except OSError as cause:
+            raise command.Refused(f"can't run {program}: {cause.strerror}") from cause
         names = [name for name in os.listdir(room) if name.startswith("o.")]
         files = {}
         for name in names:
@@ -269,14 +274,14 @@ def check_plan(program, plan, times):
 
 
 def main():
-    words = argparse.ArgumentParser(description="Runs mixed phases again and again, and checks each run.")
+    words = command.Words(__doc__)
     words.add_argument("program", help="a program with dmixlab's command line")
-    words.add_argument("--runs", type=int, default=100, help="how often each plan is run (default: 100)")
+    words.add_argument("--runs", type=command.positive_number, default=100, help="how often each plan is run (default: 100)")
     asked = words.parse_args()
-    bad = 0
+    program, bad = command.program_at(asked.program), 0
     for name, plan in PLANS.items():
         try:
-            between = check_plan(os.path.abspath(asked.program), plan, asked.runs)
+            between = check_plan(program, plan, asked.runs)
             print(f"{name}: {asked.runs} runs are right, {between} of them with a position in the midst of a phase")
         except (Refusal, subprocess.TimeoutExpired) as error:
             print(f"{name}: {error}")
@@ -285,4 +290,4 @@ def main():
 
 
 if __name__ == "__main__":
-    sys.exit(main())
+    command.run(main)

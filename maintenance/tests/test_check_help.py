@@ -1,11 +1,11 @@
-"""tools/check_help.py compares the two texts that ./dmixlab answers with by itself."""
+"""maintenance/check_help.py compares the two texts that ./dmixlab answers with by itself."""
 import os
 import sys
 import tempfile
 import unittest
 
 ROOT = os.path.join(os.path.dirname(os.path.abspath(__file__)), "..", "..")
-sys.path.insert(0, f"{ROOT}/tools")
+sys.path.insert(0, f"{ROOT}/maintenance")
 import check_help
 
 SOURCE = """const HELP: &[u8] = b"usage: \\"a\\"

@@ -9,7 +9,7 @@ import time
 import unittest
 
 ROOT = os.path.join(os.path.dirname(os.path.abspath(__file__)), "..", "..")
-sys.path.insert(0, f"{ROOT}/tools")
+sys.path.insert(0, f"{ROOT}/maintenance")
 import build_rules
 import crate_graph
 
@@ -34,7 +34,8 @@ echo "$*" >>"$CALLS"
 name=$3
 echo "$name was checked"
 [ "$name" != "$FAILS" ] || exit 1
-for made; do :; done
+while [ "$1" != -o ]; do shift; done
+made=$2
 case $made in *.rlib) mkdir "$made" ;; *) echo "$name" >"$made" ;; esac
 """
 LINK = """#!/bin/sh
@@ -53,9 +54,9 @@ class BuildRules(unittest.TestCase):
         self.write("repo/crates/dmixlab/src/main.rt", "fn main() {}\n")
         self.write("repo/crates.txt", CRATES)
         self.write("repo/README.md", "Proved with `kit-1 logic 7`.\n")
-        for name in ("build_rules.py", "prove_crate.sh", "crate_graph.py", "machine.py"):
-            os.makedirs(f"{self.at}/repo/tools", exist_ok=True)
-            shutil.copy(f"{ROOT}/tools/{name}", f"{self.at}/repo/tools")
+        for name in ("maintenance/build_rules.py", "maintenance/prove_crate.sh", "maintenance/crate_graph.py", "tools/machine.py", "tools/command.py"):
+            os.makedirs(os.path.dirname(f"{self.at}/repo/{name}"), exist_ok=True)
+            shutil.copy(f"{ROOT}/{name}", f"{self.at}/repo/{name}")
         shutil.copy(f"{ROOT}/Makefile", f"{self.at}/repo")
         for name, text in (("rt", RT), ("rattle", RATTLE), ("rattle-link", LINK)):
             self.write(f"kit/bin/{name}", text)
@@ -104,8 +105,38 @@ class BuildRules(unittest.TestCase):
         kit, libraries = f"{self.at}/kit", "../../crates/dmixlab/out/rlib"
         self.assertIn(f"--extern thiserror={kit}/rlibs/thiserror.rlib", calls["low"])
         self.assertIn(f"src/lib.rt --extern std={kit}/rlibs/std.rlib --extern low={libraries}/low.rlib -L", calls["middle"])
-        self.assertTrue(calls["middle"].endswith(f"--statements -o {libraries}/middle.rlib"), calls)
+        self.assertRegex(calls["middle"], f"--statements -o {libraries}/middle.rlib --jobs [0-9]$")
         self.assertIn("--backend llvm", calls["dmixlab"])
+
+    def test_a_proof_has_the_processors_that_no_other_one_has(self):
+        repo = f"{self.at}/repo"
+        for others, lanes, least, jobs in (([], 4, 1, 4), (["a"], 4, 1, 2), (["a", "b", "c"], 4, 1, 1), (["a", "b", "c"], 4, 2, 2), (["a"], 1, 1, 1)):
+            shutil.rmtree(f"{repo}/build", ignore_errors=True)
+            for it in ("build/logs", "build/count", self.libraries, *(f"build/running/{it}" for it in others)):
+                os.makedirs(os.path.join(repo, it), exist_ok=True)
+            words = ["sh", "maintenance/prove_crate.sh", "low", f"{self.libraries}/low.proved", str(least), "echo"]
+            subprocess.run(words, cwd=repo, env={"PATH": os.environ["PATH"], "LANES": str(lanes)}, stdout=subprocess.PIPE, check=True)
+            self.assertEqual(self.read("repo/build/logs/low.log"), f"--jobs {jobs}\n")
+            self.assertEqual(sorted(os.listdir(f"{repo}/build/running")), others)
+
+    def test_a_crate_of_the_longest_chain_has_two_processes_at_least(self):
+        self.write("repo/crates/low/src/lib.rt", "fn f() {}\n" * 1000)
+        calls = self.run_it("-j1")[1]
+        self.assertEqual({name: said[-1] for name, said in calls.items()}, {"low": "2", "middle": "2", "top": "2", "dmixlab": "2", "wide": "1"})
+
+    def test_a_second_make_waits_and_finds_what_the_first_one_proved(self):
+        self.write("kit/bin/rattle", RATTLE + "sleep 0.5\n")
+        first = self.start()
+        first.stdout.readline()
+        second = self.start()
+        said = [it.communicate()[0].splitlines() for it in (first, second)]
+        self.assertEqual((first.returncode, second.returncode, len(said[0])), (0, 0, 5))
+        self.assertEqual(said[1], [f"waiting for another make in {self.at}/repo", f"{self.at}/repo/build/dmixlab is proved and built"])
+
+    def test_a_dry_run_names_what_is_to_be_done_and_proves_nothing(self):
+        ran, calls = self.run_it("-n")
+        self.assertEqual((ran.returncode, calls), (0, {}))
+        self.assertIn("maintenance/prove_crate.sh low ", ran.out)
 
     def test_a_later_build_proves_what_changed_and_the_crates_above(self):
         self.run_it()

@@ -10,13 +10,19 @@ The exit status is 70 where there is no toolchain. `make` calls it; it is fast, 
 import os
 import sys
 
-from crate_graph import PROVED_FILES, below, chains, files_in, read_lines, uses_of
+ROOT = os.path.dirname(os.path.dirname(os.path.abspath(__file__)))
+sys.path.insert(0, f"{ROOT}/tools")
+
+import command
+from crate_graph import PROVED_FILES, below, chains, chains_through, files_in, read_lines, uses_of
 from machine import Kit, NoKit, say
 
 PROGRAM, NO_KIT = "dmixlab", 70
+# a crate is on a long chain that has so much of the longest one's work; its proof has so many processes at least
+LONG, LEAST_OF_LONG = 0.95, 2
 # rt refuses files of crates anywhere but in the crates, and in their folders out/rlib, which no commit has
 LIBRARIES = f"crates/{PROGRAM}/out/rlib"
-HEAD = f"""# Made by tools/build_rules.py.
+HEAD = f"""# Made by maintenance/build_rules.py.
 .DELETE_ON_ERROR:
 .SUFFIXES:
 MAKEFLAGS += --no-builtin-rules
@@ -61,15 +67,16 @@ def link_words(kit):
     return [f"{kit.at}/bin/rattle-link", *place, f"{LIBRARIES}/{PROGRAM}.o", *c_library]
 
 
-def rule_of(root, kit, lines, name, order):
-    """The rule of a crate, whose words and list of files are a file of their own: where they change, so does it."""
+def rule_of(root, kit, lines, name, order, least):
+    """The rule of a crate, whose words and list of files are a file of their own: where they change, so does it. Its proof has `least`
+    processes at least."""
     crate = f"{root}/crates/{name}"
     files = [os.path.relpath(it, root) for part in PROVED_FILES for it in files_in(f"{crate}/{part}")]
     words = " ".join(words_for(kit, lines, name))
     write_if_new(f"{root}/build/words/{name}", "\n".join([kit.version, words, *files, ""]))
     marks = [f"{LIBRARIES}/{it}.proved" for it in order if it in lines[name]]
     needed = " ".join([f"build/words/{name}", *files, *marks])
-    return f"\n{LIBRARIES}/{name}.proved: {needed}\n\t@tools/prove_crate.sh {name} $@ {words}\n"
+    return f"\n{LIBRARIES}/{name}.proved: {needed}\n\t@maintenance/prove_crate.sh {name} $@ {least} {words}\n"
 
 
 def rules(root, kit):
@@ -79,30 +86,33 @@ def rules(root, kit):
     wanted = [PROGRAM, *below(uses, PROGRAM)]
     length = chains(root, uses, wanted)
     order = sorted(wanted, key=lambda it: (-length[it], it))
+    through = chains_through(root, uses, wanted)
+    longest = max(through.values())
+    least = {it: LEAST_OF_LONG if through[it] >= LONG * longest else 1 for it in wanted}
     # GNU make begins what is ready in this order
     marks = " ".join(f"{LIBRARIES}/{it}.proved" for it in order)
     link = " ".join(link_words(kit))
     text = HEAD.replace(f": {LIBRARIES}/{PROGRAM}.proved", f": {marks}") + f"\t@{link}\n"
-    return text + "".join(rule_of(root, kit, lines, it, order) for it in order), order
+    return text + "".join(rule_of(root, kit, lines, it, order, least[it]) for it in order), order
 
 
 def main():
-    root = os.path.dirname(os.path.dirname(os.path.abspath(__file__)))
+    command.no_words(__doc__)
     try:
         kit = Kit()
-        kit.warn_of_another(f"{root}/README.md")
+        kit.warn_of_another(f"{ROOT}/README.md")
     except NoKit as error:
         say(error)
         return NO_KIT
-    for it in (f"{root}/build/logs", f"{root}/{LIBRARIES}"):
+    for it in (f"{ROOT}/build/logs", f"{ROOT}/{LIBRARIES}"):
         os.makedirs(it, exist_ok=True)
-    text, names = rules(root, kit)
-    write_if_new(f"{root}/build/rules.mk", text)
+    text, names = rules(ROOT, kit)
+    write_if_new(f"{ROOT}/build/rules.mk", text)
     # what is changed from now on is newer than this file, which names the program's crates, and becomes build/built once it is built
-    with open(f"{root}/build/begun", "w", encoding="utf-8") as file:
+    with open(f"{ROOT}/build/begun", "w", encoding="utf-8") as file:
         file.writelines(f"{it}\n" for it in names)
     return 0
 
 
 if __name__ == "__main__":
-    sys.exit(main())
+    command.run(main)

@@ -1,4 +1,4 @@
-"""What tools/run_tests.py runs and counts, with a stand-in for rt."""
+"""What maintenance/run_tests.py runs and counts, with a stand-in for rt."""
 import os
 import shutil
 import subprocess
@@ -35,9 +35,9 @@ class RunTests(unittest.TestCase):
         self.write("repo/crates/low/says", TESTED.format(2, 0))
         self.program("cases", "a: 3 passed, 0 failed\ncases: 7 passed, 0 failed\n", args="a.cases\n=x y\n", **{"data/sub/a.cases": ""})
         self.program("copy", "copied\n", stdin="to be copied\n")
-        for name in ("run_tests.py", "crate_graph.py", "machine.py"):
-            os.makedirs(f"{self.at}/repo/tools", exist_ok=True)
-            shutil.copy(f"{ROOT}/tools/{name}", f"{self.at}/repo/tools")
+        for name in ("maintenance/run_tests.py", "maintenance/crate_graph.py", "tools/machine.py", "tools/command.py"):
+            os.makedirs(os.path.dirname(f"{self.at}/repo/{name}"), exist_ok=True)
+            shutil.copy(f"{ROOT}/{name}", f"{self.at}/repo/{name}")
         self.write("kit/bin/rt", RT)
         self.write("kit/bin/rattle", "")
         for name in ("rt", "rattle"):
@@ -55,7 +55,7 @@ class RunTests(unittest.TestCase):
     def run_it(self, *words):
         self.write("calls", "")
         variables = {"PATH": f"{self.at}/kit/bin:{os.environ['PATH']}", "CALLS": f"{self.at}/calls"}
-        words = [sys.executable, f"{self.at}/repo/tools/run_tests.py", *words]
+        words = [sys.executable, f"{self.at}/repo/maintenance/run_tests.py", *words]
         ran = subprocess.run(words, env=variables, capture_output=True, text=True)
         with open(f"{self.at}/calls") as file:
             return ran, file.read().splitlines()
@@ -92,7 +92,7 @@ class RunTests(unittest.TestCase):
     def test_an_unknown_crate_is_said(self):
         ran = self.run_it("none")[0]
         self.assertEqual(ran.returncode, 2)
-        self.assertIn("crates.txt has no crate none", ran.stderr)
+        self.assertIn("'none' is no crate of crates.txt; there are: plain, low, cases, copy", ran.stderr)
 
 
 if __name__ == "__main__":
