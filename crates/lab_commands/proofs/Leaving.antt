@@ -6,8 +6,8 @@ use Rattle.wav_io.specs.Sound.{Sound}
 use Rattle.lab_headline.specs.Exact.{IsExactRun, IsOwnRun, IsUnstoppedRun}
 use Rattle.lab_input.specs.Input.{RunInput, input_in}
 use Rattle.lab_phase.specs.PhaseRuns.{Stops}
+use Rattle.lab_play.specs.Exact.{HasStoppedRun}
 use Rattle.lab_play.specs.Played.{HasPlayed, HasPlayedPart, IsUntouched}
-use Rattle.lab_play.specs.Playing.{HasStopped}
 use Rattle.lab_refine.specs.Answered.{IsAnswerTo}
 use Rattle.lab_run.specs.LabRun.{Outcome}
 use Rattle.lab_run.specs.Openings.{IsSessionOf}
@@ -51,12 +51,12 @@ Finished-played laws input script out gates before between after taken taken_aft
 
 module _ (laws : RunLaws) (input : RunInput) (script out : List ℕ) (gates : Stops) (before between after : Option Files) (taken taken_after : Option (List ℕ))
     (read : ForSome before (λ files. input_in files script ≡ Ok input)) (valid : IsScript input.script) (same : between ≡ before) where
-  left-part : HasPlayedPart input out between after taken taken_after → IsUntouched before after taken taken_after ⊎ IsUnfinished script out before after taken taken_after
+  left-part : HasPlayedPart input out gates between after taken taken_after → IsUntouched before after taken taken_after ⊎ IsUnfinished script out gates before after taken taken_after
   left-part (inl untouched) = inl (record { files = untouched.files ∙ same; text = untouched.text })
-  left-part (inr stopped) = inr (record { input = input; read = read; stopped = subst (λ (b : Option Files). HasStopped input out b after taken taken_after) same stopped })
+  left-part (inr stopped) = inr (record { input = input; read = read; run = subst (λ (b : Option Files). HasStoppedRun input out gates b after taken taken_after) same stopped })
 
   -- what a run leaves that was read and stopped
-  pub CommandLeaves-stopped : (stop : Stop) → IsWriteStop stop → HasPlayedPart input out between after taken taken_after
+  pub CommandLeaves-stopped : (stop : Stop) → IsWriteStop stop → HasPlayedPart input out gates between after taken taken_after
       → CommandLeaves {X = Unit {0}} (Err stop) (Some (run script out)) gates before after taken taken_after
   CommandLeaves-stopped Words only part = absurd only
   CommandLeaves-stopped (Script error) only part = absurd only

@@ -5,8 +5,9 @@ use Rattle.lab_headline.specs.Exact.{IsExactRun, IsOwnRun}
 use Rattle.lab_input.specs.Input.{RunInput, input_in}
 use Rattle.lab_output.specs.Files.{output_files, finished_files}
 use Rattle.lab_phase.specs.PhaseRuns.{Stops}
-use Rattle.lab_play.specs.Played.{HaveNoStops, IsRunOf, sounds_of}
-use Rattle.lab_play.specs.Playing.{HasStopped}
+use Rattle.lab_play.specs.Exact.{HasStoppedRun}
+use Rattle.lab_play.specs.Played.{IsRunOf, sounds_of}
+use Rattle.lab_play.specs.Stops.{HaveNoStops}
 use Rattle.lab_report.specs.Text.{report_text}
 use Rattle.lab_run.specs.LabRun.{Outcome, lab_text}
 use Rattle.lab_run.specs.Openings.{IsSessionOf}
@@ -47,10 +48,11 @@ IsOnlyRunOf script out stops before after taken taken_after =
     ForSome before (λ files. (input : RunInput) (session : Session) → input_in files script ≡ Ok input → IsSessionOf input.script input.sounds session
     → AreUnmixed input.script.body → HaveNoStops stops → IsOnlyRun out files after taken taken_after input session)
 
--- A run stopped while it was written: its input was what the files held, and what is written is of a run of it that reached a stage, whose card had played
--- the mix of the segments so far (`HasStopped`).
-pub record IsUnfinished (script out : List ℕ) (before after : Option Files)
+-- A run stopped while it was written: its input was what the files held, and what is written is of a run of it that reached a stage, up to which each gate
+-- stopped its actor at most so often, and whose card had played the mix of the segments so far (`HasStopped`). Where no gate stopped an actor, and no phase
+-- has lines of the card and of others, it is the first part of what the one run leaves (`HasStoppedRun`).
+pub record IsUnfinished (script out : List ℕ) (stops : Stops) (before after : Option Files)
     (taken taken_after : Option (List ℕ)) : Type 0 where
   pub input : RunInput
   pub read : ForSome before (λ files. input_in files script ≡ Ok input)
-  pub stopped : HasStopped input out before after taken taken_after
+  pub run : HasStoppedRun input out stops before after taken taken_after

@@ -6,7 +6,8 @@ use Rattle.asound_conf.specs.declared.plugin.Device.{Device}
 use Rattle.lab_conf.specs.Described.{IsDescribed, DescribedPart, IsOnlyDevice, device_in}
 use Rattle.lab_input.specs.Input.{input_in}
 use Rattle.lab_phase.specs.PhaseRuns.{Stops}
-use Rattle.lab_play.specs.Played.{HaveNoStops, IsUntouched}
+use Rattle.lab_play.specs.Played.{IsUntouched}
+use Rattle.lab_play.specs.Stops.{HaveNoStops}
 use Rattle.lab_refine.specs.Answered.{HasAnswered, AnsweredPart, request_in}
 use Rattle.lab_script.specs.declared.error.ScriptError.{ScriptError}
 use Rattle.lab_shelf.specs.Files.{Files, TookPart}
@@ -99,7 +100,7 @@ DoneIn (Some version) gates before after taken taken_after = HasPut version_text
 abbrev pub PartIn : Option Form → Stops → Option Files → Option Files → Option (List ℕ)
     → Option (List ℕ) → Type 0
 PartIn None gates before after taken taken_after = ⊥
-PartIn (Some (run script out)) gates before after taken taken_after = IsUnfinished script out before after taken taken_after
+PartIn (Some (run script out)) gates before after taken taken_after = IsUnfinished script out gates before after taken taken_after
 PartIn (Some (refine text)) gates before after taken taken_after = AnsweredPart text before after taken taken_after
 PartIn (Some (conf file name)) gates before after taken taken_after = DescribedPart file name before after taken taken_after
 PartIn (Some (make workload)) gates before after taken taken_after = IsMadePart workload gates before after taken taken_after

@@ -5,7 +5,7 @@ ghost use Rattle.lab_conf.specs.Described.{device_in};
 ghost use Rattle.lab_input.specs.Input.{input_in};
 ghost use Rattle.lab_make.specs.Workload.{IsWorkload};
 ghost use Rattle.lab_phase.specs.PhaseRuns.{Stops, stops_by};
-ghost use Rattle.lab_play.specs.Played.{rises};
+ghost use Rattle.lab_play.specs.Stops.{rises};
 ghost use Rattle.lab_refine.specs.Answered.{request_in};
 ghost use Rattle.lab_stop.specs.Causes.{cause};
 ghost use Rattle.lab_stop.specs.Stops.{EndsOf, EndsReliably, InputFaults, OutputFaults, Refuses};

@@ -2,7 +2,7 @@
 ghost use Rattle.std.specs.Prelude.{◌≡◌, ◌≢◌, ◌≤◌, ◌⊎◌, ◌↔◌, IfErr, OnOk, length, None};
 ghost use Rattle.std.specs.Option.{ForSome};
 ghost use Rattle.lab_phase.specs.PhaseRuns.{stops_by};
-ghost use Rattle.lab_play.specs.Played.{rises};
+ghost use Rattle.lab_play.specs.Stops.{rises};
 ghost use Rattle.lab_shelf.specs.Counts.{Rose};
 ghost use Rattle.lab_shelf.specs.Files.{TookPart};
 ghost use Rattle.lab_stop.specs.Lines.{stop_line};
@@ -137,7 +137,8 @@ pub fn dmixlab<R: Threads + Sync, S: Shelf, K: Sink, E: Sink, G: Gate + Send>(
     ensures reliable { S.is_reliable shelf.old → K.is_reliable out.old
         → ForSome (S.files shelf.old) (λ files. EndsWell result (texts words.now) files) }
 
-    // What is left after another status; what the card of a run had played is the mix of the segments so far.
+    // What is left after another status; what the card of a run had played is the mix of the segments so far. Where no gate stopped an actor and no phase is
+    // mixed, it is the first part of what is left with status 0.
     ensures rest { result ≢ 0 → IsLeftByFault result (texts words.now)
         (rises (stops_by G.stops gates.old) (stops_by G.stops gates.new))
         (S.files shelf.old) (S.files shelf.new) (K.taken out.old) (K.taken out.new) }

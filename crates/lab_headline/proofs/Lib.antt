@@ -13,11 +13,17 @@ mod Listed
 mod Missed
 mod Mixes
 mod Numbered
+mod OnePlayed
 mod OneSample
 mod Onward
 mod OnwardCalls
 mod OnwardLines
 mod Openings
+mod PlayedCalls
+mod PlayedCourses
+mod PlayedLines
+mod PlayedSegments
+mod PlayedStages
 mod Recorded
 mod RowLines
 mod Sealed

@@ -139,7 +139,7 @@ module _ (member : ℕ) (segment : Segment) (samples : List ℤ) (bindings : Lis
 abbrev pub Part : Type 0
 Part = ℕ × Segment
 
-append-all : {X : Type 0} (P : X → Type 0) (xs ys : List X) → AllByRecursion P xs → AllByRecursion P ys → AllByRecursion P (xs ++ ys)
+pub append-all : {X : Type 0} (P : X → Type 0) (xs ys : List X) → AllByRecursion P xs → AllByRecursion P ys → AllByRecursion P (xs ++ ys)
 append-all P [] ys one two = two
 append-all P (x ∷ xs) ys one two = (one.0, append-all P xs ys one.1 two)
 

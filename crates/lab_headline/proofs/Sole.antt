@@ -72,7 +72,7 @@ each-at P [] k d within each = absurd (omega (arith, within))
 each-at P (x ∷ xs) zero d within each = each.0
 each-at P (x ∷ xs) (suc k) d within each = each-at P xs k d (omega (arith, within)) each.1
 
-published-least : (period from : ℕ) (lines : List Line) (q : ℕ) → Contains (phase_positions period from lines) q → from ≤ q
+pub published-least : (period from : ℕ) (lines : List Line) (q : ℕ) → Contains (phase_positions period from lines) q → from ≤ q
 published-least period from lines q (k, within, is) =
     subst (λ r. from ≤ r) is (each-at (λ r. from ≤ r) (phase_positions period from lines) k q within (omega arith, lines-least period from from lines (omega arith)))
 

@@ -129,7 +129,7 @@ module _ (P : Option Setup → Client → Type 0) (kept : IsKept P) where
   close-kept session stage n (Some c) are = AreSo-set session 0 n n stage.clients _ (omega arith)
       (kept.ends (slice_index_or session.clients n None) (client_at session stage n).1 (client-so session stage n are)) are
 
-  item-kept : (session : Session) (stage after : Stage) (one : Item) → AreSo session 0 stage.clients → ItemMay session stage one after → AreSo session 0 after.clients
+  pub item-kept : (session : Session) (stage after : Stage) (one : Item) → AreSo session 0 stage.clients → ItemMay session stage one after → AreSo session 0 after.clients
   item-kept session stage after (item.Opens number actor.Card) are is = rw is are
   item-kept session stage after (item.Opens number (actor.Client n)) are is = rw is (open-kept session stage n (client_at session stage n).1.own are)
   item-kept session stage after (item.Opens number (actor.Reader n)) are is = rw is (rw (reader-opens session stage n (reader_at session stage n).1.own) are)

@@ -7,6 +7,7 @@ pub mod Mix
 pub mod Once
 pub mod OneSample
 pub mod OneSession
+pub mod Played
 pub mod Recordings
 pub mod Shares
 pub mod WorkedRows

@@ -7,10 +7,11 @@ ghost use Rattle.lab_lines.specs.declared.line.Item.{Item};
 ghost use Rattle.lab_lines.specs.declared.script.Script.{Script};
 ghost use Rattle.lab_lines.specs.declared.report.Report.{Report};
 ghost use Rattle.lab_lines.specs.Limits.{IsScript};
+ghost use Rattle.lab_run.specs.Items.{ItemsMay};
 ghost use Rattle.lab_run.specs.LabRun.{LabRun, Outcome, runs_of};
 ghost use Rattle.lab_run.specs.Openings.{IsSessionOf};
 ghost use Rattle.lab_run.specs.OwnRows.{IsClientAlone};
-ghost use Rattle.lab_run.specs.Stage.{Session, Stage};
+ghost use Rattle.lab_run.specs.Stage.{Session, Stage, first_stage};
 ghost use Rattle.lab_headline.specs.Clients.{IsSumOfClients};
 ghost use Rattle.lab_headline.specs.Exact.{DoesTheSame, HasSameClient, IsExactRun, IsOwnRun, IsUnstoppedRun};
 ghost use Rattle.lab_headline.specs.Files.{IsMixOfFiles, IsPlacedFrom};
@@ -18,8 +19,9 @@ ghost use Rattle.lab_headline.specs.Late.{LateLinesMiss, LateRowsMiss};
 ghost use Rattle.lab_headline.specs.Mix.{IsMixOf};
 ghost use Rattle.lab_headline.specs.Headline.{Headline};
 ghost use Rattle.lab_headline.specs.Once.{PlacesOnce};
-ghost use Rattle.lab_headline.specs.OneSample.{AreBound, HasOneSample};
+ghost use Rattle.lab_headline.specs.OneSample.{AreBound, AreSamples, HasOneSample, PlaysOneSample};
 ghost use Rattle.lab_headline.specs.OneSession.{HaveOneSession};
+ghost use Rattle.lab_headline.specs.Played.{PlayedStays};
 ghost use Rattle.lab_headline.specs.Recordings.{AreRecordingsOf, frames_of_runs};
 ghost use Rattle.lab_headline.specs.Shares.{HaveOwnChannels};
 ghost use Rattle.lab_headline.specs.WorkedRows.{some_entries, two_runs};
@@ -168,19 +170,36 @@ pub fn scripts_bind_channels()
         IsSessionOf script wavs session → AreBound session }
 {}
 
-/// So at most one sample is placed at each frame and channel, and what is played there is that sample
-/// or silence: of those who had a channel one after the other, each ends before the next one begins.
+/// So at most one sample is placed at each frame and channel, since of those who had a channel one after
+/// the other, each ends before the next one begins. What is played there is that sample, or silence: a
+/// sample of 16 bits is played as it is.
 ///
 /// It does nothing.
 pub fn channels_have_one_sample()
-    ensures { (script : Script) (wavs : List Sound) (session : Session) (capture : Option Sound)
+    ensures placed { (script : Script) (wavs : List Sound) (session : Session) (capture : Option Sound)
         (client_stops reader_stops : ℕ → ℕ) (outcome : Outcome) →
         IsSessionOf script wavs session → AreBound session →
         LabRun session capture script.body client_stops reader_stops outcome →
         HasOneSample session outcome.report }
+    ensures played { (script : Script) (wavs : List Sound) (session : Session) (capture : Option Sound)
+        (client_stops reader_stops : ℕ → ℕ) (outcome : Outcome) →
+        IsSessionOf script wavs session → AreBound session → AreSamples wavs →
+        LabRun session capture script.body client_stops reader_stops outcome →
+        PlaysOneSample session outcome }
 {
     claims_are_of_owners();
 }
+
+/// What a card has played stays as it is: the mix of the segments so far, of the frames that are played
+/// at a stage of a run, is the first part of that at each later stage. No line places a sample below
+/// the card's position, or takes one back there.
+///
+/// It does nothing.
+pub fn played_samples_stay()
+    ensures { (session : Session) (done others : List Item) (stage later : Stage) →
+        AreBound session → ItemsMay session (first_stage session) done stage →
+        ItemsMay session stage others later → PlayedStays session stage later }
+{}
 
 /// Worked rows. A segment with one whole frame at 64 and a part of one channel, of a file whose two
 /// channels go to the card's channels crosswise, places the file's samples 10 and 20 at frame 64,
@@ -198,15 +217,21 @@ pub fn worked_rows()
 {}
 
 /// What a run of a script says, all in all: the mix, each client's samples in it, the late rows, the
-/// recordings, and that clients which share the card by channels place one sample at a place.
+/// recordings, and that clients which share the card by channels place one sample at a place, which is
+/// played as it is.
 ///
 /// It does nothing.
 pub fn runs_keep_headline()
-    ensures { (script : Script) (wavs : List Sound) (session : Session) (capture : Option Sound)
+    ensures headline { (script : Script) (wavs : List Sound) (session : Session) (capture : Option Sound)
         (client_stops reader_stops : ℕ → ℕ) (outcome : Outcome) → IsScript script →
         IsSessionOf script wavs session →
         LabRun session capture script.body client_stops reader_stops outcome →
         Headline script wavs session capture outcome }
+    ensures one { (script : Script) (wavs : List Sound) (session : Session) (capture : Option Sound)
+        (client_stops reader_stops : ℕ → ℕ) (outcome : Outcome) → IsScript script →
+        IsSessionOf script wavs session → AreSamples wavs →
+        LabRun session capture script.body client_stops reader_stops outcome →
+        PlaysOneSample session outcome }
 {
     runs_mix_files();
     mixes_are_of_clients();

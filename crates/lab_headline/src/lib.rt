@@ -9,7 +9,7 @@ mod laws;
 
 pub use laws::{
     actors_do_their_own, channels_have_one_sample, clients_are_isolated, clients_have_own_channels,
-    late_rows_miss, mixes_are_of_clients, runs_are_exact, runs_are_mixes, runs_keep_headline,
-    runs_mix_files, runs_record_captures, scripts_bind_channels, scripts_have_one_session,
-    segments_place_once, worked_rows,
+    late_rows_miss, mixes_are_of_clients, played_samples_stay, runs_are_exact, runs_are_mixes,
+    runs_keep_headline, runs_mix_files, runs_record_captures, scripts_bind_channels,
+    scripts_have_one_session, segments_place_once, worked_rows,
 };

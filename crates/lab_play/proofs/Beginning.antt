@@ -50,7 +50,7 @@ module _ (input : RunInput) (name : List ℕ) (stops : Stops) (lab : Lab) (outpu
   first = first_stage (session_of lab)
 
   lab-first : IsLabOf start-of stops lab first
-  lab-first = record { script_is = is.script_is; stage_is = is.first; counted = AreStopsOf-first stops (session_of lab) }
+  lab-first = record { script_is = is.script_is; samples = is.samples; stage_is = is.first; counted = AreStopsOf-first stops (session_of lab) }
 
   sounds-first : nothing outputs.files.items ≡ sounds_at lab first
   sounds-first =
@@ -81,9 +81,9 @@ module _ (input : RunInput) (name : List ℕ) (stops : Stops) (lab : Lab) (outpu
 
   -- some of that is missing: nothing is played, which is the mix of no segments
   pub HasStopped-first : (files : Option Files) (taken_after : Option (List ℕ)) → Changes (MayHold outputs.files.items (nothing outputs.files.items)) before files
-      → TookPart taken taken_after head_text → IsStopped start-of files taken_after
+      → TookPart taken taken_after head_text → IsStopped start-of stops files taken_after
   HasStopped-first files taken_after changes part =
-      HasStopped-silent start-of lab files taken_after
+      HasStopped-silent start-of stops lab files taken_after
       (IsStoppedAt-rows start-of stops lab first files taken_after lab-first
       (subst (λ (outs : List OutputFile). Changes (MayHold outs (sounds_at lab first)) before files) is.new.files
       (subst (λ (sounds : List (List ℤ)). Changes (MayHold outputs.files.items sounds) before files) sounds-first changes))

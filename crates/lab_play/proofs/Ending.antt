@@ -8,6 +8,7 @@ use Rattle.std.proofs.lemmas.List.{length-append, take-append-drop}
 use Rattle.std.proofs.lemmas.List.Concat.{flat_map-append}
 use Rattle.wav_io.specs.Sound.{Sound}
 use Rattle.lab_headline.specs.Headline.{Headline}
+use Rattle.lab_headline.specs.OneSample.{AreSamples, PlaysOneSample}
 use Rattle.lab_output.specs.declared.file.OutputFile.{OutputFile}
 use Rattle.lab_output.specs.declared.outputs.Outputs.{Outputs}
 use Rattle.lab_output.specs.Files.{MayHold, output_files, finished_files}
@@ -32,9 +33,10 @@ use Rattle.lab_lines.specs.Limits.{IsScript}
 use Rattle.lab_shelf.specs.Changes.{Changes, TookPart-all, TookPart-then}
 use Rattle.lab_shelf.specs.Files.{Files, TookPart}
 use Rattle.lab_stop.specs.declared.stop.Stop.{Stop}
-use Rattle.lab_play.specs.Played.{HasPlayed, rises, sounds_of}
+use Rattle.lab_play.specs.Played.{HasPlayed, sounds_of}
 use Rattle.lab_play.specs.Order.{StopsInHeads, StopsInTail}
 use Rattle.lab_play.specs.Playing.{IsPlaying, IsStopped, Scene, Start, scene, sounds_at, text_at}
+use Rattle.lab_play.specs.Stops.{rises}
 use Rattle.lab_play.proofs.ItemsStopped.{HasStopped-closed, IsStoppedAt-rows, TookPart-rows}
 
 -- what a law says of each run
@@ -43,6 +45,13 @@ RunFacts =
     (script : Script) (wavs : List Sound) (session : Session) (capture : Option Sound) (client_stops reader_stops : ℕ → ℕ) (outcome : Outcome)
     → IsScript script → IsSessionOf script wavs session → LabRun session capture script.body client_stops reader_stops outcome
     → Headline script wavs session capture outcome
+
+-- and of each run on samples of 16 bits
+abbrev pub OneFacts : Type 0
+OneFacts =
+    (script : Script) (wavs : List Sound) (session : Session) (capture : Option Sound) (client_stops reader_stops : ℕ → ℕ) (outcome : Outcome)
+    → IsScript script → IsSessionOf script wavs session → AreSamples wavs → LabRun session capture script.body client_stops reader_stops outcome
+    → PlaysOneSample session outcome
 
 -- ---- the text
 
@@ -114,16 +123,18 @@ module _ (start : Start) (stops : Stops) (lab : Lab) (outputs : Outputs) (files 
       is.written.text ∙ ap (λ (rows : List Row). option_map (λ t. t ++ text_so_far start.input.script (take outputs.rows rows)) start.taken) (sym rows-at_end)
 
   -- all is written
-  pub HasPlayed-end : (facts : RunFacts) (files_after : Option Files) (taken_after : Option (List ℕ)) → files_after ≡ option_map (finished_files outputs.files.items (sounds_at lab is.stage)) start.files
+  pub HasPlayed-end : (facts : RunFacts) (ones : OneFacts) (files_after : Option Files) (taken_after : Option (List ℕ)) → files_after ≡ option_map (finished_files outputs.files.items (sounds_at lab is.stage)) start.files
       → taken_after ≡ option_map (λ t. t ++ tail_from start.input.script outputs.rows outcome.report) taken
       → HasPlayed start.input start.out (rises start.stops stops) (outcome_in outcome) start.files files_after start.taken taken_after
-  HasPlayed-end facts files_after taken_after files_are text = record {
+  HasPlayed-end facts ones files_after taken_after files_are text = record {
     session = session_of lab;
     is = record {
       session_is = is.lab_is.script_is.session_is;
       run = run-at_end;
       headline = facts start.input.script start.input.sounds (session_of lab) start.input.capture (rises start.stops stops).clients (rises start.stops stops).readers (outcome_in outcome)
           valid-at_end is.lab_is.script_is.session_is run-at_end;
+      one = ones start.input.script start.input.sounds (session_of lab) start.input.capture (rises start.stops stops).clients (rises start.stops stops).readers (outcome_in outcome)
+          valid-at_end is.lab_is.script_is.session_is is.lab_is.samples run-at_end;
     };
     files = files_are
         ∙ (ap (λ (outs : List OutputFile). option_map (finished_files outs (sounds_at lab is.stage)) start.files) is.written.files_are
@@ -152,7 +163,7 @@ module _ (start : Start) (stops : Stops) (lab : Lab) (outputs : Outputs) (files 
 
   -- the files aren't all finished
   pub HasStopped-finish : (files_after : Option Files) → Changes (MayHold outputs.files.items (sounds_at lab is.stage)) start.files files_after
-      → KeepSamples outputs.files.items (sounds_at lab is.stage) files_after → IsStopped start files_after taken
+      → KeepSamples outputs.files.items (sounds_at lab is.stage) files_after → IsStopped start stops files_after taken
   HasStopped-finish files_after changes keep =
       let part : TookPart start.taken taken (text_so_far start.input.script is.stage.rows) =
       TookPart-rows start.input.script is.stage.rows outputs.rows start.taken taken (TookPart-all start.taken taken _ is.written.text) in
@@ -162,13 +173,13 @@ module _ (start : Start) (stops : Stops) (lab : Lab) (outputs : Outputs) (files 
         kept = subst (λ (outs : List OutputFile). KeepSamples outs (sounds_at lab is.stage) files_after) is.written.files_are keep;
         text = part;
       } in
-      HasStopped-closed start lab files_after taken
+      HasStopped-closed start stops lab files_after taken
       (IsStoppedAt-rows start stops lab is.stage files_after taken is.lab_is (changes-end files_after changes) part (inr (inr (inr (inl heads))))) mixed-end
 
   -- the rest of the text isn't all put
   pub HasStopped-tail : (files_after : Option Files) (taken_after : Option (List ℕ)) → Changes (MayHold outputs.files.items (sounds_at lab is.stage)) start.files files_after
       → files_after ≡ option_map (finished_files outputs.files.items (sounds_at lab is.stage)) start.files
-      → TookPart taken taken_after (tail_from start.input.script outputs.rows outcome.report) → IsStopped start files_after taken_after
+      → TookPart taken taken_after (tail_from start.input.script outputs.rows outcome.report) → IsStopped start stops files_after taken_after
   HasStopped-tail files_after taken_after changes files_are part =
       let has = is.lab_is.stage_is.has_done in
       let tail : StopsInTail start.input.script start.out has.others (sounds_at lab is.stage) start.files files_after =
@@ -182,9 +193,8 @@ module _ (start : Start) (stops : Stops) (lab : Lab) (outputs : Outputs) (files 
       (subst (λ (text : List ℕ). TookPart start.taken taken_after text) (text-whole start.input.script outcome.report outputs.rows)
       (TookPart-then start.taken taken taken_after (text_so_far start.input.script (take outputs.rows outcome.report.rows)) (tail_from start.input.script outputs.rows outcome.report)
       text-written part))) in
-      HasStopped-closed start lab files_after taken_after
+      HasStopped-closed start stops lab files_after taken_after
       (record {
-        stops = stops;
         stage = is.stage;
         lab_is = is.lab_is;
         changes = changes-end files_after changes;

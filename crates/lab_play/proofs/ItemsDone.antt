@@ -83,6 +83,7 @@ StaysWritten-stage lab after stays stops outputs files taken start is =
       stage = is.stage;
       lab_is = record {
         script_is = IsOfScript-same start.input.script start.input.sounds start.input.capture lab after stays.same own.script_is;
+        samples = own.samples;
         stage_is = stays.at is.stage own.stage_is;
         counted = own.counted;
       };
@@ -91,11 +92,11 @@ StaysWritten-stage lab after stays stops outputs files taken start is =
 
 -- ---- what is longer
 
-IsPartOf-longer : (samples more all : List ℤ) → all ≡ samples ++ more → IsPartOf samples all
+pub IsPartOf-longer : (samples more all : List ℤ) → all ≡ samples ++ more → IsPartOf samples all
 IsPartOf-longer samples more all is = (length samples, sym (ap (take (length samples)) is ∙ take-append_seam samples more))
 
 -- the samples of readers that read more
-AreLonger-grown : (session : Session) (capture : Option Sound) (number : ℕ) (xs ys : List (AtPort × Reader)) → AreGrown xs ys
+pub AreLonger-grown : (session : Session) (capture : Option Sound) (number : ℕ) (xs ys : List (AtPort × Reader)) → AreGrown xs ys
     → AreLonger (recorded_from session capture number xs) (recorded_from session capture number ys)
 AreLonger-grown session capture number [] [] grown = grown
 AreLonger-grown session capture number (x ∷ xs) (y ∷ ys) grown =
@@ -131,6 +132,7 @@ StaysWritten-border grow keeps lab after one border does played stops outputs fi
       stage = done.next;
       lab_is = record {
         script_is = IsOfScript-same start.input.script start.input.sounds start.input.capture lab after does.same own.script_is;
+        samples = own.samples;
         stage_is = done.is;
         counted = AreStopsOf-border start.stops stops (session_of lab) is.stage done.next one border done.may own.counted;
       };
@@ -197,6 +199,7 @@ HasUnwrittenPhase-phase grow stops stops_after lab after lines does first output
       stage = done.next;
       lab_is = record {
         script_is = IsOfScript-same start.input.script start.input.sounds start.input.capture lab after does.same own.script_is;
+        samples = own.samples;
         stage_is = done.is;
         counted = done.counted;
       };

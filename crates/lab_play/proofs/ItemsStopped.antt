@@ -28,6 +28,7 @@ use Rattle.lab_phase.specs.AtStage.{IsCardOf, capture_of, played_by, played_of, 
 use Rattle.lab_phase.specs.CardStage.{IsCardIn}
 use Rattle.lab_phase.specs.Ended.{HasPlayedMix}
 use Rattle.lab_phase.specs.PhaseRuns.{Stops}
+use Rattle.lab_phase.specs.StopLaws.{AreWithin-counted}
 use Rattle.lab_output.specs.declared.file.OutputFile.{OutputFile}
 use Rattle.lab_output.specs.Files.{MayHold, unfinished_files, output_files}
 use Rattle.lab_output.specs.GoingLaws.{AreLonger-same, IsGoingOn-Changes}
@@ -36,6 +37,7 @@ use Rattle.lab_shelf.specs.Changes.{Changes, TookPart-all, TookPart-first}
 use Rattle.lab_shelf.specs.Files.{Files, TookPart}
 use Rattle.lab_play.specs.Order.{RowsFollowFrames, StopsInRows}
 use Rattle.lab_play.specs.Playing.{IsLabOf, IsPlaying, IsStopped, IsStoppedAt, Scene, Start, sounds_at, text_at}
+use Rattle.lab_play.specs.Stops.{IsWithinStops, rises}
 
 -- ---- what its card played
 
@@ -59,9 +61,9 @@ frames-card script wavs session capture stage P None is in_card own = absurd own
 frames-card script wavs session capture stage P (Some a) is in_card own = frames-actor script wavs session capture stage a is (in_card a own)
 
 -- the card of a lab
-frames-lab : (start : Start) (lab : Lab) (files : Option Files) (taken : Option (List ℕ)) → (is : IsStoppedAt start lab files taken)
+frames-lab : (start : Start) (stops : Stops) (lab : Lab) (files : Option Files) (taken : Option (List ℕ)) → (is : IsStoppedAt start stops lab files taken)
     → length (played_of lab) ≡ (is.stage.position - first_frame start.input.script.card) * start.input.script.card.channels
-frames-lab start lab files taken is =
+frames-lab start stops lab files taken is =
     frames-card start.input.script start.input.sounds (session_of lab) (capture_of lab) is.stage
     (IsCardOf (session_of lab) (capture_of lab) is.stage lab.clients lab.readers) lab.card is.lab_is.script_is.session_is (λ a is_card. is_card.is) is.lab_is.stage_is.actors.card_is
 
@@ -92,9 +94,8 @@ TookPart-stage script session (one ∷ others) stage taken now part = part
 pub IsStoppedAt-rows : (start : Start) (stops : Stops) (lab : Lab) (stage : Stage) (files : Option Files) (taken : Option (List ℕ)) → (is : IsLabOf start stops lab stage)
     → Changes (MayHold (output_files start.input.script start.out) (sounds_at lab stage)) start.files files
     → TookPart start.taken taken (text_so_far start.input.script stage.rows)
-    → RowsFollowFrames start.input start.out (session_of lab) is.stage_is.has_done.others stage (sounds_at lab stage) start.files files start.taken taken → IsStoppedAt start lab files taken
+    → RowsFollowFrames start.input start.out (session_of lab) is.stage_is.has_done.others stage (sounds_at lab stage) start.files files start.taken taken → IsStoppedAt start stops lab files taken
 IsStoppedAt-rows start stops lab stage files taken is changes part order = record {
-  stops = stops;
   stage = stage;
   lab_is = is;
   changes = changes;
@@ -116,7 +117,7 @@ stops-in_rows start lab others stage outputs files taken own are part =
     inr (inr (inl rows))
 
 -- nothing was written since all that its lab holds was written
-pub IsStoppedAt-playing : (start : Start) (stops : Stops) (at : Scene) → IsPlaying start stops at → IsStoppedAt start at.lab at.files at.taken
+pub IsStoppedAt-playing : (start : Start) (stops : Stops) (at : Scene) → IsPlaying start stops at → IsStoppedAt start stops at.lab at.files at.taken
 IsStoppedAt-playing start stops at is =
     let written = is.written in
     let sounds : List (List ℤ) = sounds_at at.lab is.stage in
@@ -131,10 +132,17 @@ IsStoppedAt-playing start stops at is =
 
 -- ---- a run that stopped with its lab
 
+-- up to the stage of its lab each actor was stopped at most as often as its gate stopped since the run began
+within-lab : (start : Start) (stops : Stops) (lab : Lab) (stage : Stage) → IsLabOf start stops lab stage → IsWithinStops (rises start.stops stops) stage
+within-lab start stops lab stage is = record {
+  clients = AreWithin-counted start.stops.clients stops.clients 0 stage.clients is.counted.clients;
+  readers = AreWithin-counted start.stops.readers stops.readers 0 stage.readers is.counted.readers;
+}
+
 -- what it left, where its card had played the mix of the segments so far
-HasStopped-mixed : (start : Start) (lab : Lab) (files : Option Files) (taken : Option (List ℕ)) → (is : IsStoppedAt start lab files taken)
-    → played_of lab ≡ mix_of (session_of lab) (all_segments is.stage.clients) (is.stage.position - first_frame (session_of lab).card) → IsStopped start files taken
-HasStopped-mixed start lab files taken is mix =
+HasStopped-mixed : (start : Start) (stops : Stops) (lab : Lab) (files : Option Files) (taken : Option (List ℕ)) → (is : IsStoppedAt start stops lab files taken)
+    → played_of lab ≡ mix_of (session_of lab) (all_segments is.stage.clients) (is.stage.position - first_frame (session_of lab).card) → IsStopped start stops files taken
+HasStopped-mixed start stops lab files taken is mix =
     let own = is.lab_is.script_is in
     let has = is.lab_is.stage_is.has_done in
     record {
@@ -145,8 +153,9 @@ HasStopped-mixed start lab files taken is mix =
       stage = is.stage;
       reached = subst (λ (s : Script). IsReached s start.input.sounds (session_of lab) has.done has.others is.stage) own.script_is
           (subst (λ (wavs : List Sound). IsReached lab.script.now wavs (session_of lab) has.done has.others is.stage) own.wavs_are has.reached);
+      within = within-lab start stops lab is.stage is.lab_is;
       played = played_of lab;
-      frames = frames-lab start lab files taken is;
+      frames = frames-lab start stops lab files taken is;
       mix = mix;
       changes = subst
           (λ (capture : Option Sound). Changes
@@ -160,16 +169,18 @@ HasStopped-mixed start lab files taken is mix =
     }
 
 -- once the lab's rings are closed
-pub HasStopped-closed : (start : Start) (lab : Lab) (files : Option Files) (taken : Option (List ℕ)) → IsStoppedAt start lab files taken → HasPlayedMix lab → IsStopped start files taken
-HasStopped-closed start lab files taken is mix = HasStopped-mixed start lab files taken is (mix is.stage is.lab_is.stage_is)
+pub HasStopped-closed : (start : Start) (stops : Stops) (lab : Lab) (files : Option Files) (taken : Option (List ℕ)) → IsStoppedAt start stops lab files taken → HasPlayedMix lab
+    → IsStopped start stops files taken
+HasStopped-closed start stops lab files taken is mix = HasStopped-mixed start stops lab files taken is (mix is.stage is.lab_is.stage_is)
 
 -- where the lab played nothing, which is the mix of no frames
-pub HasStopped-silent : (start : Start) (lab : Lab) (files : Option Files) (taken : Option (List ℕ)) → IsStoppedAt start lab files taken → played_of lab ≡ [] → IsStopped start files taken
-HasStopped-silent start lab files taken is silent =
+pub HasStopped-silent : (start : Start) (stops : Stops) (lab : Lab) (files : Option Files) (taken : Option (List ℕ)) → IsStoppedAt start stops lab files taken → played_of lab ≡ []
+    → IsStopped start stops files taken
+HasStopped-silent start stops lab files taken is silent =
     let session : Session = session_of lab in
     let none : (is.stage.position - first_frame session.card) * session.card.channels ≡ 0 =
     ap (λ (card : CardLine). (is.stage.position - first_frame card) * card.channels) is.lab_is.script_is.session_is.card
-    ∙ (sym (frames-lab start lab files taken is) ∙ ap length silent) in
-    HasStopped-mixed start lab files taken is
+    ∙ (sym (frames-lab start stops lab files taken is) ∙ ap length silent) in
+    HasStopped-mixed start stops lab files taken is
     (silent
     ∙ sym (ap (λ (n : ℕ). map (mixed_at session.card.channels (first_frame session.card) (entries_of session (all_segments is.stage.clients))) (range_with_len 0 n)) none))

@@ -1,5 +1,6 @@
 mod Beginning
 mod Ending
+mod Exactly
 mod ItemsDone
 mod ItemsResults
 mod ItemsStopped

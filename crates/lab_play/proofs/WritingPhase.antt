@@ -123,7 +123,7 @@ module _ (start : Start) (stops : Stops) (lab : Lab) (outputs : Outputs) (files 
       (changes start.files is.stage is.sounds is.lab_is.stage_is is.longer is.written.going_on)
 
   -- an append failed
-  pub stops-appending : IsStoppedAt start lab files_after taken
+  pub stops-appending : IsStoppedAt start stops lab files_after taken
   stops-appending = IsStoppedAt-rows start stops lab is.stage files_after taken is.lab_is own-changes
       (TookPart-rows start.input.script is.stage.rows outputs.rows start.taken taken
       (TookPart-all start.taken taken (text_so_far start.input.script (take outputs.rows is.stage.rows)) is.written.text)) (inr (inl is.order))
@@ -131,7 +131,7 @@ module _ (start : Start) (stops : Stops) (lab : Lab) (outputs : Outputs) (files 
   -- the put of its rows failed: its frames are appended
   pub stops-putting : (script : Script) (after : Outputs) (rows : List Row) (taken_after : Option (List ℕ)) → lab.script.now ≡ script → AppendsGoOn lab outputs after files files_after
       → after.files ≡ outputs.files → after.rows ≡ outputs.rows → rows ≡ rows_of lab
-      → TookPart taken taken_after (rows_text script after.rows rows) → IsStoppedAt start lab files_after taken_after
+      → TookPart taken taken_after (rows_text script after.rows rows) → IsStoppedAt start stops lab files_after taken_after
   stops-putting script after rows taken_after same goes_on files_are number_is rows_are part =
       let going = goes_on start.files is.stage is.sounds is.lab_is.stage_is is.longer is.written.going_on in
       let text : TookPart taken taken_after (rows_text start.input.script outputs.rows is.stage.rows) =

@@ -3,6 +3,7 @@ use Rattle.std.specs.Prelude.{◌≡◌, ℕ, List, [], Option, IsSome}
 use Rattle.lab_lines.specs.declared.script.Script.{Script}
 use Rattle.lab_run.specs.LabRun.{Outcome}
 use Rattle.lab_run.specs.Stage.{first_stage}
+use Rattle.lab_headline.specs.OneSample.{AreSamples}
 use Rattle.lab_input.specs.Input.{RunInput}
 use Rattle.lab_phase.specs.declared.lab.Lab.{Lab}
 use Rattle.lab_phase.specs.AtStage.{IsAtStage, IsOfScript, items_done, played_of, session_of}
@@ -10,12 +11,15 @@ use Rattle.lab_phase.specs.PhaseRuns.{Stops}
 use Rattle.lab_output.specs.declared.outputs.Outputs.{Outputs}
 use Rattle.lab_output.specs.Going.{AreNew, AreOutputs}
 use Rattle.lab_shelf.specs.Files.{Files}
-use Rattle.lab_play.specs.Played.{HasPlayed, rises}
+use Rattle.lab_play.specs.Played.{HasPlayed}
 use Rattle.lab_play.specs.Playing.{IsPlaying, IsStopped, Scene, Start}
+use Rattle.lab_play.specs.Stops.{rises}
 
--- a lab of an input's script before the first item of its body, and outputs of it of which nothing is written
+-- a lab of an input's script before the first item of its body, and outputs of it of which nothing is written; the samples of the clients' files are of
+-- 16 bits
 pub record IsNewRun (input : RunInput) (out : List ℕ) (lab : Lab) (outputs : Outputs) : Type 0 where
   pub script_is : IsOfScript input.script input.sounds input.capture lab
+  pub samples : AreSamples input.sounds
   pub first : IsAtStage lab (first_stage (session_of lab))
   pub none : items_done lab ≡ 0
   pub silent : played_of lab ≡ []
@@ -41,7 +45,7 @@ EndsWith before outcome files taken =
     (start : Start) (stops : Stops) → IsPlaying start stops before → HasPlayed start.input start.out (rises start.stops stops) outcome start.files files start.taken taken
 
 abbrev pub StopsAtEnd : Scene → Option Files → Option (List ℕ) → Type 0
-StopsAtEnd before files taken = (start : Start) (stops : Stops) → IsPlaying start stops before → IsStopped start files taken
+StopsAtEnd before files taken = (start : Start) (stops : Stops) → IsPlaying start stops before → IsStopped start stops files taken
 
 -- the files were known when a run at this moment began
 pub record IsKnownAtEnd (at : Scene) : Type 0 where

@@ -1,5 +1,7 @@
 pub mod Appending
 pub mod Ends
+pub mod Exact
 pub mod Order
 pub mod Played
 pub mod Playing
+pub mod Stops

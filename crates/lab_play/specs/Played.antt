@@ -1,29 +1,17 @@
--- What a run of a script leaves that is done, and how often its gates stopped actors.
-use Rattle.std.specs.Prelude.{◌≡◌, ◌⊎◌, ℕ, ◌-◌, ℤ, List, ◌∷◌, ◌++◌, Option}
+-- What a run of a script leaves that is done.
+use Rattle.std.specs.Prelude.{◌≡◌, ◌⊎◌, ℕ, ℤ, List, ◌∷◌, ◌++◌, Option}
 use Rattle.std.specs.Option.{option_map}
 use Rattle.lab_report.specs.Text.{report_text}
 use Rattle.lab_run.specs.LabRun.{LabRun, Outcome}
 use Rattle.lab_run.specs.Openings.{IsSessionOf}
 use Rattle.lab_run.specs.Stage.{Session}
-use Rattle.lab_headline.specs.Exact.{IsUnstopped}
 use Rattle.lab_headline.specs.Headline.{Headline}
+use Rattle.lab_headline.specs.OneSample.{PlaysOneSample}
 use Rattle.lab_input.specs.Input.{RunInput}
 use Rattle.lab_phase.specs.PhaseRuns.{Stops}
 use Rattle.lab_output.specs.Files.{output_files, finished_files}
 use Rattle.lab_shelf.specs.Files.{Files}
-use Rattle.lab_play.specs.Playing.{HasStopped}
-
--- how often each gate stopped its actor, when it had stopped so often before
-abbrev pub rises : Stops → Stops → Stops
-rises before after = record {
-  clients = λ n. after.clients n - before.clients n;
-  readers = λ n. after.readers n - before.readers n;
-}
-
--- no gate stopped an actor
-pub record HaveNoStops (stops : Stops) : Type 0 where
-  pub clients : IsUnstopped stops.clients
-  pub readers : IsUnstopped stops.readers
+use Rattle.lab_play.specs.Exact.{HasStoppedRun}
 
 -- the samples of each output: what the card played, and what each reader recorded
 abbrev pub sounds_of : Outcome → List (List ℤ)
@@ -32,11 +20,13 @@ sounds_of outcome = outcome.played ∷ outcome.recorded
 -- A run of a script may leave this report and these samples, where each actor's own gate stops it so often at most. What they say (`Headline`): the card
 -- played, at each frame and channel, the saturated sum of exactly the samples that the report's segments placed there, each once; a client that was
 -- stopped takes away nothing of another; a late row names a place without a sample of its stretch; each reader recorded the captured frames of its runs.
+-- Where clients share the card by channels, what is played at a place is the one sample that was placed there, or silence.
 pub record IsRunOf (input : RunInput) (session : Session) (stops : Stops)
     (outcome : Outcome) : Type 0 where
   pub session_is : IsSessionOf input.script input.sounds session
   pub run : LabRun session input.capture input.script.body stops.clients stops.readers outcome
   pub headline : Headline input.script input.sounds session input.capture outcome
+  pub one : PlaysOneSample session outcome
 
 -- a run is done with this outcome: each of its files is the canonical WAV file of its samples, no other file changed, and the report's text was put
 pub record HasPlayed (input : RunInput) (out : List ℕ) (stops : Stops) (outcome : Outcome)
@@ -53,8 +43,8 @@ pub record IsUntouched (before after : Option Files)
   pub files : after ≡ before
   pub text : taken_after ≡ taken
 
--- a run isn't done: nothing was written, or it stopped at a stage
-abbrev pub HasPlayedPart : RunInput → List ℕ → Option Files → Option Files → Option (List ℕ)
-    → Option (List ℕ) → Type 0
-HasPlayedPart input out before after taken taken_after =
-    IsUntouched before after taken taken_after ⊎ HasStopped input out before after taken taken_after
+-- a run isn't done: nothing was written, or it stopped at a stage, up to which each gate stopped its actor at most so often
+abbrev pub HasPlayedPart : RunInput → List ℕ → Stops → Option Files → Option Files
+    → Option (List ℕ) → Option (List ℕ) → Type 0
+HasPlayedPart input out stops before after taken taken_after =
+    IsUntouched before after taken taken_after ⊎ HasStoppedRun input out stops before after taken taken_after

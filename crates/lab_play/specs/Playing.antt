@@ -16,6 +16,7 @@ use Rattle.lab_run.specs.LabRun.{all_segments, mix_of, recorded_from, report_of}
 use Rattle.lab_run.specs.Openings.{IsSessionOf}
 use Rattle.lab_run.specs.ScriptWords.{IsReached}
 use Rattle.lab_run.specs.Stage.{Session, Stage}
+use Rattle.lab_headline.specs.OneSample.{AreSamples}
 use Rattle.lab_input.specs.Input.{RunInput}
 use Rattle.lab_phase.specs.declared.lab.Lab.{Lab}
 use Rattle.lab_phase.specs.AtStage.{IsAtStage, IsOfScript, capture_of, played_of, session_of}
@@ -27,6 +28,7 @@ use Rattle.lab_output.specs.Text.{text_so_far}
 use Rattle.lab_shelf.specs.Changes.{Changes}
 use Rattle.lab_shelf.specs.Files.{Files, TookPart}
 use Rattle.lab_play.specs.Order.{RowsFollowFrames, StopsInFrames}
+use Rattle.lab_play.specs.Stops.{IsWithinStops, rises}
 
 -- what a run began with: its input, the name of its output, how often gates had stopped, what files there were, and what the output had taken
 pub record Start : Type 0 where
@@ -60,9 +62,10 @@ pub record AreWritten (start : Start) (sounds : List (List ℤ)) (rows : List Ro
   pub text : taken
       ≡ option_map (λ t. t ++ text_so_far start.input.script (take outputs.rows rows)) start.taken
 
--- the lab of the run is at a stage, at which its gates have stopped so often
+-- the lab of the run is at a stage, at which its gates have stopped so often; the samples of the clients' files are of 16 bits
 pub record IsLabOf (start : Start) (stops : Stops) (lab : Lab) (stage : Stage) : Type 0 where
   pub script_is : IsOfScript start.input.script start.input.sounds start.input.capture lab
+  pub samples : AreSamples start.input.sounds
   pub stage_is : IsAtStage lab stage
   pub counted : AreStopsOf start.stops stops stage
 
@@ -86,17 +89,18 @@ abbrev pub text_at : Script → Session → List Item → Stage → List ℕ
 text_at script session [] stage = report_text script (report_of session stage)
 text_at script session (one ∷ others) stage = text_so_far script stage.rows
 
--- A run stopped: it had reached a stage. What its card had played is the mix of the segments so far. Each of its files is as it was before the run, or
--- has one of the forms of its samples so far, and no other file changed; the first bytes of the report's text were put, and no row before the frames of
--- its phase.
-pub record HasStopped (input : RunInput) (out : List ℕ) (before after : Option Files)
-    (taken taken_after : Option (List ℕ)) : Type 0 where
+-- A run stopped: it had reached a stage, up to which each actor's own gate stopped it at most so often. What its card had played is the mix of the
+-- segments so far. Each of its files is as it was before the run, or has one of the forms of its samples so far, and no other file changed; the first
+-- bytes of the report's text were put, and no row before the frames of its phase.
+pub record HasStopped (input : RunInput) (out : List ℕ) (stops : Stops)
+    (before after : Option Files) (taken taken_after : Option (List ℕ)) : Type 0 where
   pub session : Session
   pub session_is : IsSessionOf input.script input.sounds session
   pub done : List Item
   pub others : List Item
   pub stage : Stage
   pub reached : IsReached input.script input.sounds session done others stage
+  pub within : IsWithinStops stops stage
   pub played : List ℤ
   pub frames : length played
       ≡ (stage.position - first_frame input.script.card) * input.script.card.channels
@@ -106,14 +110,13 @@ pub record HasStopped (input : RunInput) (out : List ℕ) (before after : Option
   pub text : TookPart taken taken_after (text_at input.script session others stage)
   pub order : RowsFollowFrames input out session others stage (played ∷ recorded_from session input.capture 0 stage.readers) before after taken taken_after
 
--- a run that began so stopped, and left this
-abbrev pub IsStopped : Start → Option Files → Option (List ℕ) → Type 0
-IsStopped start files taken = HasStopped start.input start.out start.files files start.taken taken
+-- a run that began so stopped, when its gates had stopped so often, and left this
+abbrev pub IsStopped : Start → Stops → Option Files → Option (List ℕ) → Type 0
+IsStopped start stops files taken = HasStopped start.input start.out (rises start.stops stops) start.files files start.taken taken
 
--- it stopped at the stage of a lab: what is left is that of a run that stopped there with what the lab holds
-pub record IsStoppedAt (start : Start) (lab : Lab) (files : Option Files)
+-- it stopped at the stage of a lab, when its gates had stopped so often: what is left is that of a run that stopped there with what the lab holds
+pub record IsStoppedAt (start : Start) (stops : Stops) (lab : Lab) (files : Option Files)
     (taken : Option (List ℕ)) : Type 0 where
-  pub stops : Stops
   pub stage : Stage
   pub lab_is : IsLabOf start stops lab stage
   pub changes : Changes (MayHold (output_files start.input.script start.out) (sounds_at lab stage))
@@ -130,9 +133,9 @@ pub record IsStoppedAt (start : Start) (lab : Lab) (files : Option Files)
 abbrev pub SceneGoesOn : Stops → Scene → Stops → Scene → Type 0
 SceneGoesOn stops before stops_after after = (start : Start) → IsPlaying start stops before → IsPlaying start stops_after after
 
--- it stopped at the stage of a lab, and left this
-abbrev pub StopsAt : Stops → Scene → Lab → Option Files → Option (List ℕ) → Type 0
-StopsAt stops before lab files taken = (start : Start) → IsPlaying start stops before → IsStoppedAt start lab files taken
+-- it stopped at the stage of a lab, when its gates had stopped so often, and left this
+abbrev pub StopsAt : Stops → Scene → Stops → Lab → Option Files → Option (List ℕ) → Type 0
+StopsAt stops before stops_after lab files taken = (start : Start) → IsPlaying start stops before → IsStoppedAt start stops_after lab files taken
 
 -- and all that the lab holds after an item is written still, where it was before, and however often gates have stopped
 abbrev pub StaysWritten : Lab → Lab → Type 0
@@ -144,7 +147,7 @@ abbrev pub CatchesUp : Scene → Scene → Type 0
 CatchesUp before after = (start : Start) (stops : Stops) → HasUnwrittenPhase start stops before → IsPlaying start stops after
 
 abbrev pub StopsBehind : Scene → Option Files → Option (List ℕ) → Type 0
-StopsBehind before files taken = (start : Start) (stops : Stops) → HasUnwrittenPhase start stops before → IsStoppedAt start before.lab files taken
+StopsBehind before files taken = (start : Start) (stops : Stops) → HasUnwrittenPhase start stops before → IsStoppedAt start stops before.lab files taken
 
 -- there is a run of a script that is at this moment
 pub record CanPlay (script : Script) (stops : Stops) (at : Scene) : Type 0 where

@@ -48,7 +48,7 @@ pub(crate) fn do_items<R: Threads + Sync, S: Shelf, K: Sink, G: Gate + Send>(
     ensures part { OnErr result (StopsAt
         (stops_by G.stops gates.old)
         (scene lab.old outputs.old (S.files shelf.old) (K.taken out.old))
-        lab.new (S.files shelf.new) (K.taken out.new)) }
+        (stops_by G.stops gates.new) lab.new (S.files shelf.new) (K.taken out.new)) }
     ensures only { IfErr result IsWriteStop }
     ensures fetch_faults { S.fetch_faults shelf.new ≡ S.fetch_faults shelf.old }
     ensures faults { OutputFaults result (S.write_faults shelf.old) (S.write_faults shelf.new)
@@ -103,7 +103,7 @@ fn do_item<R: Threads + Sync, S: Shelf, K: Sink, G: Gate + Send>(
     ensures part { OnErr result (StopsAt
         (stops_by G.stops gates.old)
         (scene lab.old outputs.old (S.files shelf.old) (K.taken out.old))
-        lab.new (S.files shelf.new) (K.taken out.new)) }
+        (stops_by G.stops gates.new) lab.new (S.files shelf.new) (K.taken out.new)) }
     ensures only { IfErr result IsWriteStop }
     ensures fetch_faults { S.fetch_faults shelf.new ≡ S.fetch_faults shelf.old }
     ensures faults { OutputFaults result (S.write_faults shelf.old) (S.write_faults shelf.new)
@@ -157,7 +157,7 @@ fn do_phase<R: Threads + Sync, S: Shelf, K: Sink, G: Gate + Send>(
     ensures part { OnErr result (StopsAt
         (stops_by G.stops gates.old)
         (scene lab.old outputs.old (S.files shelf.old) (K.taken out.old))
-        lab.new (S.files shelf.new) (K.taken out.new)) }
+        (stops_by G.stops gates.new) lab.new (S.files shelf.new) (K.taken out.new)) }
     ensures only { IfErr result IsWriteStop }
     ensures fetch_faults { S.fetch_faults shelf.new ≡ S.fetch_faults shelf.old }
     ensures faults { OutputFaults result (S.write_faults shelf.old) (S.write_faults shelf.new)

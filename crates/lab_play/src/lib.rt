@@ -3,6 +3,7 @@
 
 mod items;
 mod run;
+mod samples;
 mod write;
 
 pub use run::play;

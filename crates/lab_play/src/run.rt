@@ -17,16 +17,19 @@ ghost use Rattle.lab_output.specs.Files.{MayHold, nothing};
 ghost use Rattle.lab_output.specs.Going.{AreOutputs, IsGoingOn};
 ghost use Rattle.lab_output.specs.Text.{head_text};
 ghost use Rattle.lab_play.specs.Ends.{CanEnd, EndsWith, IsKnownAtEnd, IsNewRun, IsSomeNewRun, StopsAtEnd};
-ghost use Rattle.lab_play.specs.Played.{HasPlayed, HasPlayedPart, rises};
+ghost use Rattle.lab_play.specs.Played.{HasPlayed, HasPlayedPart};
 ghost use Rattle.lab_play.specs.Playing.{HasStopped, scene};
+ghost use Rattle.lab_play.specs.Stops.{rises};
 
 use crate::items::do_items;
-use lab_headline::runs_keep_headline;
+use crate::samples::samples_are_of_16_bits;
+use lab_headline::{played_samples_stay, runs_keep_headline, scripts_bind_channels};
 use lab_input::Input;
 use lab_lines::Script;
 use lab_output::{Outputs, outputs_of};
 use lab_phase::{Lab, Outcome};
-use lab_rows::outcomes_are_of_scripts;
+use lab_rows::{outcomes_are_of_scripts, stages_grow};
+use lab_run::{one_run, runs_go_on};
 use lab_setup::ring_of;
 use lab_shelf::{Shelf, Sink};
 use lab_stop::Stop;
@@ -67,8 +70,10 @@ pub fn play<R: Threads + Sync, S: Shelf, K: Sink, G: Gate + Send>(
         (rises (stops_by G.stops gates.old) (stops_by G.stops gates.new)) (outcome_in outcome)
         (S.files shelf.old) (S.files shelf.new) (K.taken out.old) (K.taken out.new)) }
 
-    // Otherwise nothing was written, or what is written is of a run that reached a stage, whose card had played the mix of the segments so far.
+    // Otherwise nothing was written, or what is written is of such a run that reached a stage, whose card had played the mix of the segments so far. Where no
+    // gate stopped an actor and no phase is mixed, it is on the way to the script's one run.
     ensures part { OnErr result (HasPlayedPart (input_of input.now) name.now
+        (rises (stops_by G.stops gates.old) (stops_by G.stops gates.new))
         (S.files shelf.old) (S.files shelf.new) (K.taken out.old) (K.taken out.new)) }
 
     ensures only { IfErr result IsWriteStop }
@@ -82,6 +87,12 @@ pub fn play<R: Threads + Sync, S: Shelf, K: Sink, G: Gate + Send>(
     ensures never { S.is_reliable shelf.old → K.is_reliable out.old → IsSome (S.files shelf.old)
         → result ≢ Err stops.Write }
 {
+    one_run();
+    runs_go_on();
+    stages_grow();
+    scripts_bind_channels();
+    played_samples_stay();
+    samples_are_of_16_bits(input.wavs.as_slice());
     let script = &input.script;
     let outputs = outputs_of(alloc, script, name)?;
     let mut rings = rings_of(alloc, ring_of(&script.card), script.card.places)?;
@@ -177,8 +188,8 @@ fn play_all<R: Threads + Sync, S: Shelf, K: Sink, G: Gate + Send>(
         (S.files shelf.old) (S.files shelf.new) (K.taken out.old) (K.taken out.new)) }
     ensures part { OnErr result ((input : RunInput) (name : List ℕ)
         → IsNewRun input name lab.entry outputs
-        → HasStopped input name (S.files shelf.old) (S.files shelf.new) (K.taken out.old)
-        (K.taken out.new)) }
+        → HasStopped input name (rises (stops_by G.stops gates.old) (stops_by G.stops gates.new))
+        (S.files shelf.old) (S.files shelf.new) (K.taken out.old) (K.taken out.new)) }
     ensures only { IfErr result IsWriteStop }
     ensures fetch_faults { S.fetch_faults shelf.new ≡ S.fetch_faults shelf.old }
     ensures faults { OutputFaults result (S.write_faults shelf.old) (S.write_faults shelf.new)

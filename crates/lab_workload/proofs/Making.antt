@@ -15,7 +15,8 @@ use Rattle.lab_make.specs.Summary.{IsSummaryOf, summary_text}
 use Rattle.lab_make.specs.Workload.{IsWorkload}
 use Rattle.lab_output.specs.Files.{output_files, finished_files}
 use Rattle.lab_phase.specs.PhaseRuns.{Stops}
-use Rattle.lab_play.specs.Played.{HasPlayed, HasPlayedPart, HaveNoStops, IsRunOf, IsUntouched, sounds_of}
+use Rattle.lab_play.specs.Played.{HasPlayed, HasPlayedPart, IsRunOf, IsUntouched, sounds_of}
+use Rattle.lab_play.specs.Stops.{HaveNoStops}
 use Rattle.lab_report.specs.Text.{report_text}
 use Rattle.lab_run.specs.LabRun.{Outcome}
 use Rattle.lab_run.specs.Openings.{IsSessionOf}
@@ -86,14 +87,14 @@ module _ (w : Workload) (stops : Stops) (input : RunInput) (wavs : List Sound) (
     (input_is : input ≡ made_input w) (wavs_are : wavs ≡ made_sounds w.seed w.clients) (text_is : text ≡ made_text w.clients w.phases)
     (is_stored : between ≡ option_map (with_input wavs text) before) where
   -- it stopped
-  pub IsMadePart-run : (after : Option Files) → ((report : List ℕ) × HasPlayedPart input output_name between after (Some []) (Some report))
+  pub IsMadePart-run : (after : Option Files) → ((report : List ℕ) × HasPlayedPart input output_name stops between after (Some []) (Some report))
       → IsMadePart w stops before after taken taken
   IsMadePart-run after part =
       inr (inl (record {
         report = part.0;
-        run = subst (λ (files : Option Files). HasPlayedPart (made_input w) output_name files after (Some []) (Some part.0))
+        run = subst (λ (files : Option Files). HasPlayedPart (made_input w) output_name stops files after (Some []) (Some part.0))
             (stored-workload w wavs text before between wavs_are text_is is_stored)
-            (subst (λ (i : RunInput). HasPlayedPart i output_name between after (Some []) (Some part.0)) input_is part.1);
+            (subst (λ (i : RunInput). HasPlayedPart i output_name stops between after (Some []) (Some part.0)) input_is part.1);
         text = refl;
       }))
 

@@ -8,7 +8,8 @@ use Rattle.lab_headline.specs.Exact.{IsOwnRun}
 use Rattle.lab_input.specs.Input.{input_in}
 use Rattle.lab_output.specs.Files.{output_files, finished_files}
 use Rattle.lab_phase.specs.PhaseRuns.{Stops}
-use Rattle.lab_play.specs.Played.{HasPlayedPart, HaveNoStops, IsRunOf, sounds_of}
+use Rattle.lab_play.specs.Played.{HasPlayedPart, IsRunOf, sounds_of}
+use Rattle.lab_play.specs.Stops.{HaveNoStops}
 use Rattle.lab_report.specs.Text.{report_text}
 use Rattle.lab_run.specs.LabRun.{Outcome, lab_text}
 use Rattle.lab_run.specs.Openings.{IsSessionOf}
@@ -93,11 +94,11 @@ pub record StoppedBefore (w : Workload) (before after : Option Files)
   pub files : WorkloadInPart w before after
   pub text : taken_after ≡ taken
 
--- it stopped in the run of the workload, which is stored; the report's text so far isn't
-pub record StoppedInRun (w : Workload) (before after : Option Files)
+-- it stopped in the run of the workload, which is stored, and in which each gate stopped its client at most so often; the report's text so far isn't stored
+pub record StoppedInRun (w : Workload) (stops : Stops) (before after : Option Files)
     (taken taken_after : Option (List ℕ)) : Type 0 where
   pub report : List ℕ
-  pub run : HasPlayedPart (made_input w) output_name (option_map (with_workload w) before)
+  pub run : HasPlayedPart (made_input w) output_name stops (option_map (with_workload w) before)
       after (Some []) (Some report)
   pub text : taken_after ≡ taken
 
@@ -125,6 +126,6 @@ abbrev pub IsMadePart : Workload → Stops → Option Files → Option Files →
     → Option (List ℕ) → Type 0
 IsMadePart w stops before after taken taken_after =
     StoppedBefore w before after taken taken_after
-    ⊎ (StoppedInRun w before after taken taken_after
+    ⊎ (StoppedInRun w stops before after taken taken_after
     ⊎ (StoppedAfterRun w stops before after taken taken_after
     ⊎ StoppedAtEnd w stops before after taken taken_after))

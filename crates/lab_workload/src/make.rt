@@ -2,7 +2,8 @@
 ghost use Rattle.std.specs.Prelude.{◌≡◌, ◌≢◌, ◌≤◌, ◌⊎◌, Err, IfErr, IsSome, OnErr, OnOk, length};
 ghost use Rattle.lab_make.specs.Workload.{IsWorkload};
 ghost use Rattle.lab_phase.specs.PhaseRuns.{stops_by};
-ghost use Rattle.lab_play.specs.Played.{IsUntouched, rises};
+ghost use Rattle.lab_play.specs.Played.{IsUntouched};
+ghost use Rattle.lab_play.specs.Stops.{rises};
 ghost use Rattle.lab_stop.specs.Stops.{IsWriteStop, OutputFaults};
 ghost use Rattle.lab_stop.specs.declared.stop.Stop.TheVariants as stops;
 ghost use Rattle.lab_workload.specs.Made.{IsMade, IsMadePart};

@@ -3,7 +3,8 @@ ghost use Rattle.std.specs.Prelude.{[], ◌≡◌, ◌≢◌, ◌≤◌, ℕ, Er
 ghost use Rattle.lab_input.specs.Read.{input_of};
 ghost use Rattle.lab_phase.specs.Ended.{outcome_in};
 ghost use Rattle.lab_phase.specs.PhaseRuns.{stops_by};
-ghost use Rattle.lab_play.specs.Played.{HasPlayed, HasPlayedPart, rises};
+ghost use Rattle.lab_play.specs.Played.{HasPlayed, HasPlayedPart};
+ghost use Rattle.lab_play.specs.Stops.{rises};
 ghost use Rattle.lab_lines.specs.Limits.{IsScript};
 ghost use Rattle.lab_stop.specs.Stops.{IsWriteStop, OutputFaults};
 ghost use Rattle.lab_stop.specs.declared.stop.Stop.TheVariants as stops;
@@ -57,6 +58,7 @@ pub(crate) fn run_input<R: Threads + Sync, S: Shelf, G: Gate + Send>(
         (rises (stops_by G.stops gates.old) (stops_by G.stops gates.new)) (outcome_in made.outcome)
         (S.files shelf.old) (S.files shelf.new) (Some []) (Some made.report.items)) }
     ensures part { OnErr result ((report : List ℕ) × HasPlayedPart (input_of input.now) output_name
+        (rises (stops_by G.stops gates.old) (stops_by G.stops gates.new))
         (S.files shelf.old) (S.files shelf.new) (Some []) (Some report)) }
     ensures only { IfErr result IsWriteStop }
     ensures fetch_faults { S.fetch_faults shelf.new ≡ S.fetch_faults shelf.old }

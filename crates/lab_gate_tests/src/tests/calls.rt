@@ -40,6 +40,11 @@ impl Left {
         self.status == 0 && self.out.bytes() == report.as_bytes() && self.held(b"o.wav") == played
     }
 
+    // Whether the call ended with status 0.
+    pub(super) fn is_ok(&self) -> bool {
+        self.status == 0
+    }
+
     // What the file of this name holds, which is nothing where there is none.
     pub(super) fn held(&self, name: &[u8]) -> &[u8] {
         self.shelf.file(name).unwrap_or(&[])
@@ -55,8 +60,21 @@ pub(super) fn run_gated<R: Threads + Sync, G: Gate + Send>(
 ) -> Result<Left, AllocError>
     requires { 128 ≤ length gates.old }
 {
+    call_gated(rt, alloc, &["run", "s", "o"], files, gates)
+}
+
+// Calls the program with these words, over these files, with these gates.
+pub(super) fn call_gated<R: Threads + Sync, G: Gate + Send>(
+    rt: &R,
+    alloc: Global,
+    call: &[&str],
+    files: Vec<(Vec<u8>, Vec<u8>)>,
+    gates: &mut [G],
+) -> Result<Left, AllocError>
+    requires { 128 ≤ length gates.old }
+{
     let mut words = Vec::new(alloc);
-    for word in ["run", "s", "o"] {
+    for word in call {
         words.push(Vec::from_slice(alloc, word.as_bytes())?)?;
     }
     let mut shelf = MemoryShelf::new(files, Vec::new(alloc));

@@ -1,5 +1,5 @@
 //! A client or reader that is stopped before each of its steps by the gate that is handed in.
-use super::calls::{STEREO, files_of, mono_of, run_gated, wav_around};
+use super::calls::{STEREO, call_gated, files_of, mono_of, run_gated, wav_around};
 use mix_core::{Gate, Pass, StepKind};
 use std::alloc::{AllocError, Global};
 use std::marker::Sync;
@@ -145,5 +145,30 @@ fn a_gate_stops_its_reader_alone(rt: HostRuntime) -> Result<(), Fail> {
     assert!(rt; left.held(b"o.r.wav") == mono_of(alloc, &[(3, 7), (1, 8)])?.as_slice());
     assert!(rt; left.held(b"o.q.wav") == mono_of(alloc, &[])?.as_slice());
     assert!(rt; gates[65].stops == 1);
+    Ok(())
+}
+
+// A workload of two clients and one turn, in which they write 65 and 66 frames and then the card plays 64. The first client is stopped before its first step.
+const MADE_REPORT: &str =
+    "dmixlab 1\n0 c0 open = ok PREPARED -\n0 c1 open = ok PREPARED -\n1 c0 write 65 = stopped PREPARED -\n1 c1 write 66 = 66 RUNNING 0\n2 card play 64 = 64 RUNNING 64\nsegment c1 0 64 66 0\nplayed 0 64\nend\n";
+
+// A gate of a client of a workload stops it. What the card played is before both clients' frames.
+#[test]
+fn a_gate_stops_a_client_of_a_workload(rt: HostRuntime) -> Result<(), Fail> {
+    let alloc = rt.alloc();
+    let mut gates = [NEVER; 128];
+    gates[0].left = 0;
+    let left = call_gated(
+        &rt,
+        alloc,
+        &["make", "7", "2", "1"],
+        Vec::new(alloc),
+        &mut gates,
+    )?;
+    let silence = wav_around(alloc, STEREO, &[0i16; 128])?;
+    assert!(rt; left.is_ok());
+    assert!(rt; left.held(b"made.report") == MADE_REPORT.as_bytes());
+    assert!(rt; left.held(b"made.wav") == silence.as_slice());
+    assert!(rt; gates[0].stops == 1 && gates[1].stops == 0);
     Ok(())
 }

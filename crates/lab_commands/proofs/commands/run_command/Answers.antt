@@ -3,7 +3,7 @@ use Rattle.std.proofs.Common.{refl, ◌∙◌}
 use Rattle.std.proofs.lemmas.Result.{err_from_is_err_and}
 use Rattle.lab_input.specs.Read.{input_of}
 use Rattle.lab_phase.specs.PhaseRuns.{Stops, stops_by}
-use Rattle.lab_play.specs.Played.{rises}
+use Rattle.lab_play.specs.Stops.{rises}
 use Rattle.lab_shelf.specs.Files.{Files}
 use Rattle.lab_stop.specs.FaultLaws.{FetchFaults-only, InputFaults-reads, InputFaults-same, OutputFaults-after, OutputFaults-reads}
 use Rattle.lab_commands.proofs.Leaving.{Finished-played, CommandLeaves-stopped}

@@ -1,8 +1,8 @@
 use Rattle.lab_headline.proofs.Recorded.{session-bound}
 use Rattle.lab_headline.proofs.laws.runs_keep_headline.Goals as goal
 
-pub returns : goal.returns
-returns c script wavs session capture client_stops reader_stops outcome valid is run = record {
+pub returns-clause-headline : goal.returns-clause-headline
+returns-clause-headline c script wavs session capture client_stops reader_stops outcome valid is run = record {
   mix = c.runs_mix_files.ensures.mix script wavs session capture client_stops reader_stops outcome is run;
   placed = c.runs_mix_files.ensures.placed script wavs session capture client_stops reader_stops outcome is run;
   clients = c.mixes_are_of_clients.ensures session capture script.body client_stops reader_stops outcome run;
@@ -11,5 +11,10 @@ returns c script wavs session capture client_stops reader_stops outcome valid is
   readers = session-bound script wavs session is;
   one =
       let bound = c.scripts_bind_channels.ensures script wavs session valid is in
-      c.channels_have_one_sample.ensures script wavs session capture client_stops reader_stops outcome is bound run;
+      c.channels_have_one_sample.ensures.placed script wavs session capture client_stops reader_stops outcome is bound run;
 }
+
+pub returns-clause-one : goal.returns-clause-one
+returns-clause-one c script wavs session capture client_stops reader_stops outcome valid is samples run =
+    let bound = c.scripts_bind_channels.ensures script wavs session valid is in
+    c.channels_have_one_sample.ensures.played script wavs session capture client_stops reader_stops outcome is bound samples run

@@ -17,7 +17,7 @@ returns-in-Opens-clause-part g c =
     let stops : Stops = stops_by g.G.Gate.stops c.args.gates.now in
     let before : Scene = scene c.args.lab.now c.args.outputs.now (g.S.Shelf.files c.args.shelf.now) (g.K.Sink.taken c.args.out.now) in
     let after : Scene = scene c.do_border.new.lab before.outputs before.files before.taken in
-    OnErr-all (StopsAt stops before after.lab before.files before.taken) c.do_border.result
+    OnErr-all (StopsAt stops before stops after.lab before.files before.taken) c.do_border.result
     (λ start is. IsStoppedAt-playing start stops after (c.do_border.ensures.written stops before.outputs before.files before.taken start is))
 
 pub returns-in-Opens-clause-faults : goal.returns-in-Opens-clause-faults

@@ -29,7 +29,9 @@ pub returns-in_err-do_item-clause-part : goal.returns-in_err-do_item-clause-part
 returns-in_err-do_item-clause-part g c =
     let before : Scene = scene c.args.lab.now c.args.outputs.now (g.S.Shelf.files c.args.shelf.now) (g.K.Sink.taken c.args.out.now) in
     OnErr-all
-    (StopsAt (stops_by g.G.Gate.stops c.args.gates.now) before c.do_item.new.lab (g.S.Shelf.files c.do_item.new.shelf) (g.K.Sink.taken c.do_item.new.out)) c.from_residual.result
+    (StopsAt (stops_by g.G.Gate.stops c.args.gates.now) before (stops_by g.G.Gate.stops c.do_item.new.gates) c.do_item.new.lab (g.S.Shelf.files c.do_item.new.shelf)
+    (g.K.Sink.taken c.do_item.new.out))
+    c.from_residual.result
     (λ start is. c.in_err-do_item.ensures.part start (c.loop-index.invariant.goes_on start is))
 
 pub returns-in_err-do_item-clause-never : goal.returns-in_err-do_item-clause-never

@@ -1,9 +1,9 @@
-use Rattle.std.proofs.Common.{List, Option, ℕ}
+use Rattle.std.proofs.Common.{List, Option, ap, subst, sym, ℕ}
 use Rattle.lab_shelf.specs.Files.{Files}
 use Rattle.lab_phase.specs.BorderLaws.{OnOk-more}
 use Rattle.lab_phase.specs.PhaseRuns.{Stops, stops_by}
 use Rattle.lab_phase.specs.Same.{StaysAtStage-same}
-use Rattle.lab_play.specs.Playing.{CatchesUp, SceneGoesOn, Scene, StopsAt, StopsBehind, scene}
+use Rattle.lab_play.specs.Playing.{CatchesUp, IsStoppedAt, SceneGoesOn, Scene, StopsAt, StopsBehind, scene}
 use Rattle.lab_play.proofs.ItemsDone.{HasUnwrittenPhase-phase, StaysWritten-stage}
 use Rattle.lab_play.proofs.ItemsResults.{OnErr-more}
 use Rattle.lab_play.proofs.ItemsStopped.{IsStoppedAt-playing}
@@ -46,7 +46,7 @@ returns-in-Ok-clause-part g c =
     let behind : Scene = scene c.run_phase.new.self c.args.outputs.now files taken in
     let files_now : Option Files = g.S.Shelf.files c.write_phase.new.shelf in
     let taken_now : Option (List ℕ) = g.K.Sink.taken c.write_phase.new.out in
-    OnErr-more (StopsBehind behind files_now taken_now) (StopsAt stops before c.run_phase.new.self files_now taken_now) c.write_phase.result
+    OnErr-more (StopsBehind behind files_now taken_now) (StopsAt stops before stops_after c.run_phase.new.self files_now taken_now) c.write_phase.result
     (λ stopped start is. stopped start stops_after
     (HasUnwrittenPhase-phase c.stages_grow.ensures.grow stops stops_after c.args.lab.now c.run_phase.new.self c.args.lines.now c.in-Ok.ensures.does c.requires.next c.args.outputs.now files taken start is))
     c.write_phase.ensures.part
@@ -70,8 +70,10 @@ returns-in-Err-clause-part g c start is =
     let files : Option Files = g.S.Shelf.files c.args.shelf.now in
     let taken : Option (List ℕ) = g.K.Sink.taken c.args.out.now in
     let stays = StaysAtStage-same c.args.lab.now c.run_phase.new.self c.in-Err.ensures.kept in
+    let stopped : IsStoppedAt start stops c.run_phase.new.self files taken =
     IsStoppedAt-playing start stops (scene c.run_phase.new.self c.args.outputs.now files taken)
-    (StaysWritten-stage c.args.lab.now c.run_phase.new.self stays stops c.args.outputs.now files taken start is)
+    (StaysWritten-stage c.args.lab.now c.run_phase.new.self stays stops c.args.outputs.now files taken start is) in
+    subst (λ (s : Stops). IsStoppedAt start s c.run_phase.new.self files taken) (ap (stops_by g.G.Gate.stops) (sym c.in-Err.ensures.gates)) stopped
 
 pub returns-in-Ok-clause-only : goal.returns-in-Ok-clause-only
 returns-in-Ok-clause-only g c = c.write_phase.ensures.only

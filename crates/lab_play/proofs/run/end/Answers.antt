@@ -84,7 +84,7 @@ returns-clause-done g c start stops is =
     let same = same-script script own.start start own.stops stops at own.script_is own.is is in
     HasPlayed-end start stops c.args.lab c.args.outputs.now (g.S.Shelf.files c.args.shelf.now) taken is
     (subst (λ (s : Script). items_done c.args.lab ≡ length s.body) same c.requires.all) c.finish-outcome.result c.finish-outcome.ensures.stage c.finish-outcome.ensures.run c.finish-outcome.ensures.played
-    c.runs_keep_headline.ensures (g.S.Shelf.files c.finish.new.shelf) taken_after
+    c.runs_keep_headline.ensures.headline c.runs_keep_headline.ensures.one (g.S.Shelf.files c.finish.new.shelf) taken_after
     (c.in_ok-finish.ensures.stored start.files (sounds_at c.args.lab is.stage) is.written.going_on)
     (subst (λ (s : Script). taken_after ≡ option_map (λ t. t ++ tail_from s c.args.outputs.now.rows c.finish-outcome.result.report) taken) same c.in_ok-put_tail.ensures.taken)
 

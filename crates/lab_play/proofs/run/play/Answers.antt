@@ -2,6 +2,7 @@ use Rattle.std.specs.Prelude.{ℕ, List, Option}
 use Rattle.std.specs.Option.{option_copied}
 use Rattle.std.proofs.lemmas.Result.{IfOk-weaker}
 use Rattle.std.proofs.Common.{inr, refl, subst}
+use Rattle.lab_headline.specs.OneSample.{AreSamples}
 use Rattle.lab_input.specs.Input.{RunInput}
 use Rattle.lab_input.specs.Read.{input_of}
 use Rattle.lab_phase.specs.AtStage.{IsOfScript}
@@ -10,8 +11,10 @@ use Rattle.lab_phase.specs.PhaseRuns.{Stops, stops_by}
 use Rattle.lab_shelf.specs.Files.{Files}
 use Rattle.wav_io.specs.Sound.{Sound}
 use Rattle.lab_play.specs.Ends.{IsNewRun}
-use Rattle.lab_play.specs.Played.{HasPlayed, HasPlayedPart, rises}
+use Rattle.lab_play.specs.Played.{HasPlayed, HasPlayedPart}
 use Rattle.lab_play.specs.Playing.{HasStopped}
+use Rattle.lab_play.specs.Stops.{rises}
+use Rattle.lab_play.proofs.Exactly.{HasStoppedRun-stopped}
 use Rattle.lab_play.proofs.ItemsResults.{OnErr-more}
 use Rattle.lab_play.proofs.run.play.Goals as goal
 
@@ -24,6 +27,7 @@ play_all-requires-clause-new g c κs within = record {
     script_is =
         subst (λ (capture : Option Sound). IsOfScript c.args.input.now.script c.args.input.now.wavs.items capture c.in-Ok.lab) c.as_ref.ensures.value
         (subst (λ (wavs : List Sound). IsOfScript c.args.input.now.script wavs (option_copied c.as_ref.result) c.in-Ok.lab) c.deref.ensures.value c.in-Ok.ensures.script);
+    samples = subst AreSamples c.as_slice.ensures.value c.samples_are_of_16_bits.ensures;
     first = c.in-Ok.ensures.first;
     none = c.in-Ok.ensures.none;
     silent = c.in-Ok.ensures.silent;
@@ -48,6 +52,7 @@ returns-clause-done g c =
       script_is =
           subst (λ (capture : Option Sound). IsOfScript c.args.input.now.script c.args.input.now.wavs.items capture c.in-Ok.lab) c.as_ref.ensures.value
           (subst (λ (wavs : List Sound). IsOfScript c.args.input.now.script wavs (option_copied c.as_ref.result) c.in-Ok.lab) c.deref.ensures.value c.in-Ok.ensures.script);
+      samples = subst AreSamples c.as_slice.ensures.value c.samples_are_of_16_bits.ensures;
       first = c.in-Ok.ensures.first;
       none = c.in-Ok.ensures.none;
       silent = c.in-Ok.ensures.silent;
@@ -59,23 +64,31 @@ returns-clause-done g c =
 pub returns-clause-part : goal.returns-clause-part
 returns-clause-part g c =
     let input : RunInput = input_of c.args.input.now in
+    let stops : Stops = rises (stops_by g.G.Gate.stops c.args.gates.now) (stops_by g.G.Gate.stops c.play_all.new.gates) in
     let files : Option Files = g.S.Shelf.files c.args.shelf.now in
     let taken : Option (List ℕ) = g.K.Sink.taken c.args.out.now in
     let files_after : Option Files = g.S.Shelf.files c.play_all.new.shelf in
     let taken_after : Option (List ℕ) = g.K.Sink.taken c.play_all.new.out in
     OnErr-more
-    ((own : RunInput) (name : List ℕ) → IsNewRun own name c.in-Ok.lab c.in_ok-outputs.outputs → HasStopped own name files files_after taken taken_after)
-    (HasPlayedPart input c.args.name.now files files_after taken taken_after) c.play_all.result
-    (λ part. inr (part input c.args.name.now (record {
+    ((own : RunInput) (name : List ℕ) → IsNewRun own name c.in-Ok.lab c.in_ok-outputs.outputs → HasStopped own name stops files files_after taken taken_after)
+    (HasPlayedPart input c.args.name.now stops files files_after taken taken_after) c.play_all.result
+    (λ part. inr (HasStoppedRun-stopped (record {
+      one = c.one_run.ensures;
+      on = c.runs_go_on.ensures;
+      grow = c.stages_grow.ensures.grow;
+      bound = c.scripts_bind_channels.ensures;
+      stays = c.played_samples_stay.ensures;
+    }) input c.args.name.now stops files files_after taken taken_after (part input c.args.name.now (record {
       script_is =
           subst (λ (capture : Option Sound). IsOfScript c.args.input.now.script c.args.input.now.wavs.items capture c.in-Ok.lab) c.as_ref.ensures.value
           (subst (λ (wavs : List Sound). IsOfScript c.args.input.now.script wavs (option_copied c.as_ref.result) c.in-Ok.lab) c.deref.ensures.value c.in-Ok.ensures.script);
+      samples = subst AreSamples c.as_slice.ensures.value c.samples_are_of_16_bits.ensures;
       first = c.in-Ok.ensures.first;
       none = c.in-Ok.ensures.none;
       silent = c.in-Ok.ensures.silent;
       outputs_are = c.in_ok-outputs.ensures.outputs;
       new = c.in_ok-outputs.ensures.new;
-    })))
+    }))))
     c.play_all.ensures.part
 
 pub play_all-requires-clause-gates : goal.play_all-requires-clause-gates

@@ -9,8 +9,9 @@ use Rattle.lab_shelf.specs.Files.{Files}
 use Rattle.lab_stop.specs.FaultLaws.{OutputFaults-after}
 use Rattle.lab_stop.specs.declared.stop.Stop.TheVariants as stop
 use Rattle.lab_play.specs.Ends.{EndsWith, IsNewRun, StopsAtEnd}
-use Rattle.lab_play.specs.Played.{HasPlayed, rises}
+use Rattle.lab_play.specs.Played.{HasPlayed}
 use Rattle.lab_play.specs.Playing.{HasStopped, Scene, Start, scene}
+use Rattle.lab_play.specs.Stops.{rises}
 use Rattle.lab_play.proofs.Beginning.{HasStopped-first, IsPlaying-first, start-of}
 use Rattle.lab_play.proofs.ItemsResults.{OnErr-all, OnErr-more}
 use Rattle.lab_play.proofs.ItemsStopped.{HasStopped-closed}
@@ -23,7 +24,7 @@ returns-in_err-begin-clause-part g c =
     let taken : Option (List ℕ) = g.K.Sink.taken c.args.out.now in
     OnErr-all
     ((input : RunInput) (name : List ℕ) → IsNewRun input name c.args.lab c.args.outputs
-    → HasStopped input name files (g.S.Shelf.files c.begin.new.shelf) taken (g.K.Sink.taken c.begin.new.out))
+    → HasStopped input name (rises stops stops) files (g.S.Shelf.files c.begin.new.shelf) taken (g.K.Sink.taken c.begin.new.out))
     c.from_residual.result
     (λ input name is. HasStopped-first input name stops c.args.lab c.args.outputs files taken is (g.S.Shelf.files c.begin.new.shelf) (g.K.Sink.taken c.begin.new.out)
     c.in_err-begin.ensures.changes c.in_err-begin.ensures.text)
@@ -58,7 +59,7 @@ returns-clause-part g c input name is =
     let files : Option Files = g.S.Shelf.files c.args.shelf.now in
     let taken : Option (List ℕ) = g.K.Sink.taken c.args.out.now in
     let start : Start = start-of input name stops c.args.lab c.args.outputs files taken is in
-    HasStopped-closed start c.do_items.new.lab (g.S.Shelf.files c.do_items.new.shelf) (g.K.Sink.taken c.do_items.new.out)
+    HasStopped-closed start (stops_by g.G.Gate.stops c.do_items.new.gates) c.do_items.new.lab (g.S.Shelf.files c.do_items.new.shelf) (g.K.Sink.taken c.do_items.new.out)
     (c.in-Err.ensures.part start
     (IsPlaying-first input name stops c.args.lab c.args.outputs files taken is (g.S.Shelf.files c.begin.new.shelf) (g.K.Sink.taken c.begin.new.out) c.in_ok-begin.ensures.going_on
     c.in_ok-begin.ensures.taken))
@@ -119,7 +120,7 @@ returns-in-Ok-clause-part g c =
     let at : Scene = scene c.do_items.new.lab c.do_items.new.outputs (g.S.Shelf.files c.do_items.new.shelf) (g.K.Sink.taken c.do_items.new.out) in
     OnErr-more (StopsAtEnd at (g.S.Shelf.files c.end.new.shelf) (g.K.Sink.taken c.end.new.out))
     ((input : RunInput) (name : List ℕ) → IsNewRun input name c.args.lab c.args.outputs
-    → HasStopped input name files (g.S.Shelf.files c.end.new.shelf) taken (g.K.Sink.taken c.end.new.out))
+    → HasStopped input name (rises stops after) files (g.S.Shelf.files c.end.new.shelf) taken (g.K.Sink.taken c.end.new.out))
     c.end.result
     (λ ends input name is. ends (start-of input name stops c.args.lab c.args.outputs files taken is) after
     (c.in-Ok.ensures.done (start-of input name stops c.args.lab c.args.outputs files taken is)

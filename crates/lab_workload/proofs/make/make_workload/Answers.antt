@@ -8,7 +8,7 @@ use Rattle.lab_make.specs.declared.workload.Workload.{Workload}
 use Rattle.lab_make.specs.Files.{IsMadeSound}
 use Rattle.lab_phase.specs.Ended.{outcome_in}
 use Rattle.lab_phase.specs.PhaseRuns.{Stops, stops_by}
-use Rattle.lab_play.specs.Played.{rises}
+use Rattle.lab_play.specs.Stops.{rises}
 use Rattle.lab_lines.specs.Limits.{IsScript}
 use Rattle.lab_shelf.specs.Files.{Files, IsPartWritten, with_file}
 use Rattle.lab_stop.specs.FaultLaws.{OutputFaults-after, OutputFaults-memory, OutputFaults-puts, OutputFaults-writes}

@@ -5,7 +5,8 @@ use Rattle.lab_input.specs.Input.{RunInput}
 use Rattle.lab_input.specs.Read.{input_of}
 use Rattle.lab_phase.specs.Ended.{outcome_in}
 use Rattle.lab_phase.specs.PhaseRuns.{Stops, stops_by}
-use Rattle.lab_play.specs.Played.{HasPlayed, HasPlayedPart, rises}
+use Rattle.lab_play.specs.Played.{HasPlayed, HasPlayedPart}
+use Rattle.lab_play.specs.Stops.{rises}
 use Rattle.lab_stop.specs.declared.stop.Stop.TheVariants as stops
 use Rattle.lab_workload.specs.Made.{output_name}
 use Rattle.lab_workload.proofs.run.run_input.Goals as goal
@@ -14,9 +15,10 @@ pub returns-in_err-outcome-clause-part : goal.returns-in_err-outcome-clause-part
 returns-in_err-outcome-clause-part g c =
     let p = err_from_is_err_and c.from_residual.result c.from_residual.ensures.1 in
     let input : RunInput = input_of c.args.input.now in
+    let stops : Stops = rises (stops_by g.G.Gate.stops c.args.gates.now) (stops_by g.G.Gate.stops c.play.new.gates) in
     rw p.1 (
       c.play.new.out,
-      subst (λ (text : List ℕ). HasPlayedPart input output_name (g.S.Shelf.files c.args.shelf.now) (g.S.Shelf.files c.play.new.shelf) (Some text) (Some c.play.new.out)) c.new-text.ensures
+      subst (λ (text : List ℕ). HasPlayedPart input output_name stops (g.S.Shelf.files c.args.shelf.now) (g.S.Shelf.files c.play.new.shelf) (Some text) (Some c.play.new.out)) c.new-text.ensures
           c.in_err-outcome.ensures.part,
     )
 
