@@ -128,8 +128,8 @@ help_text = text_of_lines (codes "usage: dmixlab run SCRIPT OUT"
     ∷ codes "report (made.report), and prints a summary. SEED is below 2^64, CLIENTS 1 to 64,"
     ∷ codes "PHASES 1 to 1000."
     ∷ []
-    ∷ codes "Files are named from the folder in which the program runs. A pipe has at most"
-    ∷ codes "65,535 bytes."
+    ∷ codes "Files are named from the folder in which the program runs. What is read may be a"
+    ∷ codes "pipe or a FIFO, and what is stored may not."
     ∷ []
     ∷ codes "A script, in which # begins a comment and keys may be left out:"
     ∷ []
@@ -155,7 +155,7 @@ help_text = text_of_lines (codes "usage: dmixlab run SCRIPT OUT"
     ∷ codes "  set PARAM N             PARAM is N; also min, max and near PARAM N"
     ∷ codes "  integer PARAM           PARAM is a whole number"
     ∷ codes "  show PARAM              prints PARAM"
-    ∷ codes "  choose                  prints what snd_pcm_hw_params would choose"
+    ∷ codes "  choose                  prints what open takes"
     ∷ []
     ∷ codes "Example: the script my.script, with a mono file a.wav of 48000 Hz, and what"
     ∷ codes "dmixlab run my.script my prints."

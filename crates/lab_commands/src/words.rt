@@ -173,8 +173,8 @@ which they write in PHASES turns, what the card plays of it (made.wav) and its
 report (made.report), and prints a summary. SEED is below 2^64, CLIENTS 1 to 64,
 PHASES 1 to 1000.
 
-Files are named from the folder in which the program runs. A pipe has at most
-65,535 bytes.
+Files are named from the folder in which the program runs. What is read may be a
+pipe or a FIFO, and what is stored may not.
 
 A script, in which # begins a comment and keys may be left out:
 
@@ -200,7 +200,7 @@ buffer_size or buffer_bytes:
   set PARAM N             PARAM is N; also min, max and near PARAM N
   integer PARAM           PARAM is a whole number
   show PARAM              prints PARAM
-  choose                  prints what snd_pcm_hw_params would choose
+  choose                  prints what open takes
 
 Example: the script my.script, with a mono file a.wav of 48000 Hz, and what
 dmixlab run my.script my prints.

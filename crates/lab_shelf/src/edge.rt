@@ -4,24 +4,30 @@ ghost use Rattle.std.specs.Io.KnownBytes.{Appends};
 ghost use Rattle.lab_shelf.specs.Counts.{IsFaultCount, count_after};
 
 use crate::fault::{ShelfFault, count_fault};
+use crate::input::{OpenInput, read_piece};
+use crate::output::{store_options, write_bytes};
 use crate::traits::{Shelf, Sink};
 use std::alloc::Global;
-use std::fs::OpenOptions;
-use std::io::{ErrorKind, Read, Seek, SeekFrom, Write};
+use std::fs::{File, OpenOptions};
+use std::io::{ErrorKind, Write};
 use std::marker::Model;
 use std::rt::Files;
-use std::{fs, io, str};
+use std::{io, str};
 
 /// The files of the system. A name is a path, relative to the folder that the program runs in; one
-/// that isn't UTF-8 is a fault. A contract sees only the two counts of faults.
+/// that isn't UTF-8 is a fault. A file stays open while its pieces are fetched one after the other, so
+/// that one which can't be sought, as a pipe, is read on from where it is; a fetch of such a file from
+/// another byte is a fault, and so is each write to one. A contract sees only the two counts of faults.
 #[derive(Drop)]
-pub struct FileShelf<R: Files> {
+pub struct FileShelf<R: Files<File = File>> {
     rt: R,
+    // the file that was fetched from last
+    input: Option<OpenInput>,
     fetch_faults: u64,
     write_faults: u64,
 }
 
-impl<R: Files> Model for FileShelf<R> {
+impl<R: Files<File = File>> Model for FileShelf<R> {
     ghost use Rattle.lab_shelf.specs.States.{FaultCounts, counts_code};
 
     ghost Value = { FaultCounts };
@@ -31,32 +37,54 @@ impl<R: Files> Model for FileShelf<R> {
     ghost view = { λ s. record { fetch_faults = s.fetch_faults; write_faults = s.write_faults } };
 }
 
-impl<R: Files> FileShelf<R> {
+impl<R: Files<File = File>> FileShelf<R> {
     /// The files that this runtime reaches, with no fault counted yet.
     pub fn new(rt: R) -> FileShelf<R>
         ensures { result ≡ record { fetch_faults = 0; write_faults = 0 } }
     {
         FileShelf {
             rt,
+            input: None,
             fetch_faults: 0,
             write_faults: 0,
         }
     }
 
-    /// Writes these bytes to a file that is there, and counts a fault of the write.
+    /// The file's bytes from the byte `from` on: `most` of them, or as many as there are. No fault is
+    /// counted.
+    fn piece(
+        &mut self,
+        alloc: Global,
+        name: &[u8],
+        from: u64,
+        most: u64,
+    ) -> Result<Vec<u8>, ShelfFault>
+        ensures most { IfOk result (λ bytes. vec_len bytes ≤ most) }
+        ensures text { OnOk result (IsUtf8 name.now) }
+        ensures same { self.new ≡ self.old }
+    {
+        let path = path_of(name)?;
+        let last = self.input.take();
+        let (input, bytes) = read_piece(&self.rt, alloc, last, path, from, most).map_err(fault_of)?;
+        self.input = Some(input);
+        Ok(bytes)
+    }
+
+    /// Writes these bytes to a file that is opened with the options, and counts a fault of the write.
     fn change(&mut self, options: &OpenOptions, name: &[u8], bytes: &[u8]) -> Result<(), ShelfFault>
         ensures text { OnOk result (IsUtf8 name.now) }
         ensures after { self.new ≡ record self.old
             { write_faults = count_after result self.old.write_faults } }
         ensures faults { IsFaultCount result self.old.write_faults self.new.write_faults }
     {
-        let outcome = change_file(&self.rt, options, name, bytes);
+        self.input = None;
+        let outcome = write_file(&self.rt, options, name, bytes);
         count_fault(&outcome, &mut self.write_faults);
         outcome
     }
 }
 
-impl<R: Files> Shelf for FileShelf<R> {
+impl<R: Files<File = File>> Shelf for FileShelf<R> {
     ghost files = { λ _. None };
 
     ghost fetch_faults = { λ s. s.fetch_faults };
@@ -77,7 +105,7 @@ impl<R: Files> Shelf for FileShelf<R> {
         ensures faults { IsFaultCount result self.old.fetch_faults self.new.fetch_faults }
         ensures write_faults { self.new.write_faults ≡ self.old.write_faults }
     {
-        let outcome = read_piece(&self.rt, alloc, name, from, most);
+        let outcome = self.piece(alloc, name, from, most);
         count_fault(&outcome, &mut self.fetch_faults);
         outcome
     }
@@ -89,9 +117,7 @@ impl<R: Files> Shelf for FileShelf<R> {
         ensures faults { IsFaultCount result self.old.write_faults self.new.write_faults }
         ensures fetch_faults { self.new.fetch_faults ≡ self.old.fetch_faults }
     {
-        let outcome = write_file(&self.rt, name, bytes);
-        count_fault(&outcome, &mut self.write_faults);
-        outcome
+        self.change(&store_options(), name, bytes)
     }
 
     fn begin(&mut self, name: &[u8], head: &[u8]) -> Result<(), ShelfFault>
@@ -184,58 +210,8 @@ fn path_of(name: &[u8]) -> Result<&str, ShelfFault>
     str::from_utf8(name).map_err(|_| ShelfFault::Failed)
 }
 
-/// The file's bytes from the byte `from` on: `most` of them, or as many as there are.
-fn read_piece<R: Files>(
-    rt: &R,
-    alloc: Global,
-    name: &[u8],
-    from: u64,
-    most: u64,
-) -> Result<Vec<u8>, ShelfFault>
-    ensures most { IfOk result (λ bytes. vec_len bytes ≤ most) }
-    ensures text { OnOk result (IsUtf8 name.now) }
-{
-    let path = path_of(name)?;
-    let mut bytes = read_bytes(rt, alloc, path, from, most).map_err(fault_of)?;
-    bytes.truncate(most as usize);
-    Ok(bytes)
-}
-
-/// The bytes that the system gives for a file from the byte `from` on, up to `most`.
-fn read_bytes<R: Files>(
-    rt: &R,
-    alloc: Global,
-    path: &str,
-    from: u64,
-    most: u64,
-) -> io::Result<Vec<u8>> {
-    let file = open_at(rt, path, from)?;
-    let mut bytes = Vec::new(alloc);
-    file.take(most).read_to_end(&mut bytes)?;
-    Ok(bytes)
-}
-
-/// A file opened to be read from the byte `from` on.
-fn open_at<R: Files>(rt: &R, path: &str, from: u64) -> io::Result<R::File> {
-    let mut file = fs::open(rt, path)?;
-    // a pipe has no place to go to, but its beginning can be read
-    if from > 0 {
-        file.seek(SeekFrom::Start(from))?;
-    }
-    Ok(file)
-}
-
-/// Makes the file hold exactly these bytes.
-fn write_file<R: Files>(rt: &R, name: &[u8], bytes: &[u8]) -> Result<(), ShelfFault>
-    ensures { OnOk result (IsUtf8 name.now) }
-{
-    let path = path_of(name)?;
-    fs::write(rt, path, bytes).map_err(fault_of)
-}
-
-/// Opens a file that is there, and writes these bytes: at its end where the options ask to append, and
-/// otherwise at its beginning.
-fn change_file<R: Files>(
+/// Writes these bytes to a file that is opened with the options.
+fn write_file<R: Files<File = File>>(
     rt: &R,
     options: &OpenOptions,
     name: &[u8],
@@ -244,18 +220,7 @@ fn change_file<R: Files>(
     ensures { OnOk result (IsUtf8 name.now) }
 {
     let path = path_of(name)?;
-    write_at_place(rt, options, path, bytes).map_err(fault_of)
-}
-
-/// Writes these bytes where a file that was opened with the options begins to be written.
-fn write_at_place<R: Files>(
-    rt: &R,
-    options: &OpenOptions,
-    path: &str,
-    bytes: &[u8],
-) -> io::Result<()> {
-    let mut file = options.open(rt, path)?;
-    file.write_all(bytes)
+    write_bytes(rt, options, path, bytes).map_err(fault_of)
 }
 
 /// Writes all of the bytes to the stream.

@@ -6,7 +6,9 @@
 mod edge;
 mod entries;
 mod fault;
+mod input;
 mod memory;
+mod output;
 mod traits;
 
 pub use edge::{FileShelf, StdSink};

@@ -5,9 +5,10 @@ ghost use Rattle.lab_shelf.specs.Files.{bytes_under};
 
 use lab_shelf::{FileShelf, MemoryShelf, MemorySink, Shelf, ShelfFault, Sink, StdSink};
 use std::alloc::Global;
-use std::io::Write;
+use std::io::{Read, Write};
+use std::os::fd::AsRawFd;
 use std::test::Fail;
-use std::{env, fs, io, process};
+use std::{env, fs, io, mem, process};
 
 fn copied(alloc: Global, bytes: &[u8]) -> Result<Vec<u8>, ShelfFault> {
     Ok(Vec::from_slice(alloc, bytes)?)
@@ -130,6 +131,46 @@ fn file_shelf_reads_what_it_wrote(rt: HostRuntime) -> Result<(), Fail> {
     assert!(rt; shelf.store(folder_name, b"hello").err() == Some(ShelfFault::Failed));
     assert!(rt; shelf.fetch(alloc, b"\xff", 0, 9).err() == Some(ShelfFault::Failed));
     assert!(rt; shelf.store(b"\xff", b"hello").err() == Some(ShelfFault::Failed));
+    Ok(())
+}
+
+// The path under which Linux has an open file of this process.
+fn path_of_open<E: AsRawFd>(alloc: Global, end: &E) -> Result<String, ShelfFault> {
+    let number = end.as_raw_fd();
+    Ok(format!(in alloc; "/proc/self/fd/{number}")?)
+}
+
+#[test]
+fn a_pipe_is_read_on_from_where_it_is(rt: HostRuntime) -> Result<(), Fail> {
+    let alloc = rt.alloc();
+    let (reader, mut writer) = io::pipe(&rt)?;
+    writer.write_all(b"hello, world")?;
+    mem::drop(writer);
+    let path = path_of_open(alloc, &reader)?;
+    let name = path.as_bytes();
+    let mut shelf = FileShelf::new(rt);
+    assert!(rt; shelf.fetch(alloc, name, 0, 5)?.as_slice() == b"hello".as_slice());
+    assert!(rt; shelf.fetch(alloc, name, 5, 99)?.as_slice() == b", world".as_slice());
+    assert!(rt; shelf.fetch(alloc, name, 12, 9)?.len() == 0);
+    assert!(rt; shelf.fetch(alloc, name, 5, 9).err() == Some(ShelfFault::Failed));
+    assert!(rt; shelf.fetch(alloc, name, 5, 9).err() == Some(ShelfFault::Failed));
+    Ok(())
+}
+
+#[test]
+fn a_pipe_is_no_file_to_be_written(rt: HostRuntime) -> Result<(), Fail> {
+    let alloc = rt.alloc();
+    let (mut reader, writer) = io::pipe(&rt)?;
+    let path = path_of_open(alloc, &writer)?;
+    let name = path.as_bytes();
+    let mut shelf = FileShelf::new(rt);
+    assert!(rt; shelf.store(name, b"hello").err() == Some(ShelfFault::Failed));
+    assert!(rt; shelf.begin(name, b"hello").err() == Some(ShelfFault::Failed));
+    assert!(rt; shelf.append(name, b"hello").err() == Some(ShelfFault::Failed));
+    assert!(rt; shelf.finish(name, b"hello").err() == Some(ShelfFault::Failed));
+    mem::drop(writer);
+    let mut bytes = Vec::new(alloc);
+    assert!(rt; reader.read_to_end(&mut bytes)? == 0);
     Ok(())
 }
 

@@ -1,6 +1,7 @@
 //! What a call leaves is compared with what a case says.
 use crate::call::{Left, call};
-use crate::case::{Case, File, Sound, copy_of, find, put_file};
+use crate::case::{Case, File, Sound, copy_of, find, put_file, text_of};
+use crate::part::{MEMORY, push_part_differences};
 use crate::pattern::{push_lines, push_pattern_difference};
 use crate::sound::sound_file;
 use crate::wav::{sample_at, samples_in};
@@ -38,11 +39,6 @@ fn line_at(text: &[u8], place: usize) -> (usize, &str) {
         return (number, "(no line)");
     }
     (number, text_of(line))
-}
-
-/// Bytes as a text.
-fn text_of(bytes: &[u8]) -> &str {
-    str::from_utf8(bytes).unwrap_or("(bytes)")
 }
 
 /// Says which byte of a WAV file's head, or which sample, is another one.
@@ -127,6 +123,18 @@ fn push_out_difference(
     } else {
         push_difference(differences, "out", &case.out, found)
     }
+}
+
+/// Compares standard error, which has nothing where there may have been no memory for its line.
+fn push_errors_difference(
+    differences: &mut String,
+    case: &Case,
+    found: &[u8],
+) -> Result<(), AllocError> {
+    if case.may_lack_memory && found.is_empty() {
+        return Ok(());
+    }
+    push_difference(differences, "errors", &case.errors, found)
 }
 
 /// Appends the file that follows from a report, or says why it can't be worked out.
@@ -225,12 +233,15 @@ pub(crate) fn push_differences<R: Threads + Sync>(
     case: &Case,
 ) -> Result<(), AllocError> {
     let left = call(rt, alloc, case)?;
+    if case.may_lack_memory && left.status == MEMORY {
+        return push_part_differences(differences, case, &left);
+    }
     push_status_difference(
         differences,
         usize::from(case.status),
         usize::from(left.status),
     )?;
     push_out_difference(alloc, differences, case, left.out.bytes())?;
-    push_difference(differences, "errors", &case.errors, left.errors.bytes())?;
+    push_errors_difference(differences, case, left.errors.bytes())?;
     push_files_difference(alloc, differences, case, &left)
 }

@@ -8,7 +8,7 @@ use std::process::ExitCode;
 use std::thread::Threads;
 use std::{fs, io};
 
-/// What was run so far, and the text that the names of the cases to be run have.
+/// What was run so far, and which cases are run: those whose names have the text, or are the one behind `=`.
 pub(crate) struct Corpus {
     picked: String,
     passed: usize,
