@@ -1,0 +1,147 @@
+"""What the check of docs/CLAIMS.md finds in a document and in a crate's source."""
+import os
+import sys
+import unittest
+
+HERE = os.path.dirname(os.path.abspath(__file__))
+sys.path.insert(0, os.path.dirname(HERE))
+
+import check_claims
+
+DOCUMENT = """# What is proved
+
+- a list above the crates; `ok`: as usual
+
+## `ring`
+
+A sentence; of the crate.
+
+- `Ring::{put, take}`, `size`; `ok`, `-`: something,
+  in two lines
+- law; `Ring-law`: something
+
+## Not a crate
+
+- `a`; `b`: something
+"""
+
+SOURCE = """pub fn size(ring: &Ring) -> u32
+    requires { 1 ≤ ring.now.frames }
+    ensures { result ≡ ring.now.frames }
+{
+    ring.frames
+}
+
+fn without_clauses() -> u32 {
+    2
+}
+
+    pub fn put(&mut self)
+        requires room { record {
+            frames = 1 } }
+        ensures ok { OnOk result (self.new ≡ record {
+            frames = 2 }) }
+        ensures err { OnErr result (self.new ≡ self.old) }
+    {
+    }
+""".split("\n")
+
+
+class Document(unittest.TestCase):
+    def test_an_item_has_calls_and_clauses(self):
+        wanted = [("ring", ["Ring::put", "Ring::take", "size"], ["ok", "-"]), ("ring", ["law"], ["Ring-law"])]
+        self.assertEqual(list(check_claims.rows_of(DOCUMENT)), wanted)
+
+    def test_each_call_has_one_of_the_clauses_and_each_clause_is_at_one_of_the_calls(self):
+        calls = {"put": ["ok"], "take": ["err"], "size": []}
+        self.assertEqual(check_claims.faults_of("ring", ["put", "take"], ["ok", "err"], calls), ([], 2))
+        self.assertEqual(check_claims.faults_of("ring", ["put", "size"], ["ok"], calls), (["size: ok"], 1))
+        self.assertEqual(check_claims.faults_of("ring", ["put"], ["ok", "none"], calls), (["put: none"], 1))
+
+    def test_a_clause_of_some_calls_isn_t_beside_one_of_all(self):
+        calls = {"put": ["ok", "err"], "take": ["ok", "few"], "feed": ["err", "few"]}
+        wanted = ["put: few, which others of its line have"]
+        self.assertEqual(check_claims.faults_of("ring", ["put", "take"], ["ok", "few"], calls), (wanted, 3))
+        self.assertEqual(check_claims.faults_of("ring", ["put", "take", "feed"], ["ok", "err", "few"], calls), ([], 6))
+
+
+class Source(unittest.TestCase):
+    def test_a_clause_without_a_name_is_a_dash(self):
+        self.assertEqual(check_claims.clauses_of(SOURCE, 0, ""), ["-"])
+
+    def test_a_body_ends_the_clauses(self):
+        self.assertEqual(check_claims.clauses_of(SOURCE, 7, ""), [])
+
+    def test_a_clause_of_several_lines_doesn_t_end_them(self):
+        self.assertEqual(check_claims.clauses_of(SOURCE, 11, "    "), ["ok", "err"])
+
+    def test_the_owner_is_the_type_and_not_the_trait(self):
+        self.assertEqual(check_claims.owner_of("impl<'a, P: Port> MixPort for Seat<'a> {"), "Seat")
+        self.assertEqual(check_claims.owner_of("pub trait Gate: Sized {"), "Gate")
+
+
+CALLS = """impl<'a> Ring<'a> {
+    pub fn put(&mut self, sample: i16)
+        ensures put { HasPut self.old self.new sample }
+    {
+    }
+
+    pub fn fill(
+        &self,
+        out: &'a mut [i16],
+    ) -> usize
+        ensures { IsFilled out.new }
+    {
+        0
+    }
+
+    pub fn len(&self) -> usize
+        ensures { result ≡ length self.now }
+    {
+        0
+    }
+
+    pub fn words(&self) -> &mut [u64]
+        ensures { IsPart result }
+    {
+        0
+    }
+
+    pub fn touch(&mut self) {
+    }
+
+    fn clear(&mut self)
+        ensures { self.new ≡ [] }
+    {
+    }
+}
+
+pub fn inner(ring: &mut Ring)
+    ensures { ring.new ≡ [] }
+{
+}
+""".split("\n")
+
+
+class Calls(unittest.TestCase):
+    def test_a_public_call_changes_a_value_that_it_takes_by_a_mutable_reference(self):
+        self.assertEqual(list(check_claims.changing_calls(CALLS, {"Ring"})), ["Ring::put", "Ring::fill"])
+
+    def test_a_function_that_the_root_file_doesn_t_hand_on_isn_t_public(self):
+        self.assertEqual(list(check_claims.changing_calls(CALLS, {"inner"})), ["inner"])
+
+
+class Whole(unittest.TestCase):
+    def test_a_call_without_a_line_is_found(self):
+        self.assertEqual(check_claims.unlisted_of("card_player", {"CardPlayer::play"})[0], "CardPlayer::take_frame")
+
+    def test_a_clause_that_isn_t_there_is_not_found(self):
+        calls = check_claims.calls_of("lap_word")
+        self.assertTrue(check_claims.is_there("lap_word", "clamp", "nearest", calls))
+        self.assertFalse(check_claims.is_there("lap_word", "clamp", "farthest", calls))
+        self.assertFalse(check_claims.is_there("mix_core", "law", "no-such-law", {}))
+        self.assertTrue(check_claims.is_there("mix_core", "law", "IsReply-one", {}))
+
+
+if __name__ == "__main__":
+    unittest.main()
