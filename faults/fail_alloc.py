@@ -41,8 +41,8 @@ def wrong_in(ran):
 class Sweep:
     """The runs of one case, in each of which an allocation is refused."""
 
-    def __init__(self, program, library, case, pool):
-        self.words = [os.path.abspath(program), f"=={case.name}", os.path.abspath(case.path)]
+    def __init__(self, program, library, path, case, pool):
+        self.words = [os.path.abspath(program), f"=={case.name}", os.path.abspath(path)]
         self.library, self.pool = library, pool
         self.runs, self.passed, self.wrong = 0, 0, []
 
@@ -71,18 +71,18 @@ class Sweep:
 
 
 def picked(words):
-    """The cases with `memory` of the files among words whose names have the texts among them."""
+    """The cases with `memory` of the files among words whose names have the texts among them, each behind its file."""
     texts = [word[1:] for word in words if word.startswith("=")]
-    found = [case for word in words if not word.startswith("=") for case in corpus.read(word).cases]
-    return [case for case in found if case.may_lack_memory and all(text in case.name for text in texts)]
+    found = [(word, case) for word in words if not word.startswith("=") for case in corpus.read(word).cases]
+    return [it for it in found if it[1].may_lack_memory and all(text in it[1].name for text in texts)]
 
 
 def sweep(program, cases, library):
     """Runs the cases, and gives how many things are wrong."""
     count = 0
     with ThreadPoolExecutor(len(os.sched_getaffinity(0))) as pool:
-        for case in cases:
-            found = Sweep(program, library, case, pool)
+        for path, case in cases:
+            found = Sweep(program, library, path, case, pool)
             found.all()
             print(f"{case.name}: {found.runs} runs, {found.passed} passed, {len(found.wrong)} wrong", flush=True)
             for it in found.wrong:
