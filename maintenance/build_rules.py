@@ -19,7 +19,7 @@ from machine import Kit, NoKit, say
 
 PROGRAM, NO_KIT = "dmixlab", 70
 # a crate is on a long chain that has so much of the longest one's work; its proof has so many processes at least
-LONG, LEAST_OF_LONG = 0.95, 2
+LONG, LEAST_OF_LONG, MOST_NICENESS = 0.95, 2, 19
 # rt refuses files of crates anywhere but in the crates, and in their folders out/rlib, which no commit has
 LIBRARIES = f"crates/{PROGRAM}/out/rlib"
 HEAD = f"""# Made by maintenance/build_rules.py.
@@ -67,16 +67,22 @@ def link_words(kit):
     return [f"{kit.at}/bin/rattle-link", *place, f"{LIBRARIES}/{PROGRAM}.o", *c_library]
 
 
-def rule_of(root, kit, lines, name, order, least):
-    """The rule of a crate, whose words and list of files are a file of their own: where they change, so does it. Its proof has `least`
-    processes at least."""
+def rule_of(root, kit, lines, name, order, urgency):
+    """The rule of a crate, whose words and list of files are a file of their own: where they change, so does it. Its proof has the
+    least number of processes and the niceness of its urgency."""
     crate = f"{root}/crates/{name}"
     files = [os.path.relpath(it, root) for part in PROVED_FILES for it in files_in(f"{crate}/{part}")]
     words = " ".join(words_for(kit, lines, name))
     write_if_new(f"{root}/build/words/{name}", "\n".join([kit.version, words, *files, ""]))
     marks = [f"{LIBRARIES}/{it}.proved" for it in order if it in lines[name]]
     needed = " ".join([f"build/words/{name}", *files, *marks])
-    return f"\n{LIBRARIES}/{name}.proved: {needed}\n\t@maintenance/prove_crate.sh {name} $@ {least} {words}\n"
+    return f"\n{LIBRARIES}/{name}.proved: {needed}\n\t@maintenance/prove_crate.sh {name} $@ {urgency} {words}\n"
+
+
+def urgency(part):
+    """How urgent a proof is on whose longest chain is this part of the longest one's work: the least number of its processes, and its niceness,
+    by which it gives way."""
+    return f"{LEAST_OF_LONG if part >= LONG else 1} {min(MOST_NICENESS, int((MOST_NICENESS + 1) * (1 - part)))}"
 
 
 def rules(root, kit):
@@ -87,13 +93,12 @@ def rules(root, kit):
     length = chains(root, uses, wanted)
     order = sorted(wanted, key=lambda it: (-length[it], it))
     through = chains_through(root, uses, wanted)
-    longest = max(through.values())
-    least = {it: LEAST_OF_LONG if through[it] >= LONG * longest else 1 for it in wanted}
+    urgencies = {it: urgency(through[it] / max(through.values())) for it in wanted}
     # GNU make begins what is ready in this order
     marks = " ".join(f"{LIBRARIES}/{it}.proved" for it in order)
     link = " ".join(link_words(kit))
     text = HEAD.replace(f": {LIBRARIES}/{PROGRAM}.proved", f": {marks}") + f"\t@{link}\n"
-    return text + "".join(rule_of(root, kit, lines, it, order, least[it]) for it in order), order
+    return text + "".join(rule_of(root, kit, lines, it, order, urgencies[it]) for it in order), order
 
 
 def main():

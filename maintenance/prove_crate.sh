@@ -1,11 +1,12 @@
 #!/bin/sh
-# prove_crate.sh NAME MARK LEAST WORD..: proves a crate by the words, in its folder, and makes its mark; the rules of build/rules.mk call it.
+# prove_crate.sh NAME MARK LEAST NICENESS WORD..: proves a crate by the words, in its folder, and makes its mark; the rules of build/rules.mk call it.
 # The proof takes an even share of the LANES processors among the proofs that are running, and LEAST at least, as others wait for some crates.
+# With its NICENESS it gives way to those for which more work waits.
 # The mark is as old as the proof's begin, so that what was changed meanwhile is newer. TOTAL is how many crates are to be proved.
 # The status is 1 where the crate isn't proved, 2 without these words, and 5 where standard output takes no more.
-[ $# -ge 4 ] || { echo "prove_crate: the words are NAME MARK LEAST WORD.." >&2; exit 2; }
-name=$1 mark=$2 least=$3 log=build/logs/$1.log running=build/running/$1
-shift 3
+[ $# -ge 5 ] || { echo "prove_crate: the words are NAME MARK LEAST NICENESS WORD.." >&2; exit 2; }
+name=$1 mark=$2 least=$3 niceness=$4 log=build/logs/$1.log running=build/running/$1
+shift 4
 
 number=1
 until mkdir "build/count/$number" 2>/dev/null; do
@@ -22,7 +23,7 @@ mkdir -p "$running"
 [ "${LANES:-1}" -le 1 ] || sleep 0.3
 jobs=$((${LANES:-1} / $(ls build/running | wc -l)))
 [ "$jobs" -ge "$least" ] || jobs=$least
-(cd "crates/$name" && exec "$@" --jobs "$jobs") >"$log" 2>&1 </dev/null &
+(cd "crates/$name" && exec nice -n "$niceness" "$@" --jobs "$jobs") >"$log" 2>&1 </dev/null &
 proof=$!
 trap 'kill $proof; wait $proof; rm -rf "$mark.begun" "$running"; exit 143' TERM INT HUP
 wait $proof

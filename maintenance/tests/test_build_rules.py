@@ -114,7 +114,7 @@ class BuildRules(unittest.TestCase):
             shutil.rmtree(f"{repo}/build", ignore_errors=True)
             for it in ("build/logs", "build/count", self.libraries, *(f"build/running/{it}" for it in others)):
                 os.makedirs(os.path.join(repo, it), exist_ok=True)
-            words = ["sh", "maintenance/prove_crate.sh", "low", f"{self.libraries}/low.proved", str(least), "echo"]
+            words = ["sh", "maintenance/prove_crate.sh", "low", f"{self.libraries}/low.proved", str(least), "0", "echo"]
             subprocess.run(words, cwd=repo, env={"PATH": os.environ["PATH"], "LANES": str(lanes)}, stdout=subprocess.PIPE, check=True)
             self.assertEqual(self.read("repo/build/logs/low.log"), f"--jobs {jobs}\n")
             self.assertEqual(sorted(os.listdir(f"{repo}/build/running")), others)
@@ -123,6 +123,9 @@ class BuildRules(unittest.TestCase):
         self.write("repo/crates/low/src/lib.rt", "fn f() {}\n" * 1000)
         calls = self.run_it("-j1")[1]
         self.assertEqual({name: said[-1] for name, said in calls.items()}, {"low": "2", "middle": "2", "top": "2", "dmixlab": "2", "wide": "1"})
+
+    def test_a_crate_of_a_shorter_chain_gives_way(self):
+        self.assertEqual([build_rules.urgency(it) for it in (1, 0.95, 0.5, 0)], ["2 0", "2 1", "1 10", "1 19"])
 
     def test_a_second_make_waits_and_finds_what_the_first_one_proved(self):
         self.write("kit/bin/rattle", RATTLE + "sleep 0.5\n")
