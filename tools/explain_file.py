@@ -14,6 +14,8 @@ ROOM_LEAST = 65536
 SCRIPT_MOST = 1 << 20
 PAGE = "HTML or XML, as a server sends in place of a file"
 OF_PAGE = "what to do: get the sound itself from where this came, as this file has none"
+TEXT = "it is a text, which begins with "
+OF_TEXT = "what to do: name the WAV file, and give the text where a text belongs"
 # how files begin that aren't read, and what they are
 BEGINNINGS = (
     (b"RF64", "RF64, a WAV file for more than 4 GiB"),
@@ -139,6 +141,8 @@ def explain_read(name, script):
     """The lines and sentences on a file that can't be read; `script` is the script that may name it, or None."""
     found = naming(script_text(script), name) if script and script != name else []
     said = [f"`{shown_name(name)}`: {why_unread(name)}"]
+    # of a pipe it is the second reading that fails
+    found = found[1:] if said[0].endswith(PIPE_SAID) and len(found) > 1 else found
     if not os.path.lexists(name):
         said += other_place(name, script if found else None) or ["files are named from the folder in which the program runs"]
     return shown_lines(script, found), said + of_comment(found)
@@ -172,6 +176,8 @@ def why_full(path):
     """That the disk of a path is full, or None."""
     room = os.statvfs(path)
     left = room.f_bavail * room.f_frsize
+    if not room.f_blocks:
+        return f"the file system of `{shown_name(path)}` has no room for files"
     if left < ROOM_LEAST:
         return f"the disk is full: {left} bytes are left"
     return "the disk has no room for one more file" if room.f_files and not room.f_favail else None
@@ -268,7 +274,24 @@ def what_it_is(name):
     if not first:
         return ["the file is empty"]
     kind = next((it for begin, it in BEGINNINGS if first.startswith(begin)), None)
-    return [f"it begins as {kind}"] if kind else [f"its first bytes are {shown(first)}"]
+    if kind:
+        return [f"it begins as {kind}"]
+    return [f"{TEXT}`{shown(first.split()[0])}`"] if is_text(first) else [f"its first bytes are {shown(first)}"]
+
+
+def is_text(raw):
+    """Whether bytes are those of a text in ASCII with a word in it."""
+    return bool(raw.split()) and all(it in b"\t\n\r" or 32 <= it < 127 for it in raw)
+
+
+def of_no_riff(name):
+    """The sentences and the commands on a file that doesn't begin as a WAV file."""
+    said = what_it_is(name)
+    if said == [f"it begins as {PAGE}"]:
+        return [*said, OF_PAGE], []
+    if said and said[0].startswith(TEXT):
+        return [*said, OF_TEXT], []
+    return said, [] if said == ["the file is empty"] else [command_of("ffmpeg", name)]
 
 
 def plugged(found, bits):
@@ -282,9 +305,7 @@ def explain_wav(name, why, number, script):
     found = naming(script_text(script), name) if script else []
     said, commands = [], []
     if why == "NotRiff":
-        said, commands = what_it_is(name), [command_of("ffmpeg", name)]
-        commands = [] if said in (["the file is empty"], [f"it begins as {PAGE}"]) else commands
-        said += [OF_PAGE] if said == [f"it begins as {PAGE}"] else []
+        said, commands = of_no_riff(name)
     elif why == "Tag":
         said = [f"its samples are {TAGS[number]}"] if number in TAGS else []
         commands = [command_of("ffmpeg" if number == 85 else sox_or_ffmpeg(), name)]

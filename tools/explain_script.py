@@ -1,5 +1,6 @@
 """What a refusal of a script, or of a text of `refine`, means: the line, the word, what can be there, and the words that are near."""
 import difflib
+import itertools
 import re
 
 from script_forms import CALLS, FORMS, FRAMES, KEYWORDS, LAP_LAST, draft_before, fault_in, lines_of, spelled
@@ -72,8 +73,18 @@ def of_word(fault, word, line, draft):
     return said
 
 
-def of_number(fault, word):
+def joined_bindings(line, place):
+    """The bindings that some words make without the blanks between them, or None where there are no blanks or that gives none."""
+    words = itertools.takewhile(lambda it: re.fullmatch("[0-9,]+", it), line.words[place:])
+    joined = "".join(words)
+    return joined if joined != line.words[place] and re.fullmatch("[0-9]+(,[0-9]+)+", joined) else None
+
+
+def of_number(fault, word, line):
     """What to write instead of a word that is no number."""
+    joined = joined_bindings(line, fault.place) if line.words[fault.place - 1] == "bindings" else None
+    if joined:
+        return [f"without blanks it would be `{joined}`"]
     if "\r" in word:
         return ["the word has a carriage return, as in a file whose lines end with that alone: tr '\\r' '\\n' makes a script of it"]
     like = plain_digits(word)
@@ -99,7 +110,7 @@ def of_fault(fault, line, draft):
     word = line.words[fault.place]
     found = {
         "Word": lambda: of_word(fault, word, line, draft),
-        "Number": lambda: of_number(fault, word),
+        "Number": lambda: of_number(fault, word, line),
         "Name": lambda: of_name(word),
         "File": lambda: of_file(word),
     }

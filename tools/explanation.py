@@ -95,7 +95,9 @@ def of_words(words):
         why = of_made(word, text) if word in MADE else of_file_word(word, text) if word != "NAME" else None
         if why:
             return [why]
-    return [f"NAME isn't 1 to 64 visible ASCII characters: {shown_name(given[-1])}"] if command == "conf" else []
+    if command == "conf":
+        return [f"NAME isn't 1 to 64 visible ASCII characters: {shown_name(given[-1])}" if given[-1] else "NAME is empty"]
+    return []
 
 
 def usage():

@@ -14,7 +14,7 @@ MARKS = {
     "opening": "opening refused",
     "xrun": "xrun",
     "overtaken": "overtaken: stored over before it was read",
-    "late": "late: played before it was committed",
+    "late": "late: played before it was placed",
 }
 
 

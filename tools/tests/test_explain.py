@@ -113,7 +113,9 @@ class Scripts(OnTerminal):
         self.refused("Number", 1, "card rate 48k\n", "digits alone would be '48000'")
         self.refused("Number", 1, "card rate 48,000\n", "digits alone would be '48000'")
         self.refused("Number", 2, "card\nclient a a.wav stop forever\n", "1 to 65536 frames, or 'never'")
-        self.refused("Number", 2, "card\nclient a a.wav bindings 0, 1\n", "after the key 'bindings' come channels of the card, joined by commas without a blank")
+        bindings = "after the key 'bindings' come channels of the card, joined by commas without a blank"
+        self.refused("Number", 2, "card\nclient a a.wav bindings 0, 1\n", "without blanks it would be '0,1'", bindings)
+        self.refused("Number", 2, "card\nclient a a.wav bindings 0,\n", "digits alone would be '0'", bindings)
         self.refused("Number", 1, b"card ring 256\rclient a a.wav\r", "carriage return", "tr '\\r' '\\n'")
         screen = self.refused("Range", 1, "card ring 64 rate 3999\n", "after the key 'rate' comes a number, 4000 to 192000 Hz")
         self.assertIn("    card ring 64 rate 3999\n                      ^^^^\n", screen)
@@ -208,6 +210,8 @@ class Files(OnTerminal):
         os.rmdir(f"{self.here}/sounds/a.wav")
         os.mkfifo(f"{self.here}/sounds/a.wav")
         self.read("sounds/a.wav", "it is a pipe, which can be read once")
+        again = SCRIPT.replace("reader r", "client b sounds/a.wav")
+        self.read("sounds/a.wav", "my.script, line 3: client b sounds/a.wav", script=again)
         os.remove(f"{self.here}/sounds/a.wav")
         os.symlink("gone.wav", f"{self.here}/sounds/a.wav")
         self.read("sounds/a.wav", "it is a link to gone.wav")
@@ -259,6 +263,11 @@ class Files(OnTerminal):
         self.has(self.see(*write, "fine"), "it was 'fine.wav' or 'fine.r.wav' or standard output; nothing is in its way by now")
         os.mkdir(f"{self.here}/made-1.wav")
         self.has(self.see("dmixlab: write\n", 5, "make", "1", "2", "3"), "'made-1.wav': is a directory")
+
+    @unittest.skipIf(os.geteuid() != 0, "root alone may write in /proc")
+    def test_a_file_system_that_takes_no_files(self):
+        self.write("my.script", SCRIPT)
+        self.has(self.see("dmixlab: write\n", 5, "run", "my.script", "/proc/o"), "the file system of '/proc' has no room for files")
 
     @unittest.skipIf(os.geteuid() == 0, "root may write each file")
     def test_a_file_that_may_not_be_written(self):
@@ -314,6 +323,8 @@ class Sounds(OnTerminal):
         page = self.wav("NotRiff", b"<!doctype html>", "it begins as HTML or XML", "What to do: get the sound itself from where this came")
         self.assertNotIn("ffmpeg -i sounds", page)
         self.wav("NotRiff", b"\x1b[31m", "its first bytes are \\x1b[31m")
+        text = self.wav("NotRiff", b"card rate 48000\n", "it is a text, which begins with 'card'", "What to do: name the WAV file")
+        self.assertNotIn("ffmpeg -i sounds", text)
 
     def test_samples_that_are_not_pcm(self):
         for tag, what in ((3, "floating point"), (7, "mu-law"), (6, "A-law")):
@@ -420,6 +431,7 @@ class Words(OnTerminal):
         self.has(self.words("make", "1", "65", "1"), "CLIENTS is a number from 1 to 64")
         self.has(self.words("run", "", "o"), "SCRIPT has 0 bytes")
         self.has(self.words("conf", "f", "a b"), "NAME isn't 1 to 64 visible ASCII characters")
+        self.has(self.words("conf", "f", ""), "NAME is empty.")
 
     def test_the_forms_are_those_of_the_help(self):
         with open(f"{ROOT}/docs/help.txt") as file:
