@@ -6,7 +6,7 @@ use Rattle.std.specs.Global.{Vec}
 use Rattle.std.specs.Option.{ForSome}
 use Rattle.lab_shelf.specs.Files.{Files}
 use Rattle.lab_stop.specs.declared.stop.Stop.{Stop}
-use Rattle.lab_stop.specs.declared.stop.Stop.TheVariants.{Words, Script, Conf, Wav, Read, Write, Memory}
+use Rattle.lab_stop.specs.declared.stop.Stop.TheVariants.{Wav, Memory}
 use Rattle.lab_stop.specs.Causes.{Cause, missing, wav_refused, content_in, fetched_from, piece_bytes, ◌>>=◌}
 use Rattle.lab_stop.specs.Passing.{IsCauseOf-passed, Misses-passed}
 use Rattle.lab_stop.specs.Pieces.{IsFetched, IsBegun, IsFetched-next, IsFetched-rest, whole_refused}
@@ -70,11 +70,7 @@ named_cause : {X : Type 0} (why : WavError) (name : List ℕ) (stop : Stop) (giv
     → given ≡ Err (wav_refused name why) → NamesWav why name stop → IsCauseOf stop given
 named_cause why name (Wav file because) given so is = let same = is.0 in let alike = is.1 in cc
 named_cause why name Memory given so is = tt
-named_cause why name Words given so is = is
-named_cause why name (Script error) given so is = absurd is
-named_cause why name (Conf error) given so is = absurd is
-named_cause why name (Read file) given so is = absurd is
-named_cause why name Write given so is = absurd is
+named_cause why name other given so is = absurd is
 
 -- a stop at a WAV file that is refused is at that cause
 pub IsCauseOf-refusal : {X : Type 0} (why : WavError) (name : List ℕ) (stop : Stop) (sound : Result Sound WavError) (given : Result X Cause)
@@ -99,11 +95,7 @@ NamesWav-only : (holds : Stop → Type 0) (why : WavError) (name : List ℕ) (st
     → ((file : Vec ℕ) (because : WavError) → holds (Wav file because)) → holds Memory → NamesWav why name stop → holds stop
 NamesWav-only holds why name (Wav file because) wav memory is = wav file because
 NamesWav-only holds why name Memory wav memory is = memory
-NamesWav-only holds why name Words wav memory is = absurd is
-NamesWav-only holds why name (Script error) wav memory is = absurd is
-NamesWav-only holds why name (Conf error) wav memory is = absurd is
-NamesWav-only holds why name (Read file) wav memory is = absurd is
-NamesWav-only holds why name Write wav memory is = absurd is
+NamesWav-only holds why name other wav memory is = absurd is
 
 IsWavStop-only : (holds : Stop → Type 0) (why : WavError) (name : List ℕ) (stop : Stop)
     → ((file : Vec ℕ) (because : WavError) → holds (Wav file because)) → holds Memory → IsWavStop why name stop → holds stop

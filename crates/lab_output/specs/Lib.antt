@@ -1,4 +1,5 @@
 pub mod Files
+pub mod FileLaws
 pub mod Going
 pub mod GoingLaws
 pub mod Text

@@ -81,8 +81,8 @@ fn reader_channels(card: &CardLine, bindings: &Option<Bindings>) -> u16
     }
 }
 
-/// The file with what the card played.
-fn played_file(alloc: Global, card: &CardLine, out: &[u8]) -> Result<OutputFile, AllocError>
+/// The file `OUT.wav` with what the card played, of the card's channels and rate.
+pub fn played_file(alloc: Global, card: &CardLine, out: &[u8]) -> Result<OutputFile, AllocError>
     ensures { IfOk result (λ file. file ≡ played_file card.now out.now) }
 {
     Ok(OutputFile {
@@ -92,8 +92,8 @@ fn played_file(alloc: Global, card: &CardLine, out: &[u8]) -> Result<OutputFile,
     })
 }
 
-/// The file with what a reader took.
-fn recorded_file(
+/// The file `OUT.NAME.wav` with what a reader took, of the reader's channels and the card's rate.
+pub fn recorded_file(
     alloc: Global,
     card: &CardLine,
     out: &[u8],

@@ -9,5 +9,5 @@ mod finish;
 mod outputs;
 mod text;
 
-pub use file::{OutputFile, OutputName, output_files};
+pub use file::{OutputFile, OutputName, output_files, played_file, recorded_file};
 pub use outputs::{Outputs, outputs_of};

@@ -1,5 +1,5 @@
--- Why input can't be read: the first cause that the files give.
---     Cause      a file isn't there (`missing`), or a script, a configuration or a WAV file is refused
+-- Why a command can't be done: the first cause that the files give.
+--     Cause      a file isn't there (`missing`), a script, a configuration or a WAV file is refused, or the files aren't those of a run (`not_a_run`)
 --     r >>= f      the next step with the value of the first, or the first one's cause
 --     found name bytes      the bytes of a file, if it is there, or the cause that it is missing
 --     content_in files name      all bytes of a file
@@ -13,12 +13,14 @@ use Rattle.lab_script.specs.declared.error.ScriptError.{ScriptError}
 use Rattle.wav_io.specs.declared.error.WavError.{WavError}
 use Rattle.lab_shelf.specs.Files.{Files, bytes_under, piece}
 
--- why input can't be read: a file isn't there, the script is refused, a configuration is, or a client's file is
+-- why a command can't be done: a file isn't there, the script is refused, a configuration is, or a client's file is; or a report and files aren't those of a
+-- run, by a test that fails at this line of the report
 pub data Cause : Type 0 where
   missing : List ℕ → Cause
   script_refused : ScriptError → Cause
   conf_refused : ConfError → Cause
   wav_refused : List ℕ → WavError → Cause
+  not_a_run : ℕ → Cause
 
 infixl 10 ◌>>=◌
 abbrev pub ◌>>=◌ : {A B : Type 0} → Result A Cause → (A → Result B Cause) → Result B Cause

@@ -1,4 +1,5 @@
 pub mod Causes
+pub mod EndLaws
 pub mod FaultLaws
 pub mod Lines
 pub mod Passing

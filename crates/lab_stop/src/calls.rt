@@ -14,6 +14,37 @@ use std::alloc::Global;
 /// How many bytes each piece of a file has, but for the last, which has fewer.
 pub const PIECE_BYTES: usize = 65_536;
 
+/// The bytes of a file of the shelf from the byte `from` on: `most` of them, or as many as there are.
+/// They are fetched at once, and no byte behind them is.
+///
+/// It stops with `Read` and the file's name exactly where the shelf fails, which counts that, and with
+/// `Memory` only where no memory is left.
+pub fn fetch_up_to<S: Shelf>(
+    shelf: &mut S,
+    alloc: Global,
+    name: &[u8],
+    from: u64,
+    most: u64,
+) -> Result<Vec<u8>, Stop>
+    ensures bytes { ForSome (S.files shelf.old)
+        (λ files. AnswersOrStops (λ v. v.items) result (fetched_from files name.now from most)) }
+    ensures most { IfOk result (λ v. vec_len v ≤ most) }
+    ensures files { S.files shelf.new ≡ S.files shelf.old }
+    ensures faults { FetchFaults result (S.fetch_faults shelf.old) (S.fetch_faults shelf.new) }
+    ensures write_faults { S.write_faults shelf.new ≡ S.write_faults shelf.old }
+    ensures reliable { S.is_reliable shelf.old → S.is_reliable shelf.new }
+    ensures missing { S.is_reliable shelf.old → ForSome (S.files shelf.old)
+        (λ files. Misses result (fetched_from files name.now from most)) }
+{
+    // The name is copied first, so that a fetch that fails is never answered as want of memory.
+    let named = Vec::from_slice(alloc, name)?;
+    match shelf.fetch(alloc, name, from, most) {
+        Ok(bytes) => Ok(bytes),
+        Err(ShelfFault::Failed) => Err(Stop::Read { name: named }),
+        Err(ShelfFault::Memory) => Err(Stop::Memory),
+    }
+}
+
 /// The piece of a file of the shelf that begins at the byte `from`: `PIECE_BYTES` bytes, or as many
 /// as there are. A piece that has fewer is the file's last; after a full one there may be another,
 /// also one of no byte.
@@ -37,13 +68,7 @@ pub fn fetch_piece<S: Shelf>(
     ensures missing { S.is_reliable shelf.old → ForSome (S.files shelf.old)
         (λ files. Misses result (fetched_from files name.now from piece_bytes)) }
 {
-    // The name is copied first, so that a fetch that fails is never answered as want of memory.
-    let named = Vec::from_slice(alloc, name)?;
-    match shelf.fetch(alloc, name, from, PIECE_BYTES as u64) {
-        Ok(bytes) => Ok(bytes),
-        Err(ShelfFault::Failed) => Err(Stop::Read { name: named }),
-        Err(ShelfFault::Memory) => Err(Stop::Memory),
-    }
+    fetch_up_to(shelf, alloc, name, from, PIECE_BYTES as u64)
 }
 
 /// The first bytes of a file of the shelf, at most so many. They are fetched piece by piece, up to

@@ -6,5 +6,5 @@
 mod calls;
 mod stop;
 
-pub use calls::{PIECE_BYTES, fetch_most, fetch_piece, put, written};
+pub use calls::{PIECE_BYTES, fetch_most, fetch_piece, fetch_up_to, put, written};
 pub use stop::{Stop, status, tell, wav_stop};

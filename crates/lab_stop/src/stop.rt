@@ -1,4 +1,5 @@
 //! Why a command stops, the exit status that says so, and the line that it puts.
+ghost use Rattle.std.specs.Fmt.{decimal};
 ghost use Rattle.std.specs.Prelude.{◌≡◌, ◌≤◌, ◌++◌, codes, IfOk, string_bytes};
 ghost use Rattle.asound_conf.specs.ErrorText as conf;
 ghost use Rattle.lab_script.specs.ErrorText as script;
@@ -27,6 +28,9 @@ pub enum Stop {
     Wav { name: Vec<u8>, why: WavError },
     /// The file of this name can't be read, or isn't there.
     Read { name: Vec<u8> },
+    /// A report and files aren't those of a run of a script: a test fails at this line of the report,
+    /// or at line 0 for its text as a whole.
+    No { line: u32 },
     /// A file or the output can't be written.
     Write,
     /// Memory ran out.
@@ -92,7 +96,7 @@ pub fn wav_stop(alloc: Global, name: &[u8], why: WavError) -> Stop
 }
 
 /// The exit status of a command that ended so: 0 where it was done, 1 for `Words`, 2 for `Script` and
-/// `Conf`, 3 for `Wav`, 4 for `Read`, 5 for `Write` and 6 for `Memory`.
+/// `Conf`, 3 for `Wav`, 4 for `Read`, 5 for `Write`, 6 for `Memory` and 7 for `No`.
 pub fn status(end: &Result<(), Stop>) -> u8
     ensures { result ≡ status_of end.now }
 {
@@ -103,6 +107,7 @@ pub fn status(end: &Result<(), Stop>) -> u8
         Err(Stop::Conf(_)) => 2,
         Err(Stop::Wav { .. }) => 3,
         Err(Stop::Read { .. }) => 4,
+        Err(Stop::No { .. }) => 7,
         Err(Stop::Write) => 5,
         Err(Stop::Memory) => 6,
     }
@@ -136,6 +141,14 @@ fn read_reason(alloc: Global, name: &[u8]) -> Result<String, AllocError>
     format!(in alloc; "dmixlab: read {name}\n")
 }
 
+/// The line that says at which line of a report a test of it and of its files fails.
+fn no_reason(alloc: Global, line: u32) -> Result<String, AllocError>
+    ensures { IfOk result (λ text. string_bytes text
+        ≡ codes "dmixlab: no: line " ++ (decimal line ++ codes "\n")) }
+{
+    format!(in alloc; "dmixlab: no: line {line}\n")
+}
+
 /// The line that says why a script is refused.
 fn script_reason(alloc: Global, error: ScriptError) -> Result<String, AllocError>
     ensures { IfOk result (λ line. string_bytes line
@@ -162,6 +175,7 @@ fn reason(alloc: Global, stop: &Stop) -> Result<String, AllocError>
         Stop::Conf(error) => conf_reason(alloc, *error),
         Stop::Wav { name, why } => wav_reason(alloc, name.as_slice(), *why),
         Stop::Read { name } => read_reason(alloc, name.as_slice()),
+        Stop::No { line } => no_reason(alloc, *line),
         Stop::Write => String::from_str(alloc, "dmixlab: write\n"),
         Stop::Memory => String::from_str(alloc, "dmixlab: memory\n"),
     }
@@ -177,8 +191,9 @@ fn put_line<E: Sink>(errors: &mut E, line: &[u8])
 }
 
 /// Puts the line that says why a command stopped on `errors`: `dmixlab: ` and then `words`,
-/// `script line L: WHY`, `conf line L: WHY`, `wav NAME: WHY`, `read NAME`, `write` or `memory`, where
-/// WHY is the variant's name, with its number where it has one. A name that isn't UTF-8 is left out.
+/// `script line L: WHY`, `conf line L: WHY`, `wav NAME: WHY`, `read NAME`, `no: line L`, `write` or
+/// `memory`, where WHY is the variant's name, with its number where it has one. A name that isn't UTF-8
+/// is left out.
 /// Where there is no memory for the line the sink takes nothing, and where the sink fails, the first bytes of it; nothing else
 /// changes then.
 pub fn tell<E: Sink>(alloc: Global, errors: &mut E, stop: &Stop)

@@ -1,4 +1,3 @@
-mod KeptFaults
 mod Making
 mod MemoryStops
 mod Reading

@@ -11,10 +11,9 @@ use Rattle.lab_phase.specs.PhaseRuns.{Stops, stops_by}
 use Rattle.lab_play.specs.Stops.{rises}
 use Rattle.lab_lines.specs.Limits.{IsScript}
 use Rattle.lab_shelf.specs.Files.{Files, IsPartWritten, with_file}
-use Rattle.lab_stop.specs.FaultLaws.{OutputFaults-after, OutputFaults-memory, OutputFaults-puts, OutputFaults-writes}
+use Rattle.lab_stop.specs.FaultLaws.{OutputFaults-after, OutputFaults-kept, OutputFaults-memory, OutputFaults-puts, OutputFaults-writes}
 use Rattle.lab_workload.specs.Made.{report_name}
 use Rattle.lab_workload.specs.Stored.{IsReadBack}
-use Rattle.lab_workload.proofs.KeptFaults.{OutputFaults-kept}
 use Rattle.lab_workload.proofs.Making.{IsMade-all, IsMadePart-before, IsMadePart-report, IsMadePart-run, IsMadePart-summary}
 use Rattle.lab_workload.proofs.make.make_workload.Goals as goal
 
