@@ -1,0 +1,93 @@
+-- What is known of a segment that can be: where its client's channels go, and that its samples are there.
+use Rattle.std.proofs.Common.{◌≡◌, ℕ, ◌+◌, ◌*◌, ◌<◌, ◌≤◌, refl, sym, ◌∙◌, ap, subst, arith, mul-le-mul, List, [], ◌∷◌, ◌++◌, length, get_or, Option, Some, None}
+use Rattle.std.proofs.lemmas.Bool.{eqb-true, leb-true, ltb-true}
+use Rattle.std.proofs.lemmas.List.{take_more}
+use Rattle.std.proofs.lemmas.Grind.{flat_map-append}
+use Rattle.std.proofs.lemmas.List.{append-nil}
+use Rattle.std.proofs.lemmas.List.Elements.{All-get_or}
+use Rattle.std.proofs.lemmas.List.FromFn.{get_or-range_with_len, length-range_with_len}
+use Rattle.std.proofs.lemmas.Option.{get_or_from_slice_get, slice_get_within}
+use Rattle.std.proofs.Math.Nat.{div-mul-le_self}
+use Rattle.std.specs.List.{flat_map, range_with_len}
+use Rattle.std.specs.Prelude.{ℤ, All, Bool, true, false, ◌&&◌, nat_eq, nat_le, nat_lt, slice_get, slice_index, take}
+use Rattle.bindings.specs.AnswerLaws.{All-below-answered}
+use Rattle.bindings.specs.Bound.{identity}
+use Rattle.snd_base.specs.declared.places.Segment.{Segment}
+use Rattle.mix_core.specs.declared.port.Entry.{Entry}
+use Rattle.wav_io.specs.Sound.{Sound}
+use Rattle.dmix_client.specs.Expansion.{expand}
+use Rattle.lab_lines.specs.declared.script.ClientLine.{ClientLine}
+use Rattle.lab_lines.specs.declared.script.Script.{Script}
+use Rattle.lab_lines.specs.Limits.{IsBoundWhere, IsClientLine, IsScript}
+use Rattle.lab_run.specs.Client.{frames_of}
+use Rattle.lab_run.specs.Openings.{bound_by}
+use Rattle.lab_check.specs.Late.{entries_of_segment}
+use Rattle.lab_check.specs.Segments.{frames_taken, is_bound, is_right_segment, is_segment_of, is_within}
+use Rattle.lab_check.specs.Sums.{IsSummed, entries_of_segments}
+use Rattle.lab_check.proofs.Summing.{summed-both}
+use Rattle.lab_check.proofs.Tested.{and-left, and-right}
+
+-- a segment that can be, of a client with this line and file
+module _ (script : Script) (wavs : List Sound) (client : ℕ) (segment : Segment) (line : ClientLine) (wav : Sound) (line_is : slice_get script.clients client ≡ Some line)
+    (wav_is : slice_get wavs client ≡ Some wav) where
+  pub samples-of : entries_of_segment script wavs client segment ≡ expand client segment wav.samples (bound_by line wav)
+  samples-of = rw (line_is, wav_is) refl
+
+  both : is_right_segment script wavs (client, segment) ≡ true → (is_bound script.card line wav && is_within script.card segment wav.channels (frames_of wav)) ≡ true
+  both right = subst (λ (w : Option Sound). is_segment_of script.card segment (Some line) w ≡ true) wav_is
+      (subst (λ (l : Option ClientLine). is_segment_of script.card segment l (slice_get wavs client) ≡ true) line_is right)
+
+  pub has-channels : is_right_segment script wavs (client, segment) ≡ true → length (bound_by line wav) ≡ wav.channels
+  has-channels right =
+      eqb-true _ _ (and-left _ _ (and-left (is_bound script.card line wav) _ (both right)))
+
+  pub few-channels : is_right_segment script wavs (client, segment) ≡ true → wav.channels ≤ script.card.channels
+  few-channels right = leb-true _ _ (and-right _ _ (and-left (is_bound script.card line wav) _ (both right)))
+
+  pub has-samples : is_right_segment script wavs (client, segment) ≡ true → (segment.source + frames_taken segment) * length (bound_by line wav) ≤ length wav.samples
+  has-samples right =
+      let frames : segment.source + frames_taken segment ≤ frames_of wav = leb-true _ _ (and-right _ _ (and-right (is_bound script.card line wav) _ (both right))) in
+      let product : (segment.source + frames_taken segment) * length (bound_by line wav) ≤ frames_of wav * length (bound_by line wav) =
+      mul-le-mul {n₁ = segment.source + frames_taken segment} {m₁ = length (bound_by line wav)} {n₂ = frames_of wav} {m₂ = length (bound_by line wav)} frames (omega arith) in
+      let same : frames_of wav * length (bound_by line wav) ≡ frames_of wav * wav.channels = ap (λ n. frames_of wav * n) (has-channels right) in
+      let whole : frames_of wav * wav.channels ≤ length wav.samples = div-mul-le_self (length wav.samples) wav.channels in
+      omega (arith, product, same, whole)
+
+  pub part-within : is_right_segment script wavs (client, segment) ≡ true → segment.part ≤ length (bound_by line wav)
+  part-within right =
+      let less : segment.part < wav.channels =
+      ltb-true segment.part wav.channels (and-right _ _ (and-left _ _ (and-left _ _ (and-right (is_bound script.card line wav) _ (both right))))) in
+      let same : length (bound_by line wav) ≡ wav.channels = has-channels right in
+      omega (arith, less, same)
+
+  by_bindings : (bindings : Option (List ℕ)) → IsBoundWhere script.card.channels bindings → wav.channels ≤ script.card.channels → (q : ℕ)
+      → q < length (Rattle.std.specs.Prelude.unwrap_or bindings (identity wav.channels))
+      → slice_index (Rattle.std.specs.Prelude.unwrap_or bindings (identity wav.channels)) q < script.card.channels
+  by_bindings None bound few q low =
+      let size : length (identity wav.channels) ≡ wav.channels = length-range_with_len 0 wav.channels in
+      let in_range : q < wav.channels = omega (arith, size, low) in
+      let value : slice_index (identity wav.channels) q ≡ 0 + q = get_or-range_with_len 0 wav.channels q 0 in_range in
+      omega (arith, value, in_range, few)
+  by_bindings (Some list) bound few q low = All-get_or (λ channel. channel < script.card.channels) list q 0 low (All-below-answered list script.card.channels bound)
+
+  pub channels-below : IsScript script → is_right_segment script wavs (client, segment) ≡ true → (q : ℕ) → q < length (bound_by line wav)
+      → slice_index (bound_by line wav) q < script.card.channels
+  channels-below valid right =
+      let is_client : IsClientLine script.card line =
+      subst (IsClientLine script.card) (get_or_from_slice_get script.clients client line line line_is)
+      (All-get_or (IsClientLine script.card) script.clients client line (slice_get_within script.clients client line line_is) valid.each_client) in
+      by_bindings line.bindings is_client.bindings (few-channels right)
+
+-- one segment more is added
+pub parts-more : (script : Script) (wavs : List Sound) (from k : ℕ) (segments : List (ℕ × Segment)) (none : ℕ × Segment) (old mid new : List ℤ) → k < length segments
+    → IsSummed script.card.channels from (entries_of_segments script wavs (take k segments)) old mid
+    → IsSummed script.card.channels from (entries_of_segment script wavs (get_or segments k none).0 (get_or segments k none).1) mid new
+    → IsSummed script.card.channels from (entries_of_segments script wavs (take (k + 1) segments)) old new
+parts-more script wavs from k segments none old mid new low before one =
+    let own = λ (pair : ℕ × Segment). entries_of_segment script wavs pair.0 pair.1 in
+    let split : entries_of_segments script wavs (take (k + 1) segments) ≡ entries_of_segments script wavs (take k segments) ++ own (get_or segments k none) =
+    ap (entries_of_segments script wavs) (take_more segments k none low)
+    ∙ flat_map-append own (take k segments) (get_or segments k none ∷ [])
+    ∙ ap (λ es. entries_of_segments script wavs (take k segments) ++ es) (append-nil (own (get_or segments k none))) in
+    subst (λ (es : List Entry). IsSummed script.card.channels from es old new) (sym split)
+    (summed-both script.card.channels from (entries_of_segments script wavs (take k segments)) (own (get_or segments k none)) old mid new before one)

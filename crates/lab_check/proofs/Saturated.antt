@@ -1,0 +1,93 @@
+-- Sums that are saturated are the samples that are played.
+use Rattle.std.proofs.Common.{◌≡◌, ℕ, ◌+◌, ◌*◌, ◌/◌, ◌%◌, ◌<◌, refl, sym, ◌∙◌, ap, subst, arith, List, [], ◌∷◌, ◌++◌, length, take, drop, append_assoc}
+use Rattle.std.proofs.lemmas.Int.{ints}
+use Rattle.std.proofs.lemmas.List.{map-append, take-append-le, take_all}
+use Rattle.std.proofs.lemmas.Nat.{div-mul-add, mod-mul-add}
+use Rattle.std.proofs.Math.Nat.{div-add-mod, mod-lt}
+use Rattle.std.specs.Int.{int_wrap, w64}
+use Rattle.std.specs.List.{range_with_len}
+use Rattle.std.specs.Prelude.{ℤ, pos, ◌+ℤ◌, zero, suc, map, replicate, slice_index_or}
+use Rattle.lap_word.specs.Clamp.{clamp_of}
+use Rattle.mix_core.specs.declared.port.Entry.{Entry}
+use Rattle.mix_core.specs.Laid.{total}
+use Rattle.dmix_client.specs.ExpansionLaws.{range_with_len-append}
+use Rattle.lab_run.specs.LabRun.{mixed_at}
+use Rattle.lab_check.specs.Sums.{IsSummed}
+
+zeros-at : (n k : ℕ) → slice_index_or (replicate n (pos 0)) k (pos 0) ≡ pos 0
+zeros-at zero k = refl
+zeros-at (suc n) zero = refl
+zeros-at (suc n) (suc k) = zeros-at n k
+
+zeros-size : (n : ℕ) → length (replicate n (pos 0)) ≡ n
+zeros-size zero = refl
+zeros-size (suc n) = ap suc (zeros-size n)
+
+-- a sum is the total at its place, up to a multiple of 2^64
+pub saturated-total : (channels from : ℕ) (es : List Entry) (sums : List ℤ) (k : ℕ) → IsSummed channels from es (replicate (length sums) (pos 0)) sums → k < length sums
+    → int_wrap w64 (slice_index_or sums k (pos 0)) ≡ int_wrap w64 (total es (from + k / channels) (k % channels))
+saturated-total channels from es sums k summed low =
+    let none : slice_index_or (replicate (length sums) (pos 0)) k (pos 0) ≡ pos 0 = zeros-at (length sums) k in
+    let all : slice_index_or (replicate (length sums) (pos 0)) k (pos 0) +ℤ total es (from + k / channels) (k % channels) ≡ total es (from + k / channels) (k % channels) = omega (arith, ints, none) in
+    summed.sums k (subst (λ n. k < n) (sym (zeros-size (length sums))) low) ∙ ap (int_wrap w64) all
+
+-- one sample more
+pub played-more : (channels from k : ℕ) (es : List Entry) (before : List ℤ) (sample : ℤ) → sample ≡ clamp_of (total es (from + k / channels) (k % channels))
+    → (before ++ map (mixed_at channels from es) (range_with_len 0 k)) ++ sample ∷ [] ≡ before ++ map (mixed_at channels from es) (range_with_len 0 (k + 1))
+played-more channels from k es before sample is =
+    append_assoc before (map (mixed_at channels from es) (range_with_len 0 k)) (sample ∷ [])
+    ∙ ap (λ (l : List ℤ). before ++ l)
+    (ap (λ (s : ℤ). map (mixed_at channels from es) (range_with_len 0 k) ++ s ∷ []) is
+    ∙ sym (map-append (mixed_at channels from es) (range_with_len 0 k) (k ∷ []))
+    ∙ ap (λ (n : ℕ). map (mixed_at channels from es) (range_with_len 0 k ++ n ∷ [])) (let e : k ≡ 0 + k = omega arith in e)
+    ∙ ap (map (mixed_at channels from es)) (sym (range_with_len-append 0 k 1)))
+
+-- ---- windows
+
+shifted : (channels first done k : ℕ) (es : List Entry) → 0 < channels → mixed_at channels (first + done) es k ≡ mixed_at channels first es (done * channels + k)
+shifted channels first done k es some =
+    let c = k % channels in
+    let low : c < channels = mod-lt k some in
+    let parts : channels * (k / channels) + c ≡ k = div-add-mod k channels in
+    let place : done * channels + k ≡ (done + k / channels) * channels + c = omega (arith, parts) in
+    let row : (done * channels + k) / channels ≡ done + k / channels = ap (λ n. n / channels) place ∙ div-mul-add (done + k / channels) channels c low in
+    let channel : (done * channels + k) % channels ≡ c = ap (λ n. n % channels) place ∙ mod-mul-add (done + k / channels) channels c low in
+    let frame : first + done + k / channels ≡ first + (done * channels + k) / channels = omega (arith, row) in
+    ap (λ f. clamp_of (total es f c)) frame ∙ ap (λ n. clamp_of (total es (first + (done * channels + k) / channels) n)) (sym channel)
+
+map-shifted : (f g : ℕ → ℤ) (a b n : ℕ) → ((k : ℕ) → f (a + k) ≡ g (b + k)) → map f (range_with_len a n) ≡ map g (range_with_len b n)
+map-shifted f g a b zero same = refl
+map-shifted f g a b (suc n) same =
+    let first : f a ≡ g b = ap f (let e : a ≡ a + 0 = omega arith in e) ∙ same 0 ∙ ap g (let e : b + 0 ≡ b = omega arith in e) in
+    let more : (k : ℕ) → f ((a + 1) + k) ≡ g ((b + 1) + k) = λ k.
+    ap f (let e : (a + 1) + k ≡ a + (1 + k) = omega arith in e) ∙ same (1 + k) ∙ ap g (let e : b + (1 + k) ≡ (b + 1) + k = omega arith in e) in
+    ap (λ (x : ℤ). x ∷ map f (range_with_len (a + 1) n)) first ∙ ap (λ (l : List ℤ). g b ∷ l) (map-shifted f g (a + 1) (b + 1) n more)
+
+-- the samples of a window after those before it
+pub window-more : (channels first done frames : ℕ) (es : List Entry) → 0 < channels
+    → map (mixed_at channels first es) (range_with_len 0 (done * channels)) ++ map (mixed_at channels (first + done) es) (range_with_len 0 (frames * channels))
+    ≡ map (mixed_at channels first es) (range_with_len 0 ((done + frames) * channels))
+window-more channels first done frames es some =
+    let size : done * channels + frames * channels ≡ (done + frames) * channels = omega arith in
+    ap (λ (l : List ℤ). map (mixed_at channels first es) (range_with_len 0 (done * channels)) ++ l)
+    (map-shifted (mixed_at channels (first + done) es) (mixed_at channels first es) 0 (0 + done * channels) (frames * channels)
+    (λ k. ap (mixed_at channels (first + done) es) (let e : 0 + k ≡ k = omega arith in e) ∙ shifted channels first done k es some
+    ∙ ap (mixed_at channels first es) (let e : done * channels + k ≡ (0 + done * channels) + k = omega arith in e)))
+    ∙ sym (map-append (mixed_at channels first es) (range_with_len 0 (done * channels)) (range_with_len (0 + done * channels) (frames * channels)))
+    ∙ ap (map (mixed_at channels first es)) (sym (range_with_len-append 0 (done * channels) (frames * channels)))
+    ∙ ap (λ n. map (mixed_at channels first es) (range_with_len 0 n)) size
+
+-- what is written back
+pub back : (n : ℕ) (new old : List ℤ) → n ≡ length new → take n (new ++ drop (length new) old) ≡ new
+back n new old same = take-append-le n new (drop (length new) old) (omega (arith, same)) ∙ take_all n new (omega (arith, same))
+
+-- sums of zeros to which all is added, as samples after those before
+pub window-played : (channels first done frames : ℕ) (es : List Entry) (before after sums : List ℤ) → 0 < channels → length sums ≡ frames * channels
+    → before ≡ map (mixed_at channels first es) (range_with_len 0 (done * channels))
+    → after ≡ before ++ map (mixed_at channels (first + done) es) (range_with_len 0 (length sums))
+    → after ≡ map (mixed_at channels first es) (range_with_len 0 ((done + frames) * channels))
+window-played channels first done frames es before after sums some size before_is after_is =
+    after_is
+    ∙ ap (λ n. before ++ map (mixed_at channels (first + done) es) (range_with_len 0 n)) size
+    ∙ ap (λ (l : List ℤ). l ++ map (mixed_at channels (first + done) es) (range_with_len 0 (frames * channels))) before_is
+    ∙ window-more channels first done frames es some

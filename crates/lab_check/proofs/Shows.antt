@@ -1,0 +1,127 @@
+-- What a checked run shows.
+use Rattle.std.proofs.Common.{◌≡◌, ℕ, ◌+◌, ◌*◌, ◌%◌, ◌<◌, ◌≤◌, refl, sym, ◌∙◌, ap, subst, arith, mul-le-mul, List, [], ◌∷◌, length, Option, Some, None}
+use Rattle.std.proofs.lemmas.List.{length-append}
+use Rattle.std.proofs.lemmas.List.Elements.{All-from_recursion}
+use Rattle.std.proofs.lemmas.List.FromFn.{get_or-map-range_with_len, length-map-range_with_len, length-range_with_len}
+use Rattle.std.proofs.lemmas.Nat.{div-mul-add, mod-mul-add}
+use Rattle.std.proofs.lemmas.Option.{slice_get_within}
+use Rattle.std.specs.List.{flat_map, range_with_len}
+use Rattle.std.specs.Prelude.{ℤ, pos, suc, map, slice_get, slice_index_or}
+use Rattle.lap_word.specs.Clamp.{clamp_of}
+use Rattle.mix_core.specs.Laid.{total}
+use Rattle.wav_io.specs.Sound.{Sound}
+use Rattle.lab_lines.specs.declared.report.Report.{Report}
+use Rattle.lab_lines.specs.declared.script.CardLine.{CardLine}
+use Rattle.lab_lines.specs.declared.script.ReaderLine.{ReaderLine}
+use Rattle.lab_lines.specs.declared.script.Script.{Script}
+use Rattle.lab_run.specs.LabRun.{mixed_at}
+use Rattle.lab_run.specs.Openings.{read_by}
+use Rattle.lab_run.specs.OwnRows.{rows_by, runs_by}
+use Rattle.lab_run.specs.Phases.{is_reader}
+use Rattle.lab_run.specs.Stretches.{AreSlices}
+use Rattle.lab_headline.specs.Files.{IsMixOfFiles, placed_from}
+use Rattle.lab_headline.specs.Recordings.{frames_in_runs, frames_of_runs}
+use Rattle.lab_check.specs.Checked.{IsChecked}
+use Rattle.lab_check.specs.Lines.{first_row_line, first_run_line}
+use Rattle.lab_check.specs.Reads.{end_defect, reader_defect, reads_end, run_defect, runs_with_lines}
+use Rattle.lab_check.specs.Samples.{captured_by, captured_runs, played_samples, readers_samples, run_samples}
+use Rattle.lab_check.specs.Shown.{IsCapturedRun, IsShown, ShowsLate, ShowsReader, ShowsSamples}
+use Rattle.lab_check.proofs.LateMisses.{rows-show}
+use Rattle.lab_check.proofs.Slices.{TookAll, lines-off, rows-took, runs-captured, unlined}
+use Rattle.lab_check.proofs.ClientTotals.{sums-are}
+use Rattle.lab_check.proofs.ReaderSamples.{recorded-at}
+use Rattle.lab_check.proofs.Tested.{Passes, first-none, one_reader, report-passes, second-none, text-passes}
+
+mix-shows : (script : Script) (wavs : List Sound) (report : Report) → Passes script wavs report → IsMixOfFiles script wavs report (played_samples script wavs report)
+mix-shows script wavs report passes =
+    let channels = script.card.channels in
+    let mixed_of = mixed_at channels report.first (placed_from script wavs report) in
+    record {
+      first = passes.first;
+      samples = length-map-range_with_len mixed_of 0 (report.frames * channels);
+      sums = λ frame channel in_frames in_channels.
+          let k = frame * channels + channel in
+          let most : suc frame * channels ≤ report.frames * channels = mul-le-mul {n₁ = suc frame} {m₁ = channels} {n₂ = report.frames} {m₂ = channels} in_frames (omega arith) in
+          let step : suc frame * channels ≡ frame * channels + channels = omega arith in
+          let within : k < report.frames * channels = omega (arith, most, step, in_channels) in
+          get_or-map-range_with_len mixed_of 0 (report.frames * channels) k k (pos 0) within (omega arith)
+          ∙ ap (λ f. clamp_of (total (placed_from script wavs report) (report.first + f) (k % channels))) (div-mul-add frame channels channel in_channels)
+          ∙ ap (λ c. clamp_of (total (placed_from script wavs report) (report.first + frame) c)) (mod-mul-add frame channels channel in_channels);
+    }
+
+-- how many samples some runs have
+frames-count : (runs : List (ℕ × ℕ)) → length (frames_of_runs runs) ≡ frames_in_runs runs
+frames-count [] = refl
+frames-count ((first, count) ∷ runs) =
+    length-append (range_with_len first count) (frames_of_runs runs)
+    ∙ ap (λ n. n + length (frames_of_runs runs)) (length-range_with_len first count)
+    ∙ ap (λ n. count + n) (frames-count runs)
+
+map-size : {X Y : Type 0} (f : X → Y) (xs : List X) → length (map f xs) ≡ length xs
+map-size f [] = refl
+map-size f (x ∷ xs) = ap suc (map-size f xs)
+
+samples-count : (sample_of : ℕ → ℕ → ℤ) (bindings frames : List ℕ) → length (flat_map (λ frame. map (sample_of frame) bindings) frames) ≡ length frames * length bindings
+samples-count sample_of bindings [] = omega arith
+samples-count sample_of bindings (frame ∷ frames) =
+    length-append (map (sample_of frame) bindings) (flat_map (λ f. map (sample_of f) bindings) frames)
+    ∙ ap (λ n. n + length (flat_map (λ f. map (sample_of f) bindings) frames)) (map-size (sample_of frame) bindings)
+    ∙ ap (λ n. length bindings + n) (samples-count sample_of bindings frames)
+    ∙ step
+  where
+    step : length bindings + length frames * length bindings ≡ suc (length frames) * length bindings
+    step = omega arith
+
+-- a reader of which nothing fails
+pub reader-shows : (script : Script) (capture : Option Sound) (report : Report) (number : ℕ) (line : ReaderLine) → reader_defect report number ≡ None
+    → ShowsReader script capture report number line (captured_runs script.card capture (read_by script.card line) (runs_by number report.runs))
+reader-shows script capture report number line is =
+    let lined = runs_with_lines number (first_run_line report) report.runs in
+    let runs = runs_by number report.runs in
+    let same : map unlined lined ≡ runs = lines-off number (first_run_line report) report.runs in
+    let none = first-none (run_defect report.first (report.first + report.frames) lined) (end_defect (reads_end number first_row_line (None, lined) report.rows)) is in
+    let none_read = second-none (run_defect report.first (report.first + report.frames) lined) (end_defect (reads_end number first_row_line (None, lined) report.rows)) is in
+    let took : TookAll None lined (rows_by (is_reader number) report.rows) = rows-took number first_row_line None lined report.rows none_read in
+    let bindings = read_by script.card line in
+    record {
+      frames = refl;
+      samples_are = samples-count (captured_by script.card capture) bindings (frames_of_runs runs) ∙ ap (λ n. n * length bindings) (frames-count runs);
+      captured = All-from_recursion (IsCapturedRun report.first (report.first + report.frames)) runs
+          (subst (Rattle.std.specs.List.AllByRecursion (IsCapturedRun report.first (report.first + report.frames))) same (runs-captured report.first (report.first + report.frames) report.first lined (omega arith) none));
+      after = took.0;
+      stretches = subst (λ (r : List (ℕ × ℕ)). AreSlices None (rows_by (is_reader number) report.rows) (frames_of_runs r) took.0) same took.1;
+    }
+
+recorded-size : (card : CardLine) (capture : Option Sound) (report : Report) (number : ℕ) (lines : List ReaderLine)
+    → length (readers_samples card capture report number lines) ≡ length lines
+recorded-size card capture report number [] = refl
+recorded-size card capture report number (line ∷ lines) = ap suc (recorded-size card capture report (number + 1) lines)
+
+each-shows : (script : Script) (wavs : List Sound) (capture : Option Sound) (report : Report) → Passes script wavs report → (number : ℕ) (line : ReaderLine)
+    → slice_get script.readers number ≡ Some line
+    → ShowsReader script capture report number line (slice_index_or (readers_samples script.card capture report 0 script.readers) number [])
+each-shows script wavs capture report passes number line is =
+    let none : reader_defect report number ≡ None = one_reader script report number (slice_get_within script.readers number line is) passes.readers in
+    subst (ShowsReader script capture report number line) (sym (recorded-at script.card capture report number script.readers line is)) (reader-shows script capture report number line none)
+
+pub passes-shows : (script : Script) (wavs : List Sound) (capture : Option Sound) (report : Report) → Passes script wavs report
+    → ShowsSamples script wavs capture report (run_samples script wavs capture report)
+passes-shows script wavs capture report passes = record {
+  mix = mix-shows script wavs report passes;
+  clients = λ frame channel. sums-are script wavs frame channel report.segments passes.segments;
+  late = All-from_recursion (ShowsLate script wavs report) report.rows (rows-show script wavs report report.rows passes.rows);
+  readers = recorded-size script.card capture report 0 script.readers;
+  each = each-shows script wavs capture report passes;
+}
+
+pub checked-shows : (script : Script) (wavs : List Sound) (capture : Option Sound) (text : List ℕ) (files : List (List ℕ))
+    → IsChecked script wavs capture text files → IsShown script wavs capture text files
+checked-shows script wavs capture text files checked =
+    let passed = text-passes script wavs text checked.report checked.passes in
+    record {
+      report = checked.report;
+      samples = run_samples script wavs capture checked.report;
+      read = passed.read;
+      shows = passes-shows script wavs capture checked.report (report-passes script wavs checked.report passed.none);
+      files_are = checked.files_are;
+    }

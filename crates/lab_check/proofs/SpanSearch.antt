@@ -1,0 +1,147 @@
+-- A frame is looked up among spans.
+use Rattle.std.proofs.Common.{◌≡◌, ℕ, ◌+◌, ◌-◌, ◌^◌, ◌<◌, ◌≤◌, refl, sym, ◌∙◌, ap, subst, arith, List, [], ◌∷◌, ◌++◌, length, take, get_or, Some, None}
+use Rattle.std.proofs.lemmas.Bool.{leb-false, leb-true, le-leb, lt-leb}
+use Rattle.std.proofs.lemmas.List.{map-append, take_more}
+use Rattle.std.proofs.lemmas.List.Folds.{list_any-append}
+use Rattle.std.specs.List.{list_any, position, prefix_len}
+use Rattle.std.specs.Prelude.{Bool, true, false, ◌&&◌, ◌||◌, cond, map, max, min, nat_le, nat_lt, not, suc, zero, slice_get, slice_index_or}
+use Rattle.lab_check.specs.declared.spans.FrameSpan.{FrameSpan}
+use Rattle.lab_check.specs.Spans.{greatest_ends, is_in_span}
+
+or-false : (b : Bool) → (b || false) ≡ b
+or-false true = refl
+or-false false = refl
+
+or-or : (a b c : Bool) → (a || (b || c)) ≡ ((a || b) || c)
+or-or true b c = refl
+or-or false b c = refl
+
+-- ---- one span
+
+le-max : (frame a b : ℕ) → nat_le frame (max a b) ≡ (nat_le frame a || nat_le frame b)
+le-max frame a b = by_tests (nat_le frame a) (nat_le frame b) refl refl
+  where
+    by_tests : (x y : Bool) → nat_le frame a ≡ x → nat_le frame b ≡ y → nat_le frame (max a b) ≡ (x || y)
+    by_tests true y first second = let low : frame ≤ a = leb-true frame a first in le-leb frame (max a b) (omega (arith, low))
+    by_tests false true first second = let low : frame ≤ b = leb-true frame b second in le-leb frame (max a b) (omega (arith, low))
+    by_tests false false first second =
+        let past : a < frame = leb-false frame a first in
+        let past_two : b < frame = leb-false frame b second in
+        lt-leb frame (max a b) (omega (arith, past, past_two))
+
+-- the frames up to the one that is so many behind a first one
+pub span-frames : (frame first count last : ℕ) → frame < 2 ^ 64 → last ≡ min (first + count) (2 ^ 64 - 1)
+    → (nat_le first frame && nat_le frame last) ≡ (nat_le first frame && nat_le (frame - first) count)
+span-frames frame first count last low last_is = by_first (nat_le first frame) refl
+  where
+    same : first ≤ frame → (b : Bool) → nat_le (frame - first) count ≡ b → nat_le frame last ≡ b
+    same from true is =
+        let few : frame - first ≤ count = leb-true (frame - first) count is in
+        le-leb frame last (omega (arith, low, last_is, from, few))
+    same from false is =
+        let many : count < frame - first = leb-false (frame - first) count is in
+        lt-leb frame last (omega (arith, last_is, from, many))
+
+    by_first : (b : Bool) → nat_le first frame ≡ b → (b && nat_le frame last) ≡ (b && nat_le (frame - first) count)
+    by_first true is = same (leb-true first frame is) (nat_le (frame - first) count) refl
+    by_first false is = refl
+
+-- ---- spans, one after the other
+
+pub any-pushed : (frame : ℕ) (spans : List FrameSpan) (span : FrameSpan)
+    → list_any (is_in_span frame) (spans ++ span ∷ []) ≡ (list_any (is_in_span frame) spans || is_in_span frame span)
+any-pushed frame spans span =
+    list_any-append (is_in_span frame) spans (span ∷ [])
+    ∙ ap (λ b. list_any (is_in_span frame) spans || b) (or-false (is_in_span frame span))
+
+pub any-same : (frame : ℕ) (spans : List FrameSpan) → list_any (is_in_span frame) spans ≡ (list_any (is_in_span frame) spans || false)
+any-same frame spans = sym (or-false (list_any (is_in_span frame) spans))
+
+pub ends-length : (most : ℕ) (spans : List FrameSpan) → length (greatest_ends most spans) ≡ length spans
+ends-length most [] = refl
+ends-length most (span ∷ spans) = ap suc (ends-length (max most span.last) spans)
+
+-- no span begins by a frame
+none-begins : (frame : ℕ) (spans : List FrameSpan) → ((j : ℕ) (d : FrameSpan) → j < length spans → nat_le (slice_index_or spans j d).first frame ≡ false)
+    → list_any (is_in_span frame) spans ≡ false
+none-begins frame [] late = refl
+none-begins frame (span ∷ spans) late =
+    let here : nat_le span.first frame ≡ false = late zero span (omega arith) in
+    rw here (none-begins frame spans (λ j d below. late (suc j) d (omega (arith, below))))
+
+-- as many as k of the spans begin by a frame
+looked-up : (most frame k : ℕ) (spans : List FrameSpan) → k ≤ length spans
+    → ((j : ℕ) (d : FrameSpan) → j < k → nat_le (slice_index_or spans j d).first frame ≡ true)
+    → ((j : ℕ) (d : FrameSpan) → k ≤ j → j < length spans → nat_le (slice_index_or spans j d).first frame ≡ false)
+    → (nat_le frame most || list_any (is_in_span frame) spans) ≡ nat_le frame (slice_index_or (most ∷ greatest_ends most spans) k 0)
+looked-up most frame zero spans low early late =
+    ap (λ b. nat_le frame most || b) (none-begins frame spans (λ j d below. late j d (omega arith) below))
+    ∙ or-false (nat_le frame most)
+looked-up most frame (suc k) [] low early late = absurd (omega (arith, low))
+looked-up most frame (suc k) (span ∷ spans) low early late =
+    let here : nat_le span.first frame ≡ true = early zero span (omega arith) in
+    let any = list_any (is_in_span frame) spans in
+    ap (λ b. nat_le frame most || ((b && nat_le frame span.last) || any)) here
+    ∙ or-or (nat_le frame most) (nat_le frame span.last) any
+    ∙ ap (λ b. b || any) (sym (le-max frame most span.last))
+    ∙ looked-up (max most span.last) frame k spans (omega (arith, low)) (λ j d below. early (suc j) d (omega (arith, below)))
+    (λ j d from below. late (suc j) d (omega (arith, from)) (omega (arith, below)))
+
+-- the greatest last frame so far tells of all spans that begin by a frame
+pub found : (frame k : ℕ) (spans : List FrameSpan) → k < length spans
+    → ((j : ℕ) (d : FrameSpan) → j < suc k → nat_le (slice_index_or spans j d).first frame ≡ true)
+    → ((j : ℕ) (d : FrameSpan) → suc k ≤ j → j < length spans → nat_le (slice_index_or spans j d).first frame ≡ false)
+    → list_any (is_in_span frame) spans ≡ nat_le frame (slice_index_or (greatest_ends 0 spans) k 0)
+found frame k [] low early late = absurd (omega (arith, low))
+found frame k (span ∷ spans) low early late =
+    let here : nat_le span.first frame ≡ true = early zero span (omega arith) in
+    let same : span.last ≡ max 0 span.last = omega arith in
+    ap (λ b. (b && nat_le frame span.last) || list_any (is_in_span frame) spans) here
+    ∙ looked-up span.last frame k spans (omega (arith, low)) (λ j d below. early (suc j) d (omega (arith, below)))
+    (λ j d from below. late (suc j) d (omega (arith, from)) (omega (arith, below)))
+    ∙ ap (λ most. nat_le frame (slice_index_or (most ∷ greatest_ends most spans) k 0)) same
+
+pub nothing-found : (frame : ℕ) (spans : List FrameSpan) → ((j : ℕ) (d : FrameSpan) → 0 ≤ j → j < length spans → nat_le (slice_index_or spans j d).first frame ≡ false)
+    → false ≡ list_any (is_in_span frame) spans
+nothing-found frame spans late = sym (none-begins frame spans (λ j d below. late j d (omega arith) below))
+
+-- ---- lists of indexes
+
+pub get-pushed : {X : Type 0} (xs : List X) (x : X) (k : ℕ) → k ≡ length xs → slice_get (xs ++ x ∷ []) k ≡ Some x
+get-pushed [] x zero is = refl
+get-pushed [] x (suc k) is = absurd (omega (arith, is))
+get-pushed (y ∷ xs) x zero is = absurd (omega (arith, is))
+get-pushed (y ∷ xs) x (suc k) is = get-pushed xs x k (omega (arith, is))
+
+pub get-before : {X : Type 0} (xs : List X) (x : X) (k : ℕ) → k < length xs → slice_get (xs ++ x ∷ []) k ≡ slice_get xs k
+get-before [] x k low = absurd (omega (arith, low))
+get-before (y ∷ xs) x zero low = refl
+get-before (y ∷ xs) x (suc k) low = get-before xs x k (omega (arith, low))
+
+pub get-past : {X : Type 0} (xs : List X) (k : ℕ) → length xs ≤ k → slice_get xs k ≡ None
+get-past [] k past = refl
+get-past (x ∷ xs) zero past = absurd (omega (arith, past))
+get-past (x ∷ xs) (suc k) past = get-past xs k (omega (arith, past))
+
+-- ---- the place of a test among the answers
+
+answers-before : {X : Type 0} (test : X → Bool) (xs : List X) → prefix_len (λ b. not (not b)) (map test xs) ≡ prefix_len (λ x. not (not (test x))) xs
+answers-before test [] = refl
+answers-before test (x ∷ xs) = ap (λ n. cond (not (not (test x))) (1 + n) 0) (answers-before test xs)
+
+map-length : {X Y : Type 0} (f : X → Y) (xs : List X) → length (map f xs) ≡ length xs
+map-length f [] = refl
+map-length f (x ∷ xs) = ap suc (map-length f xs)
+
+pub position-map : {X : Type 0} (test : X → Bool) (xs : List X) → position (λ b. not b) (map test xs) ≡ position (λ x. not (test x)) xs
+position-map test xs =
+    ap (λ n. cond (nat_lt n (length (map test xs))) (Some n) None) (answers-before test xs)
+    ∙ ap (λ n. cond (nat_lt (prefix_len (λ x. not (not (test x))) xs) n) (Some (prefix_len (λ x. not (not (test x))) xs)) None) (map-length test xs)
+
+-- one answer more
+pub map-more : {X Y : Type 0} (f : X → Y) (xs ys : List X) (k : ℕ) (d : X) → ys ≡ xs → k < length ys
+    → map f (take k xs) ++ f (get_or ys k d) ∷ [] ≡ map f (take (k + 1) xs)
+map-more {X} f xs ys k d same low =
+    let within : k < length xs = subst (λ (l : List X). k < length l) same low in
+    ap (λ (l : List X). map f (take k xs) ++ f (get_or l k d) ∷ []) same
+    ∙ sym (ap (map f) (take_more xs k d within) ∙ map-append f (take k xs) (get_or xs k d ∷ []))

@@ -1,0 +1,193 @@
+-- Sums to which entries are added.
+use Rattle.std.proofs.Common.{◌≡◌, ℕ, ◌+◌, ◌*◌, ◌/◌, ◌%◌, ◌<◌, ◌≤◌, refl, sym, ◌∙◌, ap, subst, arith, List, [], ◌∷◌, ◌++◌, length, set, length-set}
+use Rattle.std.proofs.lemmas.Bool.{eqb-true, eqb-false, eq-eqb}
+use Rattle.std.proofs.lemmas.Bool.Decides.{nat_tests}
+use Rattle.std.proofs.lemmas.Int.{ints, int_wrap-add_same, int_wrap_fits, SFits-int_wrap}
+use Rattle.std.proofs.lemmas.List.{append-nil, get_or-set_same, get_or-set_other, map-append, take_more}
+use Rattle.std.proofs.lemmas.Grind.{flat_map-append}
+use Rattle.std.proofs.lemmas.Nat.{div-mul-add, mod-mul-add}
+use Rattle.std.proofs.Math.Nat.{div-add-mod}
+use Rattle.std.specs.Int.{int_wrap, w64}
+use Rattle.std.specs.List.{flat_map, range_with_len}
+use Rattle.std.specs.Prelude.{ℤ, pos, ◌+ℤ◌, Bool, true, false, ◌&&◌, nat_eq, nat_lt, zero, suc, if◌then◌else◌, slice_index, slice_index_or, take}
+use Rattle.bindings.specs.Bound.{rising}
+use Rattle.mix_core.specs.declared.port.Entry.{Entry}
+use Rattle.mix_core.specs.declared.port.Kind.TheVariants.{Added}
+use Rattle.mix_core.specs.HistoryLaws.{at-append, total-append}
+use Rattle.mix_core.specs.Laid.{at, is_at, sum_of_samples, total}
+use Rattle.dmix_client.specs.Expansion.{frame_entries}
+use Rattle.dmix_client.specs.ExpansionLaws.{range_with_len-append}
+use Rattle.lab_check.specs.Sums.{IsSummed}
+use Rattle.lab_check.proofs.Covers.{other-frame}
+use Rattle.lab_check.proofs.LateMisses.{none-at}
+
+-- ---- nothing, one after the other, and one entry
+
+pub summed-none : (channels from : ℕ) (es : List Entry) (sums : List ℤ) → ((k : ℕ) → k < length sums → at es (from + k / channels) (k % channels) ≡ [])
+    → IsSummed channels from es sums sums
+summed-none channels from es sums none = record {
+  same = refl;
+  sums = λ k low.
+      let nothing : total es (from + k / channels) (k % channels) ≡ pos 0 = ap sum_of_samples (none k low) in
+      let same : slice_index_or sums k (pos 0) ≡ slice_index_or sums k (pos 0) +ℤ total es (from + k / channels) (k % channels) = omega (arith, ints, nothing) in
+      ap (int_wrap w64) same;
+}
+
+pub summed-both : (channels from : ℕ) (xs ys : List Entry) (old mid new : List ℤ) → IsSummed channels from xs old mid → IsSummed channels from ys mid new
+    → IsSummed channels from (xs ++ ys) old new
+summed-both channels from xs ys old mid new first second = record {
+  same = second.same ∙ first.same;
+  sums = λ k low.
+      let f = from + k / channels in
+      let c = k % channels in
+      let all : total (xs ++ ys) f c ≡ total xs f c +ℤ total ys f c = total-append xs ys f c in
+      let sum : (slice_index_or old k (pos 0) +ℤ total xs f c) +ℤ total ys f c ≡ slice_index_or old k (pos 0) +ℤ total (xs ++ ys) f c = omega (arith, ints, all) in
+      second.sums k (subst (λ n. k < n) (sym first.same) low)
+      ∙ int_wrap-add_same w64 (slice_index_or mid k (pos 0)) (slice_index_or old k (pos 0) +ℤ total xs f c) (total ys f c) (first.sums k low)
+      ∙ ap (int_wrap w64) sum;
+}
+
+module _ (channels from row channel member : ℕ) (sample : ℤ) where
+  abbrev pub the_entry : Entry
+  the_entry = record { member = member; frame = from + row; channel = channel; sample = sample; kind = Added }
+
+  one-total : (f c : ℕ) (b : Bool) → is_at f c the_entry ≡ b → total (the_entry ∷ []) f c ≡ (if b then sample else pos 0)
+  one-total f c true is = rw is (omega (arith, ints))
+  one-total f c false is = rw is refl
+
+  pub summed-one : (old : List ℤ) (value : ℤ) → channel < channels → row * channels + channel < length old
+      → int_wrap w64 value ≡ int_wrap w64 (slice_index_or old (row * channels + channel) (pos 0) +ℤ sample)
+      → IsSummed channels from (the_entry ∷ []) old (set old (row * channels + channel) value)
+  summed-one old value in_channels in_sums is = record {
+    same = length-set old place value;
+    sums = λ k low. by_place k low (nat_eq place k) refl;
+  }
+    where
+      place : ℕ
+      place = row * channels + channel
+
+      here : int_wrap w64 (slice_index_or (set old (row * channels + channel) value) (row * channels + channel) (pos 0))
+          ≡ int_wrap w64 (slice_index_or old (row * channels + channel) (pos 0) +ℤ total (the_entry ∷ []) (from + (row * channels + channel) / channels) ((row * channels + channel) % channels))
+      here =
+          let row_is : (row * channels + channel) / channels ≡ row = div-mul-add row channels channel in_channels in
+          let channel_is : (row * channels + channel) % channels ≡ channel = mod-mul-add row channels channel in_channels in
+          let at_entry : is_at (from + (row * channels + channel) / channels) ((row * channels + channel) % channels) the_entry ≡ true =
+          rw (row_is, channel_is) (rw (eq-eqb (from + row) (from + row) refl, eq-eqb channel channel refl) refl) in
+          let value_is : total (the_entry ∷ []) (from + (row * channels + channel) / channels) ((row * channels + channel) % channels) ≡ sample = one-total _ _ true at_entry in
+          ap (int_wrap w64) (get_or-set_same old (row * channels + channel) value (pos 0) in_sums)
+          ∙ is
+          ∙ ap (λ x. int_wrap w64 (slice_index_or old (row * channels + channel) (pos 0) +ℤ x)) (sym value_is)
+
+      elsewhere : (k : ℕ) → (k ≡ row * channels + channel → ⊥) → is_at (from + k / channels) (k % channels) the_entry ≡ false
+      elsewhere k not = by_tests (nat_eq (from + row) (from + k / channels)) (nat_eq channel (k % channels)) refl refl
+        where
+          by_tests : (a b : Bool) → nat_eq (from + row) (from + k / channels) ≡ a → nat_eq channel (k % channels) ≡ b → (a && b) ≡ false
+          by_tests true true first second =
+              let row_is : from + row ≡ from + k / channels = eqb-true (from + row) (from + k / channels) first in
+              let row_same : row ≡ k / channels = omega (arith, row_is) in
+              let channel_is : channel ≡ k % channels = eqb-true channel (k % channels) second in
+              let parts : channels * (k / channels) + k % channels ≡ k = div-add-mod k channels in
+              let product : row * channels ≡ k / channels * channels = ap (λ r. r * channels) row_same in
+              absurd (not (omega (arith, product, channel_is, parts)))
+          by_tests true false first second = refl
+          by_tests false b first second = refl
+
+      by_place : (k : ℕ) → k < length old → (b : Bool) → nat_eq (row * channels + channel) k ≡ b
+          → int_wrap w64 (slice_index_or (set old (row * channels + channel) value) k (pos 0))
+          ≡ int_wrap w64 (slice_index_or old k (pos 0) +ℤ total (the_entry ∷ []) (from + k / channels) (k % channels))
+      by_place k low true same =
+          subst (λ n. int_wrap w64 (slice_index_or (set old (row * channels + channel) value) n (pos 0))
+          ≡ int_wrap w64 (slice_index_or old n (pos 0) +ℤ total (the_entry ∷ []) (from + n / channels) (n % channels)))
+          (eqb-true (row * channels + channel) k same) here
+      by_place k low false other =
+          let not : row * channels + channel ≡ k → ⊥ = eqb-false (row * channels + channel) k other in
+          let apart : k ≡ row * channels + channel → ⊥ = λ e. not (sym e) in
+          let nothing : total (the_entry ∷ []) (from + k / channels) (k % channels) ≡ pos 0 = one-total _ _ false (elsewhere k apart) in
+          let same : slice_index_or old k (pos 0) ≡ slice_index_or old k (pos 0) +ℤ total (the_entry ∷ []) (from + k / channels) (k % channels) = omega (arith, ints, nothing) in
+          ap (int_wrap w64) (get_or-set_other old (row * channels + channel) k value (pos 0) apart ∙ same)
+
+-- ---- a frame
+
+pub frame-more : (member : ℕ) (bindings : List ℕ) (sample_of : ℕ → ℤ) (place card : ℕ) → place < length (rising bindings)
+    → frame_entries member bindings sample_of (place + 1) card
+    ≡ frame_entries member bindings sample_of place card
+    ++ record {
+      member = member;
+      frame = card;
+      channel = slice_index bindings (slice_index (rising bindings) place);
+      sample = sample_of (slice_index (rising bindings) place);
+      kind = Added;
+    } ∷ []
+frame-more member bindings sample_of place card low =
+    rw (take_more (rising bindings) place 0 low) (map-append _ (take place (rising bindings)) (slice_index (rising bindings) place ∷ []))
+
+-- one place more of a frame is added
+pub frame-step : (channels from row place at member client channel : ℕ) (bindings : List ℕ) (samples old sums : List ℤ) (value : ℤ)
+    → place < length (rising bindings) → client ≡ slice_index (rising bindings) place → channel ≡ slice_index bindings client
+    → channel < channels → row * channels + channel < length sums
+    → value ≡ int_wrap w64 (slice_index_or sums (row * channels + channel) (pos 0) +ℤ slice_index_or samples (at + client) (pos 0))
+    → IsSummed channels from (frame_entries member bindings (λ q. slice_index_or samples (at + q) (pos 0)) place (from + row)) old sums
+    → IsSummed channels from (frame_entries member bindings (λ q. slice_index_or samples (at + q) (pos 0)) (place + 1) (from + row)) old (set sums (row * channels + channel) value)
+frame-step channels from row place at member client channel bindings samples old sums value low client_is channel_is in_channels in_sums value_is before =
+    let sample_of = λ (q : ℕ). slice_index_or samples (at + q) (pos 0) in
+    let wrapped : int_wrap w64 value ≡ int_wrap w64 (slice_index_or sums (row * channels + channel) (pos 0) +ℤ sample_of client) =
+    ap (int_wrap w64) value_is ∙ int_wrap_fits w64 _ (SFits-int_wrap w64 _) in
+    let one : IsSummed channels from (the_entry channels from row channel member (sample_of client) ∷ []) sums (set sums (row * channels + channel) value) =
+    summed-one channels from row channel member (sample_of client) sums value in_channels in_sums wrapped in
+    let entry_is : record { member = member; frame = from + row; channel = channel; sample = sample_of client; kind = Added }
+    ≡ record {
+      member = member;
+      frame = from + row;
+      channel = slice_index bindings (slice_index (rising bindings) place);
+      sample = sample_of (slice_index (rising bindings) place);
+      kind = Added;
+    } = rw (channel_is, client_is) refl in
+    subst (λ (es : List Entry). IsSummed channels from es old (set sums (row * channels + channel) value)) (sym (frame-more member bindings sample_of place (from + row) low))
+    (summed-both channels from (frame_entries member bindings sample_of place (from + row)) _ old sums (set sums (row * channels + channel) value) before
+    (subst (λ (e : Entry). IsSummed channels from (e ∷ []) sums (set sums (row * channels + channel) value)) entry_is one))
+
+-- ---- a segment, frame by frame
+
+module _ (member : ℕ) (bindings : List ℕ) (sample_of : ℕ → ℕ → ℤ) (card whole part : ℕ) where
+  -- how many channels a frame has: all of them, or those of the part
+  abbrev pub places_at : ℕ → ℕ
+  places_at j = if nat_lt j whole then length bindings else part
+
+  abbrev pub frame_of_segment : ℕ → List Entry
+  frame_of_segment j = frame_entries member bindings (sample_of j) (places_at j) (card + j)
+
+  abbrev pub whole_frame : ℕ → List Entry
+  whole_frame j = frame_entries member bindings (sample_of j) (length bindings) (card + j)
+
+  pub whole-same : (a n : ℕ) → a + n ≤ whole → flat_map whole_frame (range_with_len a n) ≡ flat_map frame_of_segment (range_with_len a n)
+  whole-same a zero low = refl
+  whole-same a (suc n) low =
+      let test : nat_lt a whole ≡ true = grind (arith, nat_tests, low) in
+      let first : whole_frame a ≡ frame_of_segment a = rw test refl in
+      ap (λ es. es ++ flat_map whole_frame (range_with_len (a + 1) n)) first
+      ∙ ap (λ es. frame_of_segment a ++ es) (whole-same (a + 1) n (omega (arith, low)))
+
+  pub frames-are : flat_map whole_frame (range_with_len 0 whole) ++ frame_entries member bindings (sample_of (0 + whole)) part (card + (0 + whole))
+      ≡ flat_map frame_of_segment (range_with_len 0 (whole + 1))
+  frames-are =
+      let test : nat_lt whole whole ≡ false = grind (arith, nat_tests) in
+      let zero_whole : 0 + whole ≡ whole = omega arith in
+      let last : frame_entries member bindings (sample_of (0 + whole)) part (card + (0 + whole)) ≡ frame_of_segment whole =
+      ap (λ n. frame_entries member bindings (sample_of n) part (card + n)) zero_whole ∙ rw test refl in
+      let one : flat_map frame_of_segment (range_with_len (0 + whole) 1) ≡ frame_of_segment whole =
+      ap (λ n. frame_of_segment n ++ []) zero_whole ∙ append-nil (frame_of_segment whole) in
+      ap (λ es. es ++ frame_entries member bindings (sample_of (0 + whole)) part (card + (0 + whole))) (whole-same 0 whole (omega arith))
+      ∙ ap (λ es. flat_map frame_of_segment (range_with_len 0 whole) ++ es) (last ∙ sym one)
+      ∙ sym (flat_map-append frame_of_segment (range_with_len 0 whole) (range_with_len (0 + whole) 1))
+      ∙ ap (flat_map frame_of_segment) (sym (range_with_len-append 0 whole 1))
+
+  pub outside : (a n frame channel : ℕ) → ((j : ℕ) → a ≤ j → j < a + n → card + j ≡ frame → ⊥)
+      → at (flat_map frame_of_segment (range_with_len a n)) frame channel ≡ []
+  outside a zero frame channel not = refl
+  outside a (suc n) frame channel not =
+      let apart : card + a ≡ frame → ⊥ = not a (omega arith) (omega arith) in
+      at-append (frame_of_segment a) (flat_map frame_of_segment (range_with_len (a + 1) n)) frame channel
+      ∙ ap (λ l. l ++ at (flat_map frame_of_segment (range_with_len (a + 1) n)) frame channel)
+      (none-at (frame_of_segment a) frame channel
+      (other-frame member bindings frame channel (sample_of a) (card + a) (take (places_at a) (rising bindings)) (grind (arith, nat_tests, apart))))
+      ∙ outside (a + 1) n frame channel (λ j low high. not j (omega (arith, low)) (omega (arith, high)))

@@ -1,0 +1,9 @@
+use Rattle.std.proofs.Common.{◌≡◌, ◌<◌, ◌^◌, ℕ, take}
+use Rattle.std.specs.List.{list_any}
+use Rattle.lab_check.specs.Late.{covers}
+use Rattle.lab_check.specs.Spans.{is_in_span}
+use Rattle.lab_check.proofs.late.client_spans.Given as goal
+
+abbrev pub invariant-loop-client : goal.invariant-loop-client
+invariant-loop-client l = (frame : ℕ) → frame < 2 ^ 64
+    → list_any (is_in_span frame) l.spans.items ≡ list_any (covers l.script l.wavs l.number frame l.channel) (take l.client-index l.segments)

@@ -1,0 +1,21 @@
+use Rattle.std.proofs.Common.{◌≡◌, ◌+◌, ◌*◌, ◌^◌, ◌<◌, List, length, subst, sym}
+use Rattle.std.proofs.lemmas.Result.{IfOk-weaker}
+use Rattle.std.specs.Global.{Vec}
+use Rattle.std.specs.Prelude.{ℤ}
+use Rattle.lab_check.specs.Samples as samples
+use Rattle.lab_check.proofs.FileSizes.{played-few}
+use Rattle.lab_check.proofs.Tested.{passed_end, passed_segments}
+use Rattle.lab_check.proofs.played.played_samples.Goals as goal
+
+pub mixed_report-requires-clause-right : goal.mixed_report-requires-clause-right
+mixed_report-requires-clause-right c = passed_segments c.args.script.now c.args.wavs.now c.args.report.now c.requires.tested
+
+pub mixed_report-requires-clause-end : goal.mixed_report-requires-clause-end
+mixed_report-requires-clause-end c = passed_end c.args.script.now c.args.wavs.now c.args.report.now c.requires.script c.requires.tested
+
+pub returns-clause-few : goal.returns-clause-few
+returns-clause-few c =
+    IfOk-weaker c.mixed_report.result (λ (played : Vec ℤ). played.items ≡ samples.played_samples c.args.script.now c.args.wavs.now c.args.report.now)
+    (λ (played : Vec ℤ). length played.items * 2 + 36 < 2 ^ 32)
+    (λ played is. subst (λ (l : List ℤ). length l * 2 + 36 < 2 ^ 32) (sym is) (played-few c.args.script.now c.args.wavs.now c.args.report.now c.requires.script c.requires.tested))
+    c.mixed_report.ensures

@@ -1,0 +1,29 @@
+use Rattle.std.proofs.Common.{◌≡◌, ◌-◌, ◌∙◌, ℕ, List, ap, arith, leb, length, rules, suc, sym}
+use Rattle.std.proofs.lemmas.List.Sorted.{IsPartitionPoint-from_clause, IsPartitionedBy-leb}
+use Rattle.std.specs.Prelude.{nat_le, slice_index_or}
+use Rattle.lab_check.specs.declared.spans.FrameSpan.{FrameSpan}
+use Rattle.lab_check.proofs.SpanSearch.{ends-length, found, nothing-found}
+use Rattle.lab_check.proofs.spans.is_in_spans.Goals as goal
+
+pub returns-then-before-eq0 : goal.returns-then-before-eq0
+returns-then-before-eq0 c =
+    let spans = c.args.spans.now in
+    let parted = IsPartitionedBy-leb (λ (span : FrameSpan). span.first) spans c.args.frame c.requires.rising in
+    let point = IsPartitionPoint-from_clause (λ (span : FrameSpan). leb span.first c.args.frame) spans c.partition_point-before.result c.partition_point-before.ensures.partitioned parted (λ a r q k. search rules) in
+    nothing-found c.args.frame spans (λ j d from below. point.1 j d (omega (arith, c.if-before-eq0.true)) below)
+
+pub bounds-ends-before : goal.bounds-ends-before
+bounds-ends-before c =
+    let size : length c.args.ends.now ≡ length c.args.spans.now = ap length c.requires.ends_are ∙ ends-length 0 c.args.spans.now in
+    omega (arith, size, c.partition_point-before.ensures.bound, c.if-before-eq0.false)
+
+pub returns : goal.returns
+returns c =
+    let spans = c.args.spans.now in
+    let before = c.partition_point-before.result in
+    let parted = IsPartitionedBy-leb (λ (span : FrameSpan). span.first) spans c.args.frame c.requires.rising in
+    let point = IsPartitionPoint-from_clause (λ (span : FrameSpan). leb span.first c.args.frame) spans before c.partition_point-before.ensures.partitioned parted (λ a r q k. search rules) in
+    let last : before ≡ suc (before - 1) = omega (arith, c.if-before-eq0.false) in
+    ap (λ (ends : List ℕ). nat_le c.args.frame (slice_index_or ends (before - 1) 0)) c.requires.ends_are
+    ∙ sym (found c.args.frame (before - 1) spans (omega (arith, c.partition_point-before.ensures.bound, last))
+    (λ j d below. point.0 j d (omega arith) (omega (arith, last, below))) (λ j d from below. point.1 j d (omega (arith, last, from)) below))

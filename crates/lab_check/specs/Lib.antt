@@ -1,0 +1,15 @@
+pub mod Checked
+pub mod Covering
+pub mod Defects
+pub mod Late
+pub mod Lines
+pub mod Pieces
+pub mod Reads
+pub mod Recordings
+pub mod Results
+pub mod Samples
+pub mod Segments
+pub mod Shown
+pub mod Spans
+pub mod Sums
+pub mod Unread
