@@ -15,7 +15,7 @@ cp "$root/build/dmixlab" "$to/libexec/dmixlab/dmixlab.new"
 chmod 755 "$to/libexec/dmixlab/dmixlab.new"
 mv "$to/libexec/dmixlab/dmixlab.new" "$to/libexec/dmixlab/dmixlab"
 
-explaining="explain.py explanation.py explain_conf.py explain_file.py explain_script.py refusals.py refusals.tsv script_forms.py show_text.py"
+explaining="explain.py explanation.py explain_check.py explain_conf.py explain_file.py explain_script.py refusals.py refusals.tsv script_forms.py show_text.py"
 for it in $explaining; do
   cp "$root/tools/$it" "$to/libexec/dmixlab/"
   chmod 644 "$to/libexec/dmixlab/$it"

@@ -15,12 +15,12 @@ _dmixlab() {
   local word=${COMP_WORDS[COMP_CWORD]}
   COMPREPLY=()
   case $COMP_CWORD:${COMP_WORDS[1]} in
-    1:*) mapfile -t COMPREPLY < <(compgen -W "run refine conf make --help --version" -- "$word") ;;
-    2:run | 2:refine | 2:conf)
+    1:*) mapfile -t COMPREPLY < <(compgen -W "run check refine conf make --help --version" -- "$word") ;;
+    2:run | 2:check | 3:check | 2:refine | 2:conf)
       compopt -o filenames
       mapfile -t COMPREPLY < <(compgen -f -- "$word")
       ;;
-    3:run)
+    3:run | 4:check)
       compopt -o filenames
       mapfile -t COMPREPLY < <(_dmixlab_outputs "$word")
       ;;

@@ -2,6 +2,7 @@
 import os
 import re
 
+from explain_check import explain_no
 from explain_conf import explain_conf
 from explain_file import explain_read, explain_wav, explain_write, script_text
 from explain_script import explain_script, near
@@ -12,10 +13,12 @@ from show_text import folded, shown, shown_name
 REFUSED = re.compile(rb"dmixlab: (script|conf) line (\d+): ((\w+)(?: \d+)?)\n\Z")
 WAV = re.compile(rb"dmixlab: wav (.*): ((\w+)(?: (\d+))?)\n\Z", re.S)
 READ = re.compile(rb"dmixlab: read (.*)\n\Z", re.S)
+NO = re.compile(rb"dmixlab: no: line (\d+)\n\Z")
 OTHER = re.compile(rb"dmixlab: (words|write|memory)\n\Z")
 # the commands, with their words
 COMMANDS = {
     "run": ["SCRIPT", "OUT"],
+    "check": ["SCRIPT", "REPORT", "OUT"],
     "refine": ["TEXT"],
     "conf": ["FILE", "NAME"],
     "make": ["SEED", "CLIENTS", "PHASES"],
@@ -123,7 +126,7 @@ def of_text(found, words):
 
 def explanation_of(said, words, had_output=True):
     """The explanation of what the program put on standard error, or None where that is no line of its own."""
-    script = words[1] if words[:1] == ["run"] and len(words) > 1 else None
+    script = words[1] if words[:1] in (["run"], ["check"]) and len(words) > 1 else None
     if found := REFUSED.match(said):
         return of_text(found, words)
     if found := WAV.match(said):
@@ -131,6 +134,8 @@ def explanation_of(said, words, had_output=True):
         return Explanation("wav", found[2].decode(), *explain_wav(os.fsdecode(found[1]), found[3].decode(), number, script))
     if found := READ.match(said):
         return Explanation("message", "read", *explain_read(os.fsdecode(found[1]), script))
+    if found := NO.match(said):
+        return Explanation("message", "no", *explain_no(words[2] if len(words) > 2 else "", int(found[1])))
     found = OTHER.match(said)
     if not found:
         return None

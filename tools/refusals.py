@@ -18,7 +18,7 @@ class Row:
 
     def __init__(self, cells):
         self.group, self.why, self.given_by, self.means, self.do = cells
-        self.word = self.why.split()[0]
+        self.word = self.why.split()[0].rstrip(":")
 
 
 def read_table(path=TABLE):

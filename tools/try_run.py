@@ -1,5 +1,5 @@
 #!/usr/bin/env python3
-"""try_run.py WHY WORD..: answers the words run SCRIPT OUT, refine TEXT or conf FILE NAME by the unproved program, compiled with checks at run time.
+"""try_run.py WHY WORD..: answers the words of run, check, refine or conf by the unproved program, compiled with checks at run time.
 
 `./dmixlab` calls it where the program isn't built as its sources stand. `rt try` compiles the program and runs it in a folder of its own, so
 the words get absolute names, and files that the script names are given to it. The report is put on standard output and the exit status is the
@@ -23,9 +23,9 @@ from explanation import MADE, of_file_word, of_made
 ROOT = os.path.dirname(os.path.dirname(os.path.abspath(__file__)))
 NO_ANSWER, WORDS, NOT_READ = 70, 1, 4
 # the words after each command; those that aren't numbers of make or the name of a device are names of files
-COMMANDS = {"run": ["SCRIPT", "OUT"], "refine": ["TEXT"], "conf": ["FILE", "NAME"], "make": list(MADE)}
-# a script's last byte is within these; one of more is refused, and the rest of it needn't be read
-SCRIPT_SIZE = 1 << 20
+COMMANDS = {"run": ["SCRIPT", "OUT"], "check": ["SCRIPT", "REPORT", "OUT"], "refine": ["TEXT"], "conf": ["FILE", "NAME"], "make": list(MADE)}
+# a script's last byte is within these, and a report's; one of more is refused, and the rest of it needn't be read
+SCRIPT_SIZE, REPORT_SIZE = 1 << 20, 1 << 26
 # the time that rt try gives the program
 SECONDS = 300
 # names that rt try keeps for itself begin with one of these
@@ -73,17 +73,17 @@ class Try:
         """The absolute name of a file of the user, which isn't changed beyond that; what is empty or absolute stays."""
         return name if not name or name.startswith("/") else f"{self.folder}/{name}"
 
-    def text(self, name):
+    def text(self, name, size=SCRIPT_SIZE, copy="text"):
         """The absolute name of a text that is read by the program; of one that is read only once, as a pipe, a copy."""
         path = self.absolute(name)
         if stat.S_ISREG(os.stat(path).st_mode):
             with open(path, "rb"):
                 return path
         with open(path, "rb") as file:
-            return self.copy(file.read(SCRIPT_SIZE + 1))
+            return self.copy(file.read(size + 1), copy)
 
-    def copy(self, content):
-        path = f"{self.room}/text"
+    def copy(self, content, name="text"):
+        path = f"{self.room}/{name}"
         with open(path, "wb") as file:
             file.write(content)
         return path
@@ -107,10 +107,21 @@ class Try:
                 end = behind
         return self.copy(b"".join([*parts, text[end:]])) if parts else path
 
+    def report(self, name):
+        """The absolute name of a report; of one that can't be read, which the program says in its turn."""
+        with contextlib.suppress(OSError):
+            return self.text(name, REPORT_SIZE, "report")
+        return self.absolute(name)
+
     def words(self, command, given):
         """The program's words with absolute names."""
         if command == "run":
             return [command, self.script(given[0]), self.absolute(given[1])]
+        if command == "check":
+            words = [command, self.script(given[0]), self.report(given[1]), self.absolute(given[2])]
+            # the program names a report, or a file that begins with OUT, which it can't read
+            self.renamed.update((os.fsencode(path), os.fsencode(word)) for path, word in zip(words[2:], given[1:]) if path != word)
+            return words
         return [command, self.text(given[0]), *given[1:]]
 
     def said(self, errors):

@@ -30,23 +30,24 @@ class Completion(unittest.TestCase):
             return {line for line in ran.stdout.splitlines() if line}
 
     def test_commands(self):
-        self.assertEqual(self.offered(""), {"run", "refine", "conf", "make", "--help", "--version"})
+        self.assertEqual(self.offered(""), {"run", "check", "refine", "conf", "make", "--help", "--version"})
         self.assertEqual(self.offered("re"), {"refine"})
 
     def test_files_where_files_go(self):
-        for command in ("run", "refine", "conf"):
-            self.assertEqual(self.offered(command, ""), {"out", "my.conf", "old.wav", "a b.script"})
+        for words in (("run",), ("check",), ("check", "a b.script"), ("refine",), ("conf",)):
+            self.assertEqual(self.offered(*words, ""), {"out", "my.conf", "old.wav", "a b.script"})
         self.assertEqual(self.offered("run", "a"), {"a b.script"})
 
     def test_an_output_without_its_ending(self):
         self.assertEqual(self.offered("run", "a b.script", "o"), {"out", "old"})
+        self.assertEqual(self.offered("check", "a b.script", "my.report", "o"), {"out", "old"})
 
     def test_the_devices_of_a_configuration(self):
         self.assertEqual(self.offered("conf", "my.conf", ""), {"default", "shared"})
         self.assertEqual(self.offered("conf", "my.conf", "s"), {"shared"})
 
     def test_nothing_behind_a_whole_command(self):
-        for words in (("--help", ""), ("refine", "my.conf", ""), ("make", ""), ("run", "a", "b", ""), ("conf", "my.conf", "shared", "")):
+        for words in (("--help", ""), ("refine", "my.conf", ""), ("make", ""), ("run", "a", "b", ""), ("check", "a", "b", "c", ""), ("conf", "my.conf", "shared", "")):
             self.assertEqual(self.offered(*words), set())
 
 

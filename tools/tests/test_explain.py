@@ -416,10 +416,38 @@ class Configurations(OnTerminal):
         self.conf("Missing", 0, "a { " * 100000, "x")
 
 
+class Checks(OnTerminal):
+    def no(self, number, report, *texts):
+        """What is shown of a check that fails at a line of a report."""
+        if report is not None:
+            self.write("my.report", report)
+        screen = self.see(f"dmixlab: no: line {number}\n", 7, "check", "my.script", "my.report", "my")
+        self.assertTrue(screen.startswith(f"dmixlab: no: line {number}\n"))
+        self.has(screen, *texts)
+        return screen
+
+    def test_the_line_and_what_is_tested_at_it(self):
+        lines = ["dmixlab 1", "1 a write 1 = 1 RUNNING 0", "2 a sync = EPIPE late 96 0 XRUN 128", "2 r read 8 = 8 RUNNING 128", "segment a 0 64 1 0", "run r 0 8", "played 0 128", "end"]
+        report = "\n".join(lines) + "\n"
+        for number, text in enumerate(
+            ["isn't one that a report of this script has", "isn't one that a report", "a late row names", "the frames of its runs", "takes frames that its client's file has"]
+            + ["read to its end", "what the script's card plays, or 'OUT.wav'", "the file of a reader"],
+            1,
+        ):
+            self.has(self.no(number, report, text), f"my.report, line {number}: {lines[number - 1]}")
+
+    def test_the_whole_report(self):
+        self.no(0, "", "the report is empty")
+        self.no(0, "dmixlab 1\n", "line 0", "what to do: ")
+
+    def test_a_report_that_is_gone(self):
+        self.no(5, None, "fails a test at its line", "what to do: ")
+
+
 class Words(OnTerminal):
     def words(self, *given):
         screen = self.see("dmixlab: words\n", 1, *given)
-        self.has(screen, "dmixlab: words ", "--help", "\n    dmixlab run SCRIPT OUT\n    dmixlab refine TEXT\n")
+        self.has(screen, "dmixlab: words ", "--help", "\n    dmixlab run SCRIPT OUT\n    dmixlab check SCRIPT REPORT OUT\n")
         return screen
 
     def test_forms_and_what_is_wrong(self):
@@ -428,6 +456,7 @@ class Words(OnTerminal):
             self.has(self.words(*it), "the word for help is '--help', alone")
         self.has(self.words("rum", "a", "b"), "'rum' is no command; the nearest is 'run'")
         self.has(self.words("run", "a"), "'run' takes SCRIPT and OUT; 1 is given")
+        self.has(self.words("check", "s", "r"), "'check' takes SCRIPT and REPORT and OUT; 2 are given")
         self.has(self.words("make", "1", "65", "1"), "CLIENTS is a number from 1 to 64")
         self.has(self.words("run", "", "o"), "SCRIPT has 0 bytes")
         self.has(self.words("conf", "f", "a b"), "NAME isn't 1 to 64 visible ASCII characters")

@@ -1,5 +1,5 @@
 -- How a command ends whose parts read, run and write.
-use Rattle.std.proofs.Common.{◌≡◌, ◌∙◌, ◌⊎◌, ◌++◌, ℕ, List, ap, subst, inl, inr}
+use Rattle.std.proofs.Common.{◌≡◌, ◌∙◌, ◌⊎◌, ◌++◌, ℕ, List, ap, refl, subst, inl, inr}
 use Rattle.std.specs.Prelude.{Option, Some, Result, Ok, Err, IfErr, OnOk, OnErr}
 use Rattle.std.specs.Option.{ForSome, option_map}
 use Rattle.wav_io.specs.Sound.{Sound}
@@ -16,14 +16,15 @@ use Rattle.lab_lines.specs.declared.line.Item.{Item}
 use Rattle.lab_lines.specs.declared.script.Script.{Script as ScriptOf}
 use Rattle.lab_lines.specs.Limits.{IsScript}
 use Rattle.lab_shelf.specs.Files.{Files, TookPart}
+use Rattle.lab_stop.specs.FaultLaws.{IsWriteKind-only}
 use Rattle.lab_stop.specs.declared.stop.Stop.{Stop}
-use Rattle.lab_stop.specs.declared.stop.Stop.TheVariants.{Words, Script, Conf, Wav, Read, Write, Memory}
-use Rattle.lab_stop.specs.Stops.{IsWriteStop}
+use Rattle.lab_stop.specs.Stops.{StopKind, at_output, at_memory, stop_facts, IsWriteStop}
 use Rattle.lab_make.specs.declared.workload.Workload.{Workload}
 use Rattle.lab_workload.specs.Made.{IsMade, IsMadePart}
-use Rattle.lab_commands.specs.Words.{make, refine, run}
+use Rattle.lab_commands.specs.Checking.{IsCheckedRun}
+use Rattle.lab_commands.specs.Words.{Form, check, make, refine, run}
 use Rattle.lab_commands.specs.Run.{HasFinished, IsUnfinished}
-use Rattle.lab_commands.specs.Top.{CommandLeaves}
+use Rattle.lab_commands.specs.Top.{CommandLeaves, LeavesAt}
 
 -- what the laws of runs say of each run
 pub record RunLaws : Type 0 where
@@ -58,13 +59,8 @@ module _ (laws : RunLaws) (input : RunInput) (script out : List ℕ) (gates : St
   -- what a run leaves that was read and stopped
   pub CommandLeaves-stopped : (stop : Stop) → IsWriteStop stop → HasPlayedPart input out gates between after taken taken_after
       → CommandLeaves {X = Unit {0}} (Err stop) (Some (run script out)) gates before after taken taken_after
-  CommandLeaves-stopped Words only part = absurd only
-  CommandLeaves-stopped (Script error) only part = absurd only
-  CommandLeaves-stopped (Conf error) only part = absurd only
-  CommandLeaves-stopped (Wav name why) only part = absurd only
-  CommandLeaves-stopped (Read name) only part = absurd only
-  CommandLeaves-stopped Write only part = left-part part
-  CommandLeaves-stopped Memory only part = left-part part
+  CommandLeaves-stopped stop only part =
+      IsWriteKind-only (λ kind. LeavesAt kind (Some (run script out)) gates before after taken taken_after) (stop_facts stop).kind only (left-part part) (left-part part)
 
 -- what a call leaves that makes a workload
 pub CommandLeaves-made : (w : Workload) (gates : Stops) (before after : Option Files) (taken taken_after : Option (List ℕ)) (r : Result (Unit {0}) Stop) → IfErr r IsWriteStop
@@ -72,13 +68,8 @@ pub CommandLeaves-made : (w : Workload) (gates : Stops) (before after : Option F
     → OnErr r (IsUntouched before after taken taken_after ⊎ IsMadePart w gates before after taken taken_after)
     → CommandLeaves r (Some (make w)) gates before after taken taken_after
 CommandLeaves-made w gates before after taken taken_after (Ok x) only done part = done
-CommandLeaves-made w gates before after taken taken_after (Err Words) only done part = absurd only
-CommandLeaves-made w gates before after taken taken_after (Err (Script error)) only done part = absurd only
-CommandLeaves-made w gates before after taken taken_after (Err (Conf error)) only done part = absurd only
-CommandLeaves-made w gates before after taken taken_after (Err (Wav name why)) only done part = absurd only
-CommandLeaves-made w gates before after taken taken_after (Err (Read name)) only done part = absurd only
-CommandLeaves-made w gates before after taken taken_after (Err Write) only done part = part
-CommandLeaves-made w gates before after taken taken_after (Err Memory) only done part = part
+CommandLeaves-made w gates before after taken taken_after (Err stop) only done part =
+    IsWriteKind-only (λ kind. LeavesAt kind (Some (make w)) gates before after taken taken_after) (stop_facts stop).kind only part part
 
 -- what a call leaves that puts answers
 pub CommandLeaves-answered : (name text : List ℕ) (gates : Stops) (before after : Option Files) (taken taken_after : Option (List ℕ)) (r : Result (Unit {0}) Stop)
@@ -86,12 +77,26 @@ pub CommandLeaves-answered : (name text : List ℕ) (gates : Stops) (before afte
     → OnErr r (TookPart taken taken_after text)
     → CommandLeaves r (Some (refine name)) gates before after taken taken_after
 CommandLeaves-answered name text gates before after taken taken_after (Ok x) only answers files put part = record { text = text; answers = answers; files = files; put = put }
-CommandLeaves-answered name text gates before after taken taken_after (Err Words) only answers files put part = absurd only
-CommandLeaves-answered name text gates before after taken taken_after (Err (Script error)) only answers files put part = absurd only
-CommandLeaves-answered name text gates before after taken taken_after (Err (Conf error)) only answers files put part = absurd only
-CommandLeaves-answered name text gates before after taken taken_after (Err (Wav file why)) only answers files put part = absurd only
-CommandLeaves-answered name text gates before after taken taken_after (Err (Read file)) only answers files put part = absurd only
-CommandLeaves-answered name text gates before after taken taken_after (Err Write) only answers files put part =
-    inr (record { text = text; answers = answers; files = files; put = part })
-CommandLeaves-answered name text gates before after taken taken_after (Err Memory) only answers files put part =
-    inr (record { text = text; answers = answers; files = files; put = part })
+CommandLeaves-answered name text gates before after taken taken_after (Err stop) only answers files put part =
+    let left : LeavesAt at_memory (Some (refine name)) gates before after taken taken_after =
+    inr (record { text = text; answers = answers; files = files; put = part }) in
+    IsWriteKind-only (λ kind. LeavesAt kind (Some (refine name)) gates before after taken taken_after) (stop_facts stop).kind only left left
+
+untouched-at : (form : Option Form) (gates : Stops) (before after : Option Files) (taken taken_after : Option (List ℕ)) (kind : StopKind)
+    → IsUntouched before after taken taken_after → LeavesAt kind form gates before after taken taken_after
+untouched-at form gates before after taken taken_after at_output untouched = inl untouched
+untouched-at form gates before after taken taken_after at_memory untouched = inl untouched
+untouched-at form gates before after taken taken_after other untouched = untouched
+
+-- a call that writes nothing leaves nothing, whyever it stops
+pub CommandLeaves-untouched : (form : Option Form) (gates : Stops) (before after : Option Files) (taken taken_after : Option (List ℕ)) (stop : Stop)
+    → IsUntouched before after taken taken_after → CommandLeaves {X = Unit {0}} (Err stop) form gates before after taken taken_after
+CommandLeaves-untouched form gates before after taken taken_after stop untouched =
+    untouched-at form gates before after taken taken_after (stop_facts stop).kind untouched
+
+-- what a call leaves that checks a run
+pub CommandLeaves-checked : (script report out : List ℕ) (gates : Stops) (before after : Option Files) (taken : Option (List ℕ)) (r : Result (Unit {0}) Stop)
+    → OnOk r (IsCheckedRun before script report out) → after ≡ before → CommandLeaves r (Some (check script report out)) gates before after taken taken
+CommandLeaves-checked script report out gates before after taken (Ok x) done same = record { run = done; untouched = record { files = same; text = refl } }
+CommandLeaves-checked script report out gates before after taken (Err stop) done same =
+    CommandLeaves-untouched (Some (check script report out)) gates before after taken taken stop (record { files = same; text = refl })

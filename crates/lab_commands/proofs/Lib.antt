@@ -1,3 +1,6 @@
+mod CheckedFiles
+mod Checks
+mod Comparing
 mod Ends
 mod Leaving
 mod Only

@@ -16,10 +16,10 @@ use Rattle.lab_run.specs.Stage.{Session}
 use Rattle.lab_lines.specs.declared.script.Script.{Script as ScriptOf}
 use Rattle.lab_shelf.specs.Files.{Files}
 use Rattle.lab_stop.specs.declared.stop.Stop.{Stop}
-use Rattle.lab_stop.specs.declared.stop.Stop.TheVariants.{Words, Script, Conf, Wav, Read, Write, Memory}
+use Rattle.lab_stop.specs.declared.stop.Stop.TheVariants.{Words}
 use Rattle.lab_stop.specs.Stops.{status_of}
 use Rattle.wav_io.specs.Sound.{Sound}
-use Rattle.lab_commands.specs.Words.{Form, run, refine, conf, make, help, version}
+use Rattle.lab_commands.specs.Words.{Form, run, check, refine, conf, make, help, version}
 use Rattle.lab_commands.specs.Run.{HasFinished, IsOnlyRun, IsOnlyRunOf}
 use Rattle.lab_commands.specs.Top.{CommandLeaves, OnlyIn}
 
@@ -52,15 +52,11 @@ pub DoneIn-only : OneSession → {X : Type 0} (r : Result X Stop) (form : Option
     → CommandLeaves r form gates before after taken taken_after → status_of r ≡ 0 → OnlyIn form gates before after taken taken_after
 DoneIn-only one (Ok x) None gates before after taken taken_after done zero = absurd done
 DoneIn-only one (Ok x) (Some (run script out)) gates before after taken taken_after done zero = Finished-only one script out gates before after taken taken_after done
+DoneIn-only one (Ok x) (Some (check script report out)) gates before after taken taken_after done zero = tt
 DoneIn-only one (Ok x) (Some (refine text)) gates before after taken taken_after done zero = tt
 DoneIn-only one (Ok x) (Some (conf file name)) gates before after taken taken_after done zero = Described-only file name before after taken taken_after done
 DoneIn-only one (Ok x) (Some (make workload)) gates before after taken taken_after done zero = done.only
 DoneIn-only one (Ok x) (Some help) gates before after taken taken_after done zero = tt
 DoneIn-only one (Ok x) (Some version) gates before after taken taken_after done zero = tt
 DoneIn-only one (Err Words) form gates before after taken taken_after done zero = absurd (omega (arith, zero))
-DoneIn-only one (Err (Script error)) form gates before after taken taken_after done zero = absurd (omega (arith, zero))
-DoneIn-only one (Err (Conf error)) form gates before after taken taken_after done zero = absurd (omega (arith, zero))
-DoneIn-only one (Err (Wav name why)) form gates before after taken taken_after done zero = absurd (omega (arith, zero))
-DoneIn-only one (Err (Read name)) form gates before after taken taken_after done zero = absurd (omega (arith, zero))
-DoneIn-only one (Err Write) form gates before after taken taken_after done zero = absurd (omega (arith, zero))
-DoneIn-only one (Err Memory) form gates before after taken taken_after done zero = absurd (omega (arith, zero))
+DoneIn-only one (Err other) form gates before after taken taken_after done zero = absurd (omega (arith, zero))

@@ -11,20 +11,21 @@ use Rattle.lab_play.specs.Stops.{HaveNoStops}
 use Rattle.lab_refine.specs.Answered.{HasAnswered, AnsweredPart, request_in}
 use Rattle.lab_script.specs.declared.error.ScriptError.{ScriptError}
 use Rattle.lab_shelf.specs.Files.{Files, TookPart}
-use Rattle.lab_stop.specs.Causes.{Cause, cause, missing, script_refused, conf_refused, wav_refused}
+use Rattle.lab_stop.specs.Causes.{Cause, cause, missing, script_refused, conf_refused, wav_refused, not_a_run}
 use Rattle.lab_stop.specs.Lines.{stop_line}
-use Rattle.lab_stop.specs.Stops.{EndsOf, EndsReliably, status_of}
+use Rattle.lab_stop.specs.Stops.{StopKind, at_output, at_memory, stop_facts, EndsOf, EndsReliably, status_of}
 use Rattle.lab_stop.specs.declared.stop.Stop.{Stop}
-use Rattle.lab_stop.specs.declared.stop.Stop.TheVariants as stops
 use Rattle.wav_io.specs.declared.error.WavError.{WavError}
 use Rattle.lab_workload.specs.Made.{IsMade, IsMadePart, IsOnlyMade}
-use Rattle.lab_commands.specs.Words.{Form, run, refine, conf, make, help, version, form_of, help_text, version_text}
+use Rattle.lab_commands.specs.Checking.{HasChecked, check_in}
+use Rattle.lab_commands.specs.Words.{Form, run, check, refine, conf, make, help, version, form_of, help_text, version_text}
 use Rattle.lab_commands.specs.Run.{HasFinished, IsOnlyRunOf, IsUnfinished}
 
 -- the first cause in the order of the work, form by form
 abbrev pub cause_in : Option Form → Files → Option Cause
 cause_in None files = None
 cause_in (Some (run script out)) files = cause (input_in files script)
+cause_in (Some (check script report out)) files = cause (check_in files script report out)
 cause_in (Some (refine text)) files = cause (request_in files text)
 cause_in (Some (conf file name)) files = cause (device_in files file name)
 cause_in (Some (make workload)) files = None
@@ -57,6 +58,15 @@ IsWavRefused words files = (name : List ℕ)
 abbrev pub IsMissing : List (List ℕ) → Files → Type 0
 IsMissing words files = (name : List ℕ) × (cause_of words files ≡ Some (missing name))
 
+-- the files that a check reads are there and its script is right, but the report and the outputs aren't those of a run
+abbrev pub IsNoRun : List (List ℕ) → Files → Type 0
+IsNoRun words files = (line : ℕ) × (cause_of words files ≡ Some (not_a_run line))
+
+-- the greatest exit status of some words: that of files that aren't those of a run comes in a check alone
+abbrev pub most_status : Option Form → ℕ
+most_status (Some (check script report out)) = 7
+most_status other = 6
+
 -- the words have a listed form, and all that it reads is there and right
 abbrev pub IsValidCall : List (List ℕ) → Files → Type 0
 IsValidCall words files = IsSome (form_of words) × (cause_of words files ≡ None)
@@ -67,11 +77,12 @@ pub record ComesExactly (status result : ℕ) (rose cause : Type 0) : Type 0 whe
   pub always : cause → ¬ rose → result ≢ 6 → result ≡ status
 
 -- how a call ends over reliable files and a reliable output: with status 4 only where a file that is read isn't there, never
--- with 5, and where all that it reads is there and right, with 0, or with 6 for want of memory
+-- with 5; where all that it reads is there and right, with 0, and where a check's files aren't those of a run, with 7, or with 6 for want of memory
 pub record EndsWell (result : ℕ) (words : List (List ℕ)) (files : Files) : Type 0 where
   pub reads : result ≡ 4 → IsMissing words files
   pub writes : result ≢ 5
   pub valid : IsValidCall words files → (result ≡ 0) ⊎ (result ≡ 6)
+  pub no : IsNoRun words files → (result ≡ 7) ⊎ (result ≡ 6)
 
 -- a text was put, and no file changed
 pub record HasPut (text : List ℕ) (before after : Option Files)
@@ -90,17 +101,19 @@ abbrev pub DoneIn : Option Form → Stops → Option Files → Option Files → 
     → Option (List ℕ) → Type 0
 DoneIn None gates before after taken taken_after = ⊥
 DoneIn (Some (run script out)) gates before after taken taken_after = HasFinished script out gates before after taken taken_after
+DoneIn (Some (check script report out)) gates before after taken taken_after = HasChecked script report out before after taken taken_after
 DoneIn (Some (refine text)) gates before after taken taken_after = HasAnswered text before after taken taken_after
 DoneIn (Some (conf file name)) gates before after taken taken_after = IsDescribed file name before after taken taken_after
 DoneIn (Some (make workload)) gates before after taken taken_after = IsMade workload gates before after taken taken_after
 DoneIn (Some help) gates before after taken taken_after = HasPut help_text before after taken taken_after
 DoneIn (Some version) gates before after taken taken_after = HasPut version_text before after taken taken_after
 
--- what a command leaves that ended in its output, form by form; the gates stopped actors so often
+-- what a command leaves that ended in its output, form by form; the gates stopped actors so often; a check has no output
 abbrev pub PartIn : Option Form → Stops → Option Files → Option Files → Option (List ℕ)
     → Option (List ℕ) → Type 0
 PartIn None gates before after taken taken_after = ⊥
 PartIn (Some (run script out)) gates before after taken taken_after = IsUnfinished script out gates before after taken taken_after
+PartIn (Some (check script report out)) gates before after taken taken_after = ⊥
 PartIn (Some (refine text)) gates before after taken taken_after = AnsweredPart text before after taken taken_after
 PartIn (Some (conf file name)) gates before after taken taken_after = DescribedPart file name before after taken taken_after
 PartIn (Some (make workload)) gates before after taken taken_after = IsMadePart workload gates before after taken taken_after
@@ -134,7 +147,7 @@ IsLeftByFault result words gates before after taken taken_after =
     IsUntouched before after taken taken_after
     ⊎ (((result ≡ 5) ⊎ (result ≡ 6)) × PartIn (form_of words) gates before after taken taken_after)
 
--- a sink took the line that says why a call ended with a status, or the first bytes of it: with 2 and 3 the line of the
+-- a sink took the line that says why a call ended with a status, or the first bytes of it: with 2, 3 and 7 the line of the
 -- first cause that the files give, and with 4, over reliable files, the line of the file that is missing
 pub record SaysWhy (reliable : Type 0) (result : ℕ) (words : List (List ℕ)) (files : Option Files)
     (taken taken_after : Option (List ℕ)) : Type 0 where
@@ -144,14 +157,14 @@ pub record SaysWhy (reliable : Type 0) (result : ℕ) (words : List (List ℕ)) 
   pub missing : reliable → ForSome files (λ m. EndsReliably {X = Unit {0}} (Err stop) (cause_of words m))
   pub took : TookPart taken taken_after (stop_line stop)
 
--- what a command leaves, by how it ended
+-- what a command leaves, by how it ended: nothing was written, unless it ended in its output or for want of memory
+abbrev pub LeavesAt : StopKind → Option Form → Stops → Option Files → Option Files
+    → Option (List ℕ) → Option (List ℕ) → Type 0
+LeavesAt at_output form gates before after taken taken_after = IsUntouched before after taken taken_after ⊎ PartIn form gates before after taken taken_after
+LeavesAt at_memory form gates before after taken taken_after = IsUntouched before after taken taken_after ⊎ PartIn form gates before after taken taken_after
+LeavesAt other form gates before after taken taken_after = IsUntouched before after taken taken_after
+
 abbrev pub CommandLeaves : {X : Type 0} → Result X Stop → Option Form → Stops → Option Files
     → Option Files → Option (List ℕ) → Option (List ℕ) → Type 0
 CommandLeaves (Ok x) form gates before after taken taken_after = DoneIn form gates before after taken taken_after
-CommandLeaves (Err stops.Words) form gates before after taken taken_after = IsUntouched before after taken taken_after
-CommandLeaves (Err (stops.Script error)) form gates before after taken taken_after = IsUntouched before after taken taken_after
-CommandLeaves (Err (stops.Conf error)) form gates before after taken taken_after = IsUntouched before after taken taken_after
-CommandLeaves (Err (stops.Wav name why)) form gates before after taken taken_after = IsUntouched before after taken taken_after
-CommandLeaves (Err (stops.Read name)) form gates before after taken taken_after = IsUntouched before after taken taken_after
-CommandLeaves (Err stops.Write) form gates before after taken taken_after = IsUntouched before after taken taken_after ⊎ PartIn form gates before after taken taken_after
-CommandLeaves (Err stops.Memory) form gates before after taken taken_after = IsUntouched before after taken taken_after ⊎ PartIn form gates before after taken taken_after
+CommandLeaves (Err stop) form gates before after taken taken_after = LeavesAt (stop_facts stop).kind form gates before after taken taken_after

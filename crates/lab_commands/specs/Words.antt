@@ -9,10 +9,11 @@ use Rattle.lab_make.specs.Workload.{IsWorkload, workload_of}
 use Rattle.lab_commands.specs.declared.words.Command.{Command}
 use Rattle.lab_commands.specs.declared.words.Command.TheVariants as commands
 
--- what the words ask for: a run of a script with the output's name, answers to a text on a parameter space, the device of a
--- name in a configuration, a run of a workload that is made, the help text, or the version
+-- what the words ask for: a run of a script with the output's name, a check of a script's run by its report and the output's name, answers to a text on a
+-- parameter space, the device of a name in a configuration, a run of a workload that is made, the help text, or the version
 pub data Form : Type 0 where
   run : List ℕ → List ℕ → Form
+  check : List ℕ → List ℕ → List ℕ → Form
   refine : List ℕ → Form
   conf : List ℕ → List ℕ → Form
   make : Workload → Form
@@ -31,6 +32,12 @@ names_file word = nat_lt 0 (length word) && nat_le (length word) 4096 && is_utf8
 -- the form of `run SCRIPT OUT`, whose two words name files
 abbrev pub run_of : List ℕ → List ℕ → Option Form
 run_of script out = if names_file script && names_file out then Some (run script out) else None
+
+-- the form of `check SCRIPT REPORT OUT`, whose three words name files
+abbrev pub check_of : List ℕ → List ℕ → List ℕ → Option Form
+check_of script report out =
+    if names_file script && names_file report && names_file out
+    then Some (check script report out) else None
 
 -- the form of `refine TEXT`, whose second word names a file
 abbrev pub refine_of : List ℕ → Option Form
@@ -69,14 +76,16 @@ form_of (word ∷ text ∷ []) = if bytes_eq word (codes "refine") then refine_o
 form_of (word ∷ second ∷ third ∷ []) =
     if bytes_eq word (codes "run") then run_of second third
     else (if bytes_eq word (codes "conf") then conf_of second third else None)
-form_of (word ∷ seed ∷ clients ∷ phases ∷ []) =
-    if bytes_eq word (codes "make") then make_of seed clients phases else None
+form_of (word ∷ second ∷ third ∷ fourth ∷ []) =
+    if bytes_eq word (codes "make") then make_of second third fourth
+    else (if bytes_eq word (codes "check") then check_of second third fourth else None)
 form_of (word ∷ second ∷ third ∷ fourth ∷ more ∷ rest) = None
 
 -- the form that a command has
 abbrev pub form_seen : Option Command → Option Form
 form_seen None = None
 form_seen (Some (commands.Run script out)) = Some (run script.now out.now)
+form_seen (Some (commands.Check script report out)) = Some (check script.now report.now out.now)
 form_seen (Some (commands.Refine text)) = Some (refine text.now)
 form_seen (Some (commands.Conf file name)) = Some (conf file.now name.now)
 form_seen (Some (commands.Make workload)) = Some (make workload)
@@ -86,6 +95,7 @@ form_seen (Some commands.Version) = Some version
 -- a workload that is to be made is within the limits of workloads
 abbrev pub IsWithinLimits : Command → Type 0
 IsWithinLimits (commands.Run script out) = ⊤
+IsWithinLimits (commands.Check script report out) = ⊤
 IsWithinLimits (commands.Refine text) = ⊤
 IsWithinLimits (commands.Conf file name) = ⊤
 IsWithinLimits (commands.Make workload) = IsWorkload workload
@@ -104,6 +114,7 @@ version_text = text_of_lines (codes "dmixlab 0.1.0" ∷ [])
 -- what `--help` puts; a long text, into which no proof but that of `help` looks
 unfoldable pub help_text : List ℕ
 help_text = text_of_lines (codes "usage: dmixlab run SCRIPT OUT"
+    ∷ codes "       dmixlab check SCRIPT REPORT OUT"
     ∷ codes "       dmixlab refine TEXT"
     ∷ codes "       dmixlab conf FILE NAME"
     ∷ codes "       dmixlab make SEED CLIENTS PHASES"
@@ -116,6 +127,11 @@ help_text = text_of_lines (codes "usage: dmixlab run SCRIPT OUT"
     ∷ codes "reader records as OUT.READER.wav, and prints a report. OUT is without an ending;"
     ∷ codes "files of these names are overwritten. WAV files are of 16-bit PCM; the file of a"
     ∷ codes "client with plug linear may have 8, 24 or 32 bits, and any rate and channels."
+    ∷ []
+    ∷ codes "check tests the files of a run, whoever made them: it reads SCRIPT and what that"
+    ∷ codes "names as run does, the report in the file REPORT, OUT.wav and each"
+    ∷ codes "OUT.READER.wav. The report must be one of the script, and the files hold, to the"
+    ∷ codes "byte, what it says was played and recorded. It stores and prints nothing."
     ∷ []
     ∷ codes "refine narrows the hardware parameters that a card leaves to a client, as the"
     ∷ codes "lines of TEXT ask, and prints what is left of them."
@@ -193,6 +209,8 @@ help_text = text_of_lines (codes "usage: dmixlab run SCRIPT OUT"
     ∷ codes "  4  read FILE            a file can't be read"
     ∷ codes "  5  write                a file or standard output can't be written"
     ∷ codes "  6  memory               memory ran out"
+    ∷ codes "  7  no: line L           in check, line L of REPORT fails a test, or the file"
+    ∷ codes "                          that it speaks of isn't what it says"
     ∷ []
     ∷ codes "The manual is docs/SCRIPTS.md: every key, call, answer and WHY, with what to do."
     ∷ codes "In short it is docs/dmixlab.1, which man -l docs/dmixlab.1 shows."

@@ -1,5 +1,5 @@
 //! The commands: each reads what its words name, and writes what came of it.
-ghost use Rattle.std.specs.Prelude.{◌≡◌, ◌≤◌, None, Some, length};
+ghost use Rattle.std.specs.Prelude.{◌≡◌, ◌≤◌, ℕ, List, None, Option, Some, length};
 ghost use Rattle.std.specs.Option.{ForSome};
 ghost use Rattle.lab_conf.specs.Described.{device_in};
 ghost use Rattle.lab_input.specs.Input.{input_in};
@@ -8,10 +8,12 @@ ghost use Rattle.lab_phase.specs.PhaseRuns.{Stops, stops_by};
 ghost use Rattle.lab_play.specs.Stops.{rises};
 ghost use Rattle.lab_refine.specs.Answered.{request_in};
 ghost use Rattle.lab_stop.specs.Causes.{cause};
-ghost use Rattle.lab_stop.specs.Stops.{EndsOf, EndsReliably, InputFaults, OutputFaults, Refuses};
-ghost use Rattle.lab_commands.specs.Words.{conf, make, refine, run};
+ghost use Rattle.lab_stop.specs.Stops.{EndsOf, EndsReliably, InputFaults, OutputFaults, Refuses, status_of};
+ghost use Rattle.lab_commands.specs.Checking.{check_in};
+ghost use Rattle.lab_commands.specs.Words.{check, conf, make, refine, run};
 ghost use Rattle.lab_commands.specs.Top.{CommandLeaves};
 
+use crate::checking::check_run;
 use lab_conf::describe_device;
 use lab_headline::{actors_do_their_own, runs_are_exact};
 use lab_input::read_input;
@@ -44,6 +46,7 @@ pub(crate) fn run_command<R: Threads + Sync, S: Shelf, K: Sink, G: Gate + Send>(
         (λ files. EndsOf result (cause (input_in files script.now))) }
     ensures reliable { S.is_reliable shelf.old → K.is_reliable out.old → ForSome (S.files shelf.old)
         (λ files. EndsReliably result (cause (input_in files script.now))) }
+    ensures statuses { status_of result ≤ 6 }
     ensures words { Refuses result (Some (run script.now name.now)) }
     ensures reads { InputFaults result (S.fetch_faults shelf.old) (S.fetch_faults shelf.new) }
     ensures writes { OutputFaults result (S.write_faults shelf.old) (S.write_faults shelf.new)
@@ -54,6 +57,30 @@ pub(crate) fn run_command<R: Threads + Sync, S: Shelf, K: Sink, G: Gate + Send>(
     let input = read_input(shelf, alloc, script)?;
     play(rt, alloc, &input, name, shelf, out, gates)?;
     Ok(())
+}
+
+/// Tests a report and the files of a run, whose names begin with `name`, against the script in a file. Nothing is written or put.
+pub(crate) fn check_command<S: Shelf>(
+    alloc: Global,
+    shelf: &mut S,
+    script: &[u8],
+    report: &[u8],
+    name: &[u8],
+) -> Result<(), Stop>
+    ensures leaves { (gates : Stops) (taken : Option (List ℕ)) → CommandLeaves result
+        (Some (check script.now report.now name.now)) gates
+        (S.files shelf.old) (S.files shelf.new) taken taken }
+    ensures cause { ForSome (S.files shelf.old)
+        (λ files. EndsOf result (cause (check_in files script.now report.now name.now))) }
+    ensures reliable { S.is_reliable shelf.old → ForSome (S.files shelf.old)
+        (λ files. EndsReliably result (cause (check_in files script.now report.now name.now))) }
+    ensures statuses { status_of result ≤ 7 }
+    ensures words { Refuses result (Some (check script.now report.now name.now)) }
+    ensures reads { InputFaults result (S.fetch_faults shelf.old) (S.fetch_faults shelf.new) }
+    ensures writes { (puts : ℕ) → OutputFaults result
+        (S.write_faults shelf.old) (S.write_faults shelf.new) puts puts }
+{
+    check_run(shelf, alloc, script, report, name)
 }
 
 /// Makes a workload, stores and runs it, and puts the summary of its run.
@@ -73,6 +100,7 @@ pub(crate) fn make_command<R: Threads + Sync, S: Shelf, K: Sink, G: Gate + Send>
     ensures cause { EndsOf result None }
     ensures reliable { S.is_reliable shelf.old → K.is_reliable out.old → ForSome (S.files shelf.old)
         (λ files. EndsReliably result None) }
+    ensures statuses { status_of result ≤ 6 }
     ensures words { Refuses result (Some (make workload.now)) }
     ensures reads { InputFaults result (S.fetch_faults shelf.old) (S.fetch_faults shelf.new) }
     ensures writes { OutputFaults result (S.write_faults shelf.old) (S.write_faults shelf.new)
@@ -94,6 +122,7 @@ pub(crate) fn refine_command<S: Shelf, K: Sink>(
         (λ files. EndsOf result (cause (request_in files name.now))) }
     ensures reliable { S.is_reliable shelf.old → K.is_reliable out.old → ForSome (S.files shelf.old)
         (λ files. EndsReliably result (cause (request_in files name.now))) }
+    ensures statuses { status_of result ≤ 6 }
     ensures words { Refuses result (Some (refine name.now)) }
     ensures reads { InputFaults result (S.fetch_faults shelf.old) (S.fetch_faults shelf.new) }
     ensures writes { OutputFaults result (S.write_faults shelf.old) (S.write_faults shelf.new)
@@ -117,6 +146,7 @@ pub(crate) fn conf_command<S: Shelf, K: Sink>(
         (λ files. EndsOf result (cause (device_in files file.now name.now))) }
     ensures reliable { S.is_reliable shelf.old → K.is_reliable out.old → ForSome (S.files shelf.old)
         (λ files. EndsReliably result (cause (device_in files file.now name.now))) }
+    ensures statuses { status_of result ≤ 6 }
     ensures words { Refuses result (Some (conf file.now name.now)) }
     ensures reads { InputFaults result (S.fetch_faults shelf.old) (S.fetch_faults shelf.new) }
     ensures writes { OutputFaults result (S.write_faults shelf.old) (S.write_faults shelf.new)

@@ -6,11 +6,11 @@ ghost use Rattle.lab_play.specs.Stops.{rises};
 ghost use Rattle.lab_shelf.specs.Counts.{Rose};
 ghost use Rattle.lab_shelf.specs.Files.{TookPart};
 ghost use Rattle.lab_stop.specs.Lines.{stop_line};
-ghost use Rattle.lab_stop.specs.Stops.{AreSameCounts, EndsOf, EndsReliably, InputFaults, OutputFaults, Refuses};
+ghost use Rattle.lab_stop.specs.Stops.{AreSameCounts, EndsOf, EndsReliably, InputFaults, OutputFaults, Refuses, status_of};
 ghost use Rattle.lab_commands.specs.Words.{form_of, texts};
-ghost use Rattle.lab_commands.specs.Top.{cause_in, ComesExactly, EndsWell, Headline, IsOnlyLeft, IsLeftByFault, IsMissing, IsTextRefused, IsValidCall, IsWavRefused, CommandLeaves, SaysWhy};
+ghost use Rattle.lab_commands.specs.Top.{cause_in, ComesExactly, EndsWell, Headline, IsOnlyLeft, IsLeftByFault, IsMissing, IsNoRun, IsTextRefused, IsValidCall, IsWavRefused, CommandLeaves, SaysWhy, most_status};
 
-use crate::commands::{conf_command, make_command, refine_command, run_command};
+use crate::commands::{check_command, conf_command, make_command, refine_command, run_command};
 use crate::words::{Command, help, read_command, version};
 use lab_headline::scripts_have_one_session;
 use lab_shelf::{Shelf, Sink};
@@ -26,6 +26,9 @@ use std::thread::Threads;
 /// - `run SCRIPT OUT` reads the script in the file SCRIPT, the WAV file that its card captures, if it
 ///   names one, and the WAV file of each of its clients, and runs it: what the card plays is written as
 ///   the WAV file `OUT.wav`, what each reader records as `OUT.NAME.wav`, and the report is put on `out`.
+/// - `check SCRIPT REPORT OUT` tests the report in the file REPORT and the files `OUT.wav` and
+///   `OUT.NAME.wav`, whoever made them, against the script in the file SCRIPT. It reads what `run SCRIPT
+///   OUT` reads, then REPORT, and then each of these files; it stores and puts nothing.
 /// - `refine TEXT` reads in the file TEXT what is asked of the hardware parameters that a slave leaves
 ///   to its clients, and puts an answer for each line on `out`. It begins as `snd_pcm_hw_params_any`
 ///   does; a line narrows as `snd_pcm_hw_params_set_..` or shows as `snd_pcm_hw_params_get_..`.
@@ -53,10 +56,16 @@ use std::thread::Threads;
 ///   WAV files so far, each counted as often as a line names it, have more than 268,435,456 bytes;
 /// - 4: a file can't be read, as where there is none of its name;
 /// - 5: a file can't be written, or the text can't be put;
-/// - 6: memory ran out.
+/// - 6: memory ran out;
+/// - 7: in `check`, the report isn't that of a run of the script, as `lab_check::check_report` tests it, or
+///   one of the files isn't, to the byte, the canonical WAV file of what it says was played or recorded.
+///   The line names the report's line: of the first test that fails, of what was played for `OUT.wav`, and
+///   the last one for `OUT.NAME.wav`; 0 is a report of more than 67,108,864 bytes.
 ///
 /// The first cause in the order of the work decides: the words, the script, TEXT or FILE, the captured
-/// file, each client's file in the order of the clients' lines, and then what is written. A fault that a
+/// file, each client's file in the order of the clients' lines, the tests of REPORT, `OUT.wav` and each
+/// `OUT.NAME.wav` in the order of the readers' lines, and then what is written. A test is made as soon as
+/// what it needs is fetched; of one of these files at most one byte more is fetched than it must have. A fault that a
 /// file or `out` counts is always answered: of a fetch with 4, and of a write or a put with 5. Over a
 /// reliable shelf and a reliable `out` 4 comes only where a file isn't there, and 5 never.
 ///
@@ -72,7 +81,11 @@ use std::thread::Threads;
 /// captured frames that the report says the reader read. With 1 to 4 no file changed and `out` took
 /// nothing. With 5 and 6 each of these files is as it was or holds the first bytes of what it was to hold
 /// by then, or all with some bytes of the head still open; no other file changed, and `out` took the
-/// first bytes of the report. What the card had played by then are the sums of what the segments so far
+/// first bytes of the report. `check` changes no file and puts nothing, whatever its status. Its status 0
+/// says of the report and the files what `run` promises of its own: each sample that was played is the sum
+/// of exactly what the report's segments placed there, saturated once, and each reader's are the captured
+/// frames of its runs. A run may fail it where a client was opened again and is answered late after that,
+/// at a frame at which it has samples of before. What the card had played by then are the sums of what the segments so far
 /// placed, saturated once. `make` stores the clients' files, the script, `made.wav` and `made.report`
 /// in this order, and then puts the summary with one call: with status 0 all of them, with 5 and 6 the
 /// first of these, and of one of them maybe a part. `refine` and `conf` change no file: with status 0
@@ -105,7 +118,7 @@ pub fn dmixlab<R: Threads + Sync, S: Shelf, K: Sink, E: Sink, G: Gate + Send>(
         (S.files shelf.old) (S.files shelf.new) (K.taken out.old) (K.taken out.new) }
 
     // When each status comes.
-    ensures statuses { result ≤ 6 }
+    ensures statuses { result ≤ most_status (form_of (texts words.now)) }
     ensures words { (result ≡ 1) ↔ (form_of (texts words.now) ≡ None) }
     ensures script { ForSome (S.files shelf.old)
         (λ files. ComesExactly 2 result (Rose (S.fetch_faults shelf.old) (S.fetch_faults shelf.new))
@@ -113,6 +126,9 @@ pub fn dmixlab<R: Threads + Sync, S: Shelf, K: Sink, E: Sink, G: Gate + Send>(
     ensures wav { ForSome (S.files shelf.old)
         (λ files. ComesExactly 3 result (Rose (S.fetch_faults shelf.old) (S.fetch_faults shelf.new))
         (IsWavRefused (texts words.now) files)) }
+    ensures no { ForSome (S.files shelf.old)
+        (λ files. ComesExactly 7 result (Rose (S.fetch_faults shelf.old) (S.fetch_faults shelf.new))
+        (IsNoRun (texts words.now) files)) }
     ensures read { result ≡ 4 → Rose (S.fetch_faults shelf.old) (S.fetch_faults shelf.new) }
     ensures missing { ForSome (S.files shelf.old)
         (λ files. IsMissing (texts words.now) files → (result ≡ 4) ⊎ (result ≡ 6)) }
@@ -183,6 +199,7 @@ fn command<R: Threads + Sync, S: Shelf, K: Sink, G: Gate + Send>(
         (λ files. EndsOf result (cause_in (form_of (texts words.now)) files)) }
     ensures reliable { S.is_reliable shelf.old → K.is_reliable out.old → ForSome (S.files shelf.old)
         (λ files. EndsReliably result (cause_in (form_of (texts words.now)) files)) }
+    ensures statuses { status_of result ≤ most_status (form_of (texts words.now)) }
     ensures words { Refuses result (form_of (texts words.now)) }
     ensures reads { InputFaults result (S.fetch_faults shelf.old) (S.fetch_faults shelf.new) }
     ensures writes { OutputFaults result (S.write_faults shelf.old) (S.write_faults shelf.new)
@@ -192,6 +209,13 @@ fn command<R: Threads + Sync, S: Shelf, K: Sink, G: Gate + Send>(
         Some(Command::Run { script, out: name }) => {
             run_command(rt, alloc, shelf, out, gates, script, name)
         }
+        Some(
+            Command::Check {
+                script,
+                report,
+                out: name,
+            },
+        ) => check_command(alloc, shelf, script, report, name),
         Some(Command::Refine { text }) => refine_command(alloc, shelf, out, text),
         Some(Command::Conf { file, name }) => conf_command(alloc, shelf, out, file, name),
         Some(Command::Make(workload)) => { make_command(rt, alloc, shelf, out, gates, &workload) }

@@ -2,7 +2,7 @@
 ghost use Rattle.std.specs.Prelude.{◌≡◌, ◌==◌, IfSome};
 ghost use Rattle.std.specs.List.{list_all, list_any};
 ghost use Rattle.std.specs.Str.{is_utf8};
-ghost use Rattle.lab_commands.specs.Words.{IsWithinLimits, conf_of, form_of, form_seen, help_text, is_visible, make_of, names_device, names_file, refine_of, run_of, single_of, texts, version_text};
+ghost use Rattle.lab_commands.specs.Words.{IsWithinLimits, check_of, conf_of, form_of, form_seen, help_text, is_visible, make_of, names_device, names_file, refine_of, run_of, single_of, texts, version_text};
 
 use lab_make::{Workload, read_workload};
 use std::str;
@@ -17,11 +17,26 @@ const LONGEST_DEVICE: usize = 64;
 #[derive(Clone, Copy, Debug)]
 pub(crate) enum Command<'a> {
     /// A run of the script in a file, with the name of the output without its ending.
-    Run { script: &'a [u8], out: &'a [u8] },
+    Run {
+        script: &'a [u8],
+        out: &'a [u8],
+    },
+    /// A check of the run of the script in a file, by the report in a file and the name of the output
+    /// without its ending.
+    Check {
+        script: &'a [u8],
+        report: &'a [u8],
+        out: &'a [u8],
+    },
     /// The answers to the text in a file on a parameter space.
-    Refine { text: &'a [u8] },
+    Refine {
+        text: &'a [u8],
+    },
     /// The device of a name in the configuration in a file.
-    Conf { file: &'a [u8], name: &'a [u8] },
+    Conf {
+        file: &'a [u8],
+        name: &'a [u8],
+    },
     /// A run of a workload that is made.
     Make(Workload),
     /// The help text.
@@ -46,6 +61,9 @@ pub(crate) fn read_command(words: &[Vec<u8>]) -> Option<Command<'_>>
         }
         [word, seed, clients, phases] if word.as_slice() == b"make".as_slice() => {
             read_make(seed.as_slice(), clients.as_slice(), phases.as_slice())
+        }
+        [word, script, report, out] if word.as_slice() == b"check".as_slice() => {
+            read_check(script.as_slice(), report.as_slice(), out.as_slice())
         }
         _ => None,
     }
@@ -72,6 +90,22 @@ fn read_run<'a>(script: &'a [u8], out: &'a [u8]) -> Option<Command<'a>>
 {
     if is_file_name(script) && is_file_name(out) {
         Some(Command::Run { script, out })
+    } else {
+        None
+    }
+}
+
+/// The check of a script's run, with its report's file and its output's name.
+fn read_check<'a>(script: &'a [u8], report: &'a [u8], out: &'a [u8]) -> Option<Command<'a>>
+    ensures form { form_seen result ≡ check_of script.now report.now out.now }
+    ensures limits { IfSome result IsWithinLimits }
+{
+    if is_file_name(script) && is_file_name(report) && is_file_name(out) {
+        Some(Command::Check {
+            script,
+            report,
+            out,
+        })
     } else {
         None
     }
@@ -149,6 +183,7 @@ fn is_visible(word: &[u8]) -> bool
 
 /// The text of `--help`.
 const HELP: &[u8] = b"usage: dmixlab run SCRIPT OUT
+       dmixlab check SCRIPT REPORT OUT
        dmixlab refine TEXT
        dmixlab conf FILE NAME
        dmixlab make SEED CLIENTS PHASES
@@ -161,6 +196,11 @@ and the file of each client, stores what the card plays as OUT.wav and what each
 reader records as OUT.READER.wav, and prints a report. OUT is without an ending;
 files of these names are overwritten. WAV files are of 16-bit PCM; the file of a
 client with plug linear may have 8, 24 or 32 bits, and any rate and channels.
+
+check tests the files of a run, whoever made them: it reads SCRIPT and what that
+names as run does, the report in the file REPORT, OUT.wav and each
+OUT.READER.wav. The report must be one of the script, and the files hold, to the
+byte, what it says was played and recorded. It stores and prints nothing.
 
 refine narrows the hardware parameters that a card leaves to a client, as the
 lines of TEXT ask, and prints what is left of them.
@@ -238,6 +278,8 @@ Where the exit status isn't 0, a line on standard error says why:
   4  read FILE            a file can't be read
   5  write                a file or standard output can't be written
   6  memory               memory ran out
+  7  no: line L           in check, line L of REPORT fails a test, or the file
+                          that it speaks of isn't what it says
 
 The manual is docs/SCRIPTS.md: every key, call, answer and WHY, with what to do.
 In short it is docs/dmixlab.1, which man -l docs/dmixlab.1 shows.

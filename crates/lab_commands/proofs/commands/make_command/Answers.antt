@@ -1,3 +1,4 @@
+use Rattle.lab_stop.specs.EndLaws.{status_of-written}
 use Rattle.lab_stop.specs.FaultLaws.{InputFaults-same}
 use Rattle.lab_commands.proofs.Leaving.{CommandLeaves-made}
 use Rattle.lab_commands.proofs.commands.make_command.Goals as goal
@@ -5,6 +6,9 @@ use Rattle.lab_commands.proofs.commands.make_command.Goals as goal
 pub returns-clause-leaves : goal.returns-clause-leaves
 returns-clause-leaves g c =
     CommandLeaves-made c.args.workload.now _ _ _ _ _ c.make_workload.result c.make_workload.ensures.only c.make_workload.ensures.done c.make_workload.ensures.part
+
+pub returns-clause-statuses : goal.returns-clause-statuses
+returns-clause-statuses g c = status_of-written c.make_workload.result c.make_workload.ensures.only
 
 pub returns-clause-reads : goal.returns-clause-reads
 returns-clause-reads g c = InputFaults-same c.make_workload.result _ _ c.make_workload.ensures.only c.make_workload.ensures.fetch_faults

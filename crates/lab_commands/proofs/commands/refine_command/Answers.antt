@@ -3,8 +3,8 @@ use Rattle.std.specs.Option.{option_map}
 use Rattle.std.proofs.Common.{refl, subst}
 use Rattle.std.proofs.lemmas.Result.{err_from_is_err_and}
 use Rattle.lab_shelf.specs.Files.{Files, TookPart}
+use Rattle.lab_stop.specs.EndLaws.{EndsOf-written, EndsReliably-written, Refuses-written, status_of-read, status_of-written}
 use Rattle.lab_stop.specs.FaultLaws.{InputFaults-same, OutputFaults-puts, OutputFaults-reads}
-use Rattle.lab_commands.proofs.Ends.{EndsOf-written, EndsReliably-written, Refuses-written}
 use Rattle.lab_commands.proofs.Leaving.{CommandLeaves-answered}
 use Rattle.lab_commands.proofs.commands.refine_command.Goals as goal
 
@@ -28,6 +28,9 @@ returns-clause-reliable g c shelf out files told = EndsReliably-written c.put.re
 pub returns-clause-words : goal.returns-clause-words
 returns-clause-words g c = Refuses-written c.put.result _ c.put.ensures.only
 
+pub returns-clause-statuses : goal.returns-clause-statuses
+returns-clause-statuses g c = status_of-written c.put.result c.put.ensures.only
+
 pub returns-clause-reads : goal.returns-clause-reads
 returns-clause-reads g c = InputFaults-same c.put.result _ _ c.put.ensures.only c.in_ok-text.ensures.faults
 
@@ -39,3 +42,8 @@ returns-in_err-text-clause-writes g c =
     let p = err_from_is_err_and c.from_residual.result c.from_residual.ensures.1 in
     rw (p.1, p.2)
     (OutputFaults-reads {X = Unit {0}} (Err c.in_err-text.field-0.0) _ _ _ _ c.in_err-text.ensures.only c.in_err-text.ensures.write_faults refl)
+
+pub returns-in_err-text-clause-statuses : goal.returns-in_err-text-clause-statuses
+returns-in_err-text-clause-statuses g c =
+    let p = err_from_is_err_and c.from_residual.result c.from_residual.ensures.1 in
+    rw (p.1, p.2) (status_of-read {T = Unit {0}} (Err c.in_err-text.field-0.0) c.in_err-text.ensures.only)

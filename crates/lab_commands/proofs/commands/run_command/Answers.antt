@@ -5,6 +5,7 @@ use Rattle.lab_input.specs.Read.{input_of}
 use Rattle.lab_phase.specs.PhaseRuns.{Stops, stops_by}
 use Rattle.lab_play.specs.Stops.{rises}
 use Rattle.lab_shelf.specs.Files.{Files}
+use Rattle.lab_stop.specs.EndLaws.{status_of-read, status_of-written}
 use Rattle.lab_stop.specs.FaultLaws.{FetchFaults-only, InputFaults-reads, InputFaults-same, OutputFaults-after, OutputFaults-reads}
 use Rattle.lab_commands.proofs.Leaving.{Finished-played, CommandLeaves-stopped}
 use Rattle.lab_commands.proofs.commands.run_command.Goals as goal
@@ -32,6 +33,18 @@ returns-clause-leaves g c =
     let taken_after : Option (List ℕ) = g.K.Sink.taken c.play.new.out in
     Finished-played (record { exact = c.runs_are_exact.ensures; own = c.actors_do_their_own.ensures }) (input_of c.in_ok-input.input) c.args.script.now c.args.name.now gates before between
     after taken taken_after c.in_ok-input.ensures.input c.in_ok-input.ensures.script c.in_ok-input.ensures.files _ c.in_ok-play.ensures.done
+
+pub returns-in_err-input-clause-statuses : goal.returns-in_err-input-clause-statuses
+returns-in_err-input-clause-statuses g c =
+    let p = err_from_is_err_and c.from_residual.result c.from_residual.ensures.1 in
+    rw (p.1, p.2)
+    (status_of-read {T = Unit {0}} (Err c.in_err-input.field-0.0)
+    (FetchFaults-only {X = Unit {0}} (Err c.in_err-input.field-0.0) _ _ c.in_err-input.ensures.faults))
+
+pub returns-in_err-play-clause-statuses : goal.returns-in_err-play-clause-statuses
+returns-in_err-play-clause-statuses g c =
+    let p = err_from_is_err_and c.from_residual-in_err-play.result c.from_residual-in_err-play.ensures.1 in
+    rw (p.1, p.2) (status_of-written {T = Unit {0}} (Err c.in_err-play.field-0.0) c.in_err-play.ensures.only)
 
 pub returns-in_err-input-clause-reads : goal.returns-in_err-input-clause-reads
 returns-in_err-input-clause-reads g c =

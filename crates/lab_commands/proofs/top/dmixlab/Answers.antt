@@ -1,12 +1,16 @@
 use Rattle.std.proofs.Common.{sym, ◌∙◌}
+use Rattle.lab_stop.specs.EndLaws.{InputFaults-other, OnOk-done, OutputFaults-other}
 use Rattle.lab_commands.specs.Words.{form_of, texts}
-use Rattle.lab_commands.proofs.Ends.{InputFaults-other, OnOk-done, OutputFaults-other, SaysWhy-stop, status_of-text, status_of-wav, status_of-reliable}
+use Rattle.lab_commands.proofs.Ends.{SaysWhy-stop, status_of-no, status_of-text, status_of-wav, status_of-reliable}
 use Rattle.lab_commands.proofs.Only.{DoneIn-only}
 use Rattle.lab_commands.proofs.top.dmixlab.Goals as goal
 
 pub returns-clause-exact : goal.returns-clause-exact
 returns-clause-exact g c zero =
     DoneIn-only c.scripts_have_one_session.ensures c.command-end.result (form_of (texts c.args.words.now)) _ _ _ _ _ c.command-end.ensures.leaves (sym c.status.ensures ∙ zero)
+
+pub returns-clause-statuses : goal.returns-clause-statuses
+returns-clause-statuses g c = rw c.status.ensures c.command-end.ensures.statuses
 
 pub returns-clause-script : goal.returns-clause-script
 returns-clause-script g c files told =
@@ -18,6 +22,12 @@ pub returns-clause-wav : goal.returns-clause-wav
 returns-clause-wav g c files told =
     rw c.status.ensures
     (status_of-wav c.command-end.result (form_of (texts c.args.words.now)) files _ _ (c.command-end.ensures.cause files told)
+    c.command-end.ensures.words c.command-end.ensures.reads)
+
+pub returns-clause-no : goal.returns-clause-no
+returns-clause-no g c files told =
+    rw c.status.ensures
+    (status_of-no c.command-end.result (form_of (texts c.args.words.now)) files _ _ (c.command-end.ensures.cause files told)
     c.command-end.ensures.words c.command-end.ensures.reads)
 
 pub returns-clause-reliable : goal.returns-clause-reliable
