@@ -28,8 +28,8 @@ import corpus
 
 RATE = 48000
 MOST_SECONDS = 60
-CLIENT_CALLS = ("write", "write", "write", "write", "start", "sync", "avail", "delay", "prepare", "drain", "drop", "pause", "resume", "rewind", "rewindable", "die")
-READER_CALLS = ("read", "read", "read", "start", "avail", "prepare", "drop", "sync", "delay", "die")
+CLIENT_CALLS = "write write write write write write prepare prepare prepare sync sync avail delay start rewind rewindable pause resume drain drop die".split()
+READER_CALLS = "read read read read read start start prepare prepare avail sync drop pause die".split()
 COUNTED = ("write", "rewind", "read", "die")
 
 
@@ -53,7 +53,9 @@ class Session:
             self.declare_client(number, name)
         for name in self.readers:
             self.lines.append(f"reader {name}{self.bindings()[0]}{self.thresholds()}")
-        for _ in range(self.chance.randint(4, 20)):
+        for name in self.clients + self.readers:
+            self.turn(name, 0.9)
+        for _ in range(self.chance.randint(4, 30)):
             self.add_item()
         self.files["s"] = "".join(f"{line}\n" for line in self.lines).encode()
 
@@ -81,25 +83,27 @@ class Session:
         return f" bindings {','.join(map(str, bound))}", len(bound)
 
     def thresholds(self):
-        start = self.chance.choice(("", f" start {self.chance.choice((1, self.period, self.ring, 65536))}"))
-        return start + self.chance.choice(("", " stop never", f" stop {self.chance.randint(1, 2 * self.ring)}"))
+        start = self.chance.choice(("", "", "", f" start {self.chance.choice((self.period, self.ring))}"))
+        return start + self.chance.choice(("", " stop never", f" stop {self.chance.randint(self.ring, 2 * self.ring)}"))
 
-    def add_item(self):
-        """A phase, or an actor that is opened or closed."""
-        actors = self.clients + self.readers
-        name = self.chance.choice(actors)
-        if self.chance.random() < (0.9 if len(self.open) < len(actors) else 0.1):
+    def turn(self, name, chance):
+        """Opens an actor, or closes it where it is open, with a chance."""
+        if self.chance.random() < chance:
             self.lines.append(f"close {name}" if name in self.open else f"open {name}")
             self.open ^= {name}
-        else:
-            self.add_phase(actors)
+
+    def add_item(self):
+        """A phase, and maybe an actor that is opened or closed before."""
+        actors = self.clients + self.readers
+        self.turn(self.chance.choice(actors), 0.1)
+        self.add_phase(actors)
 
     def add_phase(self, actors):
         plays = self.chance.random() < 0.6
         others = not plays or self.chance.random() < 0.4
         self.lines.append("phase")
         if plays:
-            self.lines += [f"card play {self.frames()}" for _ in range(self.chance.randint(1, 3))]
+            self.lines += [f"card play {self.chance.choice((self.period // 2, self.period, self.period, self.ring))}" for _ in range(self.chance.randint(1, 2))]
         if others:
             for name in self.chance.sample(actors, self.chance.randint(1, len(actors))):
                 self.lines += [f"{name} {self.call(name)}" for _ in range(self.chance.randint(1, 4))]
