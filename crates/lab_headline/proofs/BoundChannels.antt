@@ -18,7 +18,7 @@ use Rattle.lab_lines.specs.declared.script.CardLine.{CardLine}
 use Rattle.lab_lines.specs.declared.script.ClientLine.{ClientLine}
 use Rattle.lab_lines.specs.declared.script.Script.{Script}
 use Rattle.lab_lines.specs.Limits.{IsBoundWhere, IsClientLine, IsScript}
-use Rattle.lab_run.specs.Openings.{AreClientOpenings, IsClientOpening, IsSessionOf}
+use Rattle.lab_run.specs.Openings.{AreClientOpenings, IsClientOpening, IsClientSetup, IsSessionOf}
 use Rattle.lab_run.specs.Stage.{Session, Setup}
 use Rattle.lab_headline.specs.OneSample.{AreBound}
 
@@ -72,13 +72,18 @@ left-channels channels rate ring n left is = (least, most)
 
 -- ---- the clients of a script
 
+-- a client's file has a channel, and no more than the card
+pub setup-channels : (card : CardLine) (line : ClientLine) (wav : Sound) (setup : Setup) → IsClientSetup card line wav setup
+    → (1 ≤ wav.channels) × (wav.channels ≤ card.channels)
+setup-channels card line wav setup opening = left-channels card.channels card.rate card.ring wav.channels opening.config.1.0 opening.config.1.1
+
 opening-bound : (card : CardLine) (line : ClientLine) (wav : Sound) (setup : Option Setup) → card.channels ≤ 8 → IsClientLine card line → IsClientOpening card line wav setup
     → IfSome setup (λ (s : Setup). AreBindings s.bindings)
 opening-bound card line wav None few is opening = tt
 opening-bound card line wav (Some setup) few is opening = subst AreBindings (sym opening.bindings) (by_line line.bindings is.bindings)
   where
     channels : (1 ≤ wav.channels) × (wav.channels ≤ card.channels)
-    channels = left-channels card.channels card.rate card.ring wav.channels opening.config.1.0 opening.config.1.1
+    channels = setup-channels card line wav setup opening
 
     by_line : (o : Option (List ℕ)) → IsBoundWhere card.channels o → AreBindings (unwrap_or o (identity wav.channels))
     by_line None bound = AreBindings-identity wav.channels channels.0 (omega (arith, channels.1, few))

@@ -19,7 +19,7 @@ use Rattle.lab_lines.specs.declared.row.Answer.{Answer}
 use Rattle.lab_run.specs.Client.{Client, begins, client_kind, line_by, segments_of}
 use Rattle.lab_run.specs.LabRun.{LabRun, Outcome, entries_by, with_numbers}
 use Rattle.lab_run.specs.Lines.{LineMay}
-use Rattle.lab_run.specs.Openings.{AreClientOpenings, IsSessionOf, bound_by}
+use Rattle.lab_run.specs.Openings.{AreClientOpenings, IsClientSetup, IsSessionOf}
 use Rattle.lab_run.specs.Rules.{AtPort, MayGet, MayLay, MayLoad, Rules}
 use Rattle.lab_run.specs.Stage.{Session, Setup}
 use Rattle.lab_headline.specs.Files.{IsMixOfFiles, IsPlacedFrom, file_samples}
@@ -29,10 +29,10 @@ use Rattle.lab_headline.proofs.Stages.{AreSo, IsKept, reached-so}
 
 -- ---- a client without a setup has no segments
 
-abbrev IsIdle : Client → Type 0
+abbrev pub IsIdle : Client → Type 0
 IsIdle client = (client.own ≡ None) × (client.ended ≡ [])
 
-abbrev IsUsed : Option Setup → Client → Type 0
+abbrev pub IsUsed : Option Setup → Client → Type 0
 IsUsed None client = IsIdle client
 IsUsed (Some s) client = ⊤
 
@@ -40,7 +40,7 @@ never-used : (setup : Option Setup) → IsUsed setup (record { own = None; ended
 never-used None = (refl, refl)
 never-used (Some s) = tt
 
-idle-segments : (client : Client) → IsIdle client → segments_of client ≡ []
+pub idle-segments : (client : Client) → IsIdle client → segments_of client ≡ []
 idle-segments client (closed, none) = rw closed (rw none refl)
 
 ended-used : (setup : Option Setup) (client : Client) → IsUsed setup client → IsUsed setup (record { own = None; ended = segments_of client })
@@ -55,7 +55,7 @@ line-used rules phase wav number None a b client after asked answer idle may =
     (line_by wav (begins client.own asked a).marks client client.own asked) (after, answer)
     (subst (λ own. All (λ (x : Client × Answer). IsIdle x.0) (line_by wav (begins client.own asked a).marks client own asked)) (sym idle.0) idle) may
 
-clients-used : IsKept IsUsed
+pub clients-used : IsKept IsUsed
 clients-used = record {
   never = never-used;
   lines = line-used;
@@ -65,15 +65,15 @@ clients-used = record {
 
 -- ---- a client with a setup has its line and its file
 
-record IsOpened (lines : List ClientLine) (wavs : List Sound) (n : ℕ) (s : Setup) : Type 0 where
-  line : ClientLine
-  wav : Sound
-  line_is : slice_get lines n ≡ Some line
-  wav_is : slice_get wavs n ≡ Some wav
-  bindings : s.bindings ≡ bound_by line wav
+pub record IsOpened (card : CardLine) (lines : List ClientLine) (wavs : List Sound) (n : ℕ) (s : Setup) : Type 0 where
+  pub line : ClientLine
+  pub wav : Sound
+  pub line_is : slice_get lines n ≡ Some line
+  pub wav_is : slice_get wavs n ≡ Some wav
+  pub opening : IsClientSetup card line wav s
 
-opened-at : (card : CardLine) (lines : List ClientLine) (wavs : List Sound) (setups : List (Option Setup)) (n : ℕ) (s : Setup) → AreClientOpenings card lines wavs setups
-    → slice_index_or setups n None ≡ Some s → IsOpened lines wavs n s
+pub opened-at : (card : CardLine) (lines : List ClientLine) (wavs : List Sound) (setups : List (Option Setup)) (n : ℕ) (s : Setup) → AreClientOpenings card lines wavs setups
+    → slice_index_or setups n None ≡ Some s → IsOpened card lines wavs n s
 opened-at card [] [] [] n s are is = absurd (cc)
 opened-at card [] [] (setup ∷ setups) n s are is = absurd are
 opened-at card [] (wav ∷ wavs) setups n s are is = absurd are
@@ -82,10 +82,10 @@ opened-at card (line ∷ lines) (wav ∷ wavs) [] n s are is = absurd are
 opened-at card (line ∷ lines) (wav ∷ wavs) (None ∷ setups) zero s are is = absurd (cc)
 opened-at card (line ∷ lines) (wav ∷ wavs) (Some t ∷ setups) zero s are is =
     let same : t ≡ s = cc in
-    record { line = line; wav = wav; line_is = refl; wav_is = refl; bindings = subst (λ (x : Setup). x.bindings ≡ bound_by line wav) same are.0.bindings }
+    record { line = line; wav = wav; line_is = refl; wav_is = refl; opening = subst (IsClientSetup card line wav) same are.0 }
 opened-at card (line ∷ lines) (wav ∷ wavs) (setup ∷ setups) (suc n) s are is =
     let rest = opened-at card lines wavs setups n s are.1 is in
-    record { line = rest.line; wav = rest.wav; line_is = rest.line_is; wav_is = rest.wav_is; bindings = rest.bindings }
+    record { line = rest.line; wav = rest.wav; line_is = rest.line_is; wav_is = rest.wav_is; opening = rest.opening }
 
 -- what a segment of a client placed, by its line and file
 abbrev from_file : Script → List Sound → ℕ × Segment → List Entry
@@ -96,7 +96,7 @@ segment-from : (script : Script) (wavs : List Sound) (session : Session) (n : �
 segment-from script wavs session n s segment is setup_is =
     let opened = opened-at script.card script.clients wavs session.clients n s is.clients setup_is in
     let wav_is : slice_get session.sounds n ≡ Some opened.wav = ap (λ (l : List Sound). slice_get l n) is.sounds ∙ opened.wav_is in
-    rw wav_is (rw setup_is (rw opened.line_is (rw opened.wav_is (ap (λ b. expand n segment opened.wav.samples b) opened.bindings))))
+    rw wav_is (rw setup_is (rw opened.line_is (rw opened.wav_is (ap (λ b. expand n segment opened.wav.samples b) opened.opening.bindings))))
 
 -- ---- all segments
 

@@ -14,7 +14,7 @@ use Rattle.pcm_stream.specs.declared.direction.Direction.TheVariants.{Playback}
 use Rattle.pcm_stream.specs.Status.{refusal_of}
 use Rattle.course.specs.Course.{◌>>=◌, Course, ends, gets, lays, loads}
 use Rattle.dmix_client.specs.declared.stream.PlaybackStream.{PlaybackStream}
-use Rattle.dmix_client.specs.Calls.{Answered, is_paused, after_pause, after_prepare, segment_of}
+use Rattle.dmix_client.specs.Calls.{Answered, is_paused, after_prepare, segment_of}
 use Rattle.dmix_client.specs.Course.{if_admitted, admitted_by, pause_course}
 use Rattle.lab_lines.specs.declared.line.Op.{Op}
 use Rattle.lab_lines.specs.declared.line.Op.TheVariants as op

@@ -87,21 +87,21 @@ kept-then p c d (e, r) alike (next, fits) = (alike-then p (segment_of c) (segmen
 
 -- ---- results
 
-IfOk-any : {X : Type 0} (r : Result X PcmError) (P : Type 0) → P → IfOk r (λ done. P)
+pub IfOk-any : {X : Type 0} (r : Result X PcmError) (P : Type 0) → P → IfOk r (λ done. P)
 IfOk-any (Ok done) P is = is
 IfOk-any (Err e) P is = tt
 
-IfOk-none : {X : Type 0} (r : Result X PcmError) (P : Type 0) → IfOk r (λ done. ⊥) → IfOk r (λ done. P)
+pub IfOk-none : {X : Type 0} (r : Result X PcmError) (P : Type 0) → IfOk r (λ done. ⊥) → IfOk r (λ done. P)
 IfOk-none (Ok done) P is = absurd is
 IfOk-none (Err e) P is = tt
 
 -- ---- the state table
 
 -- a refusal, after which the stream neither waits nor moves frames
-abbrev IsOver : Outcome → Type 0
+abbrev pub IsOver : Outcome → Type 0
 IsOver outcome = (is_prepared outcome.state ≡ false) × (is_moving outcome.state ≡ false) × IfOk outcome.answer (λ done. ⊥)
 
-abbrev late-facts : ℕ → Bool → Option (ℕ × ℕ) → XrunWhy → Facts
+abbrev pub late-facts : ℕ → Bool → Option (ℕ × ℕ) → XrunWhy → Facts
 late-facts queued gone over w = record {
   capture = false;
   queued = queued;
@@ -123,7 +123,7 @@ draining-over queued true over w asked = (refl, refl, tt)
 draining-over queued false over w asked = (refl, refl, tt)
 
 -- a step that was late is over
-step-over : (s : State) (asked : Call) (queued : ℕ) (gone : Bool) (over : Option (ℕ × ℕ)) (w : XrunWhy) → IsFrameStep s asked
+pub step-over : (s : State) (asked : Call) (queued : ℕ) (gone : Bool) (over : Option (ℕ × ℕ)) (w : XrunWhy) → IsFrameStep s asked
     → IsOver (next_of s asked (late-facts queued gone over w))
 step-over Running call.Sync queued gone over w step = moving-over queued gone over w
 step-over Running call.Transfer queued gone over w step = moving-over queued gone over w
@@ -133,7 +133,7 @@ step-over Running other queued gone over w step = elim step [ ]
 step-over Draining other queued gone over w step = elim step [ ]
 step-over other asked queued gone over w step = elim step [ ]
 
-step-unprepared : (s : State) (asked : Call) → IsFrameStep s asked → is_prepared s ≡ false
+pub step-unprepared : (s : State) (asked : Call) → IsFrameStep s asked → is_prepared s ≡ false
 step-unprepared Prepared asked step = elim step [ ]
 step-unprepared other asked step = refl
 

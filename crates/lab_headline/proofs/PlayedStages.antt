@@ -66,7 +66,7 @@ reaped-segments ring number (x ∷ clients) =
     by_test false = refl
 
 -- each client that can be opened has channels, each with its place in the order of the card
-channels-of : (session : Session) (number : ℕ) → AreBound session → IfSome (slice_index_or session.clients number None) (λ (s : Setup). Channels s.bindings)
+pub channels-of : (session : Session) (number : ℕ) → AreBound session → IfSome (slice_index_or session.clients number None) (λ (s : Setup). Channels s.bindings)
 channels-of session number bound = by_setup (slice_index_or session.clients number None) (bound number)
   where
     by_setup : (setup : Option Setup) → IfSome setup (λ (s : Setup). AreBindings s.bindings) → IfSome setup (λ (s : Setup). Channels s.bindings)
@@ -105,15 +105,15 @@ module _ (session : Session) (frame channel : ℕ) where
 -- ---- an opening or a closing
 
 -- it changes no segment, and the card stays where it is
-record IsBorderOf (stage after : Stage) : Type 0 where
-  segments : all_segments after.clients ≡ all_segments stage.clients
-  position : after.position ≡ stage.position
+pub record IsBorderOf (stage after : Stage) : Type 0 where
+  pub segments : all_segments after.clients ≡ all_segments stage.clients
+  pub position : after.position ≡ stage.position
 
 module _ (session : Session) (stage : Stage) where
-  same-border : IsBorderOf stage stage
+  pub same-border : IsBorderOf stage stage
   same-border = record { segments = refl; position = refl }
 
-  opens-client : (n : ℕ) (own : Option PlaybackStream) → (client_at session stage n).1.own ≡ own → IsBorderOf stage (open_client session stage n (client_at session stage n) own)
+  pub opens-client : (n : ℕ) (own : Option PlaybackStream) → (client_at session stage n).1.own ≡ own → IsBorderOf stage (open_client session stage n (client_at session stage n) own)
   opens-client n (Some c) is = record { segments = refl; position = refl }
   opens-client n None is = by_setup (slice_index_or session.clients n None)
     where
@@ -133,14 +133,14 @@ module _ (session : Session) (stage : Stage) where
       by_setup None = record { segments = refl; position = refl }
       by_setup (Some setup) = by_claim setup (claim_refusal session.card.share stage.claims setup.bindings stage.position)
 
-  closes-client : (n : ℕ) (own : Option PlaybackStream) → IsBorderOf stage (close_client session stage n (client_at session stage n) own)
+  pub closes-client : (n : ℕ) (own : Option PlaybackStream) → IsBorderOf stage (close_client session stage n (client_at session stage n) own)
   closes-client n None = record { segments = refl; position = refl }
   closes-client n (Some c) = record {
     segments = set-segments 0 n stage.clients (no_client session.ring) _ (ended-segments session.ring (client_at session stage n));
     position = refl;
   }
 
-  opens-reader : (n : ℕ) (own : Option reading.CaptureStream) → IsBorderOf stage (open_reader session stage n (reader_at session stage n) own)
+  pub opens-reader : (n : ℕ) (own : Option reading.CaptureStream) → IsBorderOf stage (open_reader session stage n (reader_at session stage n) own)
   opens-reader n (Some r) = record { segments = refl; position = refl }
   opens-reader n None = by_setup (slice_index_or session.readers n None)
     where
@@ -148,7 +148,7 @@ module _ (session : Session) (stage : Stage) where
       by_setup None = record { segments = refl; position = refl }
       by_setup (Some setup) = record { segments = refl; position = refl }
 
-  closes-reader : (n : ℕ) (own : Option reading.CaptureStream) → IsBorderOf stage (close_reader session stage n (reader_at session stage n) own)
+  pub closes-reader : (n : ℕ) (own : Option reading.CaptureStream) → IsBorderOf stage (close_reader session stage n (reader_at session stage n) own)
   closes-reader n None = record { segments = refl; position = refl }
   closes-reader n (Some r) = record { segments = refl; position = refl }
 

@@ -9,5 +9,6 @@ pub mod OneSample
 pub mod OneSession
 pub mod Played
 pub mod Recordings
+pub mod Segments
 pub mod Shares
 pub mod WorkedRows

@@ -60,3 +60,8 @@ abbrev pub ReadersAreBound : Script → Session → Type 0
 ReadersAreBound script session =
     (number : ℕ) (line : ReaderLine) → slice_get script.readers number ≡ Some line
     → IsBoundBy script session number line
+
+-- a reader that couldn't be opened has no runs
+abbrev pub UnopenedHaveNoRuns : Session → Report → Type 0
+UnopenedHaveNoRuns session report =
+    (number : ℕ) → slice_index_or session.readers number None ≡ None → runs_by number report.runs ≡ []

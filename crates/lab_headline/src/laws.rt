@@ -22,7 +22,8 @@ ghost use Rattle.lab_headline.specs.Once.{PlacesOnce};
 ghost use Rattle.lab_headline.specs.OneSample.{AreBound, AreSamples, HasOneSample, PlaysOneSample};
 ghost use Rattle.lab_headline.specs.OneSession.{HaveOneSession};
 ghost use Rattle.lab_headline.specs.Played.{PlayedStays};
-ghost use Rattle.lab_headline.specs.Recordings.{AreRecordingsOf, frames_of_runs};
+ghost use Rattle.lab_headline.specs.Recordings.{AreRecordingsOf, UnopenedHaveNoRuns, frames_of_runs};
+ghost use Rattle.lab_headline.specs.Segments.{AreOfClients};
 ghost use Rattle.lab_headline.specs.Shares.{HaveOwnChannels};
 ghost use Rattle.lab_headline.specs.WorkedRows.{some_entries, two_runs};
 
@@ -117,6 +118,16 @@ pub fn runs_record_captures()
     readers_read_on();
 }
 
+/// A reader that couldn't be opened has no runs in the report.
+///
+/// It does nothing.
+pub fn unopened_readers_have_no_runs()
+    ensures { (session : Session) (capture : Option Sound) (body : List Item)
+        (client_stops reader_stops : ℕ → ℕ) (outcome : Outcome) →
+        LabRun session capture body client_stops reader_stops outcome →
+        UnopenedHaveNoRuns session outcome.report }
+{}
+
 /// What the report's segments placed is what each client placed, one client after the other: a
 /// client that is stopped takes away nothing of another.
 ///
@@ -149,6 +160,18 @@ pub fn late_rows_miss()
 pub fn segments_place_once()
     ensures { (number : ℕ) (segment : Segment) (samples : List ℤ) (bindings : List ℕ) →
         PlacesOnce number segment samples bindings }
+{}
+
+/// Each segment of a run's report is of a client with a line and a file: it has a sample, none of them before
+/// the card's first frame, and the file has each frame of which it takes samples.
+///
+/// It does nothing.
+pub fn segments_are_of_files()
+    ensures { (script : Script) (wavs : List Sound) (session : Session) (capture : Option Sound)
+        (client_stops reader_stops : ℕ → ℕ) (outcome : Outcome) → IsScript script →
+        IsSessionOf script wavs session →
+        LabRun session capture script.body client_stops reader_stops outcome →
+        AreOfClients script wavs outcome.report }
 {}
 
 /// Where the card is shared by channels (dshare), clients that are open at a time have no channel

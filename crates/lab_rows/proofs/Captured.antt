@@ -1,4 +1,4 @@
--- At each stage of a run a reader has at most as many frames as the card has captured.
+-- At each stage of a run a reader's frames are captured ones: they rise from the card's first frame, and are before its position.
 use Rattle.std.proofs.Common.{◌≡◌, ℕ, ◌+◌, ◌<◌, ◌≤◌, refl, sym, ap, subst, arith, List, [], ◌∷◌, zero, suc, Option, Some, None}
 use Rattle.std.proofs.lemmas.List.Elements.{All-append, All-cons, All-filter, All-head, All-map, All-nil, All-set, All-tail}
 use Rattle.std.proofs.lemmas.List.FromFn.{get_or-range_with_len, length-range_with_len}
@@ -64,7 +64,7 @@ published-between period from lines =
 
 -- more is known
 later : (first known more : ℕ) (reader : Reader) → known ≤ more → HasFrames first known reader → HasFrames first more reader
-later first known more reader low (frames, past) = (omega (arith, low, frames), past)
+later first known more reader low (end, rising, few, past) = (end, rising, omega (arith, low, few), past)
 
 -- a reader within a phase
 abbrev IsIn : ℕ → ℕ → ℕ → AtPort × Reader → Type 0
@@ -117,7 +117,7 @@ leaves first begin end ring (a, reader) on (low, has) = by_stop (is_reader_stopp
     known = let few : known_at begin a ≤ end = omega (arith, on, low) in later first (known_at begin a) end reader few has
 
     by_stop : (stopped : Bool) → IsWithin first end (reaped_reader_if stopped ring (a, reader))
-    by_stop true = (omega arith, (known.0, tt))
+    by_stop true = (omega arith, (known.0, known.1, known.2, tt))
     by_stop false = (low, known)
 
 phase-within : (first : ℕ) (session : Session) (stage after : Stage) (lines : List Line) → PhaseMay session stage lines after → AreWithin first stage → AreWithin first after
@@ -166,14 +166,14 @@ open_reader-within first session stage n (a, reader) None is are = by_setup (sli
     by_setup None = record { low = are.low; each = are.each }
     by_setup (Some setup) = record {
       low = are.low;
-      each = All-set (IsWithin first stage.position) stage.readers n _ (omega arith, (is.1.0, λ runs. absurd (cc))) are.each;
+      each = All-set (IsWithin first stage.position) stage.readers n _ (omega arith, (is.1.0, is.1.1, is.1.2, λ runs. absurd (cc))) are.each;
     }
 
 close_reader-within : (first : ℕ) (session : Session) (stage : Stage) (n : ℕ) (x : AtPort × Reader) (own : Option CaptureStream) → IsWithin first stage.position x
     → AreWithin first stage → AreWithin first (close_reader session stage n x own)
 close_reader-within first session stage n x None is are = record { low = are.low; each = are.each }
 close_reader-within first session stage n (a, reader) (Some r) is are =
-    record { low = are.low; each = All-set (IsWithin first stage.position) stage.readers n _ (omega arith, (is.1.0, tt)) are.each }
+    record { low = are.low; each = All-set (IsWithin first stage.position) stage.readers n _ (omega arith, (is.1.0, is.1.1, is.1.2, tt)) are.each }
 
 -- the reader of a number, or one that was never open
 All-at : {X : Type 0} (P : X → Type 0) (xs : List X) (n : ℕ) (d : X) → P d → All P xs → P (slice_index_or xs n d)
@@ -183,7 +183,7 @@ All-at P (x ∷ xs) (suc n) d is all = All-at P xs n d is (All-tail P x xs all)
 
 pub reader_at-within : (first : ℕ) (session : Session) (stage : Stage) (n : ℕ) → AreWithin first stage → IsWithin first stage.position (reader_at session stage n)
 reader_at-within first session stage n are =
-    All-at (IsWithin first stage.position) stage.readers n (no_reader session.ring) (omega arith, ((let low : first ≤ stage.position = are.low in omega (arith, low)), tt)) are.each
+    All-at (IsWithin first stage.position) stage.readers n (no_reader session.ring) (omega arith, (first, omega arith, are.low, tt)) are.each
 
 open-within : (first : ℕ) (session : Session) (stage : Stage) (who : Actor) → AreWithin first stage → AreWithin first (after_open session stage who)
 open-within first session stage actor.Card are = are
@@ -210,5 +210,5 @@ items-within first session stage after (item.Phase lines ∷ items) (between, ma
 pub run-within : (session : Session) (stage : Stage) (items : List Item) → ItemsMay session (first_stage session) items stage → AreWithin (first_frame session.card) stage
 run-within session stage items may = items-within (first_frame session.card) session (first_stage session) stage items may (record {
   low = omega arith;
-  each = All-map (IsWithin (first_frame session.card) (first_frame session.card)) (λ setup. no_reader session.ring) session.readers (λ k d within. (omega arith, (omega arith, tt)));
+  each = All-map (IsWithin (first_frame session.card) (first_frame session.card)) (λ setup. no_reader session.ring) session.readers (λ k d within. (omega arith, (first_frame session.card, omega arith, omega arith, tt)));
 })

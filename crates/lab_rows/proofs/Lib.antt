@@ -1,5 +1,6 @@
 pub mod Borders
 pub mod Captured
+pub mod CapturedRuns
 pub mod ClientCalls
 pub mod GrowthLaws
 pub mod Known

@@ -1,7 +1,5 @@
--- A reader's frames are at most as many as the card has captured: each that it gets is after the others, and below the position known.
-use Rattle.std.proofs.Common.{◌≡◌, ℕ, ◌+◌, ◌-◌, ◌≤◌, add-zero, refl, sym, ◌∙◌, ap, subst, arith, length, List, [], Option, Some, None, zero, suc}
-use Rattle.std.proofs.lemmas.List.{length-append}
-use Rattle.std.proofs.lemmas.List.FromFn.{length-range_with_len}
+-- A reader's frames are captured ones: each that it gets is after the others, and below the position known. So they are at most as many as the card has captured.
+use Rattle.std.proofs.Common.{◌≡◌, ℕ, ◌+◌, ◌-◌, ◌≤◌, ◌⊎◌, inl, inr, refl, sym, ap, subst, arith, length, List, [], ◌∷◌, Option, Some, None, zero, suc}
 use Rattle.std.specs.Prelude.{Bool, true, false, ◌&&◌, ◌++◌, nat_eq, nat_le, nat_lt, if◌then◌else◌, Result, Ok, Err, ⊤, unwrap_or}
 use Rattle.std.specs.List.{range_with_len}
 use Rattle.snd_base.specs.declared.errors.PcmError.{PcmError}
@@ -28,7 +26,38 @@ use Rattle.lab_lines.specs.declared.row.Answer.{Answer}
 use Rattle.lab_lines.specs.declared.row.Answer.TheVariants.{Failed}
 use Rattle.lab_run.specs.Client.{count_answer, done_answer}
 use Rattle.lab_run.specs.Reader.{Reader, after_call, call_answer, call_of, frames_by, line_by, line_if}
+use Rattle.lab_rows.specs.Captured.{AreRisingFrames}
 use Rattle.lab_rows.proofs.Known.{AllKnown, AllKnown-then}
+
+-- ---- frames that rise
+
+pub rising-end : (least end : ℕ) (frames : List ℕ) → AreRisingFrames least end frames → least ≤ end
+rising-end least end [] rising = rising
+rising-end least end (frame ∷ frames) (low, rising) = let past = rising-end (frame + 1) end frames rising in omega (arith, low, past)
+
+rising-less : (least more end : ℕ) (frames : List ℕ) → least ≤ more → AreRisingFrames more end frames → AreRisingFrames least end frames
+rising-less least more end [] less rising = omega (arith, less, rising)
+rising-less least more end (frame ∷ frames) less (low, rising) = (omega (arith, less, low), rising)
+
+rising-few : (least end : ℕ) (frames : List ℕ) → AreRisingFrames least end frames → least + length frames ≤ end
+rising-few least end [] rising = omega (arith, rising)
+rising-few least end (frame ∷ frames) (low, rising) = let few = rising-few (frame + 1) end frames rising in omega (arith, low, few)
+
+rising-append : (least between end : ℕ) (frames more : List ℕ) → AreRisingFrames least between frames → AreRisingFrames between end more
+    → AreRisingFrames least end (frames ++ more)
+rising-append least between end [] more low rising = rising-less least between end more low rising
+rising-append least between end (frame ∷ frames) more (low, rising) after = (low, rising-append (frame + 1) between end frames more rising after)
+
+-- with a later end
+pub rising-later : (least end more : ℕ) (frames : List ℕ) → end ≤ more → AreRisingFrames least end frames → AreRisingFrames least more frames
+rising-later least end more [] later rising = omega (arith, later, rising)
+rising-later least end more (frame ∷ frames) later (low, rising) = (low, rising-later (frame + 1) end more frames later rising)
+
+rising-range : (least end first count : ℕ) → least ≤ first → first + count ≤ end → AreRisingFrames least end (range_with_len first count)
+rising-range least end first zero low few = omega (arith, low, few)
+rising-range least end first (suc count) low few = (low, rising-range (first + 1) end (first + 1) count (omega arith) (omega (arith, few)))
+
+-- ---- a reader
 
 -- a reader that runs has its next frame at a frame or past it
 abbrev pub IsPast : ℕ → CaptureStream → Type 0
@@ -43,9 +72,9 @@ abbrev Begins : ℕ → ℕ → Answered (Unit {0}) → Type 0
 Begins base known (d, Ok done) = (base ≤ known) × (base ≤ d.next) × (d.seen ≡ Some known)
 Begins base known (d, Err e) = (base ≤ known) × IsPast base d
 
--- a read moves both on by what it counts
+-- a read moves the next frame on by what it counts, and not past the position known
 abbrev Reads : ℕ → ℕ → Answered ℕ → Type 0
-Reads base known (d, Ok count) = (base + count ≤ known) × IsPast (base + count) d
+Reads base known (d, Ok count) = ((count ≡ 0) × (base ≤ known) × IsPast base d) ⊎ ((base + count ≤ d.next) × (d.next ≤ known))
 Reads base known (d, Err e) = (base ≤ known) × IsPast base d
 
 -- ---- the parts of a call
@@ -114,7 +143,8 @@ gets-few known (suc count) first = by_end (gets-few known count (first + 1))
 
 -- a read that got at most what was available
 read_to-reads : (base known : ℕ) (d : CaptureStream) (done : ℕ) (how : Got) → base ≤ known → base ≤ d.next → done ≤ known - d.next → Reads base known (read_to d done how)
-read_to-reads base known d done got.Whole low next few = (omega (arith, low, next, few), λ runs. omega (arith, next))
+read_to-reads base known d zero got.Whole low next few = inl (refl, low, λ runs. omega (arith, next))
+read_to-reads base known d (suc n) got.Whole low next few = inr (omega (arith, next), omega (arith, few))
 read_to-reads base known d done (got.Overtaken channel word) low next few = (low, λ runs. next)
 read_to-reads base known d done got.Stopped low next few = (low, λ runs. next)
 
@@ -141,7 +171,7 @@ waits-reads : (base known : ℕ) (r : CaptureStream) (n : ℕ) → base ≤ know
 waits-reads base known r n low next = by_test (nat_eq n 0)
   where
     by_test : (none : Bool) → Reads base known (r, if none then Ok 0 else Err error.Again)
-    by_test true = (omega (arith, low), λ runs. let past = next runs in omega (arith, past))
+    by_test true = inl (refl, low, next)
     by_test false = (low, next)
 
 -- ---- the calls
@@ -183,21 +213,24 @@ avail_course-stays base known r low next = by_running (is_running r.status.state
 
 -- ---- the lines
 
--- an open reader with so many frames after a first one
+-- an open reader whose frames are before a frame
 abbrev pub IsOwnPast : ℕ → Option CaptureStream → Type 0
 IsOwnPast base None = ⊤
 IsOwnPast base (Some r) = IsPast base r
 
--- a reader whose frames are after a first one and below the position known
+-- a reader whose frames rise from a first one, and are below the position known
 abbrev pub HasFrames : ℕ → ℕ → Reader → Type 0
-HasFrames first known reader = (first + length reader.frames ≤ known) × IsOwnPast (first + length reader.frames) reader.own
+HasFrames first known reader = (end : ℕ) × AreRisingFrames first end reader.frames × (end ≤ known) × IsOwnPast end reader.own
+
+pub frames-few : (first known : ℕ) (reader : Reader) → HasFrames first known reader → first + length reader.frames ≤ known
+frames-few first known reader (end, rising, low, past) = let few = rising-few first end reader.frames rising in omega (arith, few, low)
 
 abbrev pub LineHas : ℕ → ℕ → Reader × Answer → Type 0
 LineHas first known (reader, answer) = HasFrames first known reader
 
 -- what a call leaves of a reader that had some frames
 abbrev IsLeft : ℕ → ℕ → Op → CaptureStream × Answer → Type 0
-IsLeft base known asked (d, answer) = (base + length (frames_by asked answer d) ≤ known) × IsPast (base + length (frames_by asked answer d)) d
+IsLeft base known asked (d, answer) = (end : ℕ) × AreRisingFrames base end (frames_by asked answer d) × (end ≤ known) × IsPast end d
 
 admitted-left : {T : Type 0} (base known : ℕ) (r : CaptureStream) (asked : Op) (c : Call) (answer : Result T PcmError → Answer) (R : ℕ → Answered T → Type 0) (m : Course (Answered T))
     → ((later : ℕ) (x : Answered T) → R later x → IsLeft base later asked (x.0, answer x.1)) → ((e : PcmError) → R known (r, Err e)) → AllKnown R known m
@@ -213,15 +246,15 @@ admitted-left {T = T} base known r asked c answer R m leaves refused all =
 none-left : (base known : ℕ) (asked : Op) (d : CaptureStream) (answer : Answer) → frames_by asked answer d ≡ [] → (base ≤ known) × IsPast base d
     → IsLeft base known asked (d, answer)
 none-left base known asked d answer none is =
-    let same : base + length (frames_by asked answer d) ≡ base = ap (λ (frames : List ℕ). base + length frames) none ∙ add-zero base in
-    let low : base ≤ known = is.0 in
-    (omega (arith, low, same), λ runs. let past = is.1 runs in omega (arith, past, same))
+    let rising : base ≤ base = omega arith in
+    (base, subst (AreRisingFrames base base) (sym none) rising, is.0, is.1)
 
 -- a read
 read-left : (base n known : ℕ) (x : Answered ℕ) → Reads base known x → IsLeft base known (op.Read n) (x.0, count_answer x.1)
-read-left base n known (d, Ok count) (low, past) =
-    let same : length (range_with_len (d.next - count) count) ≡ count = length-range_with_len (d.next - count) count in
-    (omega (arith, low, same), λ runs. let next = past runs in omega (arith, next, same))
+read-left base n known (d, Ok count) (inl (none, low, past)) =
+    none-left base known (op.Read n) d (count_answer (Ok count)) (ap (λ k. range_with_len (d.next - k) k) none) (low, past)
+read-left base n known (d, Ok count) (inr (next, low)) =
+    (d.next, rising-range base d.next (d.next - count) count (omega (arith, next)) (omega (arith, next)), low, λ runs. omega arith)
 read-left base n known (d, Err e) is = none-left base known (op.Read n) d (count_answer (Err e)) refl is
 
 call-left : (base known : ℕ) (r : CaptureStream) (asked : Op) → base ≤ known → IsPast base r → AllKnown (λ later x. IsLeft base later asked x) known (call_of r asked)
@@ -247,24 +280,25 @@ call-left base known r op.Pause low next = none-left base known op.Pause r (Fail
 call-left base known r other low next = none-left base known other r (Failed error.BadState) refl (low, next)
 
 -- a line adds the frames that its call got
-line-left : (first known : ℕ) (reader : Reader) (r : CaptureStream) (asked : Op) (x : CaptureStream × Answer) → IsLeft (first + length reader.frames) known asked x
+line-left : (first base known : ℕ) (reader : Reader) (asked : Op) (x : CaptureStream × Answer) → AreRisingFrames first base reader.frames → IsLeft base known asked x
     → LineHas first known (after_call reader asked x)
-line-left first known reader r asked (d, answer) (low, past) =
-    let more : length (reader.frames ++ frames_by asked answer d) ≡ length reader.frames + length (frames_by asked answer d) =
-    length-append reader.frames (frames_by asked answer d) in
-    (omega (arith, low, more), λ runs. let next = past runs in omega (arith, next, more))
+line-left first base known reader asked (d, answer) rising (end, more, low, past) =
+    (end, rising-append first base end reader.frames (frames_by asked answer d) rising more, low, past)
 
 pub line-has : (first known : ℕ) (reader : Reader) (own : Option CaptureStream) (asked : Op) → reader.own ≡ own → HasFrames first known reader
     → AllKnown (LineHas first) known (line_by reader own asked)
 line-has first known reader None asked is has = has
 line-has first known reader (Some r) asked is has = by_stop r.status.stopped asked
   where
-    past : IsPast (first + length reader.frames) r
-    past = subst (IsOwnPast (first + length reader.frames)) is has.1
+    base : ℕ
+    base = has.0
+
+    past : IsPast base r
+    past = subst (IsOwnPast base) is has.3
 
     by_call : (o : Op) → AllKnown (LineHas first) known (call_of r o >>= λ done. ends (after_call reader o done))
-    by_call o = AllKnown-then (λ later x. IsLeft (first + length reader.frames) later o x) (LineHas first) known (call_of r o) (λ done. ends (after_call reader o done))
-        (call-left (first + length reader.frames) known r o has.0 past) (λ later x left. line-left first later reader r o x left)
+    by_call o = AllKnown-then (λ later x. IsLeft base later o x) (LineHas first) known (call_of r o) (λ done. ends (after_call reader o done))
+        (call-left base known r o has.2 past) (λ later x left. line-left first base later reader o x has.1 left)
 
     by_op : (o : Op) → AllKnown (LineHas first) known (line_if false reader r o)
     by_op (op.Die k) = has

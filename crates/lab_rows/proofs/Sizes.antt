@@ -29,6 +29,7 @@ use Rattle.lab_run.specs.Stage.{Session, Setup, Stage, no_reader, reader_at}
 use Rattle.lab_run.proofs.ScriptWords.{stages-of_scripts}
 use Rattle.lab_rows.specs.Sizes.{AreWholeFrames, IsPlayed, IsRecorded, StagesHaveSizes}
 use Rattle.lab_rows.proofs.Captured.{reader_at-within, run-within}
+use Rattle.lab_rows.proofs.ReaderFrames.{frames-few}
 use Rattle.lab_rows.proofs.Stages.{reached-reportable}
 
 -- ---- the frames that were played
@@ -156,7 +157,8 @@ recorded-frames script wavs session capture done others stage is number line the
     subst (λ (l : ReaderLine). IsReaderOpening script.card l setup) is_line
     (opening-at script.card script.readers session.readers number line is.session_is.readers within) in
     let inside = reader_at-within (first_frame session.card) session stage number (run-within session stage done is.may) in
-    let below : first_frame session.card + length reader.frames ≤ stage.position = inside.1.0 in
+    let below : first_frame session.card + length reader.frames ≤ stage.position =
+    frames-few (first_frame session.card) stage.position reader inside.1 in
     let bound = bound-size script.card line setup (length reader.frames) opening in
     let size : length (slice_index_or (outcome_of session capture stage).recorded number []) ≡ bound.0 * length (read_by script.card line) =
     ap length (recorded-at session capture 0 number stage.readers (no_reader session.ring) (omega (arith, within, all)))

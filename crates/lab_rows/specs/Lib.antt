@@ -1,3 +1,4 @@
+pub mod Captured
 pub mod Growth
 pub mod Reports
 pub mod Sizes

@@ -1,4 +1,5 @@
 //! The laws of what runs leave: facts for contracts.
+ghost use Rattle.lab_rows.specs.Captured.{ReadersCapture};
 ghost use Rattle.lab_rows.specs.Reports.{OutcomesAreOfScripts, StagesAreReported};
 ghost use Rattle.lab_rows.specs.Sizes.{StagesHaveSizes};
 
@@ -26,4 +27,12 @@ pub fn stages_have_sizes()
 /// It does nothing.
 pub fn outcomes_are_of_scripts()
     ensures { OutcomesAreOfScripts }
+{}
+
+/// The frames of each reader of a run are frames that the card captured in it: each is above the one before it, over all of the
+/// reader's stretches. So its runs in the report rise, and two of them aren't one.
+///
+/// It does nothing.
+pub fn readers_capture_frames()
+    ensures { ReadersCapture }
 {}

@@ -8,5 +8,7 @@ mod laws;
 mod ranges;
 
 pub use growth::stages_grow;
-pub use laws::{outcomes_are_of_scripts, stages_have_rows, stages_have_sizes};
+pub use laws::{
+    outcomes_are_of_scripts, readers_capture_frames, stages_have_rows, stages_have_sizes,
+};
 pub use ranges::numbers_are_in_range;
