@@ -10,6 +10,9 @@ pub mod LateMisses
 pub mod Parts
 pub mod ReaderRuns
 pub mod ReaderSamples
+pub mod RunChecks
+pub mod RunPasses
+pub mod RunReads
 pub mod Saturated
 pub mod Shows
 pub mod Sizes

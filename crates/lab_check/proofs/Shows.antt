@@ -5,8 +5,8 @@ use Rattle.std.proofs.lemmas.List.Elements.{All-from_recursion}
 use Rattle.std.proofs.lemmas.List.FromFn.{get_or-map-range_with_len, length-map-range_with_len, length-range_with_len}
 use Rattle.std.proofs.lemmas.Nat.{div-mul-add, mod-mul-add}
 use Rattle.std.proofs.lemmas.Option.{slice_get_within}
-use Rattle.std.specs.List.{flat_map, range_with_len}
-use Rattle.std.specs.Prelude.{ℤ, pos, suc, map, slice_get, slice_index_or}
+use Rattle.std.specs.List.{AllByRecursion, flat_map, range_with_len}
+use Rattle.std.specs.Prelude.{ℤ, pos, true, suc, map, slice_get, slice_index_or}
 use Rattle.lap_word.specs.Clamp.{clamp_of}
 use Rattle.mix_core.specs.Laid.{total}
 use Rattle.wav_io.specs.Sound.{Sound}
@@ -14,6 +14,7 @@ use Rattle.lab_lines.specs.declared.report.Report.{Report}
 use Rattle.lab_lines.specs.declared.script.CardLine.{CardLine}
 use Rattle.lab_lines.specs.declared.script.ReaderLine.{ReaderLine}
 use Rattle.lab_lines.specs.declared.script.Script.{Script}
+use Rattle.lab_lines.specs.Script.{first_frame}
 use Rattle.lab_run.specs.LabRun.{mixed_at}
 use Rattle.lab_run.specs.Openings.{read_by}
 use Rattle.lab_run.specs.OwnRows.{rows_by, runs_by}
@@ -23,21 +24,22 @@ use Rattle.lab_headline.specs.Files.{IsMixOfFiles, placed_from}
 use Rattle.lab_headline.specs.Recordings.{frames_in_runs, frames_of_runs}
 use Rattle.lab_check.specs.Checked.{IsChecked}
 use Rattle.lab_check.specs.Lines.{first_row_line, first_run_line}
-use Rattle.lab_check.specs.Reads.{end_defect, reader_defect, reads_end, run_defect, runs_with_lines}
+use Rattle.lab_check.specs.Reads.{end_defect, reader_defect, readers_defect, reads_end, run_defect, runs_with_lines}
 use Rattle.lab_check.specs.Samples.{captured_by, captured_runs, played_samples, readers_samples, run_samples}
-use Rattle.lab_check.specs.Shown.{IsCapturedRun, IsShown, ShowsLate, ShowsReader, ShowsSamples}
+use Rattle.lab_check.specs.Segments.{is_right_segment}
+use Rattle.lab_check.specs.Shown.{IsCapturedRun, IsShown, SaysHeadline, ShowsLate, ShowsReader, ShowsSamples}
 use Rattle.lab_check.proofs.LateMisses.{rows-show}
 use Rattle.lab_check.proofs.Slices.{TookAll, lines-off, rows-took, runs-captured, unlined}
 use Rattle.lab_check.proofs.ClientTotals.{sums-are}
 use Rattle.lab_check.proofs.ReaderSamples.{recorded-at}
-use Rattle.lab_check.proofs.Tested.{Passes, first-none, one_reader, report-passes, second-none, text-passes}
+use Rattle.lab_check.proofs.Tested.{Passes, first-none, one_reader, report-passes, rows-pass, second-none, text-passes}
 
-mix-shows : (script : Script) (wavs : List Sound) (report : Report) → Passes script wavs report → IsMixOfFiles script wavs report (played_samples script wavs report)
-mix-shows script wavs report passes =
+mix-shows : (script : Script) (wavs : List Sound) (report : Report) → report.first ≡ first_frame script.card → IsMixOfFiles script wavs report (played_samples script wavs report)
+mix-shows script wavs report first_is =
     let channels = script.card.channels in
     let mixed_of = mixed_at channels report.first (placed_from script wavs report) in
     record {
-      first = passes.first;
+      first = first_is;
       samples = length-map-range_with_len mixed_of 0 (report.frames * channels);
       sums = λ frame channel in_frames in_channels.
           let k = frame * channels + channel in
@@ -87,7 +89,7 @@ reader-shows script capture report number line is =
       frames = refl;
       samples_are = samples-count (captured_by script.card capture) bindings (frames_of_runs runs) ∙ ap (λ n. n * length bindings) (frames-count runs);
       captured = All-from_recursion (IsCapturedRun report.first (report.first + report.frames)) runs
-          (subst (Rattle.std.specs.List.AllByRecursion (IsCapturedRun report.first (report.first + report.frames))) same (runs-captured report.first (report.first + report.frames) report.first lined (omega arith) none));
+          (subst (AllByRecursion (IsCapturedRun report.first (report.first + report.frames))) same (runs-captured report.first (report.first + report.frames) report.first lined (omega arith) none));
       after = took.0;
       stretches = subst (λ (r : List (ℕ × ℕ)). AreSlices None (rows_by (is_reader number) report.rows) (frames_of_runs r) took.0) same took.1;
     }
@@ -97,21 +99,44 @@ recorded-size : (card : CardLine) (capture : Option Sound) (report : Report) (nu
 recorded-size card capture report number [] = refl
 recorded-size card capture report number (line ∷ lines) = ap suc (recorded-size card capture report (number + 1) lines)
 
-each-shows : (script : Script) (wavs : List Sound) (capture : Option Sound) (report : Report) → Passes script wavs report → (number : ℕ) (line : ReaderLine)
+each-shows : (script : Script) (capture : Option Sound) (report : Report) → readers_defect report 0 (length script.readers) ≡ None → (number : ℕ) (line : ReaderLine)
     → slice_get script.readers number ≡ Some line
     → ShowsReader script capture report number line (slice_index_or (readers_samples script.card capture report 0 script.readers) number [])
-each-shows script wavs capture report passes number line is =
-    let none : reader_defect report number ≡ None = one_reader script report number (slice_get_within script.readers number line is) passes.readers in
+each-shows script capture report readers number line is =
+    let none : reader_defect report number ≡ None = one_reader script report number (slice_get_within script.readers number line is) readers in
     subst (ShowsReader script capture report number line) (sym (recorded-at script.card capture report number script.readers line is)) (reader-shows script capture report number line none)
 
 pub passes-shows : (script : Script) (wavs : List Sound) (capture : Option Sound) (report : Report) → Passes script wavs report
     → ShowsSamples script wavs capture report (run_samples script wavs capture report)
 passes-shows script wavs capture report passes = record {
-  mix = mix-shows script wavs report passes;
+  mix = mix-shows script wavs report passes.first;
   clients = λ frame channel. sums-are script wavs frame channel report.segments passes.segments;
   late = All-from_recursion (ShowsLate script wavs report) report.rows (rows-show script wavs report report.rows passes.rows);
   readers = recorded-size script.card capture report 0 script.readers;
-  each = each-shows script wavs capture report passes;
+  each = each-shows script capture report passes.readers;
+}
+
+-- a report that says what its card played, whose segments and readers can be, says the headline
+pub says-headline : (script : Script) (wavs : List Sound) (capture : Option Sound) (report : Report) → report.first ≡ first_frame script.card
+    → AllByRecursion (λ segment. is_right_segment script wavs segment ≡ true) report.segments → readers_defect report 0 (length script.readers) ≡ None
+    → SaysHeadline script wavs capture report (run_samples script wavs capture report)
+says-headline script wavs capture report first segments readers = record {
+  mix = mix-shows script wavs report first;
+  clients = λ frame channel. sums-are script wavs frame channel report.segments segments;
+  late = λ none. All-from_recursion (ShowsLate script wavs report) report.rows (rows-show script wavs report report.rows (rows-pass script wavs report none));
+  readers = recorded-size script.card capture report 0 script.readers;
+  each = each-shows script capture report readers;
+}
+
+-- and so does what a check shows
+pub shown-says : (script : Script) (wavs : List Sound) (capture : Option Sound) (text : List ℕ) (files : List (List ℕ)) (shown : IsShown script wavs capture text files)
+    → SaysHeadline script wavs capture shown.report shown.samples
+shown-says script wavs capture text files shown = record {
+  mix = shown.shows.mix;
+  clients = shown.shows.clients;
+  late = λ none. shown.shows.late;
+  readers = shown.shows.readers;
+  each = shown.shows.each;
 }
 
 pub checked-shows : (script : Script) (wavs : List Sound) (capture : Option Sound) (text : List ℕ) (files : List (List ℕ))

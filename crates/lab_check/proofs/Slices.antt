@@ -30,7 +30,7 @@ lines-off number line ((reader, first, count) ∷ runs) = by_reader (lines-off n
     by_reader others false = others
 
 -- the frames of a run of which some are taken
-frames-taken : (taken line first count : ℕ) (runs : List (ℕ × ℕ × ℕ)) → taken ≤ count
+pub frames-taken : (taken line first count : ℕ) (runs : List (ℕ × ℕ × ℕ)) → taken ≤ count
     → unread_frames ((line, first, count) ∷ runs) ≡ range_with_len first taken ++ unread_frames (runs_without taken line first count runs)
 frames-taken taken line first count runs few = by_all (nat_eq taken count) refl
   where
@@ -52,7 +52,7 @@ some-first : (next : Option ℕ) → (first : ℕ) × IsFirstOf next first
 some-first None = (0, tt)
 some-first (Some frame) = (frame, refl)
 
-goes-without : (ends : Bool) (next : Option ℕ) (first other : ℕ) → goes_on_after ends next first zero ≡ goes_on_after ends next other zero
+pub goes-without : (ends : Bool) (next : Option ℕ) (first other : ℕ) → goes_on_after ends next first zero ≡ goes_on_after ends next other zero
 goes-without true next first other = refl
 goes-without false next first other = refl
 

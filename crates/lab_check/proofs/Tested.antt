@@ -88,6 +88,11 @@ played-passes script report is = by_tests (nat_eq report.first (first_frame scri
     by_tests true false first frames none = absurd cc
     by_tests false b first frames none = absurd cc
 
+-- all late rows can be, where none can't
+pub rows-pass : (script : Script) (wavs : List Sound) (report : Report) → row_defect script wavs report ≡ None
+    → AllByRecursion (λ row. is_right_row script wavs report row ≡ true) report.rows
+rows-pass script wavs report is = none-fails (is_right_row script wavs report) report.rows (map-none (λ k. first_row_line + k) _ is)
+
 pub report-passes : (script : Script) (wavs : List Sound) (report : Report) → report_defect script wavs report ≡ None → Passes script wavs report
 report-passes script wavs report is =
     let rest = second-none (played_defect script report) _ is in
@@ -97,7 +102,7 @@ report-passes script wavs report is =
       first = played.0;
       frames = played.1;
       segments = none-fails (is_right_segment script wavs) report.segments (map-none (λ k. first_segment_line report + k) _ (first-none (segment_defect script wavs report) _ rest));
-      rows = none-fails (is_right_row script wavs report) report.rows (map-none (λ k. first_row_line + k) _ (first-none (row_defect script wavs report) _ rest_two));
+      rows = rows-pass script wavs report (first-none (row_defect script wavs report) _ rest_two);
       readers = second-none (row_defect script wavs report) _ rest_two;
     }
 

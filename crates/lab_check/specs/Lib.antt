@@ -7,6 +7,7 @@ pub mod Pieces
 pub mod Reads
 pub mod Recordings
 pub mod Results
+pub mod Runs
 pub mod Samples
 pub mod Segments
 pub mod Shown

@@ -19,6 +19,7 @@ use Rattle.lab_headline.specs.Files.{IsMixOfFiles, placed_from}
 use Rattle.lab_headline.specs.Late.{IsLate}
 use Rattle.lab_headline.specs.Recordings.{frames_in_runs, frames_of_runs}
 use Rattle.lab_check.specs.Checked.{run_sounds}
+use Rattle.lab_check.specs.Defects.{row_defect}
 use Rattle.lab_check.specs.Late.{entries_of_client}
 use Rattle.lab_check.specs.Samples.{RunSamples, captured_runs}
 
@@ -67,6 +68,18 @@ pub record ShowsSamples (script : Script) (wavs : List Sound) (capture : Option 
   pub mix : IsMixOfFiles script wavs report samples.played
   pub clients : SumsClients script wavs report
   pub late : All (ShowsLate script wavs report) report.rows
+  pub readers : length samples.recorded ≡ length script.readers
+  pub each : (number : ℕ) (line : ReaderLine) → slice_get script.readers number ≡ Some line
+      → ShowsReader script capture report number line (slice_index_or samples.recorded number [])
+
+-- The headline of a run, by its script, its files and its report alone, whoever made them: each played sample is the saturated sum of exactly what the
+-- segments placed; what they placed is what each client placed, beside the others; each reader's samples are the captured frames of its runs, one slice in
+-- each stretch; and where the late rows pass their test, each names a place without a sample of its client, or, of a rewind, with one.
+pub record SaysHeadline (script : Script) (wavs : List Sound) (capture : Option Sound)
+    (report : Report) (samples : RunSamples) : Type 0 where
+  pub mix : IsMixOfFiles script wavs report samples.played
+  pub clients : SumsClients script wavs report
+  pub late : row_defect script wavs report ≡ None → All (ShowsLate script wavs report) report.rows
   pub readers : length samples.recorded ≡ length script.readers
   pub each : (number : ℕ) (line : ReaderLine) → slice_get script.readers number ≡ Some line
       → ShowsReader script capture report number line (slice_index_or samples.recorded number [])

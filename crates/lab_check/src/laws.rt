@@ -4,7 +4,10 @@ ghost use Rattle.wav_io.specs.Sound.{Sound};
 ghost use Rattle.lab_lines.specs.declared.script.Script.{Script};
 ghost use Rattle.lab_check.specs.Checked.{IsChecked};
 ghost use Rattle.lab_check.specs.Pieces.{IsSameFile, IsSameUpTo};
+ghost use Rattle.lab_check.specs.Runs.{RunsAreChecked, RunsSayHeadline, ShownRunsSayHeadline, UnlateRowsPass};
 ghost use Rattle.lab_check.specs.Shown.{IsShown};
+
+use lab_headline::{runs_keep_headline, segments_are_of_files, unopened_readers_have_no_runs};
 
 /// A run that is checked has what is said of a run, whoever made its files: each sample that was played is the saturated sum of
 /// exactly the samples that the report's segments placed at its frame and channel, each of them once; a late row names a frame and
@@ -16,6 +19,31 @@ pub fn checked_runs_show()
     ensures { (script : Script) (wavs : List Sound) (capture : Option Sound) (text : List ℕ)
         (files : List (List ℕ)) → IsChecked script wavs capture text files →
         IsShown script wavs capture text files }
+{}
+
+/// What a run leaves is a checked run: its report's text and the canonical files of its samples, where the text isn't too long and
+/// the late rows pass their test. That asks of a late row that no segment of its client has a sample at the place that the row
+/// names, where a run promises it of the row's stretch: so a client that was opened before, and has samples there from then, may
+/// fail it. No row fails it where none is late.
+///
+/// Each run says the headline by its script, its files and its report alone.
+///
+/// It does nothing.
+pub fn runs_are_checked()
+    ensures checked { RunsAreChecked }
+    ensures headline { RunsSayHeadline }
+    ensures unlate { UnlateRowsPass }
+{
+    runs_keep_headline();
+    segments_are_of_files();
+    unopened_readers_have_no_runs();
+}
+
+/// What a check shows says the same headline as a run.
+///
+/// It does nothing.
+pub fn shown_runs_say_headline()
+    ensures { ShownRunsSayHeadline }
 {}
 
 /// A file that is compared with another piece by piece is that one exactly where each piece is, and there is no byte behind the

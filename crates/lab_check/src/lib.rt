@@ -24,7 +24,7 @@ mod sums;
 pub use check::{Checked, check_report};
 pub use defects::tested_report;
 pub use error::CheckError;
-pub use laws::{checked_runs_show, pieces_tell_files};
+pub use laws::{checked_runs_show, pieces_tell_files, runs_are_checked, shown_runs_say_headline};
 pub use lines::{line_of_end, line_of_played};
 pub use pieces::canonical_piece;
 pub use played::played_samples;

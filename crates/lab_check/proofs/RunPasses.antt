@@ -1,0 +1,252 @@
+-- The tests that the report of a run passes, and the samples that it says.
+use Rattle.std.proofs.Common.{◌≡◌, ℕ, ◌+◌, ◌*◌, ◌<◌, ◌≤◌, refl, sym, ◌∙◌, ap, subst, arith, inl, inr, ◌⊎◌, List, [], ◌∷◌, length, map, Option, Some, None}
+use Rattle.std.proofs.lemmas.Bool.{and_from, eq-eqb, le-leb, le-ltb, lt-ltb}
+use Rattle.std.proofs.lemmas.Bool.Decides.{nat_tests}
+use Rattle.std.proofs.lemmas.List.Elements.{recursion_from_All}
+use Rattle.std.proofs.lemmas.Option.{slice_get_within}
+use Rattle.std.specs.List.{AllByRecursion, flat_map, position, prefix_len, range_with_len}
+use Rattle.std.specs.Prelude.{Bool, true, false, cond, not, ◌&&◌, nat_eq, nat_lt, nat_le, zero, suc, if◌then◌else◌, option_map, ℤ, slice_get, slice_index_or, Ok, Err}
+use Rattle.snd_base.specs.declared.places.Segment.{Segment}
+use Rattle.wav_io.specs.Canonical.{canonical}
+use Rattle.wav_io.specs.Sound.{Sound}
+use Rattle.lab_lines.specs.declared.report.Report.{Report}
+use Rattle.lab_lines.specs.declared.row.Row.{Row}
+use Rattle.lab_lines.specs.declared.script.CardLine.{CardLine}
+use Rattle.lab_lines.specs.declared.script.ClientLine.{ClientLine}
+use Rattle.lab_lines.specs.declared.script.ReaderLine.{ReaderLine}
+use Rattle.lab_lines.specs.declared.script.Script.{Script}
+use Rattle.lab_lines.specs.Script.{first_frame, frames_played, phases_of}
+use Rattle.lab_report.specs.Reading.{report_in_text}
+use Rattle.lab_report.specs.Text.{report_text}
+use Rattle.lab_run.specs.Client.{frames_of}
+use Rattle.lab_run.specs.LabRun.{Outcome, captured_sample, entries_of, mixed_at, outcome_of, report_of}
+use Rattle.lab_run.specs.Openings.{IsSessionOf, bound_by, read_by}
+use Rattle.lab_run.specs.OwnRows.{runs_by}
+use Rattle.lab_run.specs.Stage.{Session, Stage}
+use Rattle.lab_headline.specs.Files.{IsPlacedFrom}
+use Rattle.lab_headline.specs.Recordings.{AreRecordingsOf, ReadersAreBound, UnopenedHaveNoRuns, bindings_at, frames_of_runs, recording_of}
+use Rattle.lab_headline.specs.Segments.{AreOfClients, IsOfClient}
+use Rattle.lab_rows.specs.Captured.{AreCapturedRuns}
+use Rattle.lab_check.specs.Checked.{IsChecked, run_sounds}
+use Rattle.lab_check.specs.Defects.{most_of_report, played_defect, report_defect, report_or_line, row_defect, segment_defect, tested, tested_report}
+use Rattle.lab_check.specs.Late.{is_right_place, is_right_row, late_place}
+use Rattle.lab_check.specs.Lines.{first_row_line, first_segment_line, line_of_played}
+use Rattle.lab_check.specs.Reads.{reader_defect, readers_defect}
+use Rattle.lab_check.specs.Runs.{CanPass, UnlateRowsPass, samples_of_run}
+use Rattle.lab_check.specs.Samples.{captured_by, captured_runs, played_samples, reader_samples, readers_samples, run_samples}
+use Rattle.lab_check.specs.Segments.{frames_taken, is_bound, is_right_segment, is_segment_of, is_within}
+use Rattle.lab_check.specs.Shown.{SaysHeadline}
+use Rattle.lab_check.proofs.RunReads.{both-none, reader-passes}
+use Rattle.lab_check.proofs.Shows.{says-headline}
+
+-- ---- where a test passes everywhere
+
+all-through : {X : Type 0} (p : X → Bool) (xs : List X) → AllByRecursion (λ x. p x ≡ true) xs → length xs ≤ prefix_len (λ x. not (not (p x))) xs
+all-through p [] are = omega arith
+all-through p (x ∷ xs) are =
+    let rest : length xs ≤ prefix_len (λ y. not (not (p y))) xs = all-through p xs are.1 in
+    let more : suc (length xs) ≤ 1 + prefix_len (λ y. not (not (p y))) xs = omega (arith, rest) in
+    subst (λ b. suc (length xs) ≤ cond (not (not b)) (1 + prefix_len (λ y. not (not (p y))) xs) 0) (sym are.0) more
+
+past-none : (n m : ℕ) → m ≤ n → cond (nat_lt n m) (Some n) None ≡ None
+past-none n m past = ap (λ b. cond b (Some n) None) (le-ltb n m past)
+
+none-found : {X : Type 0} (p : X → Bool) (xs : List X) → AllByRecursion (λ x. p x ≡ true) xs → position (λ x. not (p x)) xs ≡ None
+none-found p xs are = past-none (prefix_len (λ x. not (not (p x))) xs) (length xs) (all-through p xs are)
+
+-- ---- late rows
+
+unlate-rows : (script : Script) (wavs : List Sound) (report : Report) (rows : List Row) → AllByRecursion (λ (row : Row). late_place row.answer ≡ None) rows
+    → AllByRecursion (λ row. is_right_row script wavs report row ≡ true) rows
+unlate-rows script wavs report [] are = tt
+unlate-rows script wavs report (row ∷ rows) are =
+    (ap (is_right_place script wavs report row) are.0, unlate-rows script wavs report rows are.1)
+
+pub unlate-pass : UnlateRowsPass
+unlate-pass script wavs report none = ap (option_map (λ k. first_row_line + k))
+    (none-found (is_right_row script wavs report) report.rows
+    (unlate-rows script wavs report report.rows (recursion_from_All (λ (row : Row). late_place row.answer ≡ None) report.rows none)))
+
+-- ---- segments
+
+taken-few : (segment : Segment) (frames : ℕ) → segment.source + segment.whole ≤ frames → (0 < segment.part → segment.source + segment.whole < frames)
+    → segment.source + frames_taken segment ≤ frames
+taken-few segment frames whole begun = by_part (nat_eq segment.part 0) refl
+  where
+    some : (part : ℕ) → nat_eq part 0 ≡ false → 0 < part
+    some part is = grind (arith, nat_tests)
+
+    by_part : (none : Bool) → nat_eq segment.part 0 ≡ none → segment.source + (segment.whole + (if none then 0 else 1)) ≤ frames
+    by_part true is = omega (arith, whole)
+    by_part false is = let more = begun (some segment.part is) in omega (arith, more)
+
+segment-passes : (script : Script) (wavs : List Sound) (number : ℕ) (segment : Segment) → IsOfClient script wavs number segment
+    → is_right_segment script wavs (number, segment) ≡ true
+segment-passes script wavs number segment of =
+    ap (λ (o : Option ClientLine). is_segment_of script.card segment o (slice_get wavs number)) of.line_is
+    ∙ ap (λ (o : Option Sound). is_segment_of script.card segment (Some of.line) o) of.wav_is
+    ∙ and_from (is_bound script.card of.line of.wav) (is_within script.card segment of.wav.channels (frames_of of.wav)) bound within
+  where
+    bound : is_bound script.card of.line of.wav ≡ true
+    bound = and_from (nat_eq (length (bound_by of.line of.wav)) of.wav.channels) (nat_le of.wav.channels script.card.channels)
+        (eq-eqb (length (bound_by of.line of.wav)) of.wav.channels of.bound) (le-leb of.wav.channels script.card.channels of.channels)
+
+    within : is_within script.card segment of.wav.channels (frames_of of.wav) ≡ true
+    within = and_from (nat_lt 0 (segment.whole + segment.part) && nat_lt segment.part of.wav.channels && nat_le (first_frame script.card) segment.card)
+        (nat_le (segment.source + frames_taken segment) (frames_of of.wav))
+        (and_from (nat_lt 0 (segment.whole + segment.part) && nat_lt segment.part of.wav.channels) (nat_le (first_frame script.card) segment.card)
+        (and_from (nat_lt 0 (segment.whole + segment.part)) (nat_lt segment.part of.wav.channels)
+        (lt-ltb 0 (segment.whole + segment.part) of.frames.some) (lt-ltb segment.part of.wav.channels of.frames.part))
+        (le-leb (first_frame script.card) segment.card of.frames.card))
+        (le-leb (segment.source + frames_taken segment) (frames_of of.wav) (taken-few segment (frames_of of.wav) of.frames.source of.frames.begun))
+
+segments-pass : (script : Script) (wavs : List Sound) (segments : List (ℕ × Segment)) → AllByRecursion (λ (pair : ℕ × Segment). IsOfClient script wavs pair.0 pair.1) segments
+    → AllByRecursion (λ segment. is_right_segment script wavs segment ≡ true) segments
+segments-pass script wavs [] are = tt
+segments-pass script wavs ((number, segment) ∷ segments) are = (segment-passes script wavs number segment are.0, segments-pass script wavs segments are.1)
+
+-- ---- readers
+
+readers-pass : (report : Report) (first more : ℕ) → ((number : ℕ) → number < first + more → reader_defect report number ≡ None) → readers_defect report first more ≡ None
+readers-pass report first zero each = refl
+readers-pass report first (suc more) each = both-none (reader_defect report first) (readers_defect report (first + 1) more) (each first (omega arith))
+    (readers-pass report (first + 1) more (λ number low. each number (omega (arith, low))))
+
+-- ---- a run
+
+-- what is known of a run, of its report and its samples
+pub record RunFacts (script : Script) (wavs : List Sound) (session : Session) (capture : Option Sound) (outcome : Outcome) : Type 0 where
+  pub is : IsSessionOf script wavs session
+  pub end : Stage
+  pub outcome_is : outcome ≡ outcome_of session capture end
+  pub first : outcome.report.first ≡ first_frame script.card
+  pub frames : outcome.report.frames ≡ frames_played (phases_of script.body)
+  pub back : (text : List ℕ) → text ≡ report_text script outcome.report → CanPass script wavs outcome.report → report_in_text script text ≡ Ok outcome.report
+  pub placed : IsPlacedFrom script wavs session outcome.report
+  pub segments : AreOfClients script wavs outcome.report
+  pub recordings : AreRecordingsOf session capture outcome.report outcome.recorded
+  pub readers : length outcome.recorded ≡ length script.readers
+  pub bound : ReadersAreBound script session
+  pub unopened : UnopenedHaveNoRuns session outcome.report
+  pub captured : (number : ℕ) → number < length script.readers
+      → AreCapturedRuns outcome.report.first (outcome.report.first + outcome.report.frames) (runs_by number outcome.report.runs)
+
+module _ (script : Script) (wavs : List Sound) (session : Session) (capture : Option Sound) (outcome : Outcome) (leaves : RunFacts script wavs session capture outcome) where
+  -- ---- the tests
+
+  played-passes : played_defect script outcome.report ≡ None
+  played-passes = ap (λ b. if b then None else Some (line_of_played outcome.report))
+      (and_from (nat_eq outcome.report.first (first_frame script.card)) (nat_eq outcome.report.frames (frames_played (phases_of script.body)))
+      (eq-eqb outcome.report.first (first_frame script.card) leaves.first) (eq-eqb outcome.report.frames (frames_played (phases_of script.body)) leaves.frames))
+
+  right-segments : AllByRecursion (λ segment. is_right_segment script wavs segment ≡ true) outcome.report.segments
+  right-segments = segments-pass script wavs outcome.report.segments
+      (recursion_from_All (λ (pair : ℕ × Segment). IsOfClient script wavs pair.0 pair.1) outcome.report.segments leaves.segments)
+
+  segment-none : segment_defect script wavs outcome.report ≡ None
+  segment-none = ap (option_map (λ k. first_segment_line outcome.report + k)) (none-found (is_right_segment script wavs) outcome.report.segments right-segments)
+
+  readers-none : readers_defect outcome.report 0 (length script.readers) ≡ None
+  readers-none = readers-pass outcome.report 0 (length script.readers) (λ number low.
+      let there : number < length script.readers = omega (arith, low) in
+      let of_session : number < length session.readers = let one = leaves.readers in let other = leaves.recordings.readers in omega (arith, there, one, other) in
+      let recording = leaves.recordings.each number of_session in
+      reader-passes outcome.report number recording.after (leaves.captured number there) recording.stretches)
+
+  report-none : row_defect script wavs outcome.report ≡ None → report_defect script wavs outcome.report ≡ None
+  report-none rows = both-none (played_defect script outcome.report) _ played-passes
+      (both-none (segment_defect script wavs outcome.report) _ segment-none
+      (both-none (row_defect script wavs outcome.report) (readers_defect outcome.report 0 (length script.readers)) rows readers-none))
+
+  text-tested : (text : List ℕ) → text ≡ report_text script outcome.report → CanPass script wavs outcome.report → length text ≤ most_of_report
+      → tested_report script wavs text ≡ Ok outcome.report
+  text-tested text is can short =
+      ap (λ (b : Bool). if b then tested script wavs (report_in_text script text) else Err 0) (le-leb (length text) most_of_report short)
+      ∙ ap (tested script wavs) (leaves.back text is can)
+      ∙ ap (report_or_line outcome.report) (report-none can.rows)
+
+  -- ---- the samples
+
+  played-same : outcome.played ≡ played_samples script wavs outcome.report
+  played-same = of_outcome leaves.placed
+    where
+      of_stage : IsPlacedFrom script wavs session (report_of session leaves.end)
+          → (outcome_of session capture leaves.end).played ≡ played_samples script wavs (report_of session leaves.end)
+      of_stage placed =
+          ap (λ (card : CardLine). map
+          (mixed_at card.channels (report_of session leaves.end).first (entries_of session (report_of session leaves.end).segments))
+          (range_with_len 0 ((report_of session leaves.end).frames * card.channels))) leaves.is.card
+          ∙ ap (λ entries. map (mixed_at script.card.channels (report_of session leaves.end).first entries)
+          (range_with_len 0 ((report_of session leaves.end).frames * script.card.channels))) placed
+
+      of_outcome : IsPlacedFrom script wavs session outcome.report → outcome.played ≡ played_samples script wavs outcome.report
+      of_outcome = subst (λ (o : Outcome). IsPlacedFrom script wavs session o.report → o.played ≡ played_samples script wavs o.report) (sym leaves.outcome_is) of_stage
+
+  captured-same : captured_sample session capture ≡ captured_by script.card capture
+  captured-same = by_capture capture ∙ ap (λ (card : CardLine). captured_by card capture) leaves.is.card
+    where
+      by_capture : (file : Option Sound) → captured_sample session file ≡ captured_by session.card file
+      by_capture None = refl
+      by_capture (Some wav) = refl
+
+  -- a reader's samples, of one that was opened and one that couldn't be
+  reader-same : (number : ℕ) (line : ReaderLine) → slice_get script.readers number ≡ Some line
+      → slice_index_or outcome.recorded number [] ≡ reader_samples script.card capture outcome.report number line
+  reader-same number line line_is = by_bound (leaves.bound number line line_is)
+    where
+      there : number < length session.readers
+      there =
+          let low : number < length script.readers = slice_get_within script.readers number line line_is in
+          let one = leaves.readers in let other = leaves.recordings.readers in omega (arith, low, one, other)
+
+      samples : slice_index_or outcome.recorded number [] ≡ recording_of session capture (bindings_at session number) (runs_by number outcome.report.runs)
+      samples = (leaves.recordings.each number there).frames
+
+      by_bound : (slice_index_or session.readers number None ≡ None) ⊎ (bindings_at session number ≡ read_by script.card line)
+          → slice_index_or outcome.recorded number [] ≡ reader_samples script.card capture outcome.report number line
+      by_bound (inl none) =
+          let empty : runs_by number outcome.report.runs ≡ [] = leaves.unopened number none in
+          samples ∙ ap (recording_of session capture (bindings_at session number)) empty
+          ∙ sym (ap (captured_runs script.card capture (read_by script.card line)) empty)
+      by_bound (inr same) = samples
+          ∙ ap (λ bindings. recording_of session capture bindings (runs_by number outcome.report.runs)) same
+          ∙ ap (λ (sample_of : ℕ → ℕ → ℤ). flat_map (λ frame. map (sample_of frame) (read_by script.card line)) (frames_of_runs (runs_by number outcome.report.runs))) captured-same
+
+  -- the samples of some lines' readers, the first of which has a number
+  lines-same : (number : ℕ) (lines : List ReaderLine) (recorded : List (List ℤ)) → length recorded ≡ length lines
+      → ((k : ℕ) (line : ReaderLine) → slice_get lines k ≡ Some line → slice_index_or recorded k [] ≡ reader_samples script.card capture outcome.report (number + k) line)
+      → recorded ≡ readers_samples script.card capture outcome.report number lines
+  lines-same number [] [] size each = refl
+  lines-same number [] (samples ∷ recorded) size each = absurd (omega (arith, size))
+  lines-same number (line ∷ lines) [] size each = absurd (omega (arith, size))
+  lines-same number (line ∷ lines) (samples ∷ recorded) size each =
+      let here : number + 0 ≡ number = omega arith in
+      let own : samples ≡ reader_samples script.card capture outcome.report number line =
+      each 0 line refl ∙ ap (λ n. reader_samples script.card capture outcome.report n line) here in
+      let rest : recorded ≡ readers_samples script.card capture outcome.report (number + 1) lines =
+      lines-same (number + 1) lines recorded (omega (arith, size)) (λ k other is.
+      let next : number + suc k ≡ number + 1 + k = omega arith in
+      each (suc k) other is ∙ ap (λ n. reader_samples script.card capture outcome.report n other) next) in
+      ap (λ x. x ∷ recorded) own ∙ ap (λ l. reader_samples script.card capture outcome.report number line ∷ l) rest
+
+  recorded-same : outcome.recorded ≡ readers_samples script.card capture outcome.report 0 script.readers
+  recorded-same = lines-same 0 script.readers outcome.recorded leaves.readers (λ k line is.
+      let same : k ≡ 0 + k = omega arith in
+      reader-same k line is ∙ ap (λ n. reader_samples script.card capture outcome.report n line) same)
+
+  samples-same : samples_of_run outcome ≡ run_samples script wavs capture outcome.report
+  samples-same = λ k. record { played = played-same k; recorded = recorded-same k }
+
+  -- ---- the run
+
+  pub run-checked : CanPass script wavs outcome.report
+      → IsChecked script wavs capture (report_text script outcome.report) (map canonical (run_sounds script (samples_of_run outcome)))
+  run-checked can = record {
+    report = outcome.report;
+    passes = text-tested (report_text script outcome.report) refl can can.short;
+    files_are = ap (λ samples. map canonical (run_sounds script samples)) samples-same;
+  }
+
+  pub run-says : SaysHeadline script wavs capture outcome.report (samples_of_run outcome)
+  run-says = subst (SaysHeadline script wavs capture outcome.report) (sym samples-same)
+      (says-headline script wavs capture outcome.report leaves.first right-segments readers-none)
