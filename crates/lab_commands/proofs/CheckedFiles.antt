@@ -1,9 +1,7 @@
 -- Where all tests of a check pass, its files are those of a checked run.
-use Rattle.std.proofs.Common.{◌≡◌, ℕ, ◌+◌, true, false, sym, ap, ◌∙◌, refl, List, [], ◌∷◌, length, map, take, drop, unwrap_or}
-use Rattle.std.proofs.lemmas.List.FromFn.{length-range_with_len}
+use Rattle.std.proofs.Common.{◌≡◌, ℕ, ◌+◌, true, false, ap, ◌∙◌, refl, List, [], ◌∷◌, length, map, take, drop}
 use Rattle.std.proofs.lemmas.Slice.Eq.{bytes_eq-Decides}
 use Rattle.std.specs.Prelude.{Bool, ℤ, OnOk, Option, Some, None, Result, Ok, Err}
-use Rattle.std.specs.List.{range_with_len}
 use Rattle.std.specs.Option.{ForSome, option_map}
 use Rattle.std.specs.Str.{bytes_eq}
 use Rattle.lab_check.specs.Checked.{IsChecked, recorded_sounds, run_sounds}
@@ -17,7 +15,7 @@ use Rattle.lab_lines.specs.declared.script.CardLine.{CardLine}
 use Rattle.lab_lines.specs.declared.script.ReaderLine.{ReaderLine}
 use Rattle.lab_lines.specs.declared.script.Script.{Script}
 use Rattle.lab_output.specs.declared.file.OutputFile.{OutputFile}
-use Rattle.lab_output.specs.Files.{finished_file, output_files, played_file, reader_channels, recorded_file}
+use Rattle.lab_output.specs.Files.{finished_file, output_files, played_file, recorded_file}
 use Rattle.lab_run.specs.Openings.{read_by}
 use Rattle.lab_shelf.specs.Files.{Files, bytes_under}
 use Rattle.lab_stop.specs.declared.stop.Stop.{Stop}
@@ -25,6 +23,7 @@ use Rattle.lab_stop.specs.Causes.{Cause, bytes_or_cause, ◌>>=◌}
 use Rattle.lab_stop.specs.Stops.{AnswersOrStops}
 use Rattle.wav_io.specs.Canonical.{canonical}
 use Rattle.wav_io.specs.Sound.{Sound}
+use Rattle.lab_commands.proofs.PassedChecks.{channels-read}
 use Rattle.lab_commands.specs.Checking.{IsCheckedRun, IsReportIn, is_same_in, outputs_in, played_in, recording_in, recordings_in, same_in, same_or_line}
 
 -- what the laws of checks say
@@ -85,11 +84,6 @@ module _ (laws : CheckLaws) where
   unfolding recording_in
   recording_in-held m input out report number reader is =
       same_in-held m (line_of_end report) (recorded_file input.script.card out reader) (reader_samples input.script.card input.capture report number reader) is
-
-  -- a reader has as many channels as bindings
-  channels-read : (card : CardLine) (bindings : Option (List ℕ)) → reader_channels card bindings ≡ length (unwrap_or bindings (range_with_len 0 card.channels))
-  channels-read card None = sym (length-range_with_len 0 card.channels)
-  channels-read card (Some bindings) = refl
 
   recorded-sound : (card : CardLine) (out : List ℕ) (reader : ReaderLine) (samples : List ℤ)
       → finished_file (recorded_file card out reader) samples

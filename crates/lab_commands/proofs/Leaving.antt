@@ -21,7 +21,9 @@ use Rattle.lab_stop.specs.declared.stop.Stop.{Stop}
 use Rattle.lab_stop.specs.Stops.{StopKind, at_output, at_memory, stop_facts, IsWriteStop}
 use Rattle.lab_make.specs.declared.workload.Workload.{Workload}
 use Rattle.lab_workload.specs.Made.{IsMade, IsMadePart}
+use Rattle.lab_check.specs.Runs.{RunsAreChecked, RunsSayHeadline}
 use Rattle.lab_commands.specs.Checking.{IsCheckedRun}
+use Rattle.lab_commands.proofs.PassedChecks.{run-passes}
 use Rattle.lab_commands.specs.Words.{Form, check, make, refine, run}
 use Rattle.lab_commands.specs.Run.{HasFinished, IsUnfinished}
 use Rattle.lab_commands.specs.Top.{CommandLeaves, LeavesAt}
@@ -31,6 +33,8 @@ pub record RunLaws : Type 0 where
   pub exact : (session : Session) (capture : Option Sound) (body : List Item) (outcome : Outcome) → IsUnstoppedRun session capture body outcome → IsExactRun session capture body outcome
   pub own : (script : ScriptOf) (wavs : List Sound) (session : Session) (capture : Option Sound) (outcome : Outcome) → IsScript script → IsSessionOf script wavs session
       → IsUnstoppedRun session capture script.body outcome → IsOwnRun script session outcome
+  pub says : RunsSayHeadline
+  pub checked : RunsAreChecked
 
 -- a run that is done is finished
 pub Finished-played : (laws : RunLaws) (input : RunInput) (script out : List ℕ) (gates : Stops) (before between after : Option Files) (taken taken_after : Option (List ℕ))
@@ -46,6 +50,9 @@ Finished-played laws input script out gates before between after taken taken_aft
       (record { client_stops = gates.clients; reader_stops = gates.readers; clients = none.clients; readers = none.readers; run = played.is.run });
   own = λ none. laws.own input.script input.sounds played.session input.capture outcome valid played.is.session_is
       (record { client_stops = gates.clients; reader_stops = gates.readers; clients = none.clients; readers = none.readers; run = played.is.run });
+  says = laws.says input.script input.sounds played.session input.capture gates.clients gates.readers outcome valid played.is.session_is played.is.run;
+  passes = λ held report can holds. run-passes held script report out input outcome holds
+      (laws.checked input.script input.sounds played.session input.capture gates.clients gates.readers outcome valid played.is.session_is played.is.run can);
   files = played.files ∙ ap (option_map _) same;
   text = played.text;
 }

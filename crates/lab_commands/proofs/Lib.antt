@@ -4,4 +4,5 @@ mod Comparing
 mod Ends
 mod Leaving
 mod Only
+mod PassedChecks
 mod Texts

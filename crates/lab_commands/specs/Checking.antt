@@ -5,12 +5,14 @@
 --     outputs_in files input out report      each output is the canonical file of the samples that the report says of it, or a test fails at a line
 --     check_in files script report out      the files are those of a checked run, or the first cause for which they aren't
 --     IsCheckedRun, HasChecked      what is known with status 0
+--     HoldsRun      files that hold what a run left, with its report
 use Rattle.std.specs.Prelude.{◌≡◌, ℕ, ◌+◌, ℤ, Bool, true, false, List, [], ◌∷◌, length, map, Option, Some, Result, Ok, Err}
 use Rattle.std.specs.Option.{ForSome}
 use Rattle.std.specs.Str.{bytes_eq}
-use Rattle.lab_check.specs.Checked.{IsChecked}
+use Rattle.lab_check.specs.Checked.{IsChecked, run_sounds}
 use Rattle.lab_check.specs.Lines.{line_of_end, line_of_played}
 use Rattle.lab_check.specs.Defects.{HasTestedRuns, HasTestedSegments, most_of_report, tested_report}
+use Rattle.lab_check.specs.Runs.{samples_of_run}
 use Rattle.lab_check.specs.Samples.{played_samples, reader_samples}
 use Rattle.lab_check.specs.Shown.{IsShown}
 use Rattle.lab_check.specs.declared.error.CheckError.{CheckError}
@@ -21,9 +23,12 @@ use Rattle.lab_lines.specs.declared.script.ReaderLine.{ReaderLine}
 use Rattle.lab_output.specs.declared.file.OutputFile.{OutputFile}
 use Rattle.lab_output.specs.Files.{finished_file, output_files, played_file, recorded_file}
 use Rattle.lab_play.specs.Played.{IsUntouched}
+use Rattle.lab_report.specs.Text.{report_text}
+use Rattle.lab_run.specs.LabRun.{Outcome}
 use Rattle.lab_shelf.specs.Files.{Files, bytes_under}
 use Rattle.lab_stop.specs.declared.stop.Stop.{Stop}
 use Rattle.lab_stop.specs.declared.stop.Stop.TheVariants as stops
+use Rattle.wav_io.specs.Canonical.{canonical}
 use Rattle.lab_stop.specs.Causes.{Cause, not_a_run, first_bytes, ◌>>=◌}
 
 -- how a test ends a command that makes it
@@ -119,3 +124,13 @@ pub record HasChecked (script report out : List ℕ) (before after : Option File
     (taken taken_after : Option (List ℕ)) : Type 0 where
   pub run : IsCheckedRun before script report out
   pub untouched : IsUntouched before after taken taken_after
+
+-- the files hold what a run of their script left: its report in a file, and the canonical file of each of its samples under that one's name
+pub record HoldsRun (files : Files) (script report out : List ℕ) (input : RunInput)
+    (outcome : Outcome) : Type 0 where
+  pub read : input_in files script ≡ Ok input
+  pub text : bytes_under files report ≡ Some (report_text input.script outcome.report)
+  pub outputs : map (λ (file : OutputFile). bytes_under files file.name)
+      (output_files input.script out)
+      ≡ map (λ (bytes : List ℕ). Some bytes)
+      (map canonical (run_sounds input.script (samples_of_run outcome)))

@@ -1,4 +1,4 @@
 pub mod Words
-pub mod Run
 pub mod Checking
+pub mod Run
 pub mod Top

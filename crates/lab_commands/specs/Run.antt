@@ -1,6 +1,8 @@
 -- What the command `run` leaves.
 use Rattle.std.specs.Prelude.{◌≡◌, ◌++◌, ℕ, List, Option, Some, Ok}
 use Rattle.std.specs.Option.{ForSome, option_map}
+use Rattle.lab_check.specs.Runs.{CanPass, samples_of_run}
+use Rattle.lab_check.specs.Shown.{SaysHeadline}
 use Rattle.lab_headline.specs.Exact.{IsExactRun, IsOwnRun}
 use Rattle.lab_input.specs.Input.{RunInput, input_in}
 use Rattle.lab_output.specs.Files.{output_files, finished_files}
@@ -14,11 +16,13 @@ use Rattle.lab_run.specs.Openings.{IsSessionOf}
 use Rattle.lab_run.specs.Phases.{AreUnmixed}
 use Rattle.lab_run.specs.Stage.{Session}
 use Rattle.lab_shelf.specs.Files.{Files}
+use Rattle.lab_commands.specs.Checking.{HoldsRun, check_in}
 
 -- A run is done. Its script and all WAV files that it names are what the files held. There are a report and samples that are of a run of them, in which
 -- each gate stopped its actor at most so often (`IsRunOf`). OUT.wav is the WAV file of what the card played, and OUT.NAME.wav that of what each reader
 -- recorded; no other file changed, and the output took the report's text. Where no gate stopped an actor, and no phase has lines of the card and of
--- others, that run is the only one, and each actor does in it what it does by itself.
+-- others, that run is the only one, and each actor does in it what it does by itself. The headline of the run is that of its script, its files and its report
+-- alone; and where these are in files, and the report can pass (`CanPass`), a check of them finds no cause.
 pub record HasFinished (script out : List ℕ) (stops : Stops) (before after : Option Files)
     (taken taken_after : Option (List ℕ)) : Type 0 where
   pub input : RunInput
@@ -28,6 +32,12 @@ pub record HasFinished (script out : List ℕ) (stops : Stops) (before after : O
   pub is : IsRunOf input session stops outcome
   pub exact : HaveNoStops stops → IsExactRun session input.capture input.script.body outcome
   pub own : HaveNoStops stops → IsOwnRun input.script session outcome
+  pub says : SaysHeadline input.script input.sounds input.capture outcome.report
+      (samples_of_run outcome)
+  pub passes : (held : Files) (report : List ℕ)
+      → CanPass input.script input.sounds outcome.report
+      → HoldsRun held script report out input outcome
+      → check_in held script report out ≡ Ok tt
   pub files : after
       ≡ option_map (finished_files (output_files input.script out) (sounds_of outcome)) before
   pub text : taken_after ≡ option_map (λ t. t ++ report_text input.script outcome.report) taken

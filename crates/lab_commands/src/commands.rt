@@ -14,6 +14,7 @@ ghost use Rattle.lab_commands.specs.Words.{check, conf, make, refine, run};
 ghost use Rattle.lab_commands.specs.Top.{CommandLeaves};
 
 use crate::checking::check_run;
+use lab_check::runs_are_checked;
 use lab_conf::describe_device;
 use lab_headline::{actors_do_their_own, runs_are_exact};
 use lab_input::read_input;
@@ -54,6 +55,7 @@ pub(crate) fn run_command<R: Threads + Sync, S: Shelf, K: Sink, G: Gate + Send>(
 {
     runs_are_exact();
     actors_do_their_own();
+    runs_are_checked();
     let input = read_input(shelf, alloc, script)?;
     play(rt, alloc, &input, name, shelf, out, gates)?;
     Ok(())

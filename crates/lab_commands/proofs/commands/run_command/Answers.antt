@@ -20,7 +20,7 @@ returns-in_err-play-clause-leaves g c =
     let taken_after : Option (List ℕ) = g.K.Sink.taken c.play.new.out in
     let p = err_from_is_err_and c.from_residual-in_err-play.result c.from_residual-in_err-play.ensures.1 in
     rw (p.1, p.2)
-    (CommandLeaves-stopped (record { exact = c.runs_are_exact.ensures; own = c.actors_do_their_own.ensures }) (input_of c.in_ok-input.input) c.args.script.now c.args.name.now gates before between
+    (CommandLeaves-stopped (record { exact = c.runs_are_exact.ensures; own = c.actors_do_their_own.ensures; says = c.runs_are_checked.ensures.headline; checked = c.runs_are_checked.ensures.checked }) (input_of c.in_ok-input.input) c.args.script.now c.args.name.now gates before between
     after taken taken_after c.in_ok-input.ensures.input c.in_ok-input.ensures.script c.in_ok-input.ensures.files c.in_err-play.field-0.0 c.in_err-play.ensures.only c.in_err-play.ensures.part)
 
 pub returns-clause-leaves : goal.returns-clause-leaves
@@ -31,7 +31,7 @@ returns-clause-leaves g c =
     let after : Option Files = g.S.Shelf.files c.play.new.shelf in
     let taken : Option (List ℕ) = g.K.Sink.taken c.args.out.now in
     let taken_after : Option (List ℕ) = g.K.Sink.taken c.play.new.out in
-    Finished-played (record { exact = c.runs_are_exact.ensures; own = c.actors_do_their_own.ensures }) (input_of c.in_ok-input.input) c.args.script.now c.args.name.now gates before between
+    Finished-played (record { exact = c.runs_are_exact.ensures; own = c.actors_do_their_own.ensures; says = c.runs_are_checked.ensures.headline; checked = c.runs_are_checked.ensures.checked }) (input_of c.in_ok-input.input) c.args.script.now c.args.name.now gates before between
     after taken taken_after c.in_ok-input.ensures.input c.in_ok-input.ensures.script c.in_ok-input.ensures.files _ c.in_ok-play.ensures.done
 
 pub returns-in_err-input-clause-statuses : goal.returns-in_err-input-clause-statuses
