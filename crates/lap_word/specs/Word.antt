@@ -7,11 +7,11 @@ use Rattle.std.proofs.lemmas.Int.{ints}
 abbrev pub lap_of : ℕ → ℕ
 lap_of w = w / 4294967296
 
--- how many samples were added in this lap
+-- how many samples were added or withdrawn in this lap
 abbrev pub count_of : ℕ → ℕ
 count_of w = w % 4294967296 / 16777216
 
--- the sum of the samples that were added in this lap
+-- the sum of the samples that were added in this lap and not withdrawn
 abbrev pub sum_of : ℕ → ℤ
 sum_of w = pos (w % 16777216) -ℤ pos 8388608
 

@@ -1,5 +1,5 @@
-//! The words of the rings: a number of 64 bits that holds a lap, a count of additions and their sum, and one that holds
-//! the card's position and whether the card is gone.
+//! The words of the rings: a number of 64 bits that holds a lap, a count of additions and withdrawals and the sum that is left, and
+//! one that holds the card's position and whether the card is gone.
 #![tactic(auto)]
 
 mod laws;

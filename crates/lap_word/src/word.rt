@@ -16,8 +16,8 @@ const SUM_LOW: i32 = -8388608;
 
 const SUM_HIGH: i32 = 8388607;
 
-/// The word of a lap, of the `count` of samples that were added in that lap, and of their `sum`,
-/// which lies from -8388608 to 8388607.
+/// The word of a lap, of the `count` of samples that were added or withdrawn in that lap, and of the
+/// `sum` that is left, which lies from -8388608 to 8388607.
 pub fn pack(lap: u32, count: u8, sum: i32) -> u64
     requires sum_low { negsuc 8388607 ≤ℤ sum }
     requires sum_high { sum ≤ℤ pos 8388607 }
@@ -34,14 +34,15 @@ pub fn lap(word: u64) -> u32
     (word / LAP_UNIT) as u32
 }
 
-/// How many samples were added in the lap of any word.
+/// How many samples were added or withdrawn in the lap of any word.
 pub fn count(word: u64) -> u8
     ensures count { result ≡ count_of word }
 {
     (word % LAP_UNIT / COUNT_UNIT) as u8
 }
 
-/// The sum of the samples that were added in the lap of any word, from -8388608 to 8388607.
+/// The sum of the samples that were added in the lap of any word and not withdrawn, from -8388608 to
+/// 8388607.
 pub fn sum(word: u64) -> i32
     ensures sum { result ≡ sum_of word }
 {

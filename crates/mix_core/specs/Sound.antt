@@ -20,7 +20,7 @@ may_hold m f c = hold_at f (first_free m.floor c) (first_free m.cursor c) (first
 abbrev pub all_hold : List Marks → ℕ → ℕ → ℕ
 all_hold ms f c = sum_by (λ (m : Marks). may_hold m f c) ms
 
--- a word has a lap, and no more additions, nor a greater sum, than a number of samples gives
+-- a word has a lap, and no greater count, nor a greater sum, than so many additions and withdrawals give
 pub record HoldsAtMost (w l most : ℕ) : Type 0 where
   pub of_lap : lap_of w ≡ l
   pub count : count_of w ≤ most

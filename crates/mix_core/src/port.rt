@@ -118,6 +118,11 @@ pub trait MixPort {
         ensures value { result ≡ (view self.now).marks.floor }
         ensures within { IsWithin (view self.now).geometry result.frame };
 
+    /// The greatest cursor that this port had, by frame and then by channel: from there on it never placed a sample.
+    fn high(&self) -> Cursor
+        ensures value { result ≡ (view self.now).marks.high }
+        ensures within { IsWithin (view self.now).geometry result.frame };
+
     /// The greatest position that this port has seen, a frame number; at first the number of the first frame.
     fn seen(&self) -> u64
         ensures value { result ≡ (view self.now).seen }

@@ -195,6 +195,15 @@ impl Core {
         self.marks[member as usize].floor
     }
 
+    /// The greatest cursor that a member had, by frame and then by channel.
+    pub fn high(&self, member: u32) -> Cursor
+        requires { member < length self.now.marks }
+        ensures value { result ≡ (marks_at self.now member).high }
+        ensures within { IsWithin self.now.geometry result.frame }
+    {
+        self.marks[member as usize].high
+    }
+
     /// The word of a frame and channel that was taken, and None where they are not taken yet.
     pub(crate) fn late_word(&self, frame: u64, channel: u8) -> Option<u64>
         requires channel { channel < self.now.geometry.channels }

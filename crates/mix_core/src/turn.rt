@@ -106,6 +106,10 @@ impl MixPort for Turn<'_> {
         self.core.floor(self.member)
     }
 
+    fn high(&self) -> Cursor {
+        self.core.high(self.member)
+    }
+
     fn seen(&self) -> u64 {
         self.core.position().frame
     }

@@ -12,7 +12,7 @@ words_of g = g.frames * g.channels + 1
 abbrev pub index_of : Geometry → ℕ → ℕ → ℕ
 index_of g f c = word_index g f c + 1
 
--- how far a word of a slot and channel has come: by its lap and then by its count of additions, where it has one
+-- how far a word of a slot and channel has come: by its lap and then by its count of additions and withdrawals, where it has one
 abbrev pub rank : ℕ → ℕ
 rank w = w / 16777216
 

@@ -42,9 +42,9 @@ abbrev pub BeginsWith : List Row → List Row → Type 0
 BeginsWith h early = (later : List Row) × (h ≡ early ++ later)
 
 -- the words represent what was placed and what the player did: word 0 the position and the gone bit, and the word of
--- each slot and channel its first frame that is not taken, with the number of samples placed there and their sum;
--- everything taken was taken in the order of frames and channels, each value is the sum of all samples placed there, saturated
--- once, and published positions never fall and are not ahead of the next word
+-- each slot and channel its first frame that is not taken, with the number of samples placed there or withdrawn and the sum that is
+-- left; everything taken was taken in the order of frames and channels, each value is the sum of what was placed there and not
+-- withdrawn, saturated once, and published positions never fall and are not ahead of the next word
 pub record IsRing (g : Geometry) (words : List ℕ) (es : List Entry) (t : Track) : Type 0 where
   pub room : length words ≡ words_of g
   pub position : slice_index words 0 ≡ word_of (position_at g t) t.gone

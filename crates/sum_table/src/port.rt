@@ -73,6 +73,10 @@ impl MixPort for MixSeat<'_> {
         self.reach.marks().floor
     }
 
+    fn high(&self) -> Cursor {
+        self.reach.marks().high
+    }
+
     fn seen(&self) -> u64 {
         self.seen
     }

@@ -13,8 +13,8 @@ use snd_base::{Geometry, PcmError};
 use std::alloc::Global;
 
 /// The ring in which the samples of all clients are summed, between threads, as ALSA's dmix plugin sums them (alsa-lib,
-/// `snd_pcm_dmix`): one word of 64 bits for each slot and channel, with the lap of the ring, the number of samples placed
-/// there and their sum, and one word for the card's position. Here sum and lap are one word, so that one exchange adds.
+/// `snd_pcm_dmix`): one word of 64 bits for each slot and channel, with the lap of the ring, the number of samples placed there or
+/// withdrawn, and the sum that is left, and one word for the card's position. Here sum and lap are one word, so that one exchange adds.
 ///
 /// A ring gives its seats once. All seats borrow it.
 pub struct SumRing {
