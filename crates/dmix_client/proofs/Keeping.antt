@@ -562,7 +562,7 @@ pause-runs true s is = absurd (cc)
 pause-runs false Running is = (refl, refl)
 pause-runs false s is = absurd (cc)
 
-resume-paused : (stopped : Bool) (s : State) → (let o : Option PcmError = (if stopped then Some error.Stopped else refusal_in (next_of s call.Resume (nothing_found Playback)).answer) in o) ≡ None → s ≡ Paused
+pub resume-paused : (stopped : Bool) (s : State) → (let o : Option PcmError = (if stopped then Some error.Stopped else refusal_in (next_of s call.Resume (nothing_found Playback)).answer) in o) ≡ None → s ≡ Paused
 resume-paused true s is = absurd (cc)
 resume-paused false Paused is = refl
 resume-paused false s is = absurd (cc)
@@ -601,10 +601,11 @@ IsSoundClient-rebased c ring sound is =
       paused = λ still. absurd (cc);
     }
 
--- a client that is paused
-IsSoundClient-paused : (c : PlaybackStream) (ring : List ℤ) → IsSoundClient c ring → c.status.state ≡ Running → c.status.stopped ≡ false → IsSoundClient (after_pause c) ring
-IsSoundClient-paused c ring sound runs going =
-    IsSoundClient-status c (record c.status { state = Paused }) c.seen ring sound sound.seen (λ set. sound.set_up (ap is_set_up runs)) (λ waits. absurd (cc)) (λ moves still. absurd (cc)) (λ still. sound.moving (ap is_moving runs) going)
+-- a client that was running and is paused
+pub IsSoundClient-paused : (c : PlaybackStream) (ring : List ℤ) → IsSoundClient c ring → refusal_of Playback c.status call.Pause ≡ None → IsSoundClient (after_pause c) ring
+IsSoundClient-paused c ring sound admitted =
+    let is = pause-runs c.status.stopped c.status.state admitted in
+    IsSoundClient-status c (record c.status { state = Paused }) c.seen ring sound sound.seen (λ set. sound.set_up (ap is_set_up is.0)) (λ waits. absurd (cc)) (λ moves still. absurd (cc)) (λ still. sound.moving (ap is_moving is.0) is.1)
 
 -- a start that loaded the position isn't paused
 not_paused-after_start : (c : PlaybackStream) (cursor : Cursor) (position : Position) (commit : Commit) → is_paused (after_start c Running cursor (Some position) commit).0.status.state ≡ false
@@ -616,9 +617,8 @@ module _ {S T : Type 0} (P : mixport.Ghosts S) (G : gates.Ghosts T) (laid_compos
   pub paused-kept : (s : S × T) (c : PlaybackStream) (ring : List ℤ) → IsSoundClient c ring → refusal_of Playback c.status call.Pause ≡ None → CanUse c (P.view s.0)
       → Keeps P G s s (client (base_of c (after_pause c)) ring) (client (after_pause c) ring) (let r : Result (Unit {0}) PcmError = Ok tt in r) AnySamples
   paused-kept s c ring sound admitted port =
-      let is = pause-runs c.status.stopped c.status.state admitted in
       subst (λ (b : PlaybackStream). Keeps P G s s (client b ring) (client (after_pause c) ring) (let r : Result (Unit {0}) PcmError = Ok tt in r) AnySamples) (sym (base-kept c (after_pause c) (λ is. refl)))
-      (left-kept P G laid_composes loaded_composes s c ring Paused (IsSoundClient-paused c ring sound is.0 is.1) port refl)
+      (left-kept P G laid_composes loaded_composes s c ring Paused (IsSoundClient-paused c ring sound admitted) port refl)
 
   CanUse-rebased : (c : PlaybackStream) (v : PortView) → CanUse c v → CanUse (with_new_base c) v
   CanUse-rebased c v port = CanUse-still c (with_new_base c) v v port (IsSamePort-refl v) refl (λ moves going. cc)

@@ -1,17 +1,18 @@
 -- Why a call that took steps answered an error: by the position that it loaded, and by where its commit ended.
-use Rattle.std.specs.Prelude.{◌≡◌, ℕ, ◌+◌, ◌≤◌, ◌↔◌, ◌<◌, ℤ, false, true, List, length, slice_index, Option, None, Some, IfErr, IfNone, Result, Ok, Err, ⊤}
+use Rattle.std.specs.Prelude.{◌≡◌, ℕ, ◌+◌, ◌≤◌, ◌↔◌, ◌<◌, ℤ, false, true, List, length, slice_index, Option, None, Some, IfErr, IfNone, OnOk, Result, Ok, Err, ⊤}
 use Rattle.snd_base.specs.declared.errors.PcmError.{PcmError}
 use Rattle.snd_base.specs.declared.errors.PcmError.TheVariants.{Again, LapEnd, NoDevice, Stopped, Xrun}
 use Rattle.snd_base.specs.declared.errors.XrunWhy.TheVariants.{Avail, Late}
+use Rattle.snd_base.specs.declared.places.Cursor.{Cursor}
 use Rattle.mix_core.specs.declared.gate.Gate as gates
 use Rattle.mix_core.specs.declared.port.MixPort as mixport
 use Rattle.course.specs.AtPort.{TakesAt}
 use Rattle.dmix_client.specs.declared.commit.Commit.{Commit}
-use Rattle.dmix_client.specs.Calls.{sync_count}
+use Rattle.dmix_client.specs.Calls.{after_start, start_count, started_in, sync_count}
 use Rattle.mix_core.specs.declared.port.Position.{Position}
 use Rattle.mix_core.specs.Port.{IsPast, PortView}
 use Rattle.bindings.specs.Bound.{rising}
-use Rattle.pcm_states.specs.declared.states.State.TheVariants.{Running}
+use Rattle.pcm_states.specs.declared.states.State.TheVariants.{Draining, Running}
 use Rattle.pcm_states.specs.declared.calls.Call.TheVariants as call
 use Rattle.dmix_client.specs.declared.stream.PlaybackStream.{PlaybackStream}
 use Rattle.dmix_client.specs.Calls.{Answered, seen_at, after_sync}
@@ -80,3 +81,17 @@ pub record ExplainsWrite {S T : Type 0} (P : mixport.Ghosts S) (G : gates.Ghosts
   pub ring_is : new_ring ≡ ring_with middle.0 ring samples (taken_after middle n)
   pub why : IsCaused P.view P.shows t.0 c done.0 first.load done.1
   pub again : (done.1 ≡ Err Again) ↔ ((middle.1 ≡ Ok tt) × (0 < n) × (avail_of middle.0 ≡ 0))
+
+-- a drain of a stream that is prepared and has frames: its start, and why that answered so by the position that it loaded; a start that
+-- failed ended it; and after one that went well its sync, and why that answered so by the position that the sync loaded
+pub record ExplainsDrain {S T : Type 0} (P : mixport.Ghosts S) (G : gates.Ghosts T) (s t : S × T)
+    (c : ClientView) (cursor : Cursor) (done : Answered (Unit {0})) : Type 0 where
+  pub between : S × T
+  pub begun : Answered (Unit {0})
+  pub start : Explains P G s between c (λ position. started_in c.stream Running position cursor)
+      (λ position. start_count c.stream cursor position c.stream.stretch.written)
+      (after_start c.stream Draining cursor) begun
+  pub failed : IfErr begun.1 (λ e. (t ≡ between) × (done ≡ (begun.0, Err e)))
+  pub sync : OnOk begun.1
+      (Explains P G between t (record { stream = begun.0; ring = c.ring }) (λ position. begun.0)
+      (sync_count begun.0) (after_sync begun.0 call.Drain) done)

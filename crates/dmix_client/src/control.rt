@@ -5,8 +5,8 @@ ghost use Rattle.snd_base.specs.Places.{end_frame};
 ghost use Rattle.course.specs.AtPort.{TakesAt};
 ghost use Rattle.pcm_stream.specs.Status.{is_moving, refusal_of};
 ghost use Rattle.pcm_stream.specs.declared.direction.Direction.{Direction};
-ghost use Rattle.dmix_client.specs.Calls.{in_draining, start_count, after_start, started_in, sync_count, after_sync};
-ghost use Rattle.dmix_client.specs.Causes.{Explains};
+ghost use Rattle.dmix_client.specs.Calls.{has_frames, in_draining, start_count, after_start, started_in, sync_count, after_sync};
+ghost use Rattle.dmix_client.specs.Causes.{Explains, ExplainsDrain};
 ghost use Rattle.dmix_client.specs.Course.{if_admitted, drain_course, drains, start_course, starts};
 ghost use Rattle.dmix_client.specs.Growth.{AnySamples, Keeps, KeepsAccepted};
 ghost use Rattle.dmix_client.specs.Port.{CanUse};
@@ -99,6 +99,9 @@ pub(crate) fn start_and_drain<P: MixPort, G: Gate>(
         (record { stream = stream.new; ring = ring.now }) result AnySamples }
     ensures again { (result ≡ Err PcmError.Again)
         ↔ ((stream.new.status.state ≡ State.Draining) × (stream.new.status.stopped ≡ false)) }
+    ensures explains { ExplainsDrain P.MixPort G.Gate (port.old, gate.old) (port.new, gate.new)
+        (record { stream = stream.old; ring = ring.now }) (P.view port.old).marks.cursor
+        (stream.new, result) }
 {
     let begun = start_all(stream, ring, port, gate, State::Draining);
     if let Err(error) = begun {
@@ -175,6 +178,10 @@ impl Client {
             (record { stream = in_draining self.old.stream; ring = self.old.ring })
             (λ position. in_draining self.old.stream) (sync_count (in_draining self.old.stream))
             (after_sync (in_draining self.old.stream) call.Drain) (self.new.stream, result) }
+        ensures starts { refusal_of Direction.Playback self.old.stream.status call.Drain ≡ None →
+            has_frames self.old.stream ≡ true →
+            ExplainsDrain P.MixPort G.Gate (port.old, gate.old) (port.new, gate.new) self.old
+            (P.view port.old).marks.cursor (self.new.stream, result) }
     {
         self.stream.status.admit(Direction::Playback, Call::Drain)?;
         let ring = self.ring.as_slice();

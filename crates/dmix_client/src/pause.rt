@@ -66,13 +66,15 @@ impl Client {
     /// leads to PREPARED without a load.
     ///
     /// In every other state a pause and a resume are refused with `BadState`, in DISCONNECTED with `NoDevice`.
+    ///
+    /// A resume asks for a port that the client can use (`can_use`); a pause, which takes no step at it, asks nothing of it.
     pub fn pause<P: MixPort, G: Gate>(
         &mut self,
         port: &mut P,
         gate: &mut G,
         on: bool,
     ) -> Result<(), PcmError>
-        requires { CanUse self.old.stream (P.view port.old) }
+        requires { on ≡ false → CanUse self.old.stream (P.view port.old) }
         ensures takes { TakesAt P.MixPort G.Gate (port.old, gate.old)
             (if_admitted self.old.stream (pause_call on)
             (pause_course on self.old.stream self.old.ring (P.view port.old).marks.cursor))
@@ -86,7 +88,8 @@ impl Client {
             × (self.new ≡ record { stream = after_pause self.old.stream; ring = self.old.ring })
             × (port.new ≡ port.old) × (gate.new ≡ gate.old) }
         ensures ring { self.new.ring ≡ self.old.ring }
-        ensures keeps { Keeps P.MixPort G.Gate (port.old, gate.old) (port.new, gate.new)
+        ensures keeps { CanUse self.old.stream (P.view port.old) →
+            Keeps P.MixPort G.Gate (port.old, gate.old) (port.new, gate.new)
             (record { stream = base_of self.old.stream self.new.stream; ring = self.old.ring })
             self.new result AnySamples }
         ensures causes { refusal_of Direction.Playback self.old.stream.status (pause_call on)

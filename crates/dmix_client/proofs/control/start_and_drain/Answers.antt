@@ -25,6 +25,13 @@ returns-in-Err g c =
       again = subst (λ (r : Result (Unit {0}) PcmError). IsStill (c.start_all-begun.new.stream, r)) c.in-Err.is
           (drains-ill port g.G.Gate g.met.P.MixPort.laid_composes g.met.P.MixPort.loaded_composes (c.args.port.now, c.args.gate.now) (c.start_all-begun.new.port, c.start_all-begun.new.gate) stream c.args.ring.now (port.view c.args.port.now).marks.cursor
           (c.start_all-begun.new.stream, c.start_all-begun.result) _ (configured-prepared stream c.args.ring.now c.requires.sound c.requires.prepared).bound c.in-Err.is c.start_all-begun.ensures.takes);
+      explains = record {
+        between = (c.start_all-begun.new.port, c.start_all-begun.new.gate);
+        begun = (c.start_all-begun.new.stream, c.start_all-begun.result);
+        start = c.start_all-begun.ensures.explains;
+        failed = rw c.in-Err.is (refl, refl);
+        sync = rw c.in-Err.is tt;
+      };
     }
 
 pub sync_call-requires : goal.sync_call-requires
@@ -53,4 +60,11 @@ returns g c =
           (client c.args.stream.now c.args.ring.now) (client d c.args.ring.now) (client c.sync_call.new.stream c.args.ring.now) c.start_all-begun.result c.sync_call.result AnySamples AnySamples (rw ok refl) going (λ samples any. tt) c.start_all-begun.ensures.keeps c.sync_call.ensures.keeps;
       again = syncs-still port g.G.Gate g.met.P.MixPort.laid_composes g.met.P.MixPort.loaded_composes (c.start_all-begun.new.port, c.start_all-begun.new.gate) (c.sync_call.new.port, c.sync_call.new.gate) d c.args.ring.now (c.sync_call.new.stream, c.sync_call.result)
           (configured-moving d c.args.ring.now c.start_all-begun.ensures.keeps.sound (subst (λ (s : State). is_moving s ≡ true) (sym well.0) refl)).bound well.0 going c.sync_call.ensures.takes;
+      explains = record {
+        between = (c.start_all-begun.new.port, c.start_all-begun.new.gate);
+        begun = (d, c.start_all-begun.result);
+        start = c.start_all-begun.ensures.explains;
+        failed = rw ok tt;
+        sync = rw ok c.sync_call.ensures.explains;
+      };
     }

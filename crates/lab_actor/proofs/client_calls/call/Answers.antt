@@ -155,8 +155,11 @@ returns-in-Pause g c =
     subst (λ (asked : Op). HasClientCalled P G s t c.args.wav.now v d asked c.done-in-Pause.result) (sym c.in-Pause.is)
     (called-pause P G met.laid_composes met.held_laid met.ends_in_part s t c.args.wav.now v d c.done-in-Pause.result c.pause.result c.requires.ready
     (answer-taken P G met.laid_composes met.held_laid met.ends_in_part done_answer s t _ d.stream c.pause.result c.done-in-Pause.result call.takes c.done-in-Pause.ensures)
-    call.keeps (λ e found. (call.refused e found).1) (λ found. (call.pauses refl found).1)
+    (call.keeps c.requires.ready.usable) (λ e found. (call.refused e found).1) (λ found. (call.pauses refl found).1)
     (subst (λ (k : ℕ). k ≤ frames_of c.args.wav.now) (sym same) c.requires.ready.fed))
+
+pub pause-requires : goal.pause-requires
+pause-requires g c on = c.requires.ready.usable
 
 pub returns-in-Resume : goal.returns-in-Resume
 returns-in-Resume g c =
@@ -172,7 +175,10 @@ returns-in-Resume g c =
     subst (λ (asked : Op). HasClientCalled P G s t c.args.wav.now v d asked c.done-in-Resume.result) (sym c.in-Resume.is)
     (called-resume P G met.laid_composes met.held_laid met.ends_in_part s t c.args.wav.now v d c.done-in-Resume.result c.pause-in-Resume.result c.requires.ready c.counts_are_sound.ensures
     (answer-taken P G met.laid_composes met.held_laid met.ends_in_part done_answer s t _ d.stream c.pause-in-Resume.result c.done-in-Resume.result call.takes c.done-in-Resume.ensures)
-    call.keeps (subst (λ (k : ℕ). k ≤ frames_of c.args.wav.now) (sym same) c.requires.ready.fed))
+    (call.keeps c.requires.ready.usable) (subst (λ (k : ℕ). k ≤ frames_of c.args.wav.now) (sym same) c.requires.ready.fed))
+
+pub pause-requires-in-Resume : goal.pause-requires-in-Resume
+pause-requires-in-Resume g c off = c.requires.ready.usable
 
 pub returns-in-Rewind : goal.returns-in-Rewind
 returns-in-Rewind g c =

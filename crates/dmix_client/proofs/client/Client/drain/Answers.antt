@@ -1,5 +1,5 @@
 use Rattle.std.proofs.Common.{rules, ◌≡◌, refl, subst, sym, ◌∙◌, ap}
-use Rattle.std.specs.Prelude.{None, Ok, Result, Some, Bool, Err, List, ℤ, false, true, ◌↔◌}
+use Rattle.std.specs.Prelude.{None, Ok, Result, Some, Bool, Err, List, ℤ, false, true, ◌↔◌, ◌&&◌}
 use Rattle.snd_base.specs.declared.errors.PcmError.{PcmError}
 use Rattle.pcm_states.specs.declared.calls.Call.TheVariants as call
 use Rattle.mix_core.specs.declared.gate.Gate as gates
@@ -8,7 +8,7 @@ use Rattle.course.specs.AtPort.{TakesAt}
 use Rattle.dmix_client.specs.declared.stream.PlaybackStream.{PlaybackStream}
 use Rattle.pcm_stream.specs.Status.{refusal_of, is_moving}
 use Rattle.pcm_stream.specs.declared.direction.Direction.TheVariants.{Playback}
-use Rattle.dmix_client.specs.Calls.{in_draining, Answered, has_frames}
+use Rattle.dmix_client.specs.Calls.{in_draining, Answered, has_frames, is_prepared}
 use Rattle.dmix_client.specs.Course.{syncs, drain_course, drains}
 use Rattle.dmix_client.specs.Growth.{AnySamples, Keeps}
 use Rattle.dmix_client.specs.Port.{CanUse, IsFrameStep}
@@ -19,7 +19,8 @@ use Rattle.dmix_client.proofs.Keeping.{client, dropped-kept, syncs-still, Keeps-
 use Rattle.dmix_client.proofs.Looking.{refused-takes, admitted-ok}
 use Rattle.snd_base.specs.declared.errors.PcmError.TheVariants.{Again}
 use Rattle.snd_base.specs.declared.places.Cursor.{Cursor}
-use Rattle.pcm_states.specs.declared.states.State.TheVariants.{Draining}
+use Rattle.pcm_states.specs.declared.states.State.{State}
+use Rattle.pcm_states.specs.declared.states.State.TheVariants.{Draining, Prepared}
 use Rattle.dmix_client.proofs.client.Client.drain.Goals as goal
 
 draining-sound : (c : PlaybackStream) (ring : List ℤ) → IsSoundClient c ring → is_moving c.status.state ≡ true → IsSoundClient (in_draining c) ring
@@ -28,6 +29,10 @@ draining-sound c ring sound moves =
 
 unlike : (b : Bool) → b ≡ true → b ≡ false → ⊥
 unlike b is_true is_false = cc
+
+not-prepared : (s : State) (b : Bool) → is_moving s ≡ true → (is_prepared s && b) ≡ true → ⊥
+not-prepared Prepared b moves has = cc
+not-prepared s b moves has = cc
 
 module _ {S T : Type 0} (P : mixport.Ghosts S) (G : gates.Ghosts T) where
   -- the drain of a client that moves frames, and of one that is prepared and has some
@@ -190,3 +195,22 @@ returns-then-not-has_frames-clause-ring g c = ap (λ (v : ClientView). v.ring) c
 
 pub returns-clause-ring : goal.returns-clause-ring
 returns-clause-ring g c = ap (λ (v : ClientView). v.ring) c.self.view_is
+
+pub returns-in_err-admit-clause-starts : goal.returns-in_err-admit-clause-starts
+returns-in_err-admit-clause-starts g c admitted has =
+    absurd (not-admitted c.self.inside.stream call.Drain c.admit.result c.in_err-admit.field-0.0 c.admit.ensures.answer c.in_err-admit.was
+    (subst (λ (v : ClientView). refusal_of Playback v.stream.status call.Drain ≡ None) (sym c.self.view_is) admitted))
+
+pub returns-then-is_moving-clause-starts : goal.returns-then-is_moving-clause-starts
+returns-then-is_moving-clause-starts g c admitted has =
+    let moves : is_moving c.self.inside.stream.status.state ≡ true = sym c.is_moving.ensures ∙ c.if-is_moving.true in
+    absurd (not-prepared c.self.inside.stream.status.state _ moves (subst (λ (v : ClientView). has_frames v.stream ≡ true) (sym c.self.view_is) has))
+
+pub returns-then-not-has_frames-clause-starts : goal.returns-then-not-has_frames-clause-starts
+returns-then-not-has_frames-clause-starts g c admitted has =
+    let has_none : has_frames c.self.inside.stream ≡ false = sym c.has_frames.ensures ∙ c.if-not-has_frames.true in
+    absurd (unlike (has_frames c.self.inside.stream) (subst (λ (v : ClientView). has_frames v.stream ≡ true) (sym c.self.view_is) has) has_none)
+
+pub returns-clause-starts : goal.returns-clause-starts
+returns-clause-starts g c admitted has =
+    rw (← c.self.view_is, ← c.as_slice-ring.ensures.value) c.start_and_drain.ensures.explains

@@ -9,7 +9,7 @@ use Rattle.dmix_client.specs.Calls.{base_of, pending_of}
 use Rattle.dmix_client.specs.Growth.{AnySamples, Keeps}
 use Rattle.dmix_client.specs.Port.{CanUse}
 use Rattle.dmix_client.specs.View.{ClientView, IsSoundClient}
-use Rattle.dmix_client.proofs.Keeping.{client, paused-kept, rebased-kept, base-kept, Keeps-none}
+use Rattle.dmix_client.proofs.Keeping.{IsSoundClient-paused, IsSoundClient-rebased, client, paused-kept, rebased-kept, resume-paused, base-kept, Keeps-none}
 use Rattle.dmix_client.proofs.Going.{refused-pass, not-admitted, not-refused, refused-answer, none-refused}
 use Rattle.dmix_client.proofs.Looking.{refused-takes, admitted-ok, pauses-takes, rebases-takes, resumes-takes}
 use Rattle.dmix_client.specs.Course.{pause_call}
@@ -22,37 +22,37 @@ none-pending : (n : ℕ) → n ≡ 0 → 0 < n → ⊥
 none-pending n none some = omega (arith, none, some)
 
 pub returns-in_err-admit-clause-keeps : goal.returns-in_err-admit-clause-keeps
-returns-in_err-admit-clause-keeps g c =
+returns-in_err-admit-clause-keeps g c usable =
     rw (base-kept c.args.self.now.stream c.args.self.now.stream (λ is. is)) (Keeps-none g.P.MixPort g.G.Gate g.met.P.MixPort.laid_composes g.met.P.MixPort.loaded_composes (c.args.port.now, c.args.gate.now) c.args.self.now c.from_residual.result AnySamples
-    (subst (λ (v : ClientView). IsSoundClient v.stream v.ring) c.self.view_is c.self.invariant) c.requires
+    (subst (λ (v : ClientView). IsSoundClient v.stream v.ring) c.self.view_is c.self.invariant) usable
     (λ unstopped. refused-pass c.self.inside.stream call.Pause c.admit.result c.in_err-admit.field-0.0 c.from_residual.result c.admit.ensures.answer c.in_err-admit.was c.from_residual.ensures.1
     (subst (λ (v : ClientView). v.stream.status.stopped ≡ false) (sym c.self.view_is) unstopped)))
 
 pub returns-in_err-admit-2-clause-keeps : goal.returns-in_err-admit-2-clause-keeps
-returns-in_err-admit-2-clause-keeps g c =
+returns-in_err-admit-2-clause-keeps g c usable =
     rw (base-kept c.args.self.now.stream c.args.self.now.stream (λ is. is)) (Keeps-none g.P.MixPort g.G.Gate g.met.P.MixPort.laid_composes g.met.P.MixPort.loaded_composes (c.args.port.now, c.args.gate.now) c.args.self.now c.from_residual-in_err-admit-2.result AnySamples
-    (subst (λ (v : ClientView). IsSoundClient v.stream v.ring) c.self.view_is c.self.invariant) c.requires
+    (subst (λ (v : ClientView). IsSoundClient v.stream v.ring) c.self.view_is c.self.invariant) usable
     (λ unstopped. refused-pass c.self.inside.stream call.Resume c.admit-2.result c.in_err-admit-2.field-0.0 c.from_residual-in_err-admit-2.result c.admit-2.ensures.answer c.in_err-admit-2.was c.from_residual-in_err-admit-2.ensures.1
     (subst (λ (v : ClientView). v.stream.status.stopped ≡ false) (sym c.self.view_is) unstopped)))
 
 pub returns-then-on-clause-keeps : goal.returns-then-on-clause-keeps
-returns-then-on-clause-keeps g c =
+returns-then-on-clause-keeps g c usable =
     let stream = c.self.inside.stream in
     let admitted = none-refused stream call.Pause c.admit.result c.admit.ensures.answer c.in_ok-admit.was in
     let k = paused-kept g.P.MixPort g.G.Gate g.met.P.MixPort.laid_composes g.met.P.MixPort.loaded_composes (c.args.port.now, c.args.gate.now) stream c.self.inside.ring.items c.self.invariant admitted
-    (subst (λ (v : ClientView). CanUse v.stream (g.P.MixPort.view c.args.port.now)) (sym c.self.view_is) c.requires) in
+    (subst (λ (v : ClientView). CanUse v.stream (g.P.MixPort.view c.args.port.now)) (sym c.self.view_is) usable) in
     rw (← c.self.view_is) (subst (λ (d : PlaybackStream). Keeps g.P.MixPort g.G.Gate (c.args.port.now, c.args.gate.now) (c.args.port.now, c.args.gate.now) (client (base_of stream d) c.self.inside.ring.items) (client d c.self.inside.ring.items) (let r : Result (Unit {0}) PcmError = Ok tt in r) AnySamples) (sym c.paused-self-inside.ensures) k)
 
 pub returns-then-pending-eq0-clause-keeps : goal.returns-then-pending-eq0-clause-keeps
-returns-then-pending-eq0-clause-keeps g c =
+returns-then-pending-eq0-clause-keeps g c usable =
     let stream = c.self.inside.stream in
     let admitted = none-refused stream call.Resume c.admit-2.result c.admit-2.ensures.answer c.in_ok-admit-2.was in
     let k = rebased-kept g.P.MixPort g.G.Gate g.met.P.MixPort.laid_composes g.met.P.MixPort.loaded_composes (c.args.port.now, c.args.gate.now) stream c.self.inside.ring.items c.self.invariant admitted
-    (subst (λ (v : ClientView). CanUse v.stream (g.P.MixPort.view c.args.port.now)) (sym c.self.view_is) c.requires) in
+    (subst (λ (v : ClientView). CanUse v.stream (g.P.MixPort.view c.args.port.now)) (sym c.self.view_is) usable) in
     rw (← c.self.view_is) (subst (λ (d : PlaybackStream). Keeps g.P.MixPort g.G.Gate (c.args.port.now, c.args.gate.now) (c.args.port.now, c.args.gate.now) (client (base_of stream d) c.self.inside.ring.items) (client d c.self.inside.ring.items) (let r : Result (Unit {0}) PcmError = Ok tt in r) AnySamples) (sym c.rebased-self-inside.ensures) k)
 
 pub returns-clause-keeps : goal.returns-clause-keeps
-returns-clause-keeps g c = rw (← c.self.view_is, ← c.as_slice-ring.ensures.value) c.resume.ensures.keeps
+returns-clause-keeps g c usable = rw (← c.self.view_is, ← c.as_slice-ring.ensures.value) c.resume.ensures.keeps
 
 pub invariant_of-self-2 : goal.invariant_of-self-2
 invariant_of-self-2 g c = rw (← c.as_slice-ring.ensures.value) c.resume.ensures.keeps.sound
@@ -66,7 +66,7 @@ resume-requires-clause-sound g c =
 
 pub resume-requires-clause-port : goal.resume-requires-clause-port
 resume-requires-clause-port g c =
-    (subst (λ (v : ClientView). CanUse v.stream (g.P.MixPort.view c.args.port.now)) (sym c.self.view_is) c.requires)
+    (subst (λ (v : ClientView). CanUse v.stream (g.P.MixPort.view c.args.port.now)) (sym c.self.view_is) (c.requires c.if-on.false))
 
 pub returns-in_err-admit-clause-takes : goal.returns-in_err-admit-clause-takes
 returns-in_err-admit-clause-takes g c =
@@ -147,13 +147,16 @@ returns-then-on-clause-causes g c admitted off some =
 
 pub invariant_of-self : goal.invariant_of-self
 invariant_of-self g c =
-    let k = paused-kept g.P.MixPort g.G.Gate g.met.P.MixPort.laid_composes g.met.P.MixPort.loaded_composes (c.args.port.now, c.args.gate.now) c.self.inside.stream c.self.inside.ring.items c.self.invariant (none-refused c.self.inside.stream call.Pause c.admit.result c.admit.ensures.answer c.in_ok-admit.was) (subst (λ (v : ClientView). CanUse v.stream (g.P.MixPort.view c.args.port.now)) (sym c.self.view_is) c.requires) in
-    subst (λ (d : PlaybackStream). IsSoundClient d c.self.inside.ring.items) (sym c.paused-self-inside.ensures) k.sound
+    let stream = c.self.inside.stream in
+    let admitted = none-refused stream call.Pause c.admit.result c.admit.ensures.answer c.in_ok-admit.was in
+    subst (λ (d : PlaybackStream). IsSoundClient d c.self.inside.ring.items) (sym c.paused-self-inside.ensures) (IsSoundClient-paused stream c.self.inside.ring.items c.self.invariant admitted)
 
 pub invariant_of-self-then-pending-eq0 : goal.invariant_of-self-then-pending-eq0
 invariant_of-self-then-pending-eq0 g c =
-    let k = rebased-kept g.P.MixPort g.G.Gate g.met.P.MixPort.laid_composes g.met.P.MixPort.loaded_composes (c.args.port.now, c.args.gate.now) c.self.inside.stream c.self.inside.ring.items c.self.invariant (none-refused c.self.inside.stream call.Resume c.admit-2.result c.admit-2.ensures.answer c.in_ok-admit-2.was) (subst (λ (v : ClientView). CanUse v.stream (g.P.MixPort.view c.args.port.now)) (sym c.self.view_is) c.requires) in
-    subst (λ (d : PlaybackStream). IsSoundClient d c.self.inside.ring.items) (sym c.rebased-self-inside.ensures) k.sound
+    let stream = c.self.inside.stream in
+    let admitted = none-refused stream call.Resume c.admit-2.result c.admit-2.ensures.answer c.in_ok-admit-2.was in
+    let is = resume-paused stream.status.stopped stream.status.state admitted in
+    subst (λ (d : PlaybackStream). IsSoundClient d c.self.inside.ring.items) (sym c.rebased-self-inside.ensures) (IsSoundClient-rebased stream c.self.inside.ring.items c.self.invariant is)
 
 pub returns-then-on-clause-takes : goal.returns-then-on-clause-takes
 returns-then-on-clause-takes g c =
