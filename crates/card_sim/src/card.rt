@@ -3,7 +3,7 @@ ghost use Rattle.std.specs.Prelude.{◌≤◌};
 ghost use Rattle.card_sim.specs.Steps.{AreSeatsOfCard, IsAtPublished};
 
 use crate::run::run_frames;
-use crate::watch::{NoWatch, Watch};
+use crate::watch::Watch;
 use card_player::CardPlayer;
 use pcm_stream::is_same_ring;
 use snd_base::{Geometry, PcmError};
@@ -138,23 +138,12 @@ impl<'p, 'w> Card<'p, 'w> {
     /// position and then the snoop ring's. A card that doesn't record stores nothing, and publishes the sum ring's position
     /// alone.
     ///
+    /// `watch` is shown both seats after each of these steps, in their order; `NoWatch` is for a caller that doesn't look at them.
+    /// A card that doesn't record shows it nothing.
+    ///
     /// The caller has buffers of equally many samples, in whole frames. `LapEnd` comes exactly where the lap of one of these
     /// frames is 4294967295: then the frames before it are captured, played and published.
-    pub fn run(&mut self, captured: &[i16], out: &mut [i16]) -> Result<(), PcmError>
-        requires same { length captured.now ≡ length out.old }
-        requires whole { length out.old % (geometry_of (player_of self.old)).channels ≡ 0 }
-        ensures runs { RunsThrough self.old self.new captured.now out.old out.new }
-        ensures period { period_of self.new ≡ period_of self.old }
-        ensures records { records_of self.new ≡ records_of self.old }
-        ensures lap_end { IsErrOf result PcmError.LapEnd ↔ EndsEarly (player_of self.old) out.old }
-        ensures only { IfErr result (λ e. e ≡ PcmError.LapEnd) }
-    {
-        self.run_watched(captured, out, &mut NoWatch)
-    }
-
-    /// Runs in the same way before a watch, which is shown both seats after each step: each store, each take and each
-    /// publication. A card that doesn't record shows it nothing.
-    pub fn run_watched<W: Watch>(
+    pub fn run<W: Watch>(
         &mut self,
         captured: &[i16],
         out: &mut [i16],

@@ -21,7 +21,7 @@ pub trait Watch {
     ghost saw_composes: { SightsCompose saw };
 }
 
-/// The watch that does nothing and keeps no account.
+/// The watch that does nothing and keeps no account: for a caller of `Card::run` that doesn't look at the seats meanwhile.
 #[derive(Clone, Copy, Debug, PartialEq, Eq)]
 pub struct NoWatch;
 

@@ -13,7 +13,7 @@ ghost use Rattle.lab_card.specs.Room.{FitsRing, HasRoom, KeepsRoom};
 
 use crate::capture::{capture_frames, push_silence};
 use crate::lines::{frame_count, is_of_card, line_count, plays_at_most, row_of};
-use card_sim::Card;
+use card_sim::{Card, NoWatch};
 use core::mem::replace_with;
 use lab_lines::{Line, Op, Row};
 use snd_base::PcmError;
@@ -54,7 +54,7 @@ fn run_over<'a>(card: Card<'a, 'a>, captured: &[i16], out: &mut [i16]) -> Card<'
     ensures records { records_of result ≡ records_of card.entry }
 {
     let mut own = card;
-    let Ok(()) = own.run(captured, out) else {
+    let Ok(()) = own.run(captured, out, &mut NoWatch) else {
         unreachable!()
     };
     own

@@ -126,7 +126,7 @@ fn a_frame_is_stored_and_then_taken(rt: HostRuntime) -> Result<(), Fail> {
     if card.channels() != 1 {
         return Err("not mono".into());
     }
-    assert!(rt; card.run_watched(&[7i16; 3], &mut out, &mut watch) == Ok(()));
+    assert!(rt; card.run(&[7i16; 3], &mut out, &mut watch) == Ok(()));
     let rows = [
         [1, 0, 0, 0],
         [1, 1, 0, 0],

@@ -3,6 +3,7 @@ ghost use Rattle.std.specs.Prelude.{◌≡◌, ◌≤◌, IfOk};
 ghost use Rattle.sum_table.specs.Rings.{GaveNone, key_of_ring};
 ghost use Rattle.sum_table.specs.Seats.{IsLaterSeat};
 
+mod between;
 mod threads;
 
 use mix_core::{MixPort, NeverStops, Placed};

@@ -10,7 +10,7 @@ use Rattle.card_sim.specs.RunLaws.{RunsFrames-alone}
 use Rattle.card_sim.specs.Runs.{RunsFrames}
 use Rattle.card_sim.specs.Steps.{AreSeatsOfCard}
 use Rattle.snoop_table.specs.declared.seats.writer.WriterSeat.{WriterSeat}
-use Rattle.card_sim.proofs.card.Card.run_watched.Goals as goal
+use Rattle.card_sim.proofs.card.Card.run.Goals as goal
 
 pub invariant_of-self : goal.invariant_of-self
 invariant_of-self g c =
