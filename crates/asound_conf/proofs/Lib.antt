@@ -19,4 +19,5 @@ pub mod Splits
 pub mod Starts
 pub mod Tables
 pub mod Tokens
+pub mod Walk
 pub mod Ways

@@ -14,13 +14,13 @@ use Rattle.std.proofs.lemmas.Slice.Eq.{bytes_eq-Decides}
 use Rattle.asound_conf.specs.declared.cell.Span.{Span}
 use Rattle.asound_conf.specs.declared.cell.Name.{Name}
 use Rattle.asound_conf.specs.declared.cell.Name.TheVariants as names
-use Rattle.asound_conf.specs.declared.cell.Key.{Key}
-use Rattle.asound_conf.specs.declared.cell.Key.TheVariants as keys
+use Rattle.asound_conf.specs.declared.cell.ConfText.{ConfText}
+use Rattle.asound_conf.specs.declared.cell.ConfText.TheVariants as keys
 use Rattle.asound_conf.specs.declared.cell.Content.{Content}
 use Rattle.asound_conf.specs.declared.cell.Content.TheVariants as contents
 use Rattle.asound_conf.specs.declared.cell.Cell.{Cell}
 use Rattle.asound_conf.specs.Rows.{IsAbsent, IsNode, ConfRow, is_in, no_row, row_at}
-use Rattle.asound_conf.specs.Table.{HasBelow, IsIndexed, IsLink, IsTable, bucket_at, bucket_of, cell_at, content_of, fits, is_live, key_bytes, lacks, name_in, new_row, no_cell, no_number, content_with, parent_of, number_after, cell_row, value_in}
+use Rattle.asound_conf.specs.Table.{HasBelow, IsIndexed, IsLink, IsTable, bucket_at, bucket_of, cell_at, content_of, fits, is_live, text_bytes, lacks, name_in, new_row, no_cell, no_number, content_with, parent_of, number_after, cell_row, value_in}
 
 -- a conjunction's parts
 both : (a b : Bool) → (a && b) ≡ true → (a ≡ true) × (b ≡ true)
@@ -169,8 +169,8 @@ IsNode-sought text cells heads p name at is sought some found =
     }
 
 -- a number past a group's names isn't there
-pub IsAbsent-lacks : (text : List ℕ) (cells : List Cell) (heads : List ℕ) (p : ℕ) (key : Key) → IsTable text cells heads
-    → lacks (cell_at cells p).content key ≡ true → IsAbsent (map (cell_row text) cells) p (key_bytes key)
+pub IsAbsent-lacks : (text : List ℕ) (cells : List Cell) (heads : List ℕ) (p : ℕ) (key : ConfText) → IsTable text cells heads
+    → lacks (cell_at cells p).content key ≡ true → IsAbsent (map (cell_row text) cells) p (text_bytes key)
 IsAbsent-lacks text cells heads p key is lacking j e = by (cell_at cells p).content key lacking (is.below p)
   where
     place : (cell_at cells j).parent ≡ p
@@ -189,8 +189,8 @@ IsAbsent-lacks text cells heads p key is lacking j e = by (cell_at cells p).cont
     told name false same other = refl
     told name true same other = absurd (other (sym named ∙ (bytes_eq-Decides (row_at (map (cell_row text) cells) j).name name).0 same))
 
-    by : (content : Content) (k : Key) → lacks content k ≡ true → HasBelow text cells p content
-        → bytes_eq (row_at (map (cell_row text) cells) j).name (key_bytes k) ≡ false
+    by : (content : Content) (k : ConfText) → lacks content k ≡ true → HasBelow text cells p content
+        → bytes_eq (row_at (map (cell_row text) cells) j).name (text_bytes k) ≡ false
     by (contents.Text s) k lacking below = absurd (false≢true lacking)
     by contents.Removed k lacking below = absurd (false≢true lacking)
     by (contents.Group numbers) (keys.Bytes b) lacking below = absurd (false≢true lacking)

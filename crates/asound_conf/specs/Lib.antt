@@ -2,6 +2,7 @@ pub mod Answer
 pub mod Device
 pub mod ErrorText
 pub mod Grammar
+pub mod Items
 pub mod Key
 pub mod Node
 pub mod Number

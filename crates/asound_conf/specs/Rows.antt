@@ -29,6 +29,10 @@ group_in_rows p first [] = empty
 group_in_rows p first (row ∷ rows) =
     if is_in p row.parent then entry row.name (node row.value (group_in_rows first (suc first) rows)) (group_in_rows p (suc first) rows) else group_in_rows p (suc first) rows
 
+-- what a group has of the rows from a number on
+abbrev pub entries_from : ℕ → ℕ → List ConfRow → Entries
+entries_from p first rows = group_in_rows p first (drop first rows)
+
 -- the group of the row of this number: those that are in it come after it
 abbrev pub group_of : ℕ → List ConfRow → Entries
 group_of p rows = group_in_rows p (suc p) (drop (suc p) rows)
@@ -52,6 +56,11 @@ pub record IsNode (rows : List ConfRow) (p : ℕ) (name : List ℕ) (n : ℕ) : 
   pub named : (row_at rows n).name ≡ name
   pub falls : p < n
   pub last : (j : ℕ) → n < j → (row_at rows j).parent ≡ Some p → bytes_eq (row_at rows j).name name ≡ false
+
+-- a row is the first one of a group from a number on: the group has this node next, and then what it has of the rows after that
+pub record IsNextNode (rows : List ConfRow) (p first n : ℕ) : Type 0 where
+  pub inside : n < length rows
+  pub entries : entries_from p first rows ≡ entry (row_at rows n).name (node (row_at rows n).value (group_of n rows)) (entries_from p (suc n) rows)
 
 -- a row is in no other group than this one
 abbrev pub IsOnlyIn : ℕ → ConfRow → Type 0

@@ -4,8 +4,8 @@ use Rattle.std.specs.Fmt.{decimal}
 use Rattle.asound_conf.specs.declared.cell.Span.{Span}
 use Rattle.asound_conf.specs.declared.cell.Name.{Name}
 use Rattle.asound_conf.specs.declared.cell.Name.TheVariants as names
-use Rattle.asound_conf.specs.declared.cell.Key.{Key}
-use Rattle.asound_conf.specs.declared.cell.Key.TheVariants as keys
+use Rattle.asound_conf.specs.declared.cell.ConfText.{ConfText}
+use Rattle.asound_conf.specs.declared.cell.ConfText.TheVariants as keys
 use Rattle.asound_conf.specs.declared.cell.Content.{Content}
 use Rattle.asound_conf.specs.declared.cell.Content.TheVariants as contents
 use Rattle.asound_conf.specs.declared.cell.Cell.{Cell}
@@ -25,10 +25,10 @@ abbrev pub name_in : List ℕ → Name → List ℕ
 name_in text (names.Bytes s) = span_in text s
 name_in text (names.Number n) = decimal n
 
--- the bytes that are sought
-abbrev pub key_bytes : Key → List ℕ
-key_bytes (keys.Bytes b) = b.now
-key_bytes (keys.Number n) = decimal n
+-- the bytes of a name
+abbrev pub text_bytes : ConfText → List ℕ
+text_bytes (keys.Bytes b) = b.now
+text_bytes (keys.Number n) = decimal n
 
 -- the text that a cell has, where it is no group
 abbrev pub value_in : List ℕ → Content → Option (List ℕ)
@@ -79,7 +79,7 @@ content_with (contents.Group numbers) name = contents.Group (number_after number
 content_with contents.Removed name = contents.Removed
 
 -- what is sought is a number past a group's names
-abbrev pub lacks : Content → Key → Bool
+abbrev pub lacks : Content → ConfText → Bool
 lacks (contents.Text s) key = false
 lacks (contents.Group numbers) (keys.Bytes b) = false
 lacks (contents.Group numbers) (keys.Number n) = nat_le numbers n && nat_lt n no_number

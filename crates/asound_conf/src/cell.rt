@@ -17,12 +17,12 @@ pub enum Name {
     Number(u32),
 }
 
-/// A name that is sought.
+/// The name of a node in its group. Contracts see its bytes.
 #[derive(Clone, Copy)]
-pub enum Key<'a> {
+pub enum ConfText<'a> {
     /// These bytes.
     Bytes(&'a [u8]),
-    /// The decimal text of a number.
+    /// The decimal text of a number: so are the values of `[ ]` named, from 0.
     Number(u32),
 }
 

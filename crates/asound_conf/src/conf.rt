@@ -5,7 +5,7 @@ use crate::table::Table;
 use std::marker::Model;
 
 /// A configuration: a group of named texts and groups, in the order in which they were added. No two names in a group are
-/// the same. Contracts see the group.
+/// the same. Contracts see the group. A caller walks it from `root` on.
 #[derive(Drop)]
 pub struct Conf {
     /// The text and the nodes in it.
@@ -37,8 +37,8 @@ impl Conf {
         Conf { table }
     }
 
-    /// The text's own group.
-    pub(crate) fn root(&self) -> Group<'_>
+    /// The configuration's own group, which has the nodes of the text's first level.
+    pub fn root(&self) -> Group<'_>
         ensures { entries_in result ≡ self.now }
     {
         Group {

@@ -3,9 +3,9 @@ ghost use Rattle.std.specs.Prelude.{◌≡◌, ◌<◌, ◌≤◌, ◌+◌, ◌-
 ghost use Rattle.std.specs.Fmt.{decimal};
 ghost use Rattle.asound_conf.specs.Device.{count_of_names};
 ghost use Rattle.asound_conf.specs.Rows.{group_of, is_in, no_row, row_at, with_row, IsAbsent, IsNode};
-ghost use Rattle.asound_conf.specs.Table.{IsTable, bucket_of, cell_at, content_of, contents_of, fits, hash_by, is_live, key_bytes, lacks, hash_with_byte, name_in, new_row, no_number, content_with, parent_of, number_after, removed_row, cell_row, span_in, value_in};
+ghost use Rattle.asound_conf.specs.Table.{IsTable, bucket_of, cell_at, content_of, contents_of, fits, hash_by, is_live, text_bytes, lacks, hash_with_byte, name_in, new_row, no_number, content_with, parent_of, number_after, removed_row, cell_row, span_in, value_in};
 
-use crate::cell::{Cell, Content, Key, Name, Span};
+use crate::cell::{Cell, ConfText, Content, Name, Span};
 use crate::error::ConfWhy;
 use crate::number::{is_decimal, number_named};
 use std::alloc::{AllocError, Global};
@@ -25,12 +25,12 @@ pub fn span_in(text: &[u8], span: Span) -> &[u8]
 }
 
 /// A cell's name as one that is sought.
-fn key_in(text: &[u8], name: Name) -> Key<'_>
-    ensures { key_bytes result ≡ name_in text.now name }
+fn key_in(text: &[u8], name: Name) -> ConfText<'_>
+    ensures { text_bytes result ≡ name_in text.now name }
 {
     match name {
-        Name::Bytes(span) => Key::Bytes(span_in(text, span)),
-        Name::Number(number) => Key::Number(number),
+        Name::Bytes(span) => ConfText::Bytes(span_in(text, span)),
+        Name::Number(number) => ConfText::Number(number),
     }
 }
 
@@ -86,14 +86,14 @@ fn bucket_of_number(buckets: usize, group: u32, number: u32) -> usize
 }
 
 /// The bucket of a group's number and a name, where there are so many.
-fn bucket_of(buckets: usize, group: u32, key: Key<'_>) -> usize
+fn bucket_of(buckets: usize, group: u32, key: ConfText<'_>) -> usize
     requires { 0 < buckets }
-    ensures value { result ≡ bucket_of buckets group (key_bytes key.entry) }
+    ensures value { result ≡ bucket_of buckets group (text_bytes key.entry) }
     ensures within { result < buckets }
 {
     match key {
-        Key::Bytes(name) => bucket_of_bytes(buckets, group, name),
-        Key::Number(number) => bucket_of_number(buckets, group, number),
+        ConfText::Bytes(name) => bucket_of_bytes(buckets, group, name),
+        ConfText::Number(number) => bucket_of_number(buckets, group, number),
     }
 }
 
@@ -105,14 +105,14 @@ fn is_number(number: u32, other: u32) -> bool
 }
 
 /// Whether a cell's name is the one that is sought.
-fn is_named(text: &[u8], name: Name, key: Key<'_>) -> bool
-    ensures { result ≡ bytes_eq (name_in text.now name) (key_bytes key.entry) }
+fn is_named(text: &[u8], name: Name, key: ConfText<'_>) -> bool
+    ensures { result ≡ bytes_eq (name_in text.now name) (text_bytes key.entry) }
 {
     match (key_in(text, name), key) {
-        (Key::Bytes(name), Key::Bytes(other)) => name == other,
-        (Key::Bytes(name), Key::Number(number)) => is_decimal(name, u64::from(number)),
-        (Key::Number(number), Key::Bytes(name)) => is_decimal(name, u64::from(number)),
-        (Key::Number(number), Key::Number(other)) => is_number(number, other),
+        (ConfText::Bytes(name), ConfText::Bytes(other)) => name == other,
+        (ConfText::Bytes(name), ConfText::Number(number)) => is_decimal(name, u64::from(number)),
+        (ConfText::Number(number), ConfText::Bytes(name)) => is_decimal(name, u64::from(number)),
+        (ConfText::Number(number), ConfText::Number(other)) => is_number(number, other),
     }
 }
 
@@ -127,18 +127,19 @@ fn is_in(cell: Cell, group: u32) -> bool
 }
 
 /// Whether a cell is the node that is sought in a group.
-fn fits(text: &[u8], cell: Cell, group: u32, key: Key<'_>) -> bool
-    ensures { result ≡ fits group (key_bytes key.entry) (cell_row text.now cell) }
+fn fits(text: &[u8], cell: Cell, group: u32, key: ConfText<'_>) -> bool
+    ensures { result ≡ fits group (text_bytes key.entry) (cell_row text.now cell) }
 {
     is_in(cell, group) && is_named(text, cell.name, key)
 }
 
 /// Whether a number is sought that is past the names of a group.
-fn lacks(content: Content, key: Key<'_>) -> bool
+fn lacks(content: Content, key: ConfText<'_>) -> bool
     ensures { result ≡ lacks content key.entry }
 {
     match (content, key) {
-        (Content::Group(numbers), Key::Number(number)) => numbers <= number && number < NO_NUMBER,
+        (Content::Group(numbers), ConfText::Number(number)) => numbers <= number
+            && number < NO_NUMBER,
         _ => false,
     }
 }
@@ -150,13 +151,13 @@ fn last_in_bucket(
     cells: &[Cell],
     heads: &[u32],
     group: u32,
-    key: Key<'_>,
+    key: ConfText<'_>,
 ) -> Option<u32>
     requires { IsTable text.now cells.now heads.now }
     ensures some { IfSome result
-        (λ n. IsNode (map (cell_row text.now) cells.now) group (key_bytes key.entry) n) }
+        (λ n. IsNode (map (cell_row text.now) cells.now) group (text_bytes key.entry) n) }
     ensures none { IfNone result
-        (IsAbsent (map (cell_row text.now) cells.now) group (key_bytes key.entry)) }
+        (IsAbsent (map (cell_row text.now) cells.now) group (text_bytes key.entry)) }
 {
     let bucket = bucket_of(heads.len(), group, key);
     let mut at = heads[bucket];
@@ -171,12 +172,12 @@ fn last_in_bucket(
 }
 
 /// The number of the node of this name in a group.
-fn find(text: &[u8], cells: &[Cell], heads: &[u32], group: u32, key: Key<'_>) -> Option<u32>
+fn find(text: &[u8], cells: &[Cell], heads: &[u32], group: u32, key: ConfText<'_>) -> Option<u32>
     requires { IsTable text.now cells.now heads.now }
     ensures some { IfSome result
-        (λ n. IsNode (map (cell_row text.now) cells.now) group (key_bytes key.entry) n) }
+        (λ n. IsNode (map (cell_row text.now) cells.now) group (text_bytes key.entry) n) }
     ensures none { IfNone result
-        (IsAbsent (map (cell_row text.now) cells.now) group (key_bytes key.entry)) }
+        (IsAbsent (map (cell_row text.now) cells.now) group (text_bytes key.entry)) }
 {
     if (group as usize) < cells.len() && lacks(cells[group as usize].content, key) {
         return None;
@@ -200,6 +201,14 @@ fn count_in(cells: &[Cell], group: u32) -> u32
 {
     let first = (group as usize + 1).min(cells.len());
     count_among(&cells[first..], group) as u32
+}
+
+/// How many cells there are.
+fn count_cells(cells: &[Cell]) -> u32
+    requires { length cells.now ≤ no_number }
+    ensures { result ≡ length cells.now }
+{
+    cells.len() as u32
 }
 
 /// The number that is past a group's names, where it gets this one.
@@ -377,16 +386,16 @@ impl Table {
     }
 
     /// A name as one that is sought.
-    pub fn key(&self, name: Name) -> Key<'_>
-        ensures { key_bytes result ≡ name_in self.now.text name }
+    pub fn key(&self, name: Name) -> ConfText<'_>
+        ensures { text_bytes result ≡ name_in self.now.text name }
     {
         key_in(self.text.as_slice(), name)
     }
 
     /// The number of the node of this name in a group.
-    pub fn find(&self, group: u32, key: Key<'_>) -> Option<u32>
-        ensures some { IfSome result (λ n. IsNode self.now.rows group (key_bytes key.entry) n) }
-        ensures none { IfNone result (IsAbsent self.now.rows group (key_bytes key.entry)) }
+    pub fn find(&self, group: u32, key: ConfText<'_>) -> Option<u32>
+        ensures some { IfSome result (λ n. IsNode self.now.rows group (text_bytes key.entry) n) }
+        ensures none { IfNone result (IsAbsent self.now.rows group (text_bytes key.entry)) }
     {
         find(
             self.text.as_slice(),
@@ -422,6 +431,29 @@ impl Table {
         ensures { result.now ≡ self.now.text }
     {
         self.text.as_slice()
+    }
+
+    /// How many nodes there are, with the text's own group and those that were removed: their numbers are below this one.
+    pub fn len(&self) -> u32
+        ensures { result ≡ length self.now.rows }
+    {
+        count_cells(self.cells.as_slice())
+    }
+
+    /// Whether a node is one of a group.
+    pub fn is_node_of(&self, number: u32, group: u32) -> bool
+        requires { number < length self.now.rows }
+        ensures { result ≡ is_in group (row_at self.now.rows number).parent }
+    {
+        is_in(self.cells[number as usize], group)
+    }
+
+    /// The name of a node.
+    pub fn name_of(&self, number: u32) -> ConfText<'_>
+        requires { number < length self.now.rows }
+        ensures { text_bytes result ≡ (row_at self.now.rows number).name }
+    {
+        key_in(self.text.as_slice(), self.cells[number as usize].name)
     }
 
     /// How many nodes a group has.

@@ -1,12 +1,12 @@
 use Rattle.std.proofs.Common.{Some, sym, ap, ◌∙◌}
-use Rattle.asound_conf.specs.Table.{key_bytes}
+use Rattle.asound_conf.specs.Table.{text_bytes}
 use Rattle.asound_conf.proofs.Groups.{get-IsAbsent, get-IsNode}
 use Rattle.asound_conf.proofs.node.find.Goals as goal
 
 pub returns-in-Some : goal.returns-in-Some
 returns-in-Some c =
     let rows = c.args.group.table.now.rows in
-    ap Some c.node_of.ensures ∙ sym (get-IsNode rows c.args.group.number (key_bytes c.args.key) c.in-Some.number c.in-Some.ensures.some)
+    ap Some c.node_of.ensures ∙ sym (get-IsNode rows c.args.group.number (text_bytes c.args.key) c.in-Some.number c.in-Some.ensures.some)
 
 pub returns-in-None : goal.returns-in-None
-returns-in-None c = sym (get-IsAbsent c.args.group.table.now.rows c.args.group.number (key_bytes c.args.key) c.in-None.ensures.none)
+returns-in-None c = sym (get-IsAbsent c.args.group.table.now.rows c.args.group.number (text_bytes c.args.key) c.in-None.ensures.none)

@@ -1,6 +1,6 @@
 use Rattle.std.proofs.Common.{◌≡◌, ℕ, ◌<◌, true, false, length, get_or, sym, ap, subst, ◌∙◌, arith}
 use Rattle.asound_conf.specs.declared.cell.Cell.{Cell}
-use Rattle.asound_conf.specs.Table.{bucket_of, cell_at, fits, key_bytes, no_cell, cell_row}
+use Rattle.asound_conf.specs.Table.{bucket_of, cell_at, fits, text_bytes, no_cell, cell_row}
 use Rattle.asound_conf.proofs.Changes.{cell-any, zero_cell}
 use Rattle.asound_conf.proofs.Tables.{IsAbsent-sought, IsNode-sought, IsSought, IsSought-first, IsSought-next}
 use Rattle.asound_conf.proofs.table.last_in_bucket.Goals as goal
@@ -11,7 +11,7 @@ loop-at-init c =
     let cells = c.args.cells.now in
     let heads = c.args.heads.now in
     let group = c.args.group in
-    let name = key_bytes c.args.key in
+    let name = text_bytes c.args.key in
     let bucket : c.bucket_of-bucket.result ≡ bucket_of (length heads) group name = c.bucket_of-bucket.ensures.value in
     subst (λ (b : ℕ). IsSought text cells (length heads) group name (get_or heads b 0)) (sym bucket)
     (IsSought-first text cells heads group name c.requires.indexed (omega (arith, bucket, c.bucket_of-bucket.ensures.within)))
@@ -21,7 +21,7 @@ returns-then-fits-clause-some c =
     let text = c.args.text.now in
     let cells = c.args.cells.now in
     let group = c.args.group in
-    let name = key_bytes c.args.key in
+    let name = text_bytes c.args.key in
     let at = c.loop-at.at in
     let some : 0 < at = omega arith in
     let same : get_or cells at zero_cell ≡ cell_at cells at = cell-any cells at zero_cell no_cell c.loop-at.invariant.inside in
@@ -34,7 +34,7 @@ loop-at-preserved c =
     let cells = c.args.cells.now in
     let heads = c.args.heads.now in
     let group = c.args.group in
-    let name = key_bytes c.args.key in
+    let name = text_bytes c.args.key in
     let at = c.loop-at.at in
     let some : 0 < at = omega arith in
     let same : get_or cells at zero_cell ≡ cell_at cells at = cell-any cells at zero_cell no_cell c.loop-at.invariant.inside in
@@ -44,4 +44,4 @@ loop-at-preserved c =
 pub returns-clause-none : goal.returns-clause-none
 returns-clause-none c =
     let none : c.loop-at.at ≡ 0 = omega arith in
-    IsAbsent-sought c.args.text.now c.args.cells.now c.args.heads.now c.args.group (key_bytes c.args.key) c.loop-at.at c.requires.indexed c.loop-at.invariant none
+    IsAbsent-sought c.args.text.now c.args.cells.now c.args.heads.now c.args.group (text_bytes c.args.key) c.loop-at.at c.requires.indexed c.loop-at.invariant none
