@@ -43,10 +43,10 @@ ended_by-test op.Prepare other c d = refl
 ended_by-test op.Resume answer c d = refl
 ended_by-test other answer c d = refl
 
-module _ {S T : Type 0} (P : mixport.Ghosts S) (composes : Composes P.laid) (left : T → Option ℕ) (by_gate : T → ℕ) where
-  pub answered-call : (G : gates.Ghosts T) → ((first : S) (ring : Geometry) (from : ℕ) → ClientLinesAreParts P G left by_gate first ring from)
+module _ {S T : Type 0} (P : mixport.Ghosts S) (composes : Composes P.laid) (left : T → Option ℕ) (by_gate at_gate : T → ℕ) where
+  pub answered-call : (G : gates.Ghosts T) → ((first : S) (ring : Geometry) (from : ℕ) → ClientLinesAreParts P G left by_gate at_gate first ring from)
       → (s t : S × T) (wav : Sound) (c d : ClientView) (asked : Op) (answer : Answer) → CanCall c.stream.status.stopped asked → HasClientCalled P G s t wav c d asked answer
-      → HasClientAnswered P left by_gate s t wav c d asked answer
+      → HasClientAnswered P left by_gate at_gate s t wav c d asked answer
   answered-call G parts s t wav c d asked answer can called = record {
     line = λ phase number ended first ring from before at.
         parts first ring from s t phase wav number before (record { own = Some (with_member number c.stream); ended = ended }) c.stream c.ring called.samples asked d.stream answer
@@ -56,12 +56,12 @@ module _ {S T : Type 0} (P : mixport.Ghosts S) (composes : Composes P.laid) (lef
   }
 
   still : (s t : S × T) (wav : Sound) (c : ClientView) (asked : Op) (answer : Answer) → t.0 ≡ s.0 → IsReady P wav s.0 c → ended_by asked answer c.stream c.stream ≡ []
-      → ((phase number : ℕ) (ended : List Segment) (first : S) (ring : Geometry) (from : ℕ) (before : Doing) → IsAtPort P left by_gate first ring from s before
-      → IsClientLine P left by_gate first ring from t phase wav number before (record { own = Some (with_member number c.stream); ended = ended }) asked (record { own = Some (with_member number c.stream); ended = ended }) answer)
-      → HasClientAnswered P left by_gate s t wav c c asked answer
+      → ((phase number : ℕ) (ended : List Segment) (first : S) (ring : Geometry) (from : ℕ) (before : Doing) → IsAtPort P left by_gate at_gate first ring from s before
+      → IsClientLine P left by_gate at_gate first ring from t phase wav number before (record { own = Some (with_member number c.stream); ended = ended }) asked (record { own = Some (with_member number c.stream); ended = ended }) answer)
+      → HasClientAnswered P left by_gate at_gate s t wav c c asked answer
   still s t wav c asked answer same ready none line = record {
     line = λ phase number ended first ring from before at.
-        subst (λ (segments : List Segment). IsClientLine P left by_gate first ring from t phase wav number before (record { own = Some (with_member number c.stream); ended = ended }) asked (record { own = Some (with_member number c.stream); ended = segments }) answer)
+        subst (λ (segments : List Segment). IsClientLine P left by_gate at_gate first ring from t phase wav number before (record { own = Some (with_member number c.stream); ended = ended }) asked (record { own = Some (with_member number c.stream); ended = segments }) answer)
         (sym (ap (λ (more : List Segment). ended ++ more) none ∙ append-nil ended)) (line phase number ended first ring from before at);
     ready = subst (λ (p : S). IsReady P wav p c) (sym same) ready;
     extends = subst (λ (ended : List Segment). ExtendsStretches P wav.samples s.0 t.0 c.stream c.stream ended) (sym none)
@@ -71,7 +71,7 @@ module _ {S T : Type 0} (P : mixport.Ghosts S) (composes : Composes P.laid) (lef
   -- a line of a client that was stopped
   pub answered-stopped : ((ring : Geometry) (phase : ℕ) (wav : Sound) (number : ℕ) → ClientLinesWithoutCall ring phase wav number)
       → (s : S × T) (wav : Sound) (c : ClientView) (asked : Op) → c.stream.status.stopped ≡ true → IsReady P wav s.0 c
-      → HasClientAnswered P left by_gate s s wav c c asked (Failed Stopped)
+      → HasClientAnswered P left by_gate at_gate s s wav c c asked (Failed Stopped)
   answered-stopped laws s wav c asked stopped ready = still s s wav c asked (Failed Stopped) refl ready (no_end asked Stopped c.stream)
       (λ phase number ended first ring from before at. record {
         doing = before;
@@ -81,9 +81,9 @@ module _ {S T : Type 0} (P : mixport.Ghosts S) (composes : Composes P.laid) (lef
 
   -- a `die`
   pub answered-die : ((ring : Geometry) (phase : ℕ) (wav : Sound) (number : ℕ) → ClientLinesWithoutCall ring phase wav number)
-      → (p : S) (g h : T) (wav : Sound) (c : ClientView) (asks : ℕ) → c.stream.status.stopped ≡ false → left h ≡ Some asks → by_gate h ≡ by_gate g → IsReady P wav p c
-      → HasClientAnswered P left by_gate (p, g) (p, h) wav c c (op.Die asks) Done
-  answered-die laws p g h wav c asks going left_is gate_is ready = still (p, g) (p, h) wav c (op.Die asks) Done refl ready refl
+      → (p : S) (g h : T) (wav : Sound) (c : ClientView) (asks : ℕ) → c.stream.status.stopped ≡ false → left h ≡ Some asks → by_gate h ≡ by_gate g → at_gate h ≡ at_gate g → IsReady P wav p c
+      → HasClientAnswered P left by_gate at_gate (p, g) (p, h) wav c c (op.Die asks) Done
+  answered-die laws p g h wav c asks going left_is gate_is asks_are ready = still (p, g) (p, h) wav c (op.Die asks) Done refl ready refl
       (λ phase number ended first ring from before at. record {
         doing = (record before.0 { left = Some asks }, before.1);
         done = (laws ring phase wav number).dies before.0 before.1 (record { own = Some (with_member number c.stream); ended = ended }) (with_member number c.stream) asks refl going;
@@ -94,6 +94,7 @@ module _ {S T : Type 0} (P : mixport.Ghosts S) (composes : Composes P.laid) (lef
           marks = at.marks;
           left_is = sym left_is;
           by_gate_is = at.by_gate_is ∙ sym gate_is;
+          at_gate_is = at.at_gate_is ∙ sym asks_are;
           loads = at.loads;
           late = at.late;
           overtaken = at.overtaken;

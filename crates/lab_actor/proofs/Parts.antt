@@ -67,8 +67,8 @@ pub own-size : (mine : Actor → Bool) (lines : List Line) (k : ℕ) (line : Lin
 own-size mine lines k line within is own =
     ap length (own-line mine lines k line within is own) ∙ length-append (ops_by mine (take k lines)) (line.op ∷ [])
 
-module _ {S T : Type 0} (P : mixport.Ghosts S) (composes : Composes P.laid) (left : T → Option ℕ) (by_gate : T → ℕ) where
-  pub ClientPart-none : (s : S × T) (phase : ℕ) (wav : Sound) (a : ClientActor) → ClientPart P left by_gate s s phase wav a a []
+module _ {S T : Type 0} (P : mixport.Ghosts S) (composes : Composes P.laid) (left : T → Option ℕ) (by_gate at_gate : T → ℕ) where
+  pub ClientPart-none : (s : S × T) (phase : ℕ) (wav : Sound) (a : ClientActor) → ClientPart P left by_gate at_gate s s phase wav a a []
   ClientPart-none s phase wav a = record {
     rows = [];
     rows_are = sym (append-nil a.rows.items);
@@ -81,7 +81,7 @@ module _ {S T : Type 0} (P : mixport.Ghosts S) (composes : Composes P.laid) (lef
 
   pub ClientPart-more : ((ring : Geometry) (phase : ℕ) (wav : Sound) (number : ℕ) → PartsGrow (client_kind phase wav number) ring)
       → (s t u : S × T) (phase : ℕ) (wav : Sound) (a x b : ClientActor) (ops : List Op) (asked : Op)
-      → ClientPart P left by_gate s t phase wav a x ops → ClientLine P left by_gate t u phase wav x b asked → ClientPart P left by_gate s u phase wav a b (ops ++ asked ∷ [])
+      → ClientPart P left by_gate at_gate s t phase wav a x ops → ClientLine P left by_gate at_gate t u phase wav x b asked → ClientPart P left by_gate at_gate s u phase wav a b (ops ++ asked ∷ [])
   ClientPart-more grow s t u phase wav a x b ops asked one line =
       let row : Row = row_by phase a.number asked (Some b.client.stream) line.answer in
       record {
@@ -93,7 +93,7 @@ module _ {S T : Type 0} (P : mixport.Ghosts S) (composes : Composes P.laid) (lef
             ∙ append_assoc a.rows.items one.rows (row ∷ []);
         part = λ first ring from before at.
             let p = one.part first ring from before at in
-            let l = subst (λ (n : ℕ). IsClientLine P left by_gate first ring from u phase wav n p.doing (client_of x) asked (client_of b) line.answer) one.same
+            let l = subst (λ (n : ℕ). IsClientLine P left by_gate at_gate first ring from u phase wav n p.doing (client_of x) asked (client_of b) line.answer) one.same
             (line.line first ring from p.doing p.at) in
             record {
               doing = l.doing;
@@ -108,38 +108,39 @@ module _ {S T : Type 0} (P : mixport.Ghosts S) (composes : Composes P.laid) (lef
       }
 
 -- the same at a gate of which the shares are the same
-pub IsAtPort-shared : {S T U : Type 0} (P : mixport.Ghosts S) (left : T → Option ℕ) (by_gate : T → ℕ) (other_left : U → Option ℕ) (by_other : U → ℕ)
-    (first : S) (ring : Geometry) (from : ℕ) (p : S) (g : T) (h : U) (doing : Doing) → left g ≡ other_left h → by_gate g ≡ by_other h
-    → IsAtPort P left by_gate first ring from (p, g) doing → IsAtPort P other_left by_other first ring from (p, h) doing
-IsAtPort-shared P left by_gate other_left by_other first ring from p g h doing same_left same_gate at = record {
+pub IsAtPort-shared : {S T U : Type 0} (P : mixport.Ghosts S) (left : T → Option ℕ) (by_gate at_gate : T → ℕ) (other_left : U → Option ℕ) (by_other at_other : U → ℕ)
+    (first : S) (ring : Geometry) (from : ℕ) (p : S) (g : T) (h : U) (doing : Doing) → left g ≡ other_left h → by_gate g ≡ by_other h → at_gate g ≡ at_other h
+    → IsAtPort P left by_gate at_gate first ring from (p, g) doing → IsAtPort P other_left by_other at_other first ring from (p, h) doing
+IsAtPort-shared P left by_gate at_gate other_left by_other at_other first ring from p g h doing same_left same_gate same_asks at = record {
   geometry = at.geometry;
   after = at.after;
   seen = at.seen;
   marks = at.marks;
   left_is = at.left_is ∙ same_left;
   by_gate_is = at.by_gate_is ∙ same_gate;
+  at_gate_is = at.at_gate_is ∙ same_asks;
   loads = at.loads;
   late = at.late;
   overtaken = at.overtaken;
 }
 
-pub ClientPart-shared : {S T U : Type 0} (P : mixport.Ghosts S) (left : T → Option ℕ) (by_gate : T → ℕ) (other_left : U → Option ℕ) (by_other : U → ℕ)
+pub ClientPart-shared : {S T U : Type 0} (P : mixport.Ghosts S) (left : T → Option ℕ) (by_gate at_gate : T → ℕ) (other_left : U → Option ℕ) (by_other at_other : U → ℕ)
     (p q : S) (g h : T) (k m : U) (phase : ℕ) (wav : Sound) (a b c : ClientActor) (ops : List Op)
-    → left g ≡ other_left k → by_gate g ≡ by_other k → left h ≡ other_left m → by_gate h ≡ by_other m
+    → left g ≡ other_left k → by_gate g ≡ by_other k → at_gate g ≡ at_other k → left h ≡ other_left m → by_gate h ≡ by_other m → at_gate h ≡ at_other m
     → c.rows.items ≡ b.rows.items → c.ended.items ≡ b.ended.items → c.client ≡ b.client → c.number ≡ b.number
-    → ClientPart P left by_gate (p, g) (q, h) phase wav a b ops → ClientPart P other_left by_other (p, k) (q, m) phase wav a c ops
-ClientPart-shared P left by_gate other_left by_other p q g h k m phase wav a b c ops left_before gate_before left_after gate_after rows ended client number part =
+    → ClientPart P left by_gate at_gate (p, g) (q, h) phase wav a b ops → ClientPart P other_left by_other at_other (p, k) (q, m) phase wav a c ops
+ClientPart-shared P left by_gate at_gate other_left by_other at_other p q g h k m phase wav a b c ops left_before gate_before asks_before left_after gate_after asks_after rows ended client number part =
     let same : client_of b ≡ client_of c = λ i. record { own = Some (with_member ((sym number) i) ((sym client) i).stream); ended = (sym ended) i } in
     record {
       rows = part.rows;
       rows_are = rows ∙ part.rows_are;
       part = λ first ring from before at.
           let done = part.part first ring from before
-          (IsAtPort-shared P other_left by_other left by_gate first ring from p k g before (sym left_before) (sym gate_before) at) in
-          subst (λ (own : Client). HasClientDone P other_left by_other first ring from (q, m) phase wav a.number before (client_of a) ops own part.rows) same (record {
+          (IsAtPort-shared P other_left by_other at_other left by_gate at_gate first ring from p k g before (sym left_before) (sym gate_before) (sym asks_before) at) in
+          subst (λ (own : Client). HasClientDone P other_left by_other at_other first ring from (q, m) phase wav a.number before (client_of a) ops own part.rows) same (record {
             doing = done.doing;
             done = done.done;
-            at = IsAtPort-shared P left by_gate other_left by_other first ring from q h m done.doing left_after gate_after done.at;
+            at = IsAtPort-shared P left by_gate at_gate other_left by_other at_other first ring from q h m done.doing left_after gate_after asks_after done.at;
           });
       ended = part.ended;
       ended_are = ended ∙ part.ended_are;
@@ -148,22 +149,22 @@ ClientPart-shared P left by_gate other_left by_other p q g h k m phase wav a b c
     }
 
 -- one line of a phase, which an actor does where it is its own
-pub ClientPart-next : {S T : Type 0} (P : mixport.Ghosts S) (composes : Composes P.laid) (left : T → Option ℕ) (by_gate : T → ℕ)
+pub ClientPart-next : {S T : Type 0} (P : mixport.Ghosts S) (composes : Composes P.laid) (left : T → Option ℕ) (by_gate at_gate : T → ℕ)
     → ((ring : Geometry) (phase : ℕ) (wav : Sound) (number : ℕ) → PartsGrow (client_kind phase wav number) ring)
     → (s t u : S × T) (phase : ℕ) (wav : Sound) (a x b : ClientActor) (mine : Actor → Bool) (lines : List Line) (k : ℕ) (line : Line) → k < length lines → get_or lines k line ≡ line
-    → ClientPart P left by_gate s t phase wav a x (ops_by mine (take k lines))
-    → (mine line.actor ≡ true → ClientLine P left by_gate t u phase wav x b line.op) → (mine line.actor ≡ false → (b ≡ x) × (u.0 ≡ t.0) × (u.1 ≡ t.1))
-    → ClientPart P left by_gate s u phase wav a b (ops_by mine (take (k + 1) lines))
-ClientPart-next {S = S} {T = T} P composes left by_gate grow s t u phase wav a x b mine lines k line within is part own others = by_test (mine line.actor) refl
+    → ClientPart P left by_gate at_gate s t phase wav a x (ops_by mine (take k lines))
+    → (mine line.actor ≡ true → ClientLine P left by_gate at_gate t u phase wav x b line.op) → (mine line.actor ≡ false → (b ≡ x) × (u.0 ≡ t.0) × (u.1 ≡ t.1))
+    → ClientPart P left by_gate at_gate s u phase wav a b (ops_by mine (take (k + 1) lines))
+ClientPart-next {S = S} {T = T} P composes left by_gate at_gate grow s t u phase wav a x b mine lines k line within is part own others = by_test (mine line.actor) refl
   where
-    by_test : (test : Bool) → mine line.actor ≡ test → ClientPart P left by_gate s u phase wav a b (ops_by mine (take (k + 1) lines))
-    by_test true own_is = subst (λ (ops : List Op). ClientPart P left by_gate s u phase wav a b ops) (sym (own-line mine lines k line within is own_is))
-        (ClientPart-more P composes left by_gate grow s t u phase wav a x b (ops_by mine (take k lines)) line.op part (own own_is))
+    by_test : (test : Bool) → mine line.actor ≡ test → ClientPart P left by_gate at_gate s u phase wav a b (ops_by mine (take (k + 1) lines))
+    by_test true own_is = subst (λ (ops : List Op). ClientPart P left by_gate at_gate s u phase wav a b ops) (sym (own-line mine lines k line within is own_is))
+        (ClientPart-more P composes left by_gate at_gate grow s t u phase wav a x b (ops_by mine (take k lines)) line.op part (own own_is))
     by_test false other_is =
         let r = others other_is in
-        subst (λ (ops : List Op). ClientPart P left by_gate s u phase wav a b ops) (sym (other-line mine lines k line within is other_is))
-        (subst (λ (y : ClientActor). ClientPart P left by_gate s u phase wav a y (ops_by mine (take k lines))) (sym r.0)
-        (let same : t ≡ u = λ i. ((sym r.1) i, (sym r.2) i) in subst (λ (v : S × T). ClientPart P left by_gate s v phase wav a x (ops_by mine (take k lines))) same part))
+        subst (λ (ops : List Op). ClientPart P left by_gate at_gate s u phase wav a b ops) (sym (other-line mine lines k line within is other_is))
+        (subst (λ (y : ClientActor). ClientPart P left by_gate at_gate s u phase wav a y (ops_by mine (take k lines))) (sym r.0)
+        (let same : t ≡ u = λ i. ((sym r.1) i, (sym r.2) i) in subst (λ (v : S × T). ClientPart P left by_gate at_gate s v phase wav a x (ops_by mine (take k lines))) same part))
 
 -- the room that is left then
 pub room-next : {X : Type 0} (mine : Actor → Bool) (lines : List Line) (k : ℕ) (line : Line) (xs ys : Vec X) → k < length lines → get_or lines k line ≡ line

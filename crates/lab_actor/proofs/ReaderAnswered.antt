@@ -77,10 +77,10 @@ call-fitting P G s t r d (op.Read n) spare answer fits takes = by_order (nat_le 
         (read_course-fewer P G s parts.0 r n spare parts.1 (omega (arith, fits, many)) parts.2) parts.3
 call-fitting P G s t r d other spare answer fits takes = takes
 
-module _ {S T : Type 0} (P : snoopport.Ghosts S) (composes : Composes P.got) (loading : Composes P.loaded) (left : T → Option ℕ) (by_gate : T → ℕ) where
-  pub answered-call : (G : gates.Ghosts T) → ((first : S) (ring : Geometry) → ReaderLinesAreParts P G left by_gate first ring)
+module _ {S T : Type 0} (P : snoopport.Ghosts S) (composes : Composes P.got) (loading : Composes P.loaded) (left : T → Option ℕ) (by_gate at_gate : T → ℕ) where
+  pub answered-call : (G : gates.Ghosts T) → ((first : S) (ring : Geometry) → ReaderLinesAreParts P G left by_gate at_gate first ring)
       → (s t : S × T) (r d : CaptureStream) (before samples : List ℤ) (asked : Op) (spare : ℕ) (answer : Answer) → CanCall r.status.stopped asked
-      → HasReaderCalled P G s t r d before samples (fitting_op spare asked) answer → HasReaderAnswered P left by_gate s t r d before samples asked spare answer
+      → HasReaderCalled P G s t r d before samples (fitting_op spare asked) answer → HasReaderAnswered P left by_gate at_gate s t r d before samples asked spare answer
   answered-call G parts s t r d before samples asked spare answer can called =
       let makes = call-makes P G s t r d (fitting_op spare asked) answer called.takes in
       let got = got-fitting asked spare answer in
@@ -99,10 +99,10 @@ module _ {S T : Type 0} (P : snoopport.Ghosts S) (composes : Composes P.got) (lo
   -- a line of a reader that was stopped
   pub answered-stopped : ((ring : Geometry) (phase number : ℕ) → ReaderLinesWithoutCall ring phase number)
       → (s : S × T) (r : CaptureStream) (before : List ℤ) (asked : Op) (spare : ℕ) → r.status.stopped ≡ true → CanUse r (P.view s.0)
-      → HasReaderAnswered P left by_gate s s r r before before asked spare (Failed Stopped)
+      → HasReaderAnswered P left by_gate at_gate s s r r before before asked spare (Failed Stopped)
   answered-stopped laws s r before asked spare stopped usable = record {
     line = λ fits phase number frames first ring doing at.
-        subst (λ (same : List ℕ). IsReaderLine P left by_gate first ring s phase number doing (record { own = Some r; frames = frames }) asked (record { own = Some r; frames = same }) (Failed Stopped))
+        subst (λ (same : List ℕ). IsReaderLine P left by_gate at_gate first ring s phase number doing (record { own = Some r; frames = frames }) asked (record { own = Some r; frames = same }) (Failed Stopped))
         (sym (ap (λ (more : List ℕ). frames ++ more) (frames-none asked Stopped r) ∙ append-nil frames))
         (record {
           doing = doing;
@@ -118,11 +118,11 @@ module _ {S T : Type 0} (P : snoopport.Ghosts S) (composes : Composes P.got) (lo
 
   -- a `die`
   pub answered-die : ((ring : Geometry) (phase number : ℕ) → ReaderLinesWithoutCall ring phase number)
-      → (p : S) (g h : T) (r : CaptureStream) (before : List ℤ) (asks spare : ℕ) → r.status.stopped ≡ false → left h ≡ Some asks → by_gate h ≡ by_gate g → CanUse r (P.view p)
-      → HasReaderAnswered P left by_gate (p, g) (p, h) r r before before (op.Die asks) spare Done
-  answered-die laws p g h r before asks spare going left_is gate_is usable = record {
+      → (p : S) (g h : T) (r : CaptureStream) (before : List ℤ) (asks spare : ℕ) → r.status.stopped ≡ false → left h ≡ Some asks → by_gate h ≡ by_gate g → at_gate h ≡ at_gate g → CanUse r (P.view p)
+      → HasReaderAnswered P left by_gate at_gate (p, g) (p, h) r r before before (op.Die asks) spare Done
+  answered-die laws p g h r before asks spare going left_is gate_is asks_are usable = record {
     line = λ fits phase number frames first ring doing at.
-        subst (λ (same : List ℕ). IsReaderLine P left by_gate first ring (p, h) phase number doing (record { own = Some r; frames = frames }) (op.Die asks) (record { own = Some r; frames = same }) Done)
+        subst (λ (same : List ℕ). IsReaderLine P left by_gate at_gate first ring (p, h) phase number doing (record { own = Some r; frames = frames }) (op.Die asks) (record { own = Some r; frames = same }) Done)
         (sym (append-nil frames))
         (record {
           doing = (record doing.0 { left = Some asks }, doing.1);
@@ -132,6 +132,7 @@ module _ {S T : Type 0} (P : snoopport.Ghosts S) (composes : Composes P.got) (lo
             seen = at.seen;
             left_is = sym left_is;
             by_gate_is = at.by_gate_is ∙ sym gate_is;
+            at_gate_is = at.at_gate_is ∙ sym asks_are;
             loads = at.loads;
             late = at.late;
             overtaken = at.overtaken;

@@ -105,10 +105,10 @@ AreSamples-length P p q r numbers samples are =
     ∙ ap (λ (n : ℕ). n * length r.setup.bindings) (sym (length-map are.frames (λ (frame : Frame). frame.number)) ∙ ap length are.numbers_are)
 
 -- a line got as many frames as its row counts
-pub HasGot-line : {S T : Type 0} (P : snoopport.Ghosts S) (left : T → Option ℕ) (by_gate : T → ℕ) (s t : S × T) (a b : ReaderActor) (asked : Op) (answer : Answer)
-    → HasReaderAnswered P left by_gate s t a.reader b.reader a.samples.items b.samples.items asked (spare_frames a.reader a.samples) answer
+pub HasGot-line : {S T : Type 0} (P : snoopport.Ghosts S) (left : T → Option ℕ) (by_gate at_gate : T → ℕ) (s t : S × T) (a b : ReaderActor) (asked : Op) (answer : Answer)
+    → HasReaderAnswered P left by_gate at_gate s t a.reader b.reader a.samples.items b.samples.items asked (spare_frames a.reader a.samples) answer
     → vec_capacity a.samples ≤ vec_capacity b.samples → HasGot (P.view s.0) (P.view t.0) a b (asked ∷ [])
-HasGot-line P left by_gate s t a b asked answer answered room =
+HasGot-line P left by_gate at_gate s t a b asked answer answered room =
     let has_read = answered.has_read in
     let count : ℕ = got_by asked answer in
     let few = answered.few in
@@ -258,8 +258,8 @@ module _ {S : Type 0} (P : snoopport.Ghosts S) (composes : Composes P.got) where
     samples = AreSamples-joined p q s a.reader one.numbers two.numbers one.more two.more one.samples (AreSamples-same q s a.reader x.reader two.numbers two.more same.setup two.samples);
   }
 
-module _ {S T : Type 0} (P : snoopport.Ghosts S) (composes : Composes P.got) (loading : Composes P.loaded) (left : T → Option ℕ) (by_gate : T → ℕ) where
-  pub ReaderPart-none : (s : S × T) (phase played : ℕ) (a : ReaderActor) → ReaderPart P left by_gate s s phase played a a []
+module _ {S T : Type 0} (P : snoopport.Ghosts S) (composes : Composes P.got) (loading : Composes P.loaded) (left : T → Option ℕ) (by_gate at_gate : T → ℕ) where
+  pub ReaderPart-none : (s : S × T) (phase played : ℕ) (a : ReaderActor) → ReaderPart P left by_gate at_gate s s phase played a a []
   ReaderPart-none s phase played a = record {
     rows = [];
     rows_are = sym (append-nil a.rows.items);
@@ -272,7 +272,7 @@ module _ {S T : Type 0} (P : snoopport.Ghosts S) (composes : Composes P.got) (lo
   pub ReaderPart-more : ((ring : Geometry) (phase number : ℕ) → PartsGrow (reader_kind phase number) ring)
       → (s t u : S × T) (phase played : ℕ) (a x b : ReaderActor) (ops : List Op) (asked : Op) → (P.view t.0).seen ≤ (P.view u.0).seen
       → (SeesAtMost played (P.view s.0) (P.view t.0) → wanted_by (most_read x.reader) asked ≤ spare_frames x.reader x.samples)
-      → ReaderPart P left by_gate s t phase played a x ops → ReaderLine P left by_gate t u phase x b asked → ReaderPart P left by_gate s u phase played a b (ops ++ asked ∷ [])
+      → ReaderPart P left by_gate at_gate s t phase played a x ops → ReaderLine P left by_gate at_gate t u phase x b asked → ReaderPart P left by_gate at_gate s u phase played a b (ops ++ asked ∷ [])
   ReaderPart-more grow s t u phase played a x b ops asked rising fits one line =
       let row : Row = row_by phase a.number asked (Some b.reader) line.answer in
       record {
@@ -285,7 +285,7 @@ module _ {S T : Type 0} (P : snoopport.Ghosts S) (composes : Composes P.got) (lo
         part = λ most first ring before at.
             let earlier : SeesAtMost played (P.view s.0) (P.view t.0) = omega (arith, most, rising) in
             let p = one.part earlier first ring before at in
-            let l = subst (λ (n : ℕ). IsReaderLine P left by_gate first ring u phase n p.doing (reader_of x) asked (reader_of b) line.answer) one.same.number
+            let l = subst (λ (n : ℕ). IsReaderLine P left by_gate at_gate first ring u phase n p.doing (reader_of x) asked (reader_of b) line.answer) one.same.number
             (line.line (fits earlier) first ring p.doing p.at) in
             record {
               doing = l.doing;
@@ -303,29 +303,30 @@ module _ {S T : Type 0} (P : snoopport.Ghosts S) (composes : Composes P.got) (lo
       → (s t u : S × T) (phase played : ℕ) (a x b : ReaderActor) (mine : Actor → Bool) (lines : List Line) (k : ℕ) (line : Line) → k < length lines
       → get_or lines k line ≡ line → (mine line.actor ≡ true → (P.view t.0).seen ≤ (P.view u.0).seen)
       → (mine line.actor ≡ true → SeesAtMost played (P.view s.0) (P.view t.0) → wanted_by (most_read x.reader) line.op ≤ spare_frames x.reader x.samples)
-      → ReaderPart P left by_gate s t phase played a x (ops_by mine (take k lines))
-      → (mine line.actor ≡ true → ReaderLine P left by_gate t u phase x b line.op) → (mine line.actor ≡ false → (b ≡ x) × (u.0 ≡ t.0) × (u.1 ≡ t.1))
-      → ReaderPart P left by_gate s u phase played a b (ops_by mine (take (k + 1) lines))
+      → ReaderPart P left by_gate at_gate s t phase played a x (ops_by mine (take k lines))
+      → (mine line.actor ≡ true → ReaderLine P left by_gate at_gate t u phase x b line.op) → (mine line.actor ≡ false → (b ≡ x) × (u.0 ≡ t.0) × (u.1 ≡ t.1))
+      → ReaderPart P left by_gate at_gate s u phase played a b (ops_by mine (take (k + 1) lines))
   ReaderPart-next grow s t u phase played a x b mine lines k line within is rising fits part own others = by_test (mine line.actor) refl
     where
-      by_test : (test : Bool) → mine line.actor ≡ test → ReaderPart P left by_gate s u phase played a b (ops_by mine (take (k + 1) lines))
-      by_test true own_is = subst (λ (ops : List Op). ReaderPart P left by_gate s u phase played a b ops) (sym (own-line mine lines k line within is own_is))
+      by_test : (test : Bool) → mine line.actor ≡ test → ReaderPart P left by_gate at_gate s u phase played a b (ops_by mine (take (k + 1) lines))
+      by_test true own_is = subst (λ (ops : List Op). ReaderPart P left by_gate at_gate s u phase played a b ops) (sym (own-line mine lines k line within is own_is))
           (ReaderPart-more grow s t u phase played a x b (ops_by mine (take k lines)) line.op (rising own_is) (fits own_is) part (own own_is))
       by_test false other_is =
           let r = others other_is in
-          subst (λ (ops : List Op). ReaderPart P left by_gate s u phase played a b ops) (sym (other-line mine lines k line within is other_is))
-          (subst (λ (y : ReaderActor). ReaderPart P left by_gate s u phase played a y (ops_by mine (take k lines))) (sym r.0)
-          (let same : t ≡ u = λ i. ((sym r.1) i, (sym r.2) i) in subst (λ (v : S × T). ReaderPart P left by_gate s v phase played a x (ops_by mine (take k lines))) same part))
+          subst (λ (ops : List Op). ReaderPart P left by_gate at_gate s u phase played a b ops) (sym (other-line mine lines k line within is other_is))
+          (subst (λ (y : ReaderActor). ReaderPart P left by_gate at_gate s u phase played a y (ops_by mine (take k lines))) (sym r.0)
+          (let same : t ≡ u = λ i. ((sym r.1) i, (sym r.2) i) in subst (λ (v : S × T). ReaderPart P left by_gate at_gate s v phase played a x (ops_by mine (take k lines))) same part))
 
 -- the same at a gate of which the shares are the same
-IsAtSnoop-shared : {S T U : Type 0} (P : snoopport.Ghosts S) (left : T → Option ℕ) (by_gate : T → ℕ) (other_left : U → Option ℕ) (by_other : U → ℕ)
-    (first : S) (ring : Geometry) (p : S) (g : T) (h : U) (doing : Doing) → left g ≡ other_left h → by_gate g ≡ by_other h
-    → IsAtSnoop P left by_gate first ring (p, g) doing → IsAtSnoop P other_left by_other first ring (p, h) doing
-IsAtSnoop-shared P left by_gate other_left by_other first ring p g h doing same_left same_gate at = record {
+IsAtSnoop-shared : {S T U : Type 0} (P : snoopport.Ghosts S) (left : T → Option ℕ) (by_gate at_gate : T → ℕ) (other_left : U → Option ℕ) (by_other at_other : U → ℕ)
+    (first : S) (ring : Geometry) (p : S) (g : T) (h : U) (doing : Doing) → left g ≡ other_left h → by_gate g ≡ by_other h → at_gate g ≡ at_other h
+    → IsAtSnoop P left by_gate at_gate first ring (p, g) doing → IsAtSnoop P other_left by_other at_other first ring (p, h) doing
+IsAtSnoop-shared P left by_gate at_gate other_left by_other at_other first ring p g h doing same_left same_gate same_asks at = record {
   geometry = at.geometry;
   seen = at.seen;
   left_is = at.left_is ∙ same_left;
   by_gate_is = at.by_gate_is ∙ same_gate;
+  at_gate_is = at.at_gate_is ∙ same_asks;
   loads = at.loads;
   late = at.late;
   overtaken = at.overtaken;
@@ -339,22 +340,22 @@ pub record IsSameButLeft (b c : ReaderActor) : Type 0 where
   pub samples : c.samples.items ≡ b.samples.items
   pub rows : c.rows.items ≡ b.rows.items
 
-pub ReaderPart-shared : {S T U : Type 0} (P : snoopport.Ghosts S) (left : T → Option ℕ) (by_gate : T → ℕ) (other_left : U → Option ℕ) (by_other : U → ℕ)
+pub ReaderPart-shared : {S T U : Type 0} (P : snoopport.Ghosts S) (left : T → Option ℕ) (by_gate at_gate : T → ℕ) (other_left : U → Option ℕ) (by_other at_other : U → ℕ)
     (p q : S) (g h : T) (k m : U) (phase played : ℕ) (a b c : ReaderActor) (ops : List Op)
-    → left g ≡ other_left k → by_gate g ≡ by_other k → left h ≡ other_left m → by_gate h ≡ by_other m → IsSameButLeft b c
-    → ReaderPart P left by_gate (p, g) (q, h) phase played a b ops → ReaderPart P other_left by_other (p, k) (q, m) phase played a c ops
-ReaderPart-shared P left by_gate other_left by_other p q g h k m phase played a b c ops left_before gate_before left_after gate_after same part =
+    → left g ≡ other_left k → by_gate g ≡ by_other k → at_gate g ≡ at_other k → left h ≡ other_left m → by_gate h ≡ by_other m → at_gate h ≡ at_other m → IsSameButLeft b c
+    → ReaderPart P left by_gate at_gate (p, g) (q, h) phase played a b ops → ReaderPart P other_left by_other at_other (p, k) (q, m) phase played a c ops
+ReaderPart-shared P left by_gate at_gate other_left by_other at_other p q g h k m phase played a b c ops left_before gate_before asks_before left_after gate_after asks_after same part =
     let same_reader : reader_of b ≡ reader_of c = λ i. record { own = Some ((sym same.reader) i); frames = frames_of_runs ((sym same.frames) i) } in
     record {
       rows = part.rows;
       rows_are = same.rows ∙ part.rows_are;
       part = λ most first ring before at.
           let done = part.part most first ring before
-          (IsAtSnoop-shared P other_left by_other left by_gate first ring p k g before (sym left_before) (sym gate_before) at) in
-          subst (λ (own : Reader). HasReaderDone P other_left by_other first ring (q, m) phase a.number before (reader_of a) ops own part.rows) same_reader (record {
+          (IsAtSnoop-shared P other_left by_other at_other left by_gate at_gate first ring p k g before (sym left_before) (sym gate_before) (sym asks_before) at) in
+          subst (λ (own : Reader). HasReaderDone P other_left by_other at_other first ring (q, m) phase a.number before (reader_of a) ops own part.rows) same_reader (record {
             doing = done.doing;
             done = done.done;
-            at = IsAtSnoop-shared P left by_gate other_left by_other first ring q h m done.doing left_after gate_after done.at;
+            at = IsAtSnoop-shared P left by_gate at_gate other_left by_other at_other first ring q h m done.doing left_after gate_after asks_after done.at;
           });
       loaded = part.loaded;
       appends = record {

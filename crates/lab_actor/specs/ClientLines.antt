@@ -72,11 +72,11 @@ IsFew (op.Write frames) = frames ≤ 4194304
 IsFew other = ⊤
 
 -- an open client was answered a line, and is ready for the next one: whichever segments it had, it is its line as a run has it
-pub record HasClientAnswered {S T : Type 0} (P : mixport.Ghosts S) (left : T → Option ℕ) (by_gate : T → ℕ)
+pub record HasClientAnswered {S T : Type 0} (P : mixport.Ghosts S) (left : T → Option ℕ) (by_gate at_gate : T → ℕ)
     (s t : S × T) (wav : Sound) (c d : ClientView) (asked : Op) (answer : Answer) : Type 0 where
   pub line : (phase number : ℕ) (ended : List Segment) (first : S) (ring : Geometry)
-      (from : ℕ) (before : Doing) → IsAtPort P left by_gate first ring from s before
-      → IsClientLine P left by_gate first ring from t phase wav number before
+      (from : ℕ) (before : Doing) → IsAtPort P left by_gate at_gate first ring from s before
+      → IsClientLine P left by_gate at_gate first ring from t phase wav number before
       (record { own = Some (with_member number c.stream); ended = ended })
       asked (record {
         own = Some (with_member number d.stream);

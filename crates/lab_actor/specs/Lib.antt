@@ -9,3 +9,4 @@ pub mod ReaderLines
 pub mod ReaderPart
 pub mod Refused
 pub mod Room
+pub mod Tally

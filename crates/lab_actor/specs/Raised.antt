@@ -1,5 +1,5 @@
--- What an actor does in its lines doesn't depend on how often its own gate stopped it before: the same lines are a part of the actor that counts
--- so many stops more, and of the one that counts so many less.
+-- What an actor does in its lines doesn't depend on how often its own gate stopped it before, or was asked: the same lines are a part of the actor
+-- that counts so many stops less, and so many asks more.
 use Rattle.std.specs.Prelude.{◌≡◌, ℕ, ◌+◌, Bool, true, false, List, [], ◌∷◌, Option, Some, None}
 use Rattle.std.proofs.Common.{refl, sym, ◌∙◌, ap, subst, arith, inl, inr}
 use Rattle.snd_base.specs.declared.geometry.Geometry.{Geometry}
@@ -26,120 +26,210 @@ use Rattle.lab_run.specs.Reader.{reader_kind}
 use Rattle.lab_run.specs.Reader as reader
 use Rattle.lab_run.specs.Rules.{AtPort, lets_pass, with_asks, with_entry, with_gate_stop, with_load, with_stop, with_stop_by}
 
--- an actor that its own gate stopped so many times more
-abbrev pub with_more_stops : ℕ → AtPort → AtPort
-with_more_stops k a = record a { by_gate = a.by_gate + k }
+-- an actor that its own gate stopped so many times more, and that asked this gate so often
+abbrev pub with_counts : ℕ → ℕ → AtPort → AtPort
+with_counts k asks a = record a { by_gate = a.by_gate + k; at_gate = asks }
 
--- the same of an actor with what it found
-abbrev pub raised_doing : ℕ → Doing → Doing
-raised_doing k doing = (with_more_stops k doing.0, doing.1)
+-- one actor is another, but that it counts so many stops more, and so many asks less
+pub record IsRaised (k m : ℕ) (x w : AtPort) : Type 0 where
+  pub is : x ≡ with_counts k x.at_gate w
+  pub asks : w.at_gate ≡ x.at_gate + m
 
--- a kind of actor doesn't ask how often the gate stopped it
+-- the same of actors with what they found
+record IsRaisedDoing (k m : ℕ) (x w : Doing) : Type 0 where
+  pub port : IsRaised k m x.0 w.0
+  pub found : x.1 ≡ w.1
+
+-- a kind of actor doesn't ask how often the gate stopped it, or was asked
 pub record IsBlind {S : Type 0} (kind : Kind S) : Type 0 where
-  pub begins : (k : ℕ) (a : AtPort) (s : S) (asked : Op)
-      → kind.begins s asked (with_more_stops k a) ≡ with_more_stops k (kind.begins s asked a)
-  pub course : (k : ℕ) (a : AtPort) (s : S) (asked : Op)
-      → kind.course (with_more_stops k a) s asked ≡ kind.course a s asked
+  pub begins : (k n : ℕ) (a : AtPort) (s : S) (asked : Op)
+      → kind.begins s asked (with_counts k n a) ≡ with_counts k n (kind.begins s asked a)
+  pub same_asks : (a : AtPort) (s : S) (asked : Op) → (kind.begins s asked a).at_gate ≡ a.at_gate
+  pub course : (k n : ℕ) (a : AtPort) (s : S) (asked : Op)
+      → kind.course (with_counts k n a) s asked ≡ kind.course a s asked
 
-with_gate_stop-raised : (k : ℕ) (a : AtPort) → with_gate_stop (with_more_stops k a) ≡ with_more_stops k (with_gate_stop a)
-with_gate_stop-raised k a =
-    let same : (a.by_gate + k) + 1 ≡ (a.by_gate + 1) + k = omega arith in ap (λ (n : ℕ). record a { by_gate = n }) same
+module _ (k m : ℕ) where
+  raised-same : (n : ℕ) (a : AtPort) → a.at_gate ≡ n + m → IsRaised k m (with_counts k n a) a
+  raised-same n a more = record { is = refl; asks = more }
 
-with_stop_by-raised : (k : ℕ) (passes : Bool) (a : AtPort) → with_stop_by passes (with_more_stops k a) ≡ with_more_stops k (with_stop_by passes a)
-with_stop_by-raised k true a = with_gate_stop-raised k (with_asks 1 a)
-with_stop_by-raised k false a = refl
+  raised-by : (b x w : AtPort) → b ≡ x → IsRaised k m x w → IsRaised k m b w
+  raised-by b x w is one = subst (λ (y : AtPort). IsRaised k m y w) (sym is) one
 
-with_stop-raised : (k : ℕ) (a : AtPort) → with_stop (with_more_stops k a) ≡ with_more_stops k (with_stop a)
-with_stop-raised k a = with_stop_by-raised k (lets_pass 1 a.left) a
+  -- each step of both keeps them so
+  raised-asks : (asks : ℕ) (x w : AtPort) → IsRaised k m x w → IsRaised k m (with_asks asks x) (with_asks asks w)
+  raised-asks asks x w one = record { is = ap (with_asks asks) one.is; asks = let more = one.asks in omega (arith, more) }
 
-module _ (ring : Geometry) (k : ℕ) where
-  -- a step of the actor with the greater count is one of the other, which leaves the count as much lower
-  DoesLoad-lowered : (a : AtPort) (found : Findings) (load : Option Position) (b : AtPort) (after : Findings) → DoesLoad (with_more_stops k a, found) load (b, after)
-      → (c : AtPort) × DoesLoad (a, found) load (c, after) × (b ≡ with_more_stops k c)
-  DoesLoad-lowered a found None b after (is, same) = (with_stop a, (refl, same), is ∙ with_stop-raised k a)
-  DoesLoad-lowered a found (Some position) b after (passes, above, is, same) =
-      (with_load position.frame a, (passes, above, refl, same), is)
+  raised-gate_stop : (x w : AtPort) → IsRaised k m x w → IsRaised k m (with_gate_stop x) (with_gate_stop w)
+  raised-gate_stop x w one =
+      let same : (w.by_gate + k) + 1 ≡ (w.by_gate + 1) + k = omega arith in
+      record { is = ap with_gate_stop one.is ∙ ap (λ (n : ℕ). record w { by_gate = n; at_gate = x.at_gate }) same; asks = one.asks }
 
-  DoesLay-lowered : (a : AtPort) (found : Findings) (e : Entry) (ended : Ended) (b : AtPort) (after : Findings) → DoesLay ring (with_more_stops k a, found) e ended (b, after)
-      → (c : AtPort) × DoesLay ring (a, found) e ended (c, after) × (b ≡ with_more_stops k c)
-  DoesLay-lowered a found e Whole b after (above, passes, is, same) = (with_entry ring e a, (above, passes, refl, same), is)
-  DoesLay-lowered a found e (Late word) b after (asks, none, may, passes, is, same) =
-      (with_asks (asks + 1) a, (asks, none, may, passes, refl, same), is)
-  DoesLay-lowered a found e Stopped b after (inl (asks, may, passes, is), same) =
-      (with_stop (with_asks asks a), (inl (asks, may, passes, refl), same), is ∙ with_stop-raised k (with_asks asks a))
-  DoesLay-lowered a found e Stopped b after (inr (above, passes, is), same) =
-      (with_gate_stop (with_asks 2 a), (inr (above, passes, refl), same), is ∙ with_gate_stop-raised k (with_asks 2 a))
+  raised-stop_by : (passes : Bool) (x w : AtPort) → IsRaised k m x w → IsRaised k m (with_stop_by passes x) (with_stop_by passes w)
+  raised-stop_by true x w one = raised-gate_stop (with_asks 1 x) (with_asks 1 w) (raised-asks 1 x w one)
+  raised-stop_by false x w one = one
 
-  DoesGet-lowered : (a : AtPort) (found : Findings) (frame : ℕ) (got : Got) (b : AtPort) (after : Findings) → DoesGet ring (with_more_stops k a, found) frame got (b, after)
-      → (c : AtPort) × DoesGet ring (a, found) frame got (c, after) × (b ≡ with_more_stops k c)
-  DoesGet-lowered a found frame got.Whole b after (above, passes, is, same) = (with_asks ring.channels a, (above, passes, refl, same), is)
-  DoesGet-lowered a found frame (got.Overtaken channel word) b after (none, below, may, passes, is, same) =
-      (with_asks (channel + 1) a, (none, below, may, passes, refl, same), is)
-  DoesGet-lowered a found frame got.Stopped b after (asks, below, may, passes, is, same) =
-      (with_stop (with_asks asks a), (asks, below, may, passes, refl, same), is ∙ with_stop-raised k (with_asks asks a))
+  raised-stop : (x w : AtPort) → IsRaised k m x w → IsRaised k m (with_stop x) (with_stop w)
+  raised-stop x w one =
+      subst (λ (passes : Bool). IsRaised k m (with_stop_by passes x) (with_stop w)) (sym (ap (λ (y : AtPort). lets_pass 1 y.left) one.is))
+      (raised-stop_by (lets_pass 1 w.left) x w one)
 
-  by_load : (s t w : Doing) (load : Option Position) → s ≡ raised_doing k w → DoesLoad s load t → (v : Doing) × DoesLoad w load v × (t ≡ raised_doing k v)
+  raised-load : (position : ℕ) (x w : AtPort) → IsRaised k m x w → IsRaised k m (with_load position x) (with_load position w)
+  raised-load position x w one = record { is = ap (with_load position) one.is; asks = let more = one.asks in omega (arith, more) }
+
+  raised-entry : (ring : Geometry) (e : Entry) (x w : AtPort) → IsRaised k m x w → IsRaised k m (with_entry ring e x) (with_entry ring e w)
+  raised-entry ring e x w one = record { is = ap (with_entry ring e) one.is; asks = let more = one.asks in omega (arith, more) }
+
+module _ (ring : Geometry) (k m : ℕ) where
+  -- a step of the one actor is one of the other, after which they are so again
+  DoesLoad-lowered : (n : ℕ) (a : AtPort) → a.at_gate ≡ n + m → (found : Findings) (load : Option Position) (b : AtPort) (after : Findings)
+      → DoesLoad (with_counts k n a, found) load (b, after) → (c : AtPort) × DoesLoad (a, found) load (c, after) × IsRaised k m b c
+  DoesLoad-lowered n a more found None b after (is, same) =
+      (with_stop a, (refl, same), raised-by k m b (with_stop (with_counts k n a)) (with_stop a) is (raised-stop k m (with_counts k n a) a (raised-same k m n a more)))
+  DoesLoad-lowered n a more found (Some position) b after (passes, above, is, same) = (
+    with_load position.frame a,
+    (passes, above, refl, same),
+    raised-by k m b (with_load position.frame (with_counts k n a)) (with_load position.frame a) is
+        (raised-load k m position.frame (with_counts k n a) a (raised-same k m n a more)),
+  )
+
+  DoesLay-lowered : (n : ℕ) (a : AtPort) → a.at_gate ≡ n + m → (found : Findings) (e : Entry) (ended : Ended) (b : AtPort) (after : Findings)
+      → DoesLay ring (with_counts k n a, found) e ended (b, after) → (c : AtPort) × DoesLay ring (a, found) e ended (c, after) × IsRaised k m b c
+  DoesLay-lowered n a more found e Whole b after (above, passes, is, same) = (
+    with_entry ring e a,
+    (above, passes, refl, same),
+    raised-by k m b (with_entry ring e (with_counts k n a)) (with_entry ring e a) is
+        (raised-entry k m ring e (with_counts k n a) a (raised-same k m n a more)),
+  )
+  DoesLay-lowered n a more found e (Late word) b after (asks, none, may, passes, is, same) = (
+    with_asks (asks + 1) a,
+    (asks, none, may, passes, refl, same),
+    raised-by k m b (with_asks (asks + 1) (with_counts k n a)) (with_asks (asks + 1) a) is
+        (raised-asks k m (asks + 1) (with_counts k n a) a (raised-same k m n a more)),
+  )
+  DoesLay-lowered n a more found e Stopped b after (inl (asks, may, passes, is), same) = (
+    with_stop (with_asks asks a),
+    (inl (asks, may, passes, refl), same),
+    raised-by k m b (with_stop (with_asks asks (with_counts k n a))) (with_stop (with_asks asks a)) is
+        (raised-stop k m (with_asks asks (with_counts k n a)) (with_asks asks a) (raised-asks k m asks (with_counts k n a) a (raised-same k m n a more))),
+  )
+  DoesLay-lowered n a more found e Stopped b after (inr (above, passes, is), same) = (
+    with_gate_stop (with_asks 2 a),
+    (inr (above, passes, refl), same),
+    raised-by k m b (with_gate_stop (with_asks 2 (with_counts k n a))) (with_gate_stop (with_asks 2 a)) is
+        (raised-gate_stop k m (with_asks 2 (with_counts k n a)) (with_asks 2 a) (raised-asks k m 2 (with_counts k n a) a (raised-same k m n a more))),
+  )
+
+  DoesGet-lowered : (n : ℕ) (a : AtPort) → a.at_gate ≡ n + m → (found : Findings) (frame : ℕ) (got : Got) (b : AtPort) (after : Findings)
+      → DoesGet ring (with_counts k n a, found) frame got (b, after) → (c : AtPort) × DoesGet ring (a, found) frame got (c, after) × IsRaised k m b c
+  DoesGet-lowered n a more found frame got.Whole b after (above, passes, is, same) = (
+    with_asks ring.channels a,
+    (above, passes, refl, same),
+    raised-by k m b (with_asks ring.channels (with_counts k n a)) (with_asks ring.channels a) is
+        (raised-asks k m ring.channels (with_counts k n a) a (raised-same k m n a more)),
+  )
+  DoesGet-lowered n a more found frame (got.Overtaken channel word) b after (none, below, may, passes, is, same) = (
+    with_asks (channel + 1) a,
+    (none, below, may, passes, refl, same),
+    raised-by k m b (with_asks (channel + 1) (with_counts k n a)) (with_asks (channel + 1) a) is
+        (raised-asks k m (channel + 1) (with_counts k n a) a (raised-same k m n a more)),
+  )
+  DoesGet-lowered n a more found frame got.Stopped b after (asks, below, may, passes, is, same) = (
+    with_stop (with_asks asks a),
+    (asks, below, may, passes, refl, same),
+    raised-by k m b (with_stop (with_asks asks (with_counts k n a))) (with_stop (with_asks asks a)) is
+        (raised-stop k m (with_asks asks (with_counts k n a)) (with_asks asks a) (raised-asks k m asks (with_counts k n a) a (raised-same k m n a more))),
+  )
+
+  -- the actor that counts more stops, by its own number of asks
+  counts-of : (x w : Doing) → IsRaisedDoing k m x w → x ≡ (with_counts k x.0.at_gate w.0, w.1)
+  counts-of x w one = λ i. (one.port.is i, one.found i)
+
+  by_load : (s t w : Doing) (load : Option Position) → IsRaisedDoing k m s w → DoesLoad s load t → (v : Doing) × DoesLoad w load v × IsRaisedDoing k m t v
   by_load s t w load at step =
-      let low = DoesLoad-lowered w.0 w.1 load t.0 t.1 (subst (λ (x : Doing). DoesLoad x load t) at step) in
-      ((low.0, t.1), low.1, ap (λ (b : AtPort). (b, t.1)) low.2)
+      let low = DoesLoad-lowered s.0.at_gate w.0 at.port.asks w.1 load t.0 t.1 (subst (λ (x : Doing). DoesLoad x load t) (counts-of s w at) step) in
+      ((low.0, t.1), low.1, record { port = low.2; found = refl })
 
-  by_lay : (s t w : Doing) (e : Entry) (ended : Ended) → s ≡ raised_doing k w → DoesLay ring s e ended t → (v : Doing) × DoesLay ring w e ended v × (t ≡ raised_doing k v)
+  by_lay : (s t w : Doing) (e : Entry) (ended : Ended) → IsRaisedDoing k m s w → DoesLay ring s e ended t → (v : Doing) × DoesLay ring w e ended v × IsRaisedDoing k m t v
   by_lay s t w e ended at step =
-      let low = DoesLay-lowered w.0 w.1 e ended t.0 t.1 (subst (λ (x : Doing). DoesLay ring x e ended t) at step) in
-      ((low.0, t.1), low.1, ap (λ (b : AtPort). (b, t.1)) low.2)
+      let low = DoesLay-lowered s.0.at_gate w.0 at.port.asks w.1 e ended t.0 t.1 (subst (λ (x : Doing). DoesLay ring x e ended t) (counts-of s w at) step) in
+      ((low.0, t.1), low.1, record { port = low.2; found = refl })
 
-  by_get : (s t w : Doing) (frame : ℕ) (got : Got) → s ≡ raised_doing k w → DoesGet ring s frame got t → (v : Doing) × DoesGet ring w frame got v × (t ≡ raised_doing k v)
+  by_get : (s t w : Doing) (frame : ℕ) (got : Got) → IsRaisedDoing k m s w → DoesGet ring s frame got t → (v : Doing) × DoesGet ring w frame got v × IsRaisedDoing k m t v
   by_get s t w frame got at step =
-      let low = DoesGet-lowered w.0 w.1 frame got t.0 t.1 (subst (λ (x : Doing). DoesGet ring x frame got t) at step) in
-      ((low.0, t.1), low.1, ap (λ (b : AtPort). (b, t.1)) low.2)
+      let low = DoesGet-lowered s.0.at_gate w.0 at.port.asks w.1 frame got t.0 t.1 (subst (λ (x : Doing). DoesGet ring x frame got t) (counts-of s w at) step) in
+      ((low.0, t.1), low.1, record { port = low.2; found = refl })
 
-module _ {S : Type 0} (kind : Kind S) (ring : Geometry) (blind : IsBlind kind) (k : ℕ) where
-  pub LineDone-lowered : (a : AtPort) (s : S) (found : Findings) (asked : Op) (b : AtPort) (t : S) (after : Findings) (answer : Answer)
-      → LineDone kind ring ((with_more_stops k a, s), found) asked ((b, t), after) answer
-      → (c : AtPort) × (b ≡ with_more_stops k c) × LineDone kind ring ((a, s), found) asked ((c, t), after) answer
-  LineDone-lowered a s found asked b t after answer done =
-      let began = kind.begins s asked (with_more_stops k a) in
+module _ {S : Type 0} (kind : Kind S) (ring : Geometry) (blind : IsBlind kind) (k m : ℕ) where
+  pub LineDone-lowered : (n : ℕ) (a : AtPort) → a.at_gate ≡ n + m → (s : S) (found : Findings) (asked : Op) (b : AtPort) (t : S) (after : Findings) (answer : Answer)
+      → LineDone kind ring ((with_counts k n a, s), found) asked ((b, t), after) answer
+      → (c : AtPort) × IsRaised k m b c × LineDone kind ring ((a, s), found) asked ((c, t), after) answer
+  LineDone-lowered n a more s found asked b t after answer done =
+      let began = kind.begins s asked (with_counts k n a) in
       let begun = kind.begins s asked a in
       let same : kind.course began s asked ≡ kind.course begun s asked =
-      ap (λ (x : AtPort). kind.course x s asked) (blind.begins k a s asked) ∙ blind.course k begun s asked in
-      let taken = subst (λ (m : Course (S × Answer)). Takes DoesLoad (DoesLay ring) (DoesGet ring) (began, found) m (b, after) (t, answer)) same done in
-      let low = Takes-follow DoesLoad (DoesLay ring) (DoesGet ring) DoesLoad (DoesLay ring) (DoesGet ring) (λ (x w : Doing). x ≡ raised_doing k w)
-      (λ x y w. by_load ring k x y w) (λ x y w. by_lay ring k x y w) (λ x y w. by_get ring k x y w)
+      ap (λ (x : AtPort). kind.course x s asked) (blind.begins k n a s asked) ∙ blind.course k n begun s asked in
+      let taken = subst (λ (c : Course (S × Answer)). Takes DoesLoad (DoesLay ring) (DoesGet ring) (began, found) c (b, after) (t, answer)) same done in
+      let start : IsRaised k m began begun =
+      raised-by k m began (with_counts k n begun) begun (blind.begins k n a s asked) (raised-same k m n begun (blind.same_asks a s asked ∙ more)) in
+      let low = Takes-follow DoesLoad (DoesLay ring) (DoesGet ring) DoesLoad (DoesLay ring) (DoesGet ring) (IsRaisedDoing k m)
+      (λ x y w. by_load ring k m x y w) (λ x y w. by_lay ring k m x y w) (λ x y w. by_get ring k m x y w)
       (began, found) (b, after) (begun, found) (kind.course begun s asked) (t, answer)
-      (ap (λ (x : AtPort). (x, found)) (blind.begins k a s asked)) taken in
-      let found_is : low.0.1 ≡ after = ap (λ (x : Doing). x.1) (sym low.2) in (
+      (record { port = start; found = refl }) taken in (
         low.0.0,
-        ap (λ (x : Doing). x.0) low.2,
-        subst (λ (x : Findings). Takes DoesLoad (DoesLay ring) (DoesGet ring) (begun, found) (kind.course begun s asked) (low.0.0, x) (t, answer)) found_is low.1,
+        low.2.port,
+        subst (λ (x : Findings). Takes DoesLoad (DoesLay ring) (DoesGet ring) (begun, found) (kind.course begun s asked) (low.0.0, x) (t, answer)) (sym low.2.found) low.1,
       )
 
-  -- lines that were done by an actor that its gate had stopped k times more are a part of the one without these stops
-  pub ActorPart-lowered : (ops : List Op) (a : AtPort) (s : S) (found : Findings) (b : AtPort) (t : S) (after : Findings) (rows : List Row)
-      → ActorPart kind ring ((with_more_stops k a, s), found) ops ((b, t), after) rows
-      → (c : AtPort) × (b ≡ with_more_stops k c) × ActorPart kind ring ((a, s), found) ops ((c, t), after) rows
-  ActorPart-lowered [] a s found b t after rows (is, none) =
-      (a, ap (λ (x : (AtPort × S) × Findings). x.0.0) is, (ap (λ (x : (AtPort × S) × Findings). ((a, x.0.1), x.1)) is, none))
-  ActorPart-lowered (asked ∷ ops) a s found b t after rows (between, answer, others, line, more, rows_are) =
-      let low = LineDone-lowered a s found asked between.0.0 between.0.1 between.1 answer line in
-      let rest = ActorPart-lowered ops low.0 between.0.1 between.1 b t after others
-      (subst (λ (x : AtPort). ActorPart kind ring ((x, between.0.1), between.1) ops ((b, t), after) others) low.1 more) in
-      (rest.0, rest.1, (((low.0, between.0.1), between.1), answer, others, low.2, rest.2, rows_are))
+  -- lines that were done by an actor that its gate had stopped k times more, and that had asked it m times less, are a part of the other one
+  pub ActorPart-lowered : (ops : List Op) (n : ℕ) (a : AtPort) → a.at_gate ≡ n + m → (s : S) (found : Findings) (b : AtPort) (t : S) (after : Findings) (rows : List Row)
+      → ActorPart kind ring ((with_counts k n a, s), found) ops ((b, t), after) rows
+      → (c : AtPort) × IsRaised k m b c × ActorPart kind ring ((a, s), found) ops ((c, t), after) rows
+  ActorPart-lowered [] n a more s found b t after rows (is, none) = (
+    a,
+    raised-by k m b (with_counts k n a) a (ap (λ (x : (AtPort × S) × Findings). x.0.0) is) (raised-same k m n a more),
+    (ap (λ (x : (AtPort × S) × Findings). ((a, x.0.1), x.1)) is, none),
+  )
+  ActorPart-lowered (asked ∷ ops) n a more s found b t after rows (between, answer, others, line, rest, rows_are) =
+      let low = LineDone-lowered n a more s found asked between.0.0 between.0.1 between.1 answer line in
+      let last = ActorPart-lowered ops between.0.0.at_gate low.0 low.1.asks between.0.1 between.1 b t after others
+      (subst (λ (x : AtPort). ActorPart kind ring ((x, between.0.1), between.1) ops ((b, t), after) others) low.1.is rest) in
+      (last.0, last.1, (((low.0, between.0.1), between.1), answer, others, low.2, last.2, rows_are))
 
 -- a client and a reader don't ask it
-dies_if-raised : (k : ℕ) (stopped : Bool) (asked : Op) (a : AtPort) → dies_if stopped asked (with_more_stops k a) ≡ with_more_stops k (dies_if stopped asked a)
-dies_if-raised k false (op.Die n) a = refl
-dies_if-raised k stopped asked a = refl
+dies_if-raised : (k n : ℕ) (stopped : Bool) (asked : Op) (a : AtPort) → dies_if stopped asked (with_counts k n a) ≡ with_counts k n (dies_if stopped asked a)
+dies_if-raised k n false (op.Die j) a = refl
+dies_if-raised k n stopped asked a = refl
 
-client-begins : (k : ℕ) (a : AtPort) (own : Option playing.PlaybackStream) (asked : Op) → client.begins own asked (with_more_stops k a) ≡ with_more_stops k (client.begins own asked a)
-client-begins k a None asked = refl
-client-begins k a (Some c) asked = dies_if-raised k c.status.stopped asked a
+dies_if-asks : (stopped : Bool) (asked : Op) (a : AtPort) → (dies_if stopped asked a).at_gate ≡ a.at_gate
+dies_if-asks false (op.Die j) a = refl
+dies_if-asks stopped asked a = refl
 
-reader-begins : (k : ℕ) (a : AtPort) (own : Option reading.CaptureStream) (asked : Op) → reader.begins own asked (with_more_stops k a) ≡ with_more_stops k (reader.begins own asked a)
-reader-begins k a None asked = refl
-reader-begins k a (Some r) asked = dies_if-raised k r.status.stopped asked a
+client-begins : (k n : ℕ) (a : AtPort) (own : Option playing.PlaybackStream) (asked : Op) → client.begins own asked (with_counts k n a) ≡ with_counts k n (client.begins own asked a)
+client-begins k n a None asked = refl
+client-begins k n a (Some c) asked = dies_if-raised k n c.status.stopped asked a
+
+client-asks : (a : AtPort) (own : Option playing.PlaybackStream) (asked : Op) → (client.begins own asked a).at_gate ≡ a.at_gate
+client-asks a None asked = refl
+client-asks a (Some c) asked = dies_if-asks c.status.stopped asked a
+
+reader-begins : (k n : ℕ) (a : AtPort) (own : Option reading.CaptureStream) (asked : Op) → reader.begins own asked (with_counts k n a) ≡ with_counts k n (reader.begins own asked a)
+reader-begins k n a None asked = refl
+reader-begins k n a (Some r) asked = dies_if-raised k n r.status.stopped asked a
+
+reader-asks : (a : AtPort) (own : Option reading.CaptureStream) (asked : Op) → (reader.begins own asked a).at_gate ≡ a.at_gate
+reader-asks a None asked = refl
+reader-asks a (Some r) asked = dies_if-asks r.status.stopped asked a
 
 pub client_is_blind : (phase : ℕ) (wav : Sound) (number : ℕ) → IsBlind (client_kind phase wav number)
-client_is_blind phase wav number = record { begins = λ k a c asked. client-begins k a c.own asked; course = λ k a c asked. refl }
+client_is_blind phase wav number = record {
+  begins = λ k n a c asked. client-begins k n a c.own asked;
+  same_asks = λ a c asked. client-asks a c.own asked;
+  course = λ k n a c asked. refl;
+}
 
 pub reader_is_blind : (phase number : ℕ) → IsBlind (reader_kind phase number)
-reader_is_blind phase number = record { begins = λ k a r asked. reader-begins k a r.own asked; course = λ k a r asked. refl }
+reader_is_blind phase number = record {
+  begins = λ k n a r asked. reader-begins k n a r.own asked;
+  same_asks = λ a r asked. reader-asks a r.own asked;
+  course = λ k n a r asked. refl;
+}

@@ -67,12 +67,12 @@ pub record HasReaderCalled {S T : Type 0} (P : snoopport.Ghosts S) (G : gates.Gh
 -- An open reader was answered a line, with room for so many frames: whichever frames it had, it is its line as a run has it, where there was room for
 -- those that the line may get. It made progress by the frames that it got, which are no more than the line asks for.
 pub record HasReaderAnswered {S T : Type 0} (P : snoopport.Ghosts S) (left : T → Option ℕ)
-    (by_gate : T → ℕ) (s t : S × T) (r after : CaptureStream) (before samples : List ℤ)
+    (by_gate at_gate : T → ℕ) (s t : S × T) (r after : CaptureStream) (before samples : List ℤ)
     (asked : Op) (spare : ℕ) (answer : Answer) : Type 0 where
   pub line : wanted_by (most_read r) asked ≤ spare
       → (phase number : ℕ) (frames : List ℕ) (first : S) (ring : Geometry) (doing : Doing)
-      → IsAtSnoop P left by_gate first ring s doing
-      → IsReaderLine P left by_gate first ring t phase number doing
+      → IsAtSnoop P left by_gate at_gate first ring s doing
+      → IsReaderLine P left by_gate at_gate first ring t phase number doing
       (record { own = Some r; frames = frames })
       asked (record { own = Some after; frames = frames ++ frames_by asked answer after }) answer
   pub has_read : HasRead P s.0 t.0 r after before samples asked answer

@@ -4,13 +4,14 @@ ghost use Rattle.dmix_client.specs.Calls.{is_paused};
 ghost use Rattle.lab_lines.specs.declared.line.Line.{Line};
 ghost use Rattle.lab_run.specs.Phases.{is_client, ops_by};
 ghost use Rattle.lab_actor.specs.ClientLines.{CanCall, HasClientAnswered, IsFew, IsReady, ends_stretch, laid_of};
-ghost use Rattle.lab_actor.specs.ClientPart.{ClientLine, ClientPart, left_in, stops_in};
-ghost use Rattle.lab_actor.specs.Countdown.{IsSameGate, by_gate_of, left_of};
+ghost use Rattle.lab_actor.specs.ClientPart.{ClientLine, ClientPart, ClientTurn};
+ghost use Rattle.lab_actor.specs.Countdown.{KeepsGate, at_gate_of, by_gate_of, left_of};
 ghost use Rattle.lab_actor.specs.Room.{GrowsBy, HasSpace, line_count};
 
 use crate::client_calls::call;
 use crate::countdown::Countdown;
 use crate::room::{is_of, line_count, push_row};
+use crate::tally::Tally;
 use dmix_client::Client;
 use lab_lines::{Actor, Answer, Line, Op, Row};
 use lab_run::{client_lines_are_parts, lines_without_calls, parts_grow};
@@ -76,10 +77,10 @@ fn call_line<P: MixPort, G: Gate, L: Ledger>(
     requires few { IsFew asked }
     requires can { CanCall client.old.stream.status.stopped asked }
     requires ready { IsReady P.MixPort wav.now port.old client.old }
-    ensures answered { HasClientAnswered P.MixPort left_of (by_gate_of G.stops)
+    ensures answered { HasClientAnswered P.MixPort left_of (by_gate_of G.stops) at_gate_of
         (port.old, gate.old) (port.new, gate.new)
         wav.now client.old client.new asked result }
-    ensures same_gate { IsSameGate gate.old gate.new }
+    ensures own_gate { KeepsGate G.asked gate.old gate.new }
 {
     client_lines_are_parts::<P, Countdown<'_, G, L>>();
     call(client, port, gate, wav, asked)
@@ -95,10 +96,10 @@ fn answer_line<P: MixPort, G: Gate, L: Ledger>(
 ) -> Answer
     requires few { IsFew asked }
     requires ready { IsReady P.MixPort wav.now port.old client.old }
-    ensures answered { HasClientAnswered P.MixPort left_of (by_gate_of G.stops)
+    ensures answered { HasClientAnswered P.MixPort left_of (by_gate_of G.stops) at_gate_of
         (port.old, gate.old) (port.new, gate.new)
         wav.now client.old client.new asked result }
-    ensures same_gate { IsSameGate gate.old gate.new }
+    ensures own_gate { KeepsGate G.asked gate.old gate.new }
 {
     lines_without_calls();
     if client.is_stopped() {
@@ -144,11 +145,11 @@ impl ClientActor {
         requires ready { IsReady P.MixPort wav.now port.old self.old.client }
         requires rows_room { HasSpace 1 self.old.rows }
         requires ended_room { HasSpace 1 self.old.ended }
-        ensures line { ClientLine P.MixPort left_of (by_gate_of G.stops)
+        ensures line { ClientLine P.MixPort left_of (by_gate_of G.stops) at_gate_of
             (port.old, gate.old) (port.new, gate.new)
             phase wav.now self.old self.new asked }
         ensures ready { IsReady P.MixPort wav.now port.new self.new.client }
-        ensures same_gate { IsSameGate gate.old gate.new }
+        ensures own_gate { KeepsGate G.asked gate.old gate.new }
         ensures rows_room { GrowsBy 1 self.old.rows self.new.rows }
         ensures ended_room { GrowsBy 1 self.old.ended self.new.ended }
     {
@@ -185,13 +186,13 @@ impl ClientActor {
         requires ended_room { is_client self.old.number line.now.actor ≡ true
             → HasSpace 1 self.old.ended }
         ensures own { is_client self.old.number line.now.actor ≡ true
-            → ClientLine P.MixPort left_of (by_gate_of G.stops) (port.old, gate.old)
+            → ClientLine P.MixPort left_of (by_gate_of G.stops) at_gate_of (port.old, gate.old)
             (port.new, gate.new)
             phase wav.now self.old self.new line.now.op }
         ensures others { is_client self.old.number line.now.actor ≡ false
             → (self.new ≡ self.old) × (port.new ≡ port.old) × (gate.new ≡ gate.old) }
         ensures ready { IsReady P.MixPort wav.now port.new self.new.client }
-        ensures same_gate { IsSameGate gate.old gate.new }
+        ensures own_gate { KeepsGate G.asked gate.old gate.new }
         ensures rows_room { is_client self.old.number line.now.actor ≡ true
             → GrowsBy 1 self.old.rows self.new.rows }
         ensures ended_room { is_client self.old.number line.now.actor ≡ true
@@ -217,11 +218,11 @@ impl ClientActor {
             self.old.rows }
         requires ended_room { HasSpace (line_count (Actor.Client self.old.number) lines.now)
             self.old.ended }
-        ensures part { ClientPart P.MixPort left_of (by_gate_of G.stops)
+        ensures part { ClientPart P.MixPort left_of (by_gate_of G.stops) at_gate_of
             (port.old, gate.old) (port.new, gate.new)
             phase wav.now self.old self.new (ops_by (is_client self.old.number) lines.now) }
         ensures ready { IsReady P.MixPort wav.now port.new self.new.client }
-        ensures same_gate { IsSameGate gate.old gate.new }
+        ensures own_gate { KeepsGate G.asked gate.old gate.new }
     {
         parts_grow();
         for index in 0..lines.len() {
@@ -241,20 +242,19 @@ impl ClientActor {
     )
         requires name { blank.name ≡ L.name }
         requires parts { blank.parts ≡ L.parts }
-        requires some { 0 < blank.parts }
+        requires two { 1 < blank.parts }
         requires few { All (λ (line : Line). IsFew line.op) lines.now }
         requires ready { IsReady P.MixPort wav.now port.old self.old.client }
         requires rows_room { HasSpace (line_count (Actor.Client self.old.number) lines.now)
             self.old.rows }
         requires ended_room { HasSpace (line_count (Actor.Client self.old.number) lines.now)
             self.old.ended }
-        ensures part { ClientPart P.MixPort left_in stops_in
-            (port.old, (self.old.left, G.stops gate.old))
-            (port.new, (self.new.left, G.stops gate.new))
+        ensures part { ClientTurn P.MixPort G.Gate (port.old, gate.old) (port.new, gate.new)
             phase wav.now self.old self.new (ops_by (is_client self.old.number) lines.now) }
         ensures ready { IsReady P.MixPort wav.now port.new self.new.client }
     {
-        let mut countdown: Countdown<'_, G, L> = Countdown::new(gate, self.left, blank);
+        let tally: Tally<L> = Tally::open(blank);
+        let mut countdown = Countdown::new(gate, self.left, tally);
         self.do_lines(port, &mut countdown, wav, phase, lines);
         self.left = countdown.end();
     }
@@ -267,7 +267,7 @@ impl ClientActor {
     /// Each line makes one call of the stream and appends its row. A write offers the next frames of the file, or those that are
     /// left. A `die` lets the next asks pass, as many as it says and those of kind `Again` beside them, and each later one
     /// stops the client; a later `die` takes its place. After a stop, every line is answered with `Stopped` and nothing is done.
-    /// What the lines did is the client's part of a run: `part` says so, whatever the port did before.
+    /// What the lines did is the client's part of a run, with the asks of its own gate: `part` says so, whatever the port did before.
     pub fn run_lines<P: MixPort, G: Gate>(
         &mut self,
         port: &mut P,
@@ -282,12 +282,10 @@ impl ClientActor {
             self.old.rows }
         requires ended_room { HasSpace (line_count (Actor.Client self.old.number) lines.now)
             self.old.ended }
-        ensures part { ClientPart P.MixPort left_in stops_in
-            (port.old, (self.old.left, G.stops gate.old))
-            (port.new, (self.new.left, G.stops gate.new))
+        ensures part { ClientTurn P.MixPort G.Gate (port.old, gate.old) (port.new, gate.new)
             phase wav.now self.old self.new (ops_by (is_client self.old.number) lines.now) }
         ensures ready { IsReady P.MixPort wav.now port.new self.new.client }
     {
-        self.run_at::<P, G, Brand>(port, gate, wav, phase, lines, Blank::new(1));
+        self.run_at::<P, G, Brand>(port, gate, wav, phase, lines, Blank::new(2));
     }
 }

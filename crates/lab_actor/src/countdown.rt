@@ -2,19 +2,20 @@
 ghost use Rattle.std.specs.Prelude.{◌≡◌};
 ghost use Rattle.lab_run.specs.Rules.{left_after, lets_pass};
 
+use crate::tally::Tally;
 use mix_core::{Gate, Pass, StepKind};
-use snd_base::Steps;
-use std::sync::ledger::{Blank, Ledger};
+use std::sync::ledger::Ledger;
 
 /// An actor's gate, in front of which the asks are counted that a `die` lets pass.
 ///
 /// Without a `die` every ask goes to the actor's gate. After a `die` of k the next k asks go to it, and each later one is
-/// answered with a stop. An ask of kind `Again` isn't counted, and always goes to the actor's gate.
+/// answered with a stop. An ask of kind `Again` isn't counted, and always goes to the actor's gate. How many of the others
+/// went there is counted too, without a byte at run time.
 #[derive(Drop)]
 pub struct Countdown<'g, G, L: Ledger> {
     gate: &'g mut G,
     left: Option<u32>,
-    deaths: Steps<L>,
+    tally: Tally<L>,
 }
 
 /// Counts an ask down, and says whether it may go on to the actor's gate.
@@ -33,48 +34,46 @@ fn count_down(left: &mut Option<u32>) -> bool
 }
 
 impl<'g, G: Gate, L: Ledger> Countdown<'g, G, L> {
-    ghost use Rattle.std.specs.Prelude.{◌≡◌, ◌<◌, ◌∷◌, [], Some};
+    ghost use Rattle.std.specs.Prelude.{◌≡◌, ◌+◌, ◌∷◌, [], Some};
     ghost use Rattle.mix_core.specs.Gate.{stops_after};
     ghost use Rattle.lab_run.specs.PortSteps.{kind_count};
-    ghost use Rattle.lab_actor.specs.Countdown.{CountsAsks, IsSameGate, all_stops, by_gate_of, left_of};
+    ghost use Rattle.lab_actor.specs.Countdown.{CountsAsks, IsSameGate, all_stops, at_gate_of, by_gate_of, left_of};
 
-    /// The gate of an actor, of which a `die` before let `left` asks pass yet. The blank is that of a ledger, which has at
-    /// least one part.
-    pub fn new(gate: &'g mut G, left: Option<u32>, blank: Blank) -> Countdown<'g, G, L>
-        requires name { blank.name ≡ L.name }
-        requires parts { blank.parts ≡ L.parts }
-        requires some { 0 < blank.parts }
+    /// The gate of an actor, of which a `die` before let `left` asks pass yet. What it counts goes on in `tally`.
+    pub fn new(gate: &'g mut G, left: Option<u32>, tally: Tally<L>) -> Countdown<'g, G, L>
         ensures same_gate { result.gate.ghost_name ≡ gate.entry.ghost_name }
+        ensures gate { result.gate.now ≡ gate.old }
         ensures left { left_of result ≡ left }
         ensures by_gate { by_gate_of G.stops result ≡ G.stops gate.old }
+        ensures stops { all_stops G.stops result ≡ G.stops gate.old + tally.deaths }
+        ensures at_gate { at_gate_of result ≡ tally.asks }
     {
-        Countdown {
-            gate,
-            left,
-            deaths: Steps::open(blank),
-        }
+        Countdown { gate, left, tally }
     }
 
     /// Lets so many asks pass from now on.
     pub fn let_pass(&mut self, asks: u32)
         ensures same_gate { IsSameGate self.old self.new }
+        ensures gate { self.new.gate.now ≡ self.old.gate.now }
         ensures left { left_of self.new ≡ Some asks }
         ensures by_gate { by_gate_of G.stops self.new ≡ by_gate_of G.stops self.old }
+        ensures at_gate { at_gate_of self.new ≡ at_gate_of self.old }
     {
         self.left = Some(asks);
     }
 
-    /// An ask that a `die` counts.
+    /// An ask that a `die` counts, and that comes to the own gate where it lets it.
     fn pass_counted(&mut self, step: StepKind) -> Pass
         requires { kind_count step ≡ 1 }
         ensures answer { all_stops G.stops self.new
             ≡ stops_after result (all_stops G.stops self.old) }
-        ensures asked { CountsAsks G.stops self.old self.new (step ∷ []) result }
+        ensures asked { CountsAsks G.stops G.asked self.old self.new (step ∷ []) result }
     {
         if !count_down(&mut self.left) {
-            self.deaths.tick();
+            self.tally.count_death();
             return Pass::Stop;
         }
+        self.tally.count_ask();
         self.gate.pass(step)
     }
 
@@ -94,9 +93,9 @@ impl<G: Gate, L: Ledger> Gate for Countdown<'_, G, L> {
 
     ghost stops = { all_stops G.stops };
 
-    ghost asked = { CountsAsks G.stops };
+    ghost asked = { CountsAsks G.stops G.asked };
 
-    ghost asked_composes = { CountsAsks-composes G.stops };
+    ghost asked_composes = { CountsAsks-composes G.stops G.asked G.asked_composes };
 
     fn pass(&mut self, step: StepKind) -> Pass {
         match step {

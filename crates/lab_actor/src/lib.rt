@@ -10,6 +10,7 @@ mod reader;
 mod reader_calls;
 mod refused;
 mod room;
+mod tally;
 
 pub use client::ClientActor;
 pub use countdown::Countdown;
@@ -17,3 +18,4 @@ pub use frame_runs::FrameRuns;
 pub use reader::ReaderActor;
 pub use refused::refuse_lines;
 pub use room::{line_count, reads_are_few};
+pub use tally::Tally;

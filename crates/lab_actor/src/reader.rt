@@ -5,16 +5,16 @@ ghost use Rattle.lab_lines.specs.declared.line.Line.{Line};
 ghost use Rattle.lab_run.specs.Phases.{is_reader, ops_by, played_in};
 ghost use Rattle.lab_run.specs.Stretches.{got_by};
 ghost use Rattle.lab_actor.specs.ClientLines.{CanCall};
-ghost use Rattle.lab_actor.specs.ClientPart.{left_in, stops_in};
-ghost use Rattle.lab_actor.specs.Countdown.{IsSameGate, by_gate_of, left_of};
+ghost use Rattle.lab_actor.specs.Countdown.{KeepsGate, at_gate_of, by_gate_of, left_of};
 ghost use Rattle.lab_actor.specs.ReaderLines.{HasReaderAnswered, IsFewRead};
-ghost use Rattle.lab_actor.specs.ReaderPart.{HasGot, HasRoom, HasRowsFor, ReaderLine, ReaderPart, TakesRow};
+ghost use Rattle.lab_actor.specs.ReaderPart.{HasGot, HasRoom, HasRowsFor, ReaderLine, ReaderPart, ReaderTurn, TakesRow};
 ghost use Rattle.lab_actor.specs.Room.{spare_frames};
 
 use crate::countdown::Countdown;
 use crate::frame_runs::FrameRuns;
 use crate::reader_calls::call_fitting;
 use crate::room::{frames_wanted, is_of, line_count, most_wanted, push_row};
+use crate::tally::Tally;
 use dsnoop_client::Reader;
 use lab_lines::{Actor, Answer, Line, Op, Row};
 use lab_run::{lines_without_calls, parts_grow, reader_lines_are_parts};
@@ -57,11 +57,11 @@ fn call_line<P: SnoopPort, G: Gate, L: Ledger>(
     requires few { IsFewRead asked }
     requires can { CanCall reader.old.status.stopped asked }
     requires usable { CanUse reader.old (P.view port.old) }
-    ensures answered { HasReaderAnswered P.SnoopPort left_of (by_gate_of G.stops)
+    ensures answered { HasReaderAnswered P.SnoopPort left_of (by_gate_of G.stops) at_gate_of
         (port.old, gate.old) (port.new, gate.new)
         reader.old reader.new samples.old.items samples.new.items
         asked (spare_frames reader.old samples.old) result }
-    ensures same_gate { IsSameGate gate.old gate.new }
+    ensures own_gate { KeepsGate G.asked gate.old gate.new }
     ensures room { vec_capacity samples.old ≤ vec_capacity samples.new }
 {
     reader_lines_are_parts::<P, Countdown<'_, G, L>>();
@@ -78,11 +78,11 @@ fn answer_line<P: SnoopPort, G: Gate, L: Ledger>(
 ) -> Answer
     requires few { IsFewRead asked }
     requires usable { CanUse reader.old (P.view port.old) }
-    ensures answered { HasReaderAnswered P.SnoopPort left_of (by_gate_of G.stops)
+    ensures answered { HasReaderAnswered P.SnoopPort left_of (by_gate_of G.stops) at_gate_of
         (port.old, gate.old) (port.new, gate.new)
         reader.old reader.new samples.old.items samples.new.items
         asked (spare_frames reader.old samples.old) result }
-    ensures same_gate { IsSameGate gate.old gate.new }
+    ensures own_gate { KeepsGate G.asked gate.old gate.new }
     ensures room { vec_capacity samples.old ≤ vec_capacity samples.new }
 {
     lines_without_calls();
@@ -136,11 +136,11 @@ impl ReaderActor {
         requires few { IsFewRead asked }
         requires usable { CanUse self.old.reader (P.view port.old) }
         requires room { HasRowsFor self.old 1 }
-        ensures line { ReaderLine P.SnoopPort left_of (by_gate_of G.stops)
+        ensures line { ReaderLine P.SnoopPort left_of (by_gate_of G.stops) at_gate_of
             (port.old, gate.old) (port.new, gate.new)
             phase self.old self.new asked }
         ensures usable { CanUse self.new.reader (P.view port.new) }
-        ensures same_gate { IsSameGate gate.old gate.new }
+        ensures own_gate { KeepsGate G.asked gate.old gate.new }
         ensures room { TakesRow self.old self.new }
         ensures got { HasGot (P.view port.old) (P.view port.new) self.old self.new (asked ∷ []) }
     {
@@ -170,13 +170,13 @@ impl ReaderActor {
         requires usable { CanUse self.old.reader (P.view port.old) }
         requires room { is_reader self.old.number line.now.actor ≡ true → HasRowsFor self.old 1 }
         ensures own { is_reader self.old.number line.now.actor ≡ true
-            → ReaderLine P.SnoopPort left_of (by_gate_of G.stops)
+            → ReaderLine P.SnoopPort left_of (by_gate_of G.stops) at_gate_of
             (port.old, gate.old) (port.new, gate.new)
             phase self.old self.new line.now.op }
         ensures others { is_reader self.old.number line.now.actor ≡ false
             → (self.new ≡ self.old) × (port.new ≡ port.old) × (gate.new ≡ gate.old) }
         ensures usable { CanUse self.new.reader (P.view port.new) }
-        ensures same_gate { IsSameGate gate.old gate.new }
+        ensures own_gate { KeepsGate G.asked gate.old gate.new }
         ensures room { is_reader self.old.number line.now.actor ≡ true
             → TakesRow self.old self.new }
         ensures got { is_reader self.old.number line.now.actor ≡ true
@@ -198,12 +198,12 @@ impl ReaderActor {
         requires few { All (λ (line : Line). IsFewRead line.op) lines.now }
         requires usable { CanUse self.old.reader (P.view port.old) }
         requires room { HasRoom (P.view port.old).geometry.frames self.old lines.now }
-        ensures part { ReaderPart P.SnoopPort left_of (by_gate_of G.stops)
+        ensures part { ReaderPart P.SnoopPort left_of (by_gate_of G.stops) at_gate_of
             (port.old, gate.old) (port.new, gate.new)
             phase (played_in lines.now) self.old self.new
             (ops_by (is_reader self.old.number) lines.now) }
         ensures usable { CanUse self.new.reader (P.view port.new) }
-        ensures same_gate { IsSameGate gate.old gate.new }
+        ensures own_gate { KeepsGate G.asked gate.old gate.new }
     {
         parts_grow();
         // There is a channel at least, so that the room counts the frames.
@@ -224,18 +224,17 @@ impl ReaderActor {
     )
         requires name { blank.name ≡ L.name }
         requires parts { blank.parts ≡ L.parts }
-        requires some { 0 < blank.parts }
+        requires two { 1 < blank.parts }
         requires few { All (λ (line : Line). IsFewRead line.op) lines.now }
         requires usable { CanUse self.old.reader (P.view port.old) }
         requires room { HasRoom (P.view port.old).geometry.frames self.old lines.now }
-        ensures part { ReaderPart P.SnoopPort left_in stops_in
-            (port.old, (self.old.left, G.stops gate.old))
-            (port.new, (self.new.left, G.stops gate.new))
+        ensures part { ReaderTurn P.SnoopPort G.Gate (port.old, gate.old) (port.new, gate.new)
             phase (played_in lines.now) self.old self.new
             (ops_by (is_reader self.old.number) lines.now) }
         ensures usable { CanUse self.new.reader (P.view port.new) }
     {
-        let mut countdown: Countdown<'_, G, L> = Countdown::new(gate, self.left, blank);
+        let tally: Tally<L> = Tally::open(blank);
+        let mut countdown = Countdown::new(gate, self.left, tally);
         self.do_lines(port, &mut countdown, phase, lines);
         self.left = countdown.end();
     }
@@ -260,13 +259,11 @@ impl ReaderActor {
         requires few { All (λ (line : Line). IsFewRead line.op) lines.now }
         requires usable { CanUse self.old.reader (P.view port.old) }
         requires room { HasRoom (P.view port.old).geometry.frames self.old lines.now }
-        ensures part { ReaderPart P.SnoopPort left_in stops_in
-            (port.old, (self.old.left, G.stops gate.old))
-            (port.new, (self.new.left, G.stops gate.new))
+        ensures part { ReaderTurn P.SnoopPort G.Gate (port.old, gate.old) (port.new, gate.new)
             phase (played_in lines.now) self.old self.new
             (ops_by (is_reader self.old.number) lines.now) }
         ensures usable { CanUse self.new.reader (P.view port.new) }
     {
-        self.run_at::<P, G, Brand>(port, gate, phase, lines, Blank::new(1));
+        self.run_at::<P, G, Brand>(port, gate, phase, lines, Blank::new(2));
     }
 }

@@ -34,7 +34,7 @@ HasWalked-next {X = X} R xs ys to y inside so_far step = record {
 }
 
 -- an item of a list, whatever the default
-get_or-any : {X : Type 0} (xs : List X) (i : ℕ) (d e : X) → i < length xs → slice_index_or xs i d ≡ slice_index_or xs i e
+pub get_or-any : {X : Type 0} (xs : List X) (i : ℕ) (d e : X) → i < length xs → slice_index_or xs i d ≡ slice_index_or xs i e
 get_or-any [] i d e inside = absurd (omega (arith, inside))
 get_or-any (x ∷ xs) zero d e inside = refl
 get_or-any (x ∷ xs) (suc i) d e inside = get_or-any xs i d e (omega (arith, inside))

@@ -31,7 +31,7 @@ run-leaves script wavs session capture client_stops reader_stops outcome script_
   outcome_is = run.is;
   first = left.sizes.played.first;
   frames = ap (λ (o : Outcome). o.report.frames) run.is ∙ played;
-  back = λ text is can. ap (report_in_text script) is ∙ report_in_text-text script outcome.report script_is left.report can.numbers;
+  back = λ text is numbers. ap (report_in_text script) is ∙ report_in_text-text script outcome.report script_is left.report numbers;
   placed = headline.placed;
   segments = segments;
   recordings = headline.recordings;

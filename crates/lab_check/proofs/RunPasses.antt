@@ -16,6 +16,7 @@ use Rattle.lab_lines.specs.declared.script.ClientLine.{ClientLine}
 use Rattle.lab_lines.specs.declared.script.ReaderLine.{ReaderLine}
 use Rattle.lab_lines.specs.declared.script.Script.{Script}
 use Rattle.lab_lines.specs.Script.{first_frame, frames_played, phases_of}
+use Rattle.lab_report.specs.Ranges.{IsReportInRange}
 use Rattle.lab_report.specs.Reading.{report_in_text}
 use Rattle.lab_report.specs.Text.{report_text}
 use Rattle.lab_run.specs.Client.{frames_of}
@@ -121,7 +122,7 @@ pub record RunFacts (script : Script) (wavs : List Sound) (session : Session) (c
   pub outcome_is : outcome ≡ outcome_of session capture end
   pub first : outcome.report.first ≡ first_frame script.card
   pub frames : outcome.report.frames ≡ frames_played (phases_of script.body)
-  pub back : (text : List ℕ) → text ≡ report_text script outcome.report → CanPass script wavs outcome.report → report_in_text script text ≡ Ok outcome.report
+  pub back : (text : List ℕ) → text ≡ report_text script outcome.report → IsReportInRange outcome.report → report_in_text script text ≡ Ok outcome.report
   pub placed : IsPlacedFrom script wavs session outcome.report
   pub segments : AreOfClients script wavs outcome.report
   pub recordings : AreRecordingsOf session capture outcome.report outcome.recorded
@@ -158,11 +159,11 @@ module _ (script : Script) (wavs : List Sound) (session : Session) (capture : Op
       (both-none (segment_defect script wavs outcome.report) _ segment-none
       (both-none (row_defect script wavs outcome.report) (readers_defect outcome.report 0 (length script.readers)) rows readers-none))
 
-  text-tested : (text : List ℕ) → text ≡ report_text script outcome.report → CanPass script wavs outcome.report → length text ≤ most_of_report
-      → tested_report script wavs text ≡ Ok outcome.report
-  text-tested text is can short =
+  text-tested : (text : List ℕ) → text ≡ report_text script outcome.report → IsReportInRange outcome.report → CanPass script wavs outcome.report
+      → length text ≤ most_of_report → tested_report script wavs text ≡ Ok outcome.report
+  text-tested text is numbers can short =
       ap (λ (b : Bool). if b then tested script wavs (report_in_text script text) else Err 0) (le-leb (length text) most_of_report short)
-      ∙ ap (tested script wavs) (leaves.back text is can)
+      ∙ ap (tested script wavs) (leaves.back text is numbers)
       ∙ ap (report_or_line outcome.report) (report-none can.rows)
 
   -- ---- the samples
@@ -239,11 +240,11 @@ module _ (script : Script) (wavs : List Sound) (session : Session) (capture : Op
 
   -- ---- the run
 
-  pub run-checked : CanPass script wavs outcome.report
+  pub run-checked : IsReportInRange outcome.report → CanPass script wavs outcome.report
       → IsChecked script wavs capture (report_text script outcome.report) (map canonical (run_sounds script (samples_of_run outcome)))
-  run-checked can = record {
+  run-checked numbers can = record {
     report = outcome.report;
-    passes = text-tested (report_text script outcome.report) refl can can.short;
+    passes = text-tested (report_text script outcome.report) refl numbers can can.short;
     files_are = ap (λ samples. map canonical (run_sounds script samples)) samples-same;
   }
 

@@ -21,11 +21,10 @@ use Rattle.lab_check.specs.Shown.{IsShown, SaysHeadline}
 abbrev pub samples_of_run : Outcome → RunSamples
 samples_of_run outcome = record { played = outcome.played; recorded = outcome.recorded }
 
--- A report of a run that passes its tests: its numbers are within their types, as those of each report that a program has; its text isn't too long; and its
--- late rows can be. A run promises of a late row that its client's stretch has no sample at the place that the row names. The test asks this of all segments
--- of the client, so that a row may fail it whose client was opened before, and still has samples there from then.
+-- A report of a run that passes its tests: its text isn't too long, and its late rows can be. A run promises of a late row that its client's stretch has no
+-- sample at the place that the row names. The test asks this of all segments of the client, so that a row may fail it whose client was opened before, and
+-- still has samples there from then.
 pub record CanPass (script : Script) (wavs : List Sound) (report : Report) : Type 0 where
-  pub numbers : IsReportInRange report
   pub short : length (report_text script report) ≤ most_of_report
   pub rows : row_defect script wavs report ≡ None
 
@@ -39,14 +38,15 @@ UnlateRowsPass =
     (script : Script) (wavs : List Sound) (report : Report)
     → NoneLate report → row_defect script wavs report ≡ None
 
--- a run whose report passes is a checked run, by the report's text and the canonical files of its samples
+-- a run whose report passes is a checked run, by the report's text and the canonical files of its samples; the report's numbers are within their types, as
+-- those of each report that a program has
 abbrev pub RunsAreChecked : Type 0
 RunsAreChecked =
     (script : Script) (wavs : List Sound) (session : Session) (capture : Option Sound)
     (client_stops reader_stops : ℕ → ℕ) (outcome : Outcome)
     → IsScript script → IsSessionOf script wavs session
     → LabRun session capture script.body client_stops reader_stops outcome
-    → CanPass script wavs outcome.report
+    → IsReportInRange outcome.report → CanPass script wavs outcome.report
     → IsChecked script wavs capture (report_text script outcome.report)
     (map canonical (run_sounds script (samples_of_run outcome)))
 

@@ -24,7 +24,8 @@ pub fn checked_runs_show()
 /// What a run leaves is a checked run: its report's text and the canonical files of its samples, where the text isn't too long and
 /// the late rows pass their test. That asks of a late row that no segment of its client has a sample at the place that the row
 /// names, where a run promises it of the row's stretch: so a client that was opened before, and has samples there from then, may
-/// fail it. No row fails it where none is late.
+/// fail it. No row fails it where none is late. The report's numbers are within their types, as those of each report that a program
+/// has are (`lab_report::numbers_are_in_range`).
 ///
 /// Each run says the headline by its script, its files and its report alone.
 ///

@@ -32,9 +32,9 @@ use Rattle.lab_run.specs.Rules.{AtPort, Rules}
 use Rattle.lab_run.specs.Stage.{new_port}
 use Rattle.lab_actor.specs.declared.client.ClientActor.{ClientActor}
 use Rattle.lab_actor.specs.ClientLines.{ExtendsStretches, IsReady}
-use Rattle.lab_actor.specs.ClientPart.{HasClientDone, client_of, left_in, stops_in}
+use Rattle.lab_actor.specs.ClientPart.{HasClientDone, at_gate_in, client_of, left_in, stops_in}
 use Rattle.lab_actor.specs.Refused.{refused_rows}
-use Rattle.lab_actor.specs.Raised.{ActorPart-lowered, client_is_blind, with_more_stops}
+use Rattle.lab_actor.specs.Raised.{ActorPart-lowered, IsRaised, client_is_blind, with_counts}
 use Rattle.lab_card.specs.declared.card.CardActor.{CardActor}
 use Rattle.lab_card.specs.Findings.{CardPhase, client-found, rules_between}
 use Rattle.lab_client.specs.declared.open_client.OpenClient.{OpenClient}
@@ -80,10 +80,10 @@ IsOpenAt-heard c ring key wav last number o p a heard is =
 
 -- ---- the lines of an open client
 
-module _ (ring : TableId) (key : Key) (wav : Sound) (last : Option ℕ) (number base before after phase : ℕ) (lines : List Line) (p q : OpenClient) (a : AtPort) where
+module _ (ring : TableId) (key : Key) (wav : Sound) (last : Option ℕ) (number base before after asks phase : ℕ) (lines : List Line) (p q : OpenClient) (a : AtPort) where
   -- before its lines it has found nothing yet, with a gate that stopped it so often
   at-first : IsOpenAt ring key wav last number p a → a.by_gate + base ≡ before
-      → IsAtPort seat_port left_in stops_in p.seat key.geometry p.opened_at (p.seat, (p.actor.left, before)) (with_more_stops base a, nothing_found)
+      → IsAtPort seat_port left_in stops_in at_gate_in p.seat key.geometry p.opened_at (p.seat, (p.actor.left, before, 0)) (with_counts base 0 a, nothing_found)
   at-first is counts = record {
     geometry = ap (λ (k : Key). k.geometry) is.place.of_key;
     after = is.after;
@@ -91,28 +91,29 @@ module _ (ring : TableId) (key : Key) (wav : Sound) (last : Option ℕ) (number 
     marks = is.alike;
     left_is = is.left;
     by_gate_is = counts;
+    at_gate_is = refl;
     loads = SeatLoaded-composes.none p.seat;
     late = tt;
     overtaken = refl;
   }
 
   -- what it did, and found
-  did : IsOpenAt ring key wav last number p a → a.by_gate + base ≡ before → (run : HasRun before after phase wav lines p q)
-      → HasClientDone seat_port left_in stops_in p.seat key.geometry p.opened_at (q.seat, (q.actor.left, after)) phase wav p.actor.number (with_more_stops base a, nothing_found)
+  did : IsOpenAt ring key wav last number p a → a.by_gate + base ≡ before → (run : HasRun before after asks phase wav lines p q)
+      → HasClientDone seat_port left_in stops_in at_gate_in p.seat key.geometry p.opened_at (q.seat, (q.actor.left, after, asks)) phase wav p.actor.number (with_counts base 0 a, nothing_found)
       (client_of p.actor) (ops_by (is_client p.actor.number) lines) (client_of q.actor) run.part.rows
-  did is counts run = run.part.part p.seat key.geometry p.opened_at (with_more_stops base a, nothing_found) (at-first is counts)
+  did is counts run = run.part.part p.seat key.geometry p.opened_at (with_counts base 0 a, nothing_found) (at-first is counts)
 
   -- so it is afterwards at its port
-  at-last : LastsAreOwn → IsOpenAt ring key wav last number p a → (run : HasRun before after phase wav lines p q) → (doing : Doing) (b : AtPort)
-      → IsAtPort seat_port left_in stops_in p.seat key.geometry p.opened_at (q.seat, (q.actor.left, after)) doing → doing.0 ≡ with_more_stops base b
+  at-last : LastsAreOwn → IsOpenAt ring key wav last number p a → (run : HasRun before after asks phase wav lines p q) → (doing : Doing) (b : AtPort)
+      → IsAtPort seat_port left_in stops_in at_gate_in p.seat key.geometry p.opened_at (q.seat, (q.actor.left, after, asks)) doing → IsRaised base a.at_gate doing.0 b
       → IsOpenAt ring key wav last number q b
   at-last lasts is run doing b at low =
       let goes = run.part.extends.away.laid_them.goes in
       let seat_is = run.same.opened_at in
       let alike : MarksAlike key.geometry p.opened_at (marks_of_seat p.seat).high b.marks (marks_of_seat q.seat) =
-      subst (λ (x : AtPort). MarksAlike key.geometry p.opened_at (marks_of_seat p.seat).high x.marks (marks_of_seat q.seat)) low at.marks in
+      subst (λ (x : AtPort). MarksAlike key.geometry p.opened_at (marks_of_seat p.seat).high x.marks (marks_of_seat q.seat)) low.is at.marks in
       let own = lasts key.geometry p.opened_at (marks_of_seat p.seat) b.marks (marks_of_seat q.seat) alike in
-      let seen : doing.0.seen ≡ b.seen = ap (λ (x : AtPort). x.seen) low in
+      let seen : doing.0.seen ≡ b.seen = ap (λ (x : AtPort). x.seen) low.is in
       record {
         numbered = run.part.same ∙ is.numbered;
         bindings = run.same.bindings ∙ (is.bindings ∙ sym run.part.extends.same_bindings);
@@ -120,7 +121,7 @@ module _ (ring : TableId) (key : Key) (wav : Sound) (last : Option ℕ) (number 
         ready = run.ready;
         after = let low_is = at.after in omega (arith, low_is, seat_is);
         seen = let low_is = at.seen in omega (arith, low_is, seen);
-        left = ap (λ (x : AtPort). x.left) (sym low) ∙ at.left_is;
+        left = ap (λ (x : AtPort). x.left) (sym low.is) ∙ at.left_is;
         alike = subst (λ (n : ℕ). MarksAlike key.geometry n (marks_of_seat q.seat).high b.marks (marks_of_seat q.seat)) (sym seat_is) own.again;
         since = subst (λ (n : ℕ). IsLastSince n last (high_frame key.geometry (marks_of_seat q.seat))) (sym seat_is) (own.since last is.since);
       }
@@ -155,9 +156,9 @@ HasLaidPhase-extends samples s t c d ended extends =
 -- ---- a phase
 
 -- In a phase a client of a run did its lines, with these rows, as the phase allows it, with a gate that had stopped it so often before the first
--- phase and so often after this one; and its segments grew by these.
+-- phase and so often after this one, and that it asked so often in this one; and its segments grew by these.
 pub record PhaseRun (phase : ℕ) (wav : Sound) (number : ℕ) (rules : Rules)
-    (lines : List Line) (base after : ℕ) (IsAfter : AtPort → Type 0) (Laid : List Segment → Type 0)
+    (lines : List Line) (base after asks : ℕ) (IsAfter : AtPort → Type 0) (Laid : List Segment → Type 0)
     (first : AtPort) (client next : Client) (rows_before rows_after : List Row) : Type 0 where
   pub at : AtPort
   pub rows : List Row
@@ -165,6 +166,7 @@ pub record PhaseRun (phase : ℕ) (wav : Sound) (number : ℕ) (rules : Rules)
       (ops_by (is_client number) lines) (at, next) rows
   pub is : IsAfter at
   pub gate : at.by_gate + base ≡ after
+  pub gate_asks : at.at_gate ≡ first.at_gate + asks
   pub rows_are : rows_after ≡ rows_before ++ rows
   pub ended : List Segment
   pub ended_are : next.ended ≡ client.ended ++ ended
@@ -172,9 +174,9 @@ pub record PhaseRun (phase : ℕ) (wav : Sound) (number : ℕ) (rules : Rules)
 
 -- that of a client of the lab, as it was before the phase and as it is after it
 abbrev pub ClientRun : ℕ → Sound → Rules → List Line → TableId → Key → Option ℕ
-    → ℕ → ℕ → AtPort → LabClient → LabClient → Type 0
-ClientRun phase wav rules lines ring key last base after first d e =
-    PhaseRun phase wav (number_of d) rules lines base after (IsAt ring key wav last e)
+    → ℕ → ℕ → ℕ → AtPort → LabClient → LabClient → Type 0
+ClientRun phase wav rules lines ring key last base after asks first d e =
+    PhaseRun phase wav (number_of d) rules lines base after asks (IsAt ring key wav last e)
     (λ ended. GoesOrRests (HasLaidBy wav ended) (ended ≡ []) (open_of d) (open_of e)) first
     (client_in d) (client_in e) (rows_of d) (rows_of e)
 
@@ -191,11 +193,11 @@ GoesOrRests-rows Goes w x None (Some p) never = absurd never
 GoesOrRests-rows Goes w x (Some o) None never = absurd never
 
 module _ {capture : Option Sound} {phase : ℕ} (c : Card) (a b : CardActor) (d : Card) (lines : List Line) (is : CardPhase capture phase c a b d lines) (ring : TableId) (key : Key)
-    (of : IsCardOf ring key c) (wav : Sound) (last : Option ℕ) (base before after : ℕ) (lasts : LastsAreOwn)
+    (of : IsCardOf ring key c) (wav : Sound) (last : Option ℕ) (base before after asks : ℕ) (lasts : LastsAreOwn)
     (runs : ClientPartsAreRuns phase wav (rules_between c b.card lines)) where
   -- an open client found what the phase allows
-  open-found : (o p q r : OpenClient) (number : ℕ) (first : AtPort) → IsOpenAt ring key wav last number o first → IsInformed c o p → HasRun before after phase wav lines p q → IsHeard d q r
-      → (doing : Doing) → IsAtPort seat_port left_in stops_in p.seat key.geometry p.opened_at (q.seat, (q.actor.left, after)) doing → AreOf (rules_between c b.card lines) doing.1
+  open-found : (o p q r : OpenClient) (number : ℕ) (first : AtPort) → IsOpenAt ring key wav last number o first → IsInformed c o p → HasRun before after asks phase wav lines p q → IsHeard d q r
+      → (doing : Doing) → IsAtPort seat_port left_in stops_in at_gate_in p.seat key.geometry p.opened_at (q.seat, (q.actor.left, after, asks)) doing → AreOf (rules_between c b.card lines) doing.1
   open-found o p q r number first at informed run heard doing done =
       client-found c a b d lines is o.seat p.seat q.seat r.seat doing.1 (record {
         of_ring = (at.place.of_ring ∙ sym of.of_ring, at.place.of_key ∙ sym of.of_key);
@@ -209,15 +211,15 @@ module _ {capture : Option Sound} {phase : ℕ} (c : Card) (a b : CardActor) (d 
       })
 
   open-phase : (o p q r : OpenClient) (number : ℕ) (first : AtPort) → IsOpenAt ring key wav last number o first → first.by_gate + base ≡ before → IsInformed c o p
-      → HasRun before after phase wav lines p q → IsHeard d q r
-      → PhaseRun phase wav number (rules_between c b.card lines) lines base after (IsOpenAt ring key wav last number r) (λ ended. HasLaidBy wav ended o r) first
+      → HasRun before after asks phase wav lines p q → IsHeard d q r
+      → PhaseRun phase wav number (rules_between c b.card lines) lines base after asks (IsOpenAt ring key wav last number r) (λ ended. HasLaidBy wav ended o r) first
       (client_of o.actor) (client_of r.actor) o.actor.rows.items r.actor.rows.items
   open-phase o p q r number first at counts informed run heard =
       let at_p = IsOpenAt-informed c ring key wav last number o p first informed at in
-      let done = did ring key wav last number base before after phase lines p q first at_p counts run in
+      let done = did ring key wav last number base before after asks phase lines p q first at_p counts run in
       let rows : List Row = run.part.rows in
       let n : ℕ = p.actor.number in
-      let low = ActorPart-lowered (client_kind phase wav n) key.geometry (client_is_blind phase wav n) base (ops_by (is_client n) lines) first (client_of p.actor) nothing_found
+      let low = ActorPart-lowered (client_kind phase wav n) key.geometry (client_is_blind phase wav n) base first.at_gate (ops_by (is_client n) lines) 0 first (omega arith) (client_of p.actor) nothing_found
       done.doing.0 (client_of q.actor) done.doing.1 rows done.done in
       let rules : Rules = rules_between c b.card lines in
       let ops : List Op = ops_by (is_client number) lines in
@@ -236,8 +238,9 @@ module _ {capture : Option Sound} {phase : ℕ} (c : Card) (a b : CardActor) (d 
         may = subst (λ (x : ClientActor). LinesMay (client_kind phase wav number) rules (first, client_of x) ops (low.0, client_of r.actor) rows) informed.actor
             (subst (λ (x : ClientActor). LinesMay (client_kind phase wav number) rules (first, client_of p.actor) ops (low.0, client_of x) rows) (sym heard.actor) may);
         is = IsOpenAt-heard d ring key wav last number q r low.0 heard
-            (at-last ring key wav last number base before after phase lines p q first lasts at_p run done.doing low.0 done.at low.1);
-        gate = ap (λ (x : AtPort). x.by_gate) (sym low.1) ∙ done.at.by_gate_is;
+            (at-last ring key wav last number base before after asks phase lines p q first lasts at_p run done.doing low.0 done.at low.1);
+        gate = ap (λ (x : AtPort). x.by_gate) (sym low.1.is) ∙ done.at.by_gate_is;
+        gate_asks = let more = low.1.asks in let own = done.at.at_gate_is in omega (arith, more, own);
         rows_are = ap (λ (x : ClientActor). x.rows.items) heard.actor ∙ (run.part.rows_are ∙ ap (λ (x : ClientActor). x.rows.items ++ rows) informed.actor);
         ended = run.part.ended;
         ended_are = ap (λ (x : ClientActor). x.ended.items) heard.actor ∙ (run.part.ended_are ∙ ap (λ (x : ClientActor). x.ended.items ++ run.part.ended) informed.actor);
@@ -248,9 +251,9 @@ module _ {capture : Option Sound} {phase : ℕ} (c : Card) (a b : CardActor) (d 
       }
 
   -- a client that isn't open had its lines refused
-  closed-phase : (number : ℕ) (first : AtPort) (segments : List Segment) (rows next : List Row) → first.by_gate + base ≡ before → AllRefused before after phase number lines rows next
-      → first ≡ new_port key.geometry first.by_gate
-      → PhaseRun phase wav number (rules_between c b.card lines) lines base after (λ at. at ≡ new_port key.geometry at.by_gate) (λ ended. ended ≡ []) first
+  closed-phase : (number : ℕ) (first : AtPort) (segments : List Segment) (rows next : List Row) → first.by_gate + base ≡ before → AllRefused before after asks phase number lines rows next
+      → first ≡ new_port key.geometry first.by_gate first.at_gate
+      → PhaseRun phase wav number (rules_between c b.card lines) lines base after asks (λ at. at ≡ new_port key.geometry at.by_gate at.at_gate) (λ ended. ended ≡ []) first
       (record { own = None; ended = segments }) (record { own = None; ended = segments }) rows next
   closed-phase number first segments rows next counts refused new =
       let client : Client = record { own = None; ended = segments } in
@@ -264,6 +267,7 @@ module _ {capture : Option Sound} {phase : ℕ} (c : Card) (a b : CardActor) (d 
             (record { loads = tt; late = tt; overtaken = tt });
         is = new;
         gate = counts ∙ sym refused.gate;
+        gate_asks = let none = refused.none in omega (arith, none);
         rows_are = refused.rows;
         ended = [];
         ended_are = sym (append-nil segments);
@@ -273,13 +277,13 @@ module _ {capture : Option Sound} {phase : ℕ} (c : Card) (a b : CardActor) (d 
   -- by whether the client is open
   phase-by : (number : ℕ) (segments : List Segment) (rows informed_rows run_rows heard_rows : List Row) (o p q r : Option OpenClient) (first : AtPort)
       → IsAtBy ring key wav last number o first → first.by_gate + base ≡ before → GoesOrRests (IsInformed c) (informed_rows ≡ rows) o p
-      → GoesOrRests (HasRun before after phase wav lines) (AllRefused before after phase number lines informed_rows run_rows) p q → GoesOrRests (IsHeard d) (heard_rows ≡ run_rows) q r
-      → PhaseRun phase wav number (rules_between c b.card lines) lines base after (IsAtBy ring key wav last number r) (λ ended. GoesOrRests (HasLaidBy wav ended) (ended ≡ []) o r) first
+      → GoesOrRests (HasRun before after asks phase wav lines) (AllRefused before after asks phase number lines informed_rows run_rows) p q → GoesOrRests (IsHeard d) (heard_rows ≡ run_rows) q r
+      → PhaseRun phase wav number (rules_between c b.card lines) lines base after asks (IsAtBy ring key wav last number r) (λ ended. GoesOrRests (HasLaidBy wav ended) (ended ≡ []) o r) first
       (client_by segments o) (client_by segments r) (rows_by rows o) (rows_by heard_rows r)
   phase-by number segments rows informed_rows run_rows heard_rows None None None None first at counts informed run heard =
       closed-phase number first segments rows heard_rows counts
-      (subst (λ (xs : List Row). AllRefused before after phase number lines xs heard_rows) informed
-      (subst (λ (xs : List Row). AllRefused before after phase number lines informed_rows xs) (sym heard) run)) at
+      (subst (λ (xs : List Row). AllRefused before after asks phase number lines xs heard_rows) informed
+      (subst (λ (xs : List Row). AllRefused before after asks phase number lines informed_rows xs) (sym heard) run)) at
   phase-by number segments rows informed_rows run_rows heard_rows (Some o) (Some p) (Some q) (Some r) first at counts informed run heard =
       open-phase o p q r number first at counts informed run heard
   phase-by number segments rows informed_rows run_rows heard_rows None (Some p) q r first at counts informed run heard = absurd informed
@@ -291,16 +295,16 @@ module _ {capture : Option Sound} {phase : ℕ} (c : Card) (a b : CardActor) (d 
 
   -- What a client's meet with the card, its lines and its other meet make of it is what the phase allows to the client of a run.
   pub client-phase : (w x y z : LabClient) (first : AtPort) → IsAt ring key wav last w first → first.by_gate + base ≡ before → IsClientInformed c w x
-      → RunsLines before after phase wav lines x y → IsClientHeard d y z → ClientRun phase wav (rules_between c b.card lines) lines ring key last base after first w z
+      → RunsLines before after asks phase wav lines x y → IsClientHeard d y z → ClientRun phase wav (rules_between c b.card lines) lines ring key last base after asks first w z
   client-phase w x y z first at counts informed run heard =
       let number : number_of z ≡ number_of w = heard.rest.number ∙ (run.rest.number ∙ informed.rest.number) in
       let segments : ended_of z ≡ ended_of w = heard.rest.ended ∙ (run.rest.ended ∙ informed.rest.ended) in
-      let lines_run = subst (λ (n : ℕ). GoesOrRests (HasRun before after phase wav lines) (AllRefused before after phase n lines x.rows.items y.rows.items) (open_of x) (open_of y))
+      let lines_run = subst (λ (n : ℕ). GoesOrRests (HasRun before after asks phase wav lines) (AllRefused before after asks phase n lines x.rows.items y.rows.items) (open_of x) (open_of y))
       informed.rest.number run.own in
       let whole = phase-by (number_of w) (ended_of w) w.rows.items x.rows.items y.rows.items z.rows.items (open_of w) (open_of x) (open_of y) (open_of z) first at counts
       (GoesOrRests-rows (IsInformed c) w x (open_of w) (open_of x) informed.own) lines_run (GoesOrRests-rows (IsHeard d) y z (open_of y) (open_of z) heard.own) in
       let rules : Rules = rules_between c b.card lines in
-      subst (λ (n : ℕ). PhaseRun phase wav (number_of w) rules lines base after (IsAtBy ring key wav last n (open_of z))
+      subst (λ (n : ℕ). PhaseRun phase wav (number_of w) rules lines base after asks (IsAtBy ring key wav last n (open_of z))
       (λ ended. GoesOrRests (HasLaidBy wav ended) (ended ≡ []) (open_of w) (open_of z)) first (client_in w) (client_in z) (rows_of w) (rows_of z)) (sym number)
-      (subst (λ (es : List Segment). PhaseRun phase wav (number_of w) rules lines base after (IsAtBy ring key wav last (number_of w) (open_of z))
+      (subst (λ (es : List Segment). PhaseRun phase wav (number_of w) rules lines base after asks (IsAtBy ring key wav last (number_of w) (open_of z))
       (λ ended. GoesOrRests (HasLaidBy wav ended) (ended ≡ []) (open_of w) (open_of z)) first (client_in w) (client_by es (open_of z)) (rows_of w) (rows_of z)) (sym segments) whole)

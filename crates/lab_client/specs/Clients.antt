@@ -70,7 +70,7 @@ seen_by (Some c) = c.seen
 -- A client of the lab with its file is a client of a run at its port: where it is open at its place of the ring, by which the last frame before
 -- is known, and else at a new port.
 abbrev pub IsAtBy : TableId → Key → Sound → Option ℕ → ℕ → Option OpenClient → AtPort → Type 0
-IsAtBy ring key wav last number None a = a ≡ new_port key.geometry a.by_gate
+IsAtBy ring key wav last number None a = a ≡ new_port key.geometry a.by_gate a.at_gate
 IsAtBy ring key wav last number (Some o) a = IsOpenAt ring key wav last number o a
 
 abbrev pub IsAt : TableId → Key → Sound → Option ℕ → LabClient → AtPort → Type 0
@@ -112,23 +112,24 @@ pub record IsSameRest (d e : LabClient) : Type 0 where
   pub number : number_of e ≡ number_of d
   pub ended : ended_of e ≡ ended_of d
 
--- the lines of a client that isn't open were refused
-pub record AllRefused (before after : ℕ) (phase number : ℕ) (lines : List Line)
+-- the lines of a client that isn't open were refused, and its gate wasn't asked
+pub record AllRefused (before after asks : ℕ) (phase number : ℕ) (lines : List Line)
     (rows_before rows_after : List Row) : Type 0 where
   pub rows : rows_after ≡ rows_before
       ++ refused_rows phase (actor.Client number) (ops_by (is_client number) lines)
   pub part : AreRefused phase number (ops_by (is_client number) lines)
   pub gate : after ≡ before
+  pub none : asks ≡ 0
 
 -- before a phase a client's seat met a note of the card; in it the client did its lines; and after it the card met a note of the seat
 pub record IsClientInformed (c : Card) (d e : LabClient) : Type 0 where
   pub own : GoesOrRests (IsInformed c) (e.rows ≡ d.rows) (open_of d) (open_of e)
   pub rest : IsSameRest d e
 
-pub record RunsLines (before after : ℕ) (phase : ℕ) (wav : Sound) (lines : List Line)
+pub record RunsLines (before after asks : ℕ) (phase : ℕ) (wav : Sound) (lines : List Line)
     (d e : LabClient) : Type 0 where
-  pub own : GoesOrRests (HasRun before after phase wav lines)
-      (AllRefused before after phase (number_of d) lines d.rows.items e.rows.items)
+  pub own : GoesOrRests (HasRun before after asks phase wav lines)
+      (AllRefused before after asks phase (number_of d) lines d.rows.items e.rows.items)
       (open_of d) (open_of e)
   pub rest : IsSameRest d e
 

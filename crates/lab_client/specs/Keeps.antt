@@ -81,10 +81,10 @@ module _ (ring : TableId) (key : Key) where
       by_open None (Some p) never seat = absurd never
       by_open (Some o) None never seat = absurd never
 
-  pub IsOfRing-run : (before after phase : ℕ) (wav : Sound) (lines : List Line) (d e : LabClient) → RunsLines before after phase wav lines d e → IsOfRing ring key d → IsOfRing ring key e
-  IsOfRing-run before after phase wav lines d e run is = by_open (open_of d) (open_of e) run.own is
+  pub IsOfRing-run : (before after asks phase : ℕ) (wav : Sound) (lines : List Line) (d e : LabClient) → RunsLines before after asks phase wav lines d e → IsOfRing ring key d → IsOfRing ring key e
+  IsOfRing-run before after asks phase wav lines d e run is = by_open (open_of d) (open_of e) run.own is
     where
-      by_open : (o p : Option OpenClient) → GoesOrRests (HasRun before after phase wav lines) (AllRefused before after phase (number_of d) lines d.rows.items e.rows.items) o p
+      by_open : (o p : Option OpenClient) → GoesOrRests (HasRun before after asks phase wav lines) (AllRefused before after asks phase (number_of d) lines d.rows.items e.rows.items) o p
           → IfSome o (IsSeatOf ring key) → IfSome p (IsSeatOf ring key)
       by_open None None goes seat = tt
       by_open (Some o) (Some p) goes seat =
@@ -158,10 +158,10 @@ CanRun-heard c wav d e heard can = by_open (open_of d) (open_of e) heard.own can
     by_open None (Some p) never ready = absurd never
     by_open (Some o) None never ready = absurd never
 
-pub CanRun-run : (before after phase : ℕ) (wav : Sound) (lines : List Line) (d e : LabClient) → RunsLines before after phase wav lines d e → CanRun wav e
-CanRun-run before after phase wav lines d e run = by_open (open_of d) (open_of e) run.own
+pub CanRun-run : (before after asks phase : ℕ) (wav : Sound) (lines : List Line) (d e : LabClient) → RunsLines before after asks phase wav lines d e → CanRun wav e
+CanRun-run before after asks phase wav lines d e run = by_open (open_of d) (open_of e) run.own
   where
-    by_open : (o p : Option OpenClient) → GoesOrRests (HasRun before after phase wav lines) (AllRefused before after phase (number_of d) lines d.rows.items e.rows.items) o p
+    by_open : (o p : Option OpenClient) → GoesOrRests (HasRun before after asks phase wav lines) (AllRefused before after asks phase (number_of d) lines d.rows.items e.rows.items) o p
         → IfSome p (IsReadyAt wav)
     by_open None None goes = tt
     by_open (Some o) (Some p) goes = goes.ready

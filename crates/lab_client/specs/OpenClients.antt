@@ -16,7 +16,7 @@ use Rattle.lab_run.specs.Phases.{is_client, ops_by}
 use Rattle.lab_run.specs.PortSteps.{IsLastSince, MarksAlike}
 use Rattle.lab_run.specs.Rules.{AtPort}
 use Rattle.lab_actor.specs.ClientLines.{IsReady, stretches_entries}
-use Rattle.lab_actor.specs.ClientPart.{ClientPart, left_in, stops_in}
+use Rattle.lab_actor.specs.ClientPart.{ClientPart, at_gate_in, left_in, stops_in}
 use Rattle.lab_card.specs.Meets.{IsInformedClient, IsSameClient, KnowsClient}
 use Rattle.lab_client.specs.declared.open_client.OpenClient.{OpenClient}
 use Rattle.lab_client.specs.SeatPort.{seat_port}
@@ -65,11 +65,11 @@ pub record IsInformed (c : Card) (o p : OpenClient) : Type 0 where
   pub actor : p.actor ≡ o.actor
   pub same : IsSameOpening o p
 
--- in it the open client did its lines, with a gate that had stopped so often before and so often after them
-pub record HasRun (before after : ℕ) (phase : ℕ) (wav : Sound) (lines : List Line)
+-- in it the open client did its lines, with a gate that had stopped so often before and so often after them, and that it asked so often
+pub record HasRun (before after asks : ℕ) (phase : ℕ) (wav : Sound) (lines : List Line)
     (o p : OpenClient) : Type 0 where
-  pub part : ClientPart seat_port left_in stops_in (o.seat, (o.actor.left, before))
-      (p.seat, (p.actor.left, after)) phase wav o.actor p.actor
+  pub part : ClientPart seat_port left_in stops_in at_gate_in (o.seat, (o.actor.left, before, 0))
+      (p.seat, (p.actor.left, after, asks)) phase wav o.actor p.actor
       (ops_by (is_client o.actor.number) lines)
   pub ready : IsReadyAt wav p
   pub same : IsSameOpening o p

@@ -73,14 +73,14 @@ module _ (p : Places) (position : ℕ) (seat : MixSeat) (setup : Setup) (d e : L
   high-given : seats.last_of seat ≡ high_frame (key_of_places p).geometry (marks_of_seat seat)
   high-given = opened.high ∙ ap (λ (k : Key). high_frame k.geometry (marks_of_seat seat)) given.place.of_key
 
-  -- A client that was opened at the seat that it was given is at a new port in the run, however often its gate stopped it before. The last frame
+  -- A client that was opened at the seat that it was given is at a new port in the run, however often its gate stopped it before, and was asked. The last frame
   -- of its place before the opening is the seat's.
-  pub IsAt-opened : (wav : Sound) (stops : ℕ) → length setup.bindings ≡ wav.channels
-      → IsAt (ring_of_places p) (key_of_places p) wav (seats.last_of seat) e (new_port (key_of_places p).geometry stops)
-  IsAt-opened wav stops channels = by_open (open_of e) opened.own
+  pub IsAt-opened : (wav : Sound) (stops asks : ℕ) → length setup.bindings ≡ wav.channels
+      → IsAt (ring_of_places p) (key_of_places p) wav (seats.last_of seat) e (new_port (key_of_places p).geometry stops asks)
+  IsAt-opened wav stops asks channels = by_open (open_of e) opened.own
     where
       by_open : (o : Option OpenClient) → IsSomeAnd o (IsNewlyOpen seat setup position d)
-          → IsAtBy (ring_of_places p) (key_of_places p) wav (seats.last_of seat) (number_of e) o (new_port (key_of_places p).geometry stops)
+          → IsAtBy (ring_of_places p) (key_of_places p) wav (seats.last_of seat) (number_of e) o (new_port (key_of_places p).geometry stops asks)
       by_open None never = absurd never
       by_open (Some o) new = record {
         numbered = new.number ∙ sym opened.number;
@@ -121,9 +121,10 @@ CanRun-opened position seat setup wav d e one channels opened = by_open (open_of
     by_open (Some o) new = IsReady-opened wav seat setup position d o one channels new
 
 -- a client that isn't open is at a new port
-pub IsAt-closed : (ring : TableId) (key : Key) (wav : Sound) (last : Option ℕ) (e : LabClient) (stops : ℕ) → open_of e ≡ None → IsAt ring key wav last e (new_port key.geometry stops)
-IsAt-closed ring key wav last e stops closed =
-    subst (λ (o : Option OpenClient). IsAtBy ring key wav last (number_of e) o (new_port key.geometry stops)) (sym closed) refl
+pub IsAt-closed : (ring : TableId) (key : Key) (wav : Sound) (last : Option ℕ) (e : LabClient) (stops asks : ℕ) → open_of e ≡ None
+    → IsAt ring key wav last e (new_port key.geometry stops asks)
+IsAt-closed ring key wav last e stops asks closed =
+    subst (λ (o : Option OpenClient). IsAtBy ring key wav last (number_of e) o (new_port key.geometry stops asks)) (sym closed) refl
 
 -- the last frame of an open client's seat is the client's own, or the one that was known at its opening
 pub IsOwnLast-closed : (ring : TableId) (key : Key) (wav : Sound) (last : Option ℕ) (number : ℕ) (o : OpenClient) (a : AtPort) → LastsAreOwn → IsHigh o.seat

@@ -54,6 +54,7 @@ impl<'r> LabClient<'r> {
     ghost use Rattle.lab_setup.specs.Usable.{IsUsable};
     ghost use Rattle.lab_lines.specs.declared.line.Line.{Line};
     ghost use Rattle.lab_run.specs.Client.{row_by, segments_of};
+    ghost use Rattle.lab_run.specs.GateAsks.{AsksGate};
     ghost use Rattle.lab_run.specs.Items.{is_stopped};
     ghost use Rattle.lab_run.specs.Phases.{is_client, ops_by};
     ghost use Rattle.lab_run.specs.Stage.{opened_client};
@@ -161,8 +162,8 @@ impl<'r> LabClient<'r> {
         requires few { All (λ (line : Line). IsFew line.op) lines.now }
         requires ready { CanRun wav.now self.old }
         requires room { HasRoom lines.now self.old }
-        ensures { RunsLines (G.stops gate.old) (G.stops gate.new) phase
-            wav.now lines.now self.old self.new }
+        ensures { AsksGate G.Gate gate.old gate.new (λ before after asks.
+            RunsLines before after asks phase wav.now lines.now self.old self.new) }
     {
         match &mut self.own {
             Some(own) => own.run_lines(gate, wav, phase, lines),

@@ -21,6 +21,7 @@ impl OpenClient<'_> {
     ghost use Rattle.std.specs.Prelude.{All, ℕ};
     ghost use Rattle.wav_io.specs.Sound.{Sound};
     ghost use Rattle.lab_lines.specs.declared.line.Line.{Line};
+    ghost use Rattle.lab_run.specs.GateAsks.{AsksGate};
     ghost use Rattle.lab_actor.specs.ClientLines.{IsFew};
     ghost use Rattle.lab_card.specs.Meets.{IsClientOf, IsSameCard};
     ghost use Rattle.lab_client.specs.Clients.{HasRoomAt};
@@ -40,8 +41,8 @@ impl OpenClient<'_> {
         requires few { All (λ (line : Line). IsFew line.op) lines.now }
         requires ready { IsReadyAt wav.now self.old }
         requires room { HasRoomAt lines.now self.old }
-        ensures { HasRun (G.stops gate.old) (G.stops gate.new) phase wav.now
-            lines.now self.old self.new }
+        ensures { AsksGate G.Gate gate.old gate.new (λ before after asks.
+            HasRun before after asks phase wav.now lines.now self.old self.new) }
     {
         self.actor
             .run_lines(&mut self.seat, gate, wav, phase, lines);

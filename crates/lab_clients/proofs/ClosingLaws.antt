@@ -157,8 +157,8 @@ module _ (Is : Relation (AtPort × Client)) (keeps : KeepsHolding Is) (in_run : 
     numbered = closed.number ∙ was.numbered;
     client = closed.client ∙ ap closed_client was.client;
     last = None;
-    at = subst (λ (g : Geometry). IsAt ring key (sound_at session.sounds number) None e (new_port g client.0.by_gate)) are.card.ring
-        (IsAt-closed ring key (sound_at session.sounds number) None e client.0.by_gate closed.closed);
+    at = subst (λ (g : Geometry). IsAt ring key (sound_at session.sounds number) None e (new_port g client.0.by_gate client.0.at_gate)) are.card.ring
+        (IsAt-closed ring key (sound_at session.sounds number) None e client.0.by_gate client.0.at_gate closed.closed);
     holds = (ChangesAt-with_holding number None are.holdings).own ∙ ap (holding_by None) (sym closed.closed);
     setup = subst (IsSetUp (slice_index_or session.clients number None)) (sym closed.closed) tt;
   }

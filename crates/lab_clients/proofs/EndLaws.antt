@@ -76,8 +76,8 @@ module _ (session : Session) (ring : TableId) (key : Key) (ring_is : key.geometr
           numbered = new.numbered;
           client = new.client;
           last = None;
-          at = subst (λ (g : Geometry). IsAt ring key (sound_at session.sounds number) None d (new_port g 0)) ring_is
-              (IsAt-closed ring key (sound_at session.sounds number) None d 0 closed);
+          at = subst (λ (g : Geometry). IsAt ring key (sound_at session.sounds number) None d (new_port g 0 0)) ring_is
+              (IsAt-closed ring key (sound_at session.sounds number) None d 0 0 closed);
           holds = ap (holding_by None) (sym closed);
           setup = subst (IsSetUp (slice_index_or session.clients number None)) (sym closed) tt;
         };

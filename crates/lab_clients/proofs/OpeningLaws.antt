@@ -205,8 +205,9 @@ module _ (session : Session) (stage : Stage) (number : ℕ) (setup : Setup) (pos
 
   at-port : IsAt opened-ring opened-key (sound_at session.sounds number) (last_of seat) e opened-as.0
   at-port =
-      subst (λ (g : Geometry). IsAt opened-ring opened-key (sound_at session.sounds number) (last_of seat) e (new_port g (client_at session stage number).0.by_gate)) before.at.are.card.ring
-      (IsAt-opened (places_of cs) position seat setup d e given opened (sound_at session.sounds number) (client_at session stage number).0.by_gate
+      subst (λ (g : Geometry). IsAt opened-ring opened-key (sound_at session.sounds number) (last_of seat) e (new_port g (client_at session stage number).0.by_gate (client_at session stage number).0.at_gate))
+      before.at.are.card.ring
+      (IsAt-opened (places_of cs) position seat setup d e given opened (sound_at session.sounds number) (client_at session stage number).0.by_gate (client_at session stage number).0.at_gate
       (before.at.are.card.setups number setup (sym before.setup_is)).channels)
 
   holds-it : (o : Option OpenClient) → IsSomeAnd o (IsNewlyOpen seat setup position d) → Some own-holding ≡ holding_by (last_of seat) o

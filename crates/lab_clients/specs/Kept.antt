@@ -52,10 +52,10 @@ pub IsSameOpened-informed : (c : Card) (d e : LabClient) → IsClientInformed c 
 IsSameOpened-informed c d e informed =
     GoesOrRests-map (IsInformed c) IsSameOpening (e.rows ≡ d.rows) ⊤ (open_of d) (open_of e) (λ o p is. is.same) (λ rests. tt) informed.own
 
-pub IsSameOpened-run : (before after phase : ℕ) (wav : Sound) (lines : List Line) (d e : LabClient) → RunsLines before after phase wav lines d e
+pub IsSameOpened-run : (before after asks phase : ℕ) (wav : Sound) (lines : List Line) (d e : LabClient) → RunsLines before after asks phase wav lines d e
     → IsSameOpened (open_of d) (open_of e)
-IsSameOpened-run before after phase wav lines d e run =
-    GoesOrRests-map (HasRun before after phase wav lines) IsSameOpening (AllRefused before after phase (number_of d) lines d.rows.items e.rows.items) ⊤ (open_of d) (open_of e)
+IsSameOpened-run before after asks phase wav lines d e run =
+    GoesOrRests-map (HasRun before after asks phase wav lines) IsSameOpening (AllRefused before after asks phase (number_of d) lines d.rows.items e.rows.items) ⊤ (open_of d) (open_of e)
     (λ o p is. is.same) (λ rests. tt) run.own
 
 pub IsSameOpened-heard : (c : Card) (d e : LabClient) → IsClientHeard c d e → IsSameOpened (open_of d) (open_of e)

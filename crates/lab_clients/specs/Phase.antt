@@ -3,6 +3,7 @@ use Rattle.std.specs.Prelude.{◌≡◌, ℕ, ◌+◌, ◌<◌, ◌≤◌, ◌+�
 use Rattle.std.specs.List.{flat_map}
 use Rattle.std.proofs.Common.{refl, sym, ◌∙◌, ap, subst, arith}
 use Rattle.std.proofs.lemmas.Int.{ints}
+use Rattle.mix_core.specs.declared.gate.Gate as gate
 use Rattle.mix_core.specs.declared.port.Entry.{Entry}
 use Rattle.sum_table.specs.declared.view.Key.{Key}
 use Rattle.sum_table.specs.Seats.{TableId}
@@ -28,7 +29,7 @@ use Rattle.lab_card.specs.Findings.{CardPhase, rules_between}
 use Rattle.lab_card.specs.MeetLaws.{IsSameCard-joined, Rests-same, rules_between-same}
 use Rattle.lab_card.specs.Meets.{IsSameCard}
 use Rattle.lab_card.specs.Stages.{CardPhase-rules, IsCardAt}
-use Rattle.lab_actors.specs.Gates.{AreCounted, stops_at}
+use Rattle.lab_actors.specs.Gates.{AreCounted, HasAskedMore, HaveAskedMore, stops_at}
 use Rattle.lab_actors.specs.Rows.{EachMay-rows, lines_from}
 use Rattle.lab_actors.specs.Walks.{AreEach, AreEach-joined, AreEach-length, AreJoined}
 use Rattle.lab_client.specs.declared.client.LabClient.{LabClient}
@@ -83,22 +84,24 @@ pub record CardInPhase (session : Session) (stage : Stage) (lines : List Line)
 -- ---- one client
 
 -- a client took room for its lines, met a note of the card, did its lines with its gate, and gave a note to the card
-abbrev pub GoesThrough : {G : Type 0} → (G → ℕ) → List G → List G → List Sound
+abbrev pub GoesThrough : {T : Type 0} → gate.Ghosts T → List T → List T → List Sound
     → ℕ → List Line → Card → Card → ℕ → LabClient → LabClient → Type 0
-GoesThrough stops gates after sounds phase lines c d =
+GoesThrough G gates after sounds phase lines c d =
     AreJoined (AreJoined (AreJoined (HasTakenRoom lines) (IsInformedBy c))
-    (RunsAt stops gates after sounds phase lines)) (IsHeardBy d)
+    (RunsAt G gates after sounds phase lines)) (IsHeardBy d)
 
 -- A client did in a phase what a run allows to the client of its number, and is that client then: with a gate that had stopped it so often
--- since the lab began. What its seat placed is what its segments grew by.
+-- since the lab began, and that it asked. What its seat placed is what its segments grew by.
 pub record ClientGoes (session : Session) (stage : Stage) (lines : List Line)
-    (ring : TableId) (key : Key) (holdings : Holdings) (base after : ℕ → ℕ) (number : ℕ)
+    (ring : TableId) (key : Key) (holdings : Holdings) (base after : ℕ → ℕ)
+    (Asked : ℕ → AtPort × Client → AtPort × Client → Type 0) (number : ℕ)
     (d : LabClient) (x : AtPort × Client) (e : LabClient) : Type 0 where
   pub next : AtPort × Client
   pub may : LinesMay (client_kinds session stage number) (rules_of session stage lines)
       x (ops_by (is_client number) lines) next (rows_of e)
   pub is : IsClientIn session ring key holdings number e next
   pub counts : next.0.by_gate + base number ≡ after number
+  pub asked : Asked number x next
   pub placed : (history : List SeatSegment) → IsClientPlaced session history number d x
       → IsClientPlaced session history number e next
   pub worth : (worth : Entry → ℤ)
@@ -106,8 +109,8 @@ pub record ClientGoes (session : Session) (stage : Stage) (lines : List Line)
       ≡ worth_left worth (laid_for (open_of d))
       +ℤ given_by worth session (own_segments number next.1)
 
-module _ (session : Session) (stage : Stage) (lines : List Line) (ring : TableId) (key : Key) (holdings : Holdings) (base : ℕ → ℕ) (laws : PhaseLaws) {G : Type 0} (stops : G → ℕ)
-    (gates after : List G) (c d : Card) (card : CardInPhase session stage lines ring key c d) where
+module _ (session : Session) (stage : Stage) (lines : List Line) (ring : TableId) (key : Key) (holdings : Holdings) (base : ℕ → ℕ) (laws : PhaseLaws) {T : Type 0} (G : gate.Ghosts T)
+    (gates after : List T) (c d : Card) (card : CardInPhase session stage lines ring key c d) where
   abbrev phase_of : ℕ
   phase_of = stage.phases + 1
 
@@ -118,34 +121,35 @@ module _ (session : Session) (stage : Stage) (lines : List Line) (ring : TableId
       ∙ CardPhase-rules session stage card.capture phase_of c card.before card.after d lines card.phase card.at
 
   -- what a client that has room for its lines found in a phase is what the phase allows
-  run-of : (number : ℕ) (w x y z : LabClient) (at : AtPort) (last : Option ℕ) (informed : IsInformedBy c number w x) → RunsAt stops gates after session.sounds phase_of lines number x y
-      → IsHeardBy d number y z → IsAt ring key (sound_at session.sounds number) last w at → at.by_gate + base number ≡ stops_at stops gates number
-      → ClientRun phase_of (sound_at session.sounds number) (rules_between informed.card card.after.card lines) lines ring key last (base number) (stops_at stops after number) at w z
+  run-of : (number : ℕ) (w x y z : LabClient) (at : AtPort) (last : Option ℕ) (informed : IsInformedBy c number w x) → (run : RunsAt G gates after session.sounds phase_of lines number x y)
+      → IsHeardBy d number y z → IsAt ring key (sound_at session.sounds number) last w at → at.by_gate + base number ≡ stops_at G.stops gates number
+      → ClientRun phase_of (sound_at session.sounds number) (rules_between informed.card card.after.card lines) lines ring key last (base number) (stops_at G.stops after number) run.asks
+      at w z
   run-of number w x y z at last informed run heard is counts =
       client-phase informed.card card.before card.after heard.card lines
       (CardPhase-met c card.before card.after d lines informed.card heard.card card.phase informed.same heard.same) ring key
       (record { of_ring = informed.same.player.ring ∙ card.of_ring.of_ring; of_key = informed.same.player.key ∙ card.of_ring.of_key })
-      (sound_at session.sounds number) last (base number) (stops_at stops gates number) (stops_at stops after number) laws.lasts
-      (λ n. laws.parts phase_of (sound_at session.sounds number) n (rules_between informed.card card.after.card lines)) w x y z at is counts informed.informed run heard.heard
+      (sound_at session.sounds number) last (base number) (stops_at G.stops gates number) (stops_at G.stops after number) run.asks laws.lasts
+      (λ n. laws.parts phase_of (sound_at session.sounds number) n (rules_between informed.card card.after.card lines)) w x y z at is counts informed.informed run.then heard.heard
 
   pub client-goes : (number : ℕ) (v z : LabClient) (before : AtPort × Client) → number < length session.sounds → IsClientAt session ring key holdings number v before
-      → before.0.by_gate + base number ≡ stops_at stops gates number → GoesThrough stops gates after session.sounds phase_of lines c d number v z
-      → ClientGoes session stage lines ring key holdings base (stops_at stops after) number v before z
+      → before.0.by_gate + base number ≡ stops_at G.stops gates number → GoesThrough G gates after session.sounds phase_of lines c d number v z
+      → ClientGoes session stage lines ring key holdings base (stops_at G.stops after) (HasAskedMore G.asked gates after) number v before z
   client-goes number v z before file was counts goes =
       let w : LabClient = goes.first.first.between in
       let x : LabClient = goes.first.between in
       let y : LabClient = goes.between in
       let room : HasTakenRoom lines number v w = goes.first.first.first in
       let informed : IsInformedBy c number w x = goes.first.first.then in
-      let lines_run : RunsAt stops gates after session.sounds phase_of lines number x y = goes.first.then in
+      let lines_run : RunsAt G gates after session.sounds phase_of lines number x y = goes.first.then in
       let heard : IsHeardBy d number y z = goes.then in
       let is : IsClientIn session ring key holdings number w before = IsClientIn-same session ring key holdings number v w before room.same was.is in
       let run = run-of number w x y z before.0 is.last informed lines_run heard is.at counts in
       let opened = IsSameOpened-joined (open_of w) (open_of x) (open_of z) (IsSameOpened-informed informed.card w x informed.informed)
       (IsSameOpened-joined (open_of x) (open_of y) (open_of z)
-      (IsSameOpened-run (stops_at stops gates number) (stops_at stops after number) phase_of (sound_at session.sounds number) lines x y lines_run)
+      (IsSameOpened-run (stops_at G.stops gates number) (stops_at G.stops after number) lines_run.asks phase_of (sound_at session.sounds number) lines x y lines_run.then)
       (IsSameOpened-heard heard.card y z heard.heard)) in
-      let numbered : number_of z ≡ number = heard.heard.rest.number ∙ (lines_run.rest.number ∙ (informed.informed.rest.number ∙ is.numbered)) in
+      let numbered : number_of z ≡ number = heard.heard.rest.number ∙ (lines_run.then.rest.number ∙ (informed.informed.rest.number ∙ is.numbered)) in
       let setup = IsSetUp-same (slice_index_or session.clients number None) ring key (sound_at session.sounds number) is.last (number_of w) (number_of z) before.0 run.at
       (open_of w) (open_of z) opened is.at run.is is.setup in
       let rows_are : run.rows ≡ rows_of z = sym (run.rows_are ∙ ap (λ (rows : List Row). rows ++ run.rows) (room.rows ∙ was.rows)) in
@@ -169,6 +173,7 @@ module _ (session : Session) (stage : Stage) (lines : List Line) (ring : TableId
           setup = setup;
         };
         counts = run.gate;
+        asked = record { asks = lines_run.asks; asked_it = lines_run.asked; more = run.gate_asks };
         placed = λ history placed.
             IsPlacedFor-phase session number laws.alike file ring key is.last (number_of w) before.0 history before.1 (client_in z) run.ended (open_of w) (open_of z) is.at is.setup setup opened
             (run.ended_are ∙ ap (λ (client : Client). client.ended ++ run.ended) is.client) run.laid (IsPlacedFor-same session history number before.1 v w room.same placed);
@@ -185,43 +190,47 @@ module _ (session : Session) (stage : Stage) (lines : List Line) (ring : TableId
 
 -- all clients did what a run allows, the first of which has a number
 pub record ClientsGo (session : Session) (stage : Stage) (lines : List Line)
-    (ring : TableId) (key : Key) (holdings : Holdings) (base after : ℕ → ℕ) (number : ℕ)
+    (ring : TableId) (key : Key) (holdings : Holdings) (base after : ℕ → ℕ)
+    (Asked : ℕ → AtPort × Client → AtPort × Client → Type 0) (number : ℕ)
     (ds : List LabClient) (xs : List (AtPort × Client)) (es : List LabClient) : Type 0 where
   pub next : List (AtPort × Client)
   pub may : EachMay (client_kinds session stage) (rules_of session stage lines)
       (λ n. ops_by (is_client n) lines) number xs next (flat_map rows_of es)
   pub are : AreEach (IsClientIn session ring key holdings) number es next
   pub counted : AreCounted base after number next
+  pub asked : AreEach Asked number xs next
   pub placed : (history : List SeatSegment) → AreEach (IsClientPlaced session history) number ds xs
       → AreEach (IsClientPlaced session history) number es next
   pub worth : (worth : Entry → ℤ)
       → worth_all worth (open_lists es) +ℤ given_by worth session (segments_from number xs)
       ≡ worth_all worth (open_lists ds) +ℤ given_by worth session (segments_from number next)
 
-module _ (session : Session) (stage : Stage) (lines : List Line) (ring : TableId) (key : Key) (holdings : Holdings) (base : ℕ → ℕ) (laws : PhaseLaws) {G : Type 0} (stops : G → ℕ)
-    (gates after : List G) (c d : Card) (card : CardInPhase session stage lines ring key c d) where
+module _ (session : Session) (stage : Stage) (lines : List Line) (ring : TableId) (key : Key) (holdings : Holdings) (base : ℕ → ℕ) (laws : PhaseLaws) {T : Type 0} (G : gate.Ghosts T)
+    (gates after : List T) (c d : Card) (card : CardInPhase session stage lines ring key c d) where
   pub clients-go : (number : ℕ) (ds es : List LabClient) (xs : List (AtPort × Client)) → number + length xs ≤ length session.sounds
-      → AreEach (IsClientAt session ring key holdings) number ds xs → AreCounted base (stops_at stops gates) number xs
-      → AreEach (GoesThrough stops gates after session.sounds (stage.phases + 1) lines c d) number ds es
-      → ClientsGo session stage lines ring key holdings base (stops_at stops after) number ds xs es
+      → AreEach (IsClientAt session ring key holdings) number ds xs → AreCounted base (stops_at G.stops gates) number xs
+      → AreEach (GoesThrough G gates after session.sounds (stage.phases + 1) lines c d) number ds es
+      → ClientsGo session stage lines ring key holdings base (stops_at G.stops after) (HasAskedMore G.asked gates after) number ds xs es
   clients-go number [] [] [] files are counted go = record {
     next = [];
     may = (refl, refl);
     are = tt;
     counted = tt;
+    asked = tt;
     placed = λ history placed. tt;
     worth = λ worth. refl;
   }
   clients-go number (v ∷ ds) (z ∷ es) (before ∷ xs) files are counted go =
-      let own : ClientGoes session stage lines ring key holdings base (stops_at stops after) number v before z =
-      client-goes session stage lines ring key holdings base laws stops gates after c d card number v z before (omega (arith, files)) are.0 counted.0 go.0 in
-      let others : ClientsGo session stage lines ring key holdings base (stops_at stops after) (number + 1) ds xs es =
+      let own : ClientGoes session stage lines ring key holdings base (stops_at G.stops after) (HasAskedMore G.asked gates after) number v before z =
+      client-goes session stage lines ring key holdings base laws G gates after c d card number v z before (omega (arith, files)) are.0 counted.0 go.0 in
+      let others : ClientsGo session stage lines ring key holdings base (stops_at G.stops after) (HasAskedMore G.asked gates after) (number + 1) ds xs es =
       clients-go (number + 1) ds es xs (omega (arith, files)) are.1 counted.1 go.1 in
       record {
         next = own.next ∷ others.next;
         may = (own.next, others.next, rows_of z, flat_map rows_of es, own.may, others.may, refl, refl);
         are = (own.is, others.are);
         counted = (own.counts, others.counted);
+        asked = (own.asked, others.asked);
         placed = λ history placed. (own.placed history placed.0, others.placed history placed.1);
         worth = λ worth.
             let first = own.worth worth in
@@ -239,7 +248,7 @@ module _ (session : Session) (stage : Stage) (lines : List Line) (ring : TableId
 
 -- The steps of a phase, one after the other: all clients took room for their lines, met notes of the card, did their lines each with its
 -- gate, and gave notes to the card.
-pub record ClientSteps {G : Type 0} (stops : G → ℕ) (gates after : List G)
+pub record ClientSteps {T : Type 0} (G : gate.Ghosts T) (gates after : List T)
     (sounds : List Sound) (phase : ℕ) (lines : List Line) (c d : Card)
     (before heard : LabClients) : Type 0 where
   pub roomy : LabClients
@@ -247,45 +256,47 @@ pub record ClientSteps {G : Type 0} (stops : G → ℕ) (gates after : List G)
   pub run : LabClients
   pub take_room : AreEach (HasTakenRoom lines) 0 (clients_of before) (clients_of roomy)
   pub inform : AreEach (IsInformedBy c) 0 (clients_of roomy) (clients_of informed)
-  pub run_lines : AreEach (RunsAt stops gates after sounds phase lines) 0
+  pub run_lines : AreEach (RunsAt G gates after sounds phase lines) 0
       (clients_of informed) (clients_of run)
   pub hear : AreEach (IsHeardBy d) 0 (clients_of run) (clients_of heard)
 
 -- A phase of the clients of the lab: the clients of a run may do their lines so, with these rows; they are those of the lab then, whose gates had
--- stopped them so often since the lab began.
+-- stopped them so often since the lab began, and which asked these gates.
 pub record ClientsPhase (session : Session) (stage : Stage) (lines : List Line)
-    (held : Held) (base after : ℕ → ℕ) (xs : List (AtPort × Client)) (rows : List Row)
-    (done : LabClients) : Type 0 where
+    (held : Held) (base after : ℕ → ℕ)
+    (Asked : List (AtPort × Client) → List (AtPort × Client) → Type 0)
+    (xs : List (AtPort × Client)) (rows : List Row) (done : LabClients) : Type 0 where
   pub next : List (AtPort × Client)
   pub may : EachMay (client_kinds session stage) (rules_of session stage lines)
       (λ n. ops_by (is_client n) lines) 0 xs next rows
   pub are : AreDone session held next done
   pub counted : AreCounted base after 0 next
+  pub asked : Asked xs next
 
 -- what the steps of all clients make one after the other
-steps-through : {G : Type 0} (stops : G → ℕ) (gates after : List G) (sounds : List Sound) (phase : ℕ) (lines : List Line) (c d : Card) (before heard : LabClients)
-    → ClientSteps stops gates after sounds phase lines c d before heard
-    → AreEach (GoesThrough stops gates after sounds phase lines c d) 0 (clients_of before) (clients_of heard)
-steps-through stops gates after sounds phase lines c d before heard steps =
-    AreEach-joined (AreJoined (AreJoined (HasTakenRoom lines) (IsInformedBy c)) (RunsAt stops gates after sounds phase lines)) (IsHeardBy d) 0
+steps-through : {T : Type 0} (G : gate.Ghosts T) (gates after : List T) (sounds : List Sound) (phase : ℕ) (lines : List Line) (c d : Card) (before heard : LabClients)
+    → ClientSteps G gates after sounds phase lines c d before heard
+    → AreEach (GoesThrough G gates after sounds phase lines c d) 0 (clients_of before) (clients_of heard)
+steps-through G gates after sounds phase lines c d before heard steps =
+    AreEach-joined (AreJoined (AreJoined (HasTakenRoom lines) (IsInformedBy c)) (RunsAt G gates after sounds phase lines)) (IsHeardBy d) 0
     (clients_of before) (clients_of steps.run) (clients_of heard)
-    (AreEach-joined (AreJoined (HasTakenRoom lines) (IsInformedBy c)) (RunsAt stops gates after sounds phase lines) 0 (clients_of before) (clients_of steps.informed)
+    (AreEach-joined (AreJoined (HasTakenRoom lines) (IsInformedBy c)) (RunsAt G gates after sounds phase lines) 0 (clients_of before) (clients_of steps.informed)
     (clients_of steps.run)
     (AreEach-joined (HasTakenRoom lines) (IsInformedBy c) 0 (clients_of before) (clients_of steps.roomy) (clients_of steps.informed) steps.take_room steps.inform)
     steps.run_lines)
     steps.hear
 
-module _ (session : Session) (stage : Stage) (lines : List Line) (held : Held) (xs : List (AtPort × Client)) (base : ℕ → ℕ) (laws : PhaseLaws) {G : Type 0} (stops : G → ℕ)
-    (gates after : List G) (c d : Card) (before heard : LabClients) (files : length session.sounds ≡ length xs) (are : AreAt session held xs before)
-    (card : CardInPhase session stage lines (ring_of_places (places_of before)) (key_of_places (places_of before)) c d) (counted : AreCounted base (stops_at stops gates) 0 xs)
-    (steps : ClientSteps stops gates after session.sounds (stage.phases + 1) lines c d before heard) where
-  through : AreEach (GoesThrough stops gates after session.sounds (stage.phases + 1) lines c d) 0 (clients_of before) (clients_of heard)
-  through = steps-through stops gates after session.sounds (stage.phases + 1) lines c d before heard steps
+module _ (session : Session) (stage : Stage) (lines : List Line) (held : Held) (xs : List (AtPort × Client)) (base : ℕ → ℕ) (laws : PhaseLaws) {T : Type 0} (G : gate.Ghosts T)
+    (gates after : List T) (c d : Card) (before heard : LabClients) (files : length session.sounds ≡ length xs) (are : AreAt session held xs before)
+    (card : CardInPhase session stage lines (ring_of_places (places_of before)) (key_of_places (places_of before)) c d) (counted : AreCounted base (stops_at G.stops gates) 0 xs)
+    (steps : ClientSteps G gates after session.sounds (stage.phases + 1) lines c d before heard) where
+  through : AreEach (GoesThrough G gates after session.sounds (stage.phases + 1) lines c d) 0 (clients_of before) (clients_of heard)
+  through = steps-through G gates after session.sounds (stage.phases + 1) lines c d before heard steps
 
-  go : ClientsGo session stage lines (ring_of_places (places_of before)) (key_of_places (places_of before)) are.holdings base (stops_at stops after) 0 (clients_of before) xs
-      (clients_of heard)
+  go : ClientsGo session stage lines (ring_of_places (places_of before)) (key_of_places (places_of before)) are.holdings base (stops_at G.stops after)
+      (HasAskedMore G.asked gates after) 0 (clients_of before) xs (clients_of heard)
   go =
-      clients-go session stage lines (ring_of_places (places_of before)) (key_of_places (places_of before)) are.holdings base laws stops gates after c d card 0 (clients_of before)
+      clients-go session stage lines (ring_of_places (places_of before)) (key_of_places (places_of before)) are.holdings base laws G gates after c d card 0 (clients_of before)
       (clients_of heard) xs (omega (arith, files)) are.each counted through
 
   -- The clients have a row for each of their lines then.
@@ -306,13 +317,13 @@ module _ (session : Session) (stage : Stage) (lines : List Line) (held : Held) (
 
   -- Once their rows are the lab's, what the steps make of the clients of the lab is what the phase allows to those of a run.
   pub clients-phase : (done : LabClients) → AreEach HasClientRows 0 (clients_of heard) (clients_of done) → places_of done ≡ places_of before
-      → ClientsPhase session stage lines held base (stops_at stops after) xs (flat_map rows_of (clients_of heard)) done
+      → ClientsPhase session stage lines held base (stops_at G.stops after) (HaveAskedMore G.asked gates after) xs (flat_map rows_of (clients_of heard)) done
   clients-phase done take_rows same_places =
       let ring : TableId = ring_of_places (places_of before) in
       let key : Key = key_of_places (places_of before) in
       let len : length (clients_of done) ≡ length (clients_of before) =
       AreEach-length HasClientRows 0 (clients_of heard) (clients_of done) take_rows
-      ∙ AreEach-length (GoesThrough stops gates after session.sounds (stage.phases + 1) lines c d) 0 (clients_of before) (clients_of heard) through in
+      ∙ AreEach-length (GoesThrough G gates after session.sounds (stage.phases + 1) lines c d) 0 (clients_of before) (clients_of heard) through in
       let at_same : AreDone session held go.next (with_places done (places_of before)) = record {
         card = are.card;
         holdings = are.holdings;
@@ -328,6 +339,7 @@ module _ (session : Session) (stage : Stage) (lines : List Line) (held : Held) (
         may = go.may;
         are = subst (λ (p : Places). AreDone session held go.next (with_places done p)) (sym same_places) at_same;
         counted = go.counted;
+        asked = go.asked;
       }
 
 -- ---- a phase without a line of a client

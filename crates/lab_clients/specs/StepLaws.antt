@@ -4,6 +4,7 @@ use Rattle.std.proofs.Common.{cond, refl, sym, ◌∙◌, subst, arith}
 use Rattle.std.proofs.lemmas.Bool.{ltb-false}
 use Rattle.std.proofs.lemmas.List.{nil_from_length}
 use Rattle.std.proofs.lemmas.List.Sums.{sum_by-cons}
+use Rattle.mix_core.specs.declared.gate.Gate as gate
 use Rattle.wav_io.specs.Sound.{Sound}
 use Rattle.sum_table.specs.declared.view.Key.{Key}
 use Rattle.sum_table.specs.Seats.{TableId}
@@ -55,11 +56,11 @@ module _ (ring : TableId) (key : Key) where
   AreOfRing-informed c ds es step are =
       AreOfRing-step (IsInformedBy c) ds es (λ n d e informed is. IsOfRing-informed ring key informed.card d e informed.informed is) step are
 
-  pub AreOfRing-run : {G : Type 0} (stops : G → ℕ) (before after : List G) (sounds : List Sound) (phase : ℕ) (lines : List Line) (ds es : List LabClient)
-      → AreEach (RunsAt stops before after sounds phase lines) 0 ds es → AreOfRing ring key ds → AreOfRing ring key es
-  AreOfRing-run stops before after sounds phase lines ds es step are =
-      AreOfRing-step (RunsAt stops before after sounds phase lines) ds es
-      (λ n d e run is. IsOfRing-run ring key _ _ phase (sound_at sounds n) lines d e run is) step are
+  pub AreOfRing-run : {T : Type 0} (G : gate.Ghosts T) (before after : List T) (sounds : List Sound) (phase : ℕ) (lines : List Line) (ds es : List LabClient)
+      → AreEach (RunsAt G before after sounds phase lines) 0 ds es → AreOfRing ring key ds → AreOfRing ring key es
+  AreOfRing-run G before after sounds phase lines ds es step are =
+      AreOfRing-step (RunsAt G before after sounds phase lines) ds es
+      (λ n d e run is. IsOfRing-run ring key _ _ run.asks phase (sound_at sounds n) lines d e run.then is) step are
 
   -- the clients of a run are of its ring
   pub AreOfRing-in : (session : Session) (holdings : Holdings) (ds : List LabClient) (xs : List (AtPort × Client)) → AreEach (IsClientIn session ring key holdings) 0 ds xs

@@ -1,13 +1,14 @@
 -- All clients of a script, in a phase: what each step of it makes of them.
 use Rattle.std.specs.Prelude.{◌≡◌, ℕ, ◌<◌, ◌≤◌, nat_lt, Bool, List, [], length, slice_index_or, Option, None, Some, ⊤}
 use Rattle.std.proofs.Common.{refl}
+use Rattle.mix_core.specs.declared.gate.Gate as gate
 use Rattle.wav_io.specs.Sound.{Sound}
 use Rattle.card_sim.specs.declared.card.Card.{Card}
 use Rattle.lab_lines.specs.declared.line.Line.{Line}
 use Rattle.lab_run.specs.Items.{no_sound}
 use Rattle.lab_run.specs.Phases.{is_client, ops_by}
 use Rattle.lab_card.specs.Meets.{IsSameCard}
-use Rattle.lab_actors.specs.Gates.{stops_at}
+use Rattle.lab_actors.specs.Gates.{AsksGateAt}
 use Rattle.lab_client.specs.declared.client.LabClient.{LabClient}
 use Rattle.lab_client.specs.declared.open_client.OpenClient.{OpenClient}
 use Rattle.lab_client.specs.Clients.{CanRun, HasRoom, IsClientHeard, IsClientInformed, IsOfCard, IsSameBut, RunsLines, GoesOrRests, number_of, open_of, rows_of}
@@ -78,10 +79,11 @@ pub record IsHeardBy (c : Card) (i : ℕ) (d e : LabClient) : Type 0 where
   pub heard : IsClientHeard card d e
 
 -- a client did its lines with its gate
-abbrev pub RunsAt : {G : Type 0} → (G → ℕ) → List G → List G → List Sound → ℕ
+abbrev pub RunsAt : {T : Type 0} → gate.Ghosts T → List T → List T → List Sound → ℕ
     → List Line → ℕ → LabClient → LabClient → Type 0
-RunsAt stops gates after sounds phase lines i d e =
-    RunsLines (stops_at stops gates i) (stops_at stops after i) phase (sound_at sounds i) lines d e
+RunsAt G gates after sounds phase lines i d e =
+    AsksGateAt G gates after i
+    (λ before later asks. RunsLines before later asks phase (sound_at sounds i) lines d e)
 
 -- the gates from a number on are as they were
 abbrev pub AreSameFrom : {G : Type 0} → ℕ → List G → List G → Type 0

@@ -1,6 +1,7 @@
 //! All clients of a script in a phase at once, each in a thread.
 ghost use Rattle.std.specs.Prelude.{◌≡◌, ◌<◌, ◌≤◌, All, length};
 ghost use Rattle.lab_lines.specs.declared.line.Line.{Line};
+ghost use Rattle.lab_run.specs.GateAsks.{AsksGate};
 ghost use Rattle.lab_actor.specs.ClientLines.{IsFew};
 ghost use Rattle.lab_client.specs.Clients.{RunsLines};
 ghost use Rattle.lab_clients.specs.Steps.{AreReady, AreSameFrom, IsReadyAt, RunsAt, sound_at};
@@ -27,7 +28,7 @@ pub(crate) fn run_at_once<R: Threads + Sync, G: Gate + Send>(
     requires gates { length clients.old ≤ length gates.old }
     requires files { length wavs.now ≡ length clients.old }
     requires ready { AreReady wavs.now lines.now clients.old }
-    ensures run { AreEach (RunsAt G.stops gates.old gates.new wavs.now phase lines.now) 0
+    ensures run { AreEach (RunsAt G.Gate gates.old gates.new wavs.now phase lines.now) 0
         clients.old clients.new }
     ensures others { AreSameFrom (length clients.old) gates.old gates.new }
 {
@@ -39,8 +40,9 @@ pub(crate) fn run_at_once<R: Threads + Sync, G: Gate + Send>(
             requires few { All (λ (line : Line). IsFew line.op) lines.now }
             requires file { number < length wavs.now }
             requires ready { IsReadyAt wavs.now lines.now number client.old }
-            ensures { RunsLines (G.stops gate.old) (G.stops gate.new) phase
-                (sound_at wavs.entry.now number) lines.entry.now client.old client.new }
+            ensures { AsksGate G.Gate gate.old gate.new (λ before after asks.
+                RunsLines before after asks phase (sound_at wavs.entry.now number)
+                lines.entry.now client.old client.new) }
         {
             client.run_lines(gate, &wavs[number], phase, lines);
         },

@@ -82,7 +82,7 @@ impl LabClients<'_> {
         requires files { length wavs.now ≡ length (clients_of self.old) }
         requires ready { AreReady wavs.now lines.now (clients_of self.old) }
         ensures places { places_of self.new ≡ places_of self.old }
-        ensures run { AreEach (RunsAt G.stops gates.old gates.new wavs.now phase lines.now) 0
+        ensures run { AreEach (RunsAt G.Gate gates.old gates.new wavs.now phase lines.now) 0
             (clients_of self.old) (clients_of self.new) }
         ensures others { AreSameFrom (length (clients_of self.old)) gates.old gates.new }
     {
@@ -103,7 +103,7 @@ impl LabClients<'_> {
         requires files { length wavs.now ≡ length (clients_of self.old) }
         requires ready { AreReady wavs.now lines.now (clients_of self.old) }
         ensures places { places_of self.new ≡ places_of self.old }
-        ensures run { AreEach (RunsAt G.stops gates.old gates.new wavs.now phase lines.now) 0
+        ensures run { AreEach (RunsAt G.Gate gates.old gates.new wavs.now phase lines.now) 0
             (clients_of self.old) (clients_of self.new) }
         ensures others { AreSameFrom (length (clients_of self.old)) gates.old gates.new }
     {

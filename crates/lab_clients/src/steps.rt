@@ -102,7 +102,7 @@ pub(crate) fn run_in_turn<G: Gate>(
     requires gates { length clients.old ≤ length gates.old }
     requires files { length wavs.now ≡ length clients.old }
     requires ready { AreReady wavs.now lines.now clients.old }
-    ensures run { AreEach (RunsAt G.stops gates.old gates.new wavs.now phase lines.now) 0
+    ensures run { AreEach (RunsAt G.Gate gates.old gates.new wavs.now phase lines.now) 0
         clients.old clients.new }
     ensures others { AreSameFrom (length clients.old) gates.old gates.new }
 {

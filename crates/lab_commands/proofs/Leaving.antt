@@ -2,13 +2,16 @@
 use Rattle.std.proofs.Common.{◌≡◌, ◌∙◌, ◌⊎◌, ◌++◌, ℕ, List, ap, refl, subst, inl, inr}
 use Rattle.std.specs.Prelude.{Option, Some, Result, Ok, Err, IfErr, OnOk, OnErr}
 use Rattle.std.specs.Option.{ForSome, option_map}
+use Rattle.mix_core.specs.declared.gate.Pass.{Pass}
+use Rattle.mix_core.specs.declared.gate.StepKind.{StepKind}
 use Rattle.wav_io.specs.Sound.{Sound}
 use Rattle.lab_headline.specs.Exact.{IsExactRun, IsOwnRun, IsUnstoppedRun}
 use Rattle.lab_input.specs.Input.{RunInput, input_in}
 use Rattle.lab_phase.specs.PhaseRuns.{Stops}
 use Rattle.lab_play.specs.Exact.{HasStoppedRun}
-use Rattle.lab_play.specs.Played.{HasPlayed, HasPlayedPart, IsUntouched}
+use Rattle.lab_play.specs.Played.{HasPlayedAsking, HasPlayedPart, IsUntouched}
 use Rattle.lab_refine.specs.Answered.{IsAnswerTo}
+use Rattle.lab_report.specs.Ranges.{IsReportInRange}
 use Rattle.lab_run.specs.LabRun.{Outcome}
 use Rattle.lab_run.specs.Openings.{IsSessionOf}
 use Rattle.lab_run.specs.Stage.{Session}
@@ -20,12 +23,12 @@ use Rattle.lab_stop.specs.FaultLaws.{IsWriteKind-only}
 use Rattle.lab_stop.specs.declared.stop.Stop.{Stop}
 use Rattle.lab_stop.specs.Stops.{StopKind, at_output, at_memory, stop_facts, IsWriteStop}
 use Rattle.lab_make.specs.declared.workload.Workload.{Workload}
-use Rattle.lab_workload.specs.Made.{IsMade, IsMadePart}
+use Rattle.lab_workload.specs.Made.{IsMadeAsking, IsMadePart}
 use Rattle.lab_check.specs.Runs.{RunsAreChecked, RunsSayHeadline}
 use Rattle.lab_commands.specs.Checking.{IsCheckedRun}
 use Rattle.lab_commands.proofs.PassedChecks.{run-passes}
 use Rattle.lab_commands.specs.Words.{Form, check, make, refine, run}
-use Rattle.lab_commands.specs.Run.{HasFinished, IsUnfinished}
+use Rattle.lab_commands.specs.Run.{HasFinishedAsking, IsUnfinished}
 use Rattle.lab_commands.specs.Top.{CommandLeaves, LeavesAt}
 
 -- what the laws of runs say of each run
@@ -37,25 +40,31 @@ pub record RunLaws : Type 0 where
   pub checked : RunsAreChecked
 
 -- a run that is done is finished
-pub Finished-played : (laws : RunLaws) (input : RunInput) (script out : List ℕ) (gates : Stops) (before between after : Option Files) (taken taken_after : Option (List ℕ))
-    → ForSome before (λ files. input_in files script ≡ Ok input) → IsScript input.script → between ≡ before → (outcome : Outcome)
-    → HasPlayed input out gates outcome between after taken taken_after → HasFinished script out gates before after taken taken_after
-Finished-played laws input script out gates before between after taken taken_after read valid same outcome played = record {
-  input = input;
-  read = read;
-  session = played.session;
-  outcome = outcome;
-  is = played.is;
-  exact = λ none. laws.exact played.session input.capture input.script.body outcome
-      (record { client_stops = gates.clients; reader_stops = gates.readers; clients = none.clients; readers = none.readers; run = played.is.run });
-  own = λ none. laws.own input.script input.sounds played.session input.capture outcome valid played.is.session_is
-      (record { client_stops = gates.clients; reader_stops = gates.readers; clients = none.clients; readers = none.readers; run = played.is.run });
-  says = laws.says input.script input.sounds played.session input.capture gates.clients gates.readers outcome valid played.is.session_is played.is.run;
-  passes = λ held report can holds. run-passes held script report out input outcome holds
-      (laws.checked input.script input.sounds played.session input.capture gates.clients gates.readers outcome valid played.is.session_is played.is.run can);
-  files = played.files ∙ ap (option_map _) same;
-  text = played.text;
-}
+pub Finished-played : {T : Type 0} (asked : T → T → List StepKind → Pass → Type 0) (gates gates_after : List T) (laws : RunLaws) (input : RunInput) (script out : List ℕ) (stops : Stops)
+    (before between after : Option Files) (taken taken_after : Option (List ℕ)) → ForSome before (λ files. input_in files script ≡ Ok input) → IsScript input.script → between ≡ before → (outcome : Outcome) → IsReportInRange outcome.report
+    → HasPlayedAsking asked gates gates_after input out stops outcome between after taken taken_after
+    → HasFinishedAsking asked gates gates_after script out stops before after taken taken_after
+Finished-played asked gates gates_after laws input script out stops before between after taken taken_after read valid same outcome numbers asking =
+    let played = asking.played in
+    record {
+      finished = record {
+        input = input;
+        read = read;
+        session = played.session;
+        outcome = outcome;
+        is = played.is;
+        exact = λ none. laws.exact played.session input.capture input.script.body outcome
+            (record { client_stops = stops.clients; reader_stops = stops.readers; clients = none.clients; readers = none.readers; run = played.is.run });
+        own = λ none. laws.own input.script input.sounds played.session input.capture outcome valid played.is.session_is
+            (record { client_stops = stops.clients; reader_stops = stops.readers; clients = none.clients; readers = none.readers; run = played.is.run });
+        says = laws.says input.script input.sounds played.session input.capture stops.clients stops.readers outcome valid played.is.session_is played.is.run;
+        passes = λ held report can holds. run-passes held script report out input outcome holds
+            (laws.checked input.script input.sounds played.session input.capture stops.clients stops.readers outcome valid played.is.session_is played.is.run numbers can);
+        files = played.files ∙ ap (option_map _) same;
+        text = played.text;
+      };
+      gates_asked = asking.gates_asked;
+    }
 
 module _ (laws : RunLaws) (input : RunInput) (script out : List ℕ) (gates : Stops) (before between after : Option Files) (taken taken_after : Option (List ℕ))
     (read : ForSome before (λ files. input_in files script ≡ Ok input)) (valid : IsScript input.script) (same : between ≡ before) where
@@ -70,13 +79,14 @@ module _ (laws : RunLaws) (input : RunInput) (script out : List ℕ) (gates : St
       IsWriteKind-only (λ kind. LeavesAt kind (Some (run script out)) gates before after taken taken_after) (stop_facts stop).kind only (left-part part) (left-part part)
 
 -- what a call leaves that makes a workload
-pub CommandLeaves-made : (w : Workload) (gates : Stops) (before after : Option Files) (taken taken_after : Option (List ℕ)) (r : Result (Unit {0}) Stop) → IfErr r IsWriteStop
-    → OnOk r (IsMade w gates before after taken taken_after)
-    → OnErr r (IsUntouched before after taken taken_after ⊎ IsMadePart w gates before after taken taken_after)
-    → CommandLeaves r (Some (make w)) gates before after taken taken_after
-CommandLeaves-made w gates before after taken taken_after (Ok x) only done part = done
-CommandLeaves-made w gates before after taken taken_after (Err stop) only done part =
-    IsWriteKind-only (λ kind. LeavesAt kind (Some (make w)) gates before after taken taken_after) (stop_facts stop).kind only part part
+pub CommandLeaves-made : {T : Type 0} (asked : T → T → List StepKind → Pass → Type 0) (gates gates_after : List T) (w : Workload) (stops : Stops) (before after : Option Files)
+    (taken taken_after : Option (List ℕ)) (r : Result (Unit {0}) Stop) → IfErr r IsWriteStop
+    → OnOk r (IsMadeAsking asked gates gates_after w stops before after taken taken_after)
+    → OnErr r (IsUntouched before after taken taken_after ⊎ IsMadePart w stops before after taken taken_after)
+    → CommandLeaves r (Some (make w)) stops before after taken taken_after
+CommandLeaves-made asked gates gates_after w stops before after taken taken_after (Ok x) only done part = done.made
+CommandLeaves-made asked gates gates_after w stops before after taken taken_after (Err stop) only done part =
+    IsWriteKind-only (λ kind. LeavesAt kind (Some (make w)) stops before after taken taken_after) (stop_facts stop).kind only part part
 
 -- what a call leaves that puts answers
 pub CommandLeaves-answered : (name text : List ℕ) (gates : Stops) (before after : Option Files) (taken taken_after : Option (List ℕ)) (r : Result (Unit {0}) Stop)

@@ -1,3 +1,4 @@
+mod Asking
 mod CheckedFiles
 mod Checks
 mod Comparing

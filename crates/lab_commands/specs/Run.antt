@@ -1,12 +1,14 @@
 -- What the command `run` leaves.
 use Rattle.std.specs.Prelude.{◌≡◌, ◌++◌, ℕ, List, Option, Some, Ok}
 use Rattle.std.specs.Option.{ForSome, option_map}
+use Rattle.mix_core.specs.declared.gate.Pass.{Pass}
+use Rattle.mix_core.specs.declared.gate.StepKind.{StepKind}
 use Rattle.lab_check.specs.Runs.{CanPass, samples_of_run}
 use Rattle.lab_check.specs.Shown.{SaysHeadline}
 use Rattle.lab_headline.specs.Exact.{IsExactRun, IsOwnRun}
 use Rattle.lab_input.specs.Input.{RunInput, input_in}
 use Rattle.lab_output.specs.Files.{output_files, finished_files}
-use Rattle.lab_phase.specs.PhaseRuns.{Stops}
+use Rattle.lab_phase.specs.PhaseRuns.{HaveAsked, Stops}
 use Rattle.lab_play.specs.Exact.{HasStoppedRun}
 use Rattle.lab_play.specs.Played.{IsRunOf, sounds_of}
 use Rattle.lab_play.specs.Stops.{HaveNoStops}
@@ -14,7 +16,7 @@ use Rattle.lab_report.specs.Text.{report_text}
 use Rattle.lab_run.specs.LabRun.{Outcome, lab_text}
 use Rattle.lab_run.specs.Openings.{IsSessionOf}
 use Rattle.lab_run.specs.Phases.{AreUnmixed}
-use Rattle.lab_run.specs.Stage.{Session}
+use Rattle.lab_run.specs.Stage.{Session, first_stage}
 use Rattle.lab_shelf.specs.Files.{Files}
 use Rattle.lab_commands.specs.Checking.{HoldsRun, check_in}
 
@@ -41,6 +43,14 @@ pub record HasFinished (script out : List ℕ) (stops : Stops) (before after : O
   pub files : after
       ≡ option_map (finished_files (output_files input.script out) (sounds_of outcome)) before
   pub text : taken_after ≡ option_map (λ t. t ++ report_text input.script outcome.report) taken
+
+-- and from its beginning to its end its actors asked these gates as often as it counts
+pub record HasFinishedAsking {T : Type 0} (asked : T → T → List StepKind → Pass → Type 0)
+    (gates gates_after : List T) (script out : List ℕ) (stops : Stops)
+    (before after : Option Files) (taken taken_after : Option (List ℕ)) : Type 0 where
+  pub finished : HasFinished script out stops before after taken taken_after
+  pub gates_asked : HaveAsked asked gates gates_after (first_stage finished.session)
+      finished.is.run.end
 
 -- what is stored and put is what a script and its WAV files have by themselves: the one report and the one list of samples that their lines leave no
 -- choice of

@@ -1,6 +1,8 @@
 -- What a call of the program leaves and when each exit status comes.
 use Rattle.std.specs.Prelude.{◌≡◌, ◌≢◌, ◌⊎◌, ◌++◌, ℕ, List, Option, Some, None, IsSome, Result, Ok, Err, ⊤}
 use Rattle.std.specs.Option.{ForSome, option_map}
+use Rattle.mix_core.specs.declared.gate.Pass.{Pass}
+use Rattle.mix_core.specs.declared.gate.StepKind.{StepKind}
 use Rattle.asound_conf.specs.declared.error.ConfError.{ConfError}
 use Rattle.asound_conf.specs.declared.plugin.Device.{Device}
 use Rattle.lab_conf.specs.Described.{IsDescribed, DescribedPart, IsOnlyDevice, device_in}
@@ -16,10 +18,10 @@ use Rattle.lab_stop.specs.Lines.{stop_line}
 use Rattle.lab_stop.specs.Stops.{StopKind, at_output, at_memory, stop_facts, EndsOf, EndsReliably, status_of}
 use Rattle.lab_stop.specs.declared.stop.Stop.{Stop}
 use Rattle.wav_io.specs.declared.error.WavError.{WavError}
-use Rattle.lab_workload.specs.Made.{IsMade, IsMadePart, IsOnlyMade}
+use Rattle.lab_workload.specs.Made.{IsMade, IsMadeAsking, IsMadePart, IsOnlyMade}
 use Rattle.lab_commands.specs.Checking.{HasChecked, check_in}
 use Rattle.lab_commands.specs.Words.{Form, run, check, refine, conf, make, help, version, form_of, help_text, version_text}
-use Rattle.lab_commands.specs.Run.{HasFinished, IsOnlyRunOf, IsUnfinished}
+use Rattle.lab_commands.specs.Run.{HasFinished, HasFinishedAsking, IsOnlyRunOf, IsUnfinished}
 
 -- the first cause in the order of the work, form by form
 abbrev pub cause_in : Option Form → Files → Option Cause
@@ -107,6 +109,13 @@ DoneIn (Some (conf file name)) gates before after taken taken_after = IsDescribe
 DoneIn (Some (make workload)) gates before after taken taken_after = IsMade workload gates before after taken taken_after
 DoneIn (Some help) gates before after taken taken_after = HasPut help_text before after taken taken_after
 DoneIn (Some version) gates before after taken taken_after = HasPut version_text before after taken taken_after
+
+-- what a command that is done asked its gates, form by form: a run asked that of each actor as often as it counts, and other commands ask none
+abbrev pub AskedIn : {T : Type 0} → (T → T → List StepKind → Pass → Type 0) → List T → List T
+    → Option Form → Stops → Option Files → Option Files → Option (List ℕ) → Option (List ℕ) → Type 0
+AskedIn asked gates gates_after (Some (run script out)) stops before after taken taken_after = HasFinishedAsking asked gates gates_after script out stops before after taken taken_after
+AskedIn asked gates gates_after (Some (make workload)) stops before after taken taken_after = IsMadeAsking asked gates gates_after workload stops before after taken taken_after
+AskedIn asked gates gates_after other stops before after taken taken_after = gates_after ≡ gates
 
 -- what a command leaves that ended in its output, form by form; the gates stopped actors so often; a check has no output
 abbrev pub PartIn : Option Form → Stops → Option Files → Option Files → Option (List ℕ)

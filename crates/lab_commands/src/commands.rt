@@ -1,5 +1,5 @@
 //! The commands: each reads what its words name, and writes what came of it.
-ghost use Rattle.std.specs.Prelude.{◌≡◌, ◌≤◌, ℕ, List, None, Option, Some, length};
+ghost use Rattle.std.specs.Prelude.{◌≡◌, ◌≤◌, ℕ, List, None, OnOk, Option, Some, length};
 ghost use Rattle.std.specs.Option.{ForSome};
 ghost use Rattle.lab_conf.specs.Described.{device_in};
 ghost use Rattle.lab_input.specs.Input.{input_in};
@@ -11,7 +11,7 @@ ghost use Rattle.lab_stop.specs.Causes.{cause};
 ghost use Rattle.lab_stop.specs.Stops.{EndsOf, EndsReliably, InputFaults, OutputFaults, Refuses, status_of};
 ghost use Rattle.lab_commands.specs.Checking.{check_in};
 ghost use Rattle.lab_commands.specs.Words.{check, conf, make, refine, run};
-ghost use Rattle.lab_commands.specs.Top.{CommandLeaves};
+ghost use Rattle.lab_commands.specs.Top.{AskedIn, CommandLeaves};
 
 use crate::checking::check_run;
 use lab_check::runs_are_checked;
@@ -21,6 +21,7 @@ use lab_input::read_input;
 use lab_make::Workload;
 use lab_play::play;
 use lab_refine::refine_file;
+use lab_report::numbers_are_in_range;
 use lab_shelf::{Shelf, Sink};
 use lab_stop::{Stop, put};
 use lab_workload::make_workload;
@@ -43,6 +44,10 @@ pub(crate) fn run_command<R: Threads + Sync, S: Shelf, K: Sink, G: Gate + Send>(
     ensures leaves { CommandLeaves result (Some (run script.now name.now))
         (rises (stops_by G.stops gates.old) (stops_by G.stops gates.new))
         (S.files shelf.old) (S.files shelf.new) (K.taken out.old) (K.taken out.new) }
+    ensures asked { OnOk result
+        (AskedIn G.asked gates.old gates.new (Some (run script.now name.now))
+        (rises (stops_by G.stops gates.old) (stops_by G.stops gates.new))
+        (S.files shelf.old) (S.files shelf.new) (K.taken out.old) (K.taken out.new)) }
     ensures cause { ForSome (S.files shelf.old)
         (λ files. EndsOf result (cause (input_in files script.now))) }
     ensures reliable { S.is_reliable shelf.old → K.is_reliable out.old → ForSome (S.files shelf.old)
@@ -57,7 +62,8 @@ pub(crate) fn run_command<R: Threads + Sync, S: Shelf, K: Sink, G: Gate + Send>(
     actors_do_their_own();
     runs_are_checked();
     let input = read_input(shelf, alloc, script)?;
-    play(rt, alloc, &input, name, shelf, out, gates)?;
+    let outcome = play(rt, alloc, &input, name, shelf, out, gates)?;
+    numbers_are_in_range(&outcome.report);
     Ok(())
 }
 
@@ -99,6 +105,9 @@ pub(crate) fn make_command<R: Threads + Sync, S: Shelf, K: Sink, G: Gate + Send>
     ensures leaves { CommandLeaves result (Some (make workload.now))
         (rises (stops_by G.stops gates.old) (stops_by G.stops gates.new))
         (S.files shelf.old) (S.files shelf.new) (K.taken out.old) (K.taken out.new) }
+    ensures asked { OnOk result (AskedIn G.asked gates.old gates.new (Some (make workload.now))
+        (rises (stops_by G.stops gates.old) (stops_by G.stops gates.new))
+        (S.files shelf.old) (S.files shelf.new) (K.taken out.old) (K.taken out.new)) }
     ensures cause { EndsOf result None }
     ensures reliable { S.is_reliable shelf.old → K.is_reliable out.old → ForSome (S.files shelf.old)
         (λ files. EndsReliably result None) }

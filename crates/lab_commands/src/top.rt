@@ -8,7 +8,7 @@ ghost use Rattle.lab_shelf.specs.Files.{TookPart};
 ghost use Rattle.lab_stop.specs.Lines.{stop_line};
 ghost use Rattle.lab_stop.specs.Stops.{AreSameCounts, EndsOf, EndsReliably, InputFaults, OutputFaults, Refuses, status_of};
 ghost use Rattle.lab_commands.specs.Words.{form_of, texts};
-ghost use Rattle.lab_commands.specs.Top.{cause_in, ComesExactly, EndsWell, Headline, IsOnlyLeft, IsLeftByFault, IsMissing, IsNoRun, IsTextRefused, IsValidCall, IsWavRefused, CommandLeaves, SaysWhy, most_status};
+ghost use Rattle.lab_commands.specs.Top.{AskedIn, cause_in, ComesExactly, EndsWell, Headline, IsOnlyLeft, IsLeftByFault, IsMissing, IsNoRun, IsTextRefused, IsValidCall, IsWavRefused, CommandLeaves, SaysWhy, most_status};
 
 use crate::commands::{check_command, conf_command, make_command, refine_command, run_command};
 use crate::words::{Command, help, read_command, version};
@@ -56,7 +56,7 @@ use std::thread::Threads;
 ///   WAV files so far, each counted as often as a line names it, have more than 268,435,456 bytes;
 /// - 4: a file can't be read, as where there is none of its name;
 /// - 5: a file can't be written, or the text can't be put;
-/// - 6: memory ran out;
+/// - 6: not all could be done, for want of memory, which no clause says;
 /// - 7: in `check`, the report isn't that of a run of the script, as `lab_check::check_report` tests it, or
 ///   one of the files isn't, to the byte, the canonical WAV file of what it says was played or recorded.
 ///   The line names the report's line: of the first test that fails, of what was played for `OUT.wav`, and
@@ -93,8 +93,9 @@ use std::thread::Threads;
 ///
 /// In a phase the card and all actors run at once, each in a thread of its own where one can be made.
 /// `gates` are at least 128: the first 64 are the clients', by the numbers of their lines, and the ones
-/// after them the readers'. A gate may stop its actor at any step; what the actor placed or recorded by
-/// then is in the files and in the report.
+/// after them the readers'. Each actor asks its own gate before each of its steps, with status 0 as often as
+/// its run counts, but for further exchanges. A gate may stop its actor at any step; what the actor placed or
+/// recorded by then is in the files and in the report.
 pub fn dmixlab<R: Threads + Sync, S: Shelf, K: Sink, E: Sink, G: Gate + Send>(
     rt: &R,
     alloc: Global,
@@ -109,6 +110,12 @@ pub fn dmixlab<R: Threads + Sync, S: Shelf, K: Sink, E: Sink, G: Gate + Send>(
     // With status 0 the files and the text on `out` are those of a run of what the words name, in which each
     // gate stopped its actor at most so often.
     ensures headline { result ≡ 0 → Headline (texts words.now)
+        (rises (stops_by G.stops gates.old) (stops_by G.stops gates.new))
+        (S.files shelf.old) (S.files shelf.new) (K.taken out.old) (K.taken out.new) }
+
+    // It is a run in which the gate of each client and reader was asked as often as the run counts, but for
+    // further exchanges; the other commands ask no gate.
+    ensures asked { result ≡ 0 → AskedIn G.asked gates.old gates.new (form_of (texts words.now))
         (rises (stops_by G.stops gates.old) (stops_by G.stops gates.new))
         (S.files shelf.old) (S.files shelf.new) (K.taken out.old) (K.taken out.new) }
 
@@ -142,7 +149,7 @@ pub fn dmixlab<R: Threads + Sync, S: Shelf, K: Sink, E: Sink, G: Gate + Send>(
         → AreSameCounts (S.write_faults shelf.old) (S.write_faults shelf.new)
         (K.faults out.old) (K.faults out.new) }
 
-    // Valid input is done where nothing fails, unless memory runs out.
+    // Valid input is done where nothing fails, or the status is 6.
     ensures complete { ForSome (S.files shelf.old) (λ files. IsValidCall (texts words.now) files
         → ¬ Rose (S.fetch_faults shelf.old) (S.fetch_faults shelf.new)
         → ¬ Rose (S.write_faults shelf.old) (S.write_faults shelf.new)
@@ -195,6 +202,9 @@ fn command<R: Threads + Sync, S: Shelf, K: Sink, G: Gate + Send>(
     ensures leaves { CommandLeaves result (form_of (texts words.now))
         (rises (stops_by G.stops gates.old) (stops_by G.stops gates.new))
         (S.files shelf.old) (S.files shelf.new) (K.taken out.old) (K.taken out.new) }
+    ensures asked { OnOk result (AskedIn G.asked gates.old gates.new (form_of (texts words.now))
+        (rises (stops_by G.stops gates.old) (stops_by G.stops gates.new))
+        (S.files shelf.old) (S.files shelf.new) (K.taken out.old) (K.taken out.new)) }
     ensures cause { ForSome (S.files shelf.old)
         (λ files. EndsOf result (cause_in (form_of (texts words.now)) files)) }
     ensures reliable { S.is_reliable shelf.old → K.is_reliable out.old → ForSome (S.files shelf.old)

@@ -194,8 +194,8 @@ pub fn scripts_bind_channels()
 {}
 
 /// So at most one sample is placed at each frame and channel, since of those who had a channel one after
-/// the other, each ends before the next one begins. What is played there is that sample, or silence: a
-/// sample of 16 bits is played as it is.
+/// the other, each ends before the next one begins: the sum there is that sample, or 0. Where the samples
+/// of the clients' sounds have 16 bits, as those of WAV files have, it is played as it is, or silence.
 ///
 /// It does nothing.
 pub fn channels_have_one_sample()

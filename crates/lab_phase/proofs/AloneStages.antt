@@ -34,7 +34,8 @@ use Rattle.lab_phase.specs.declared.lab.Lab.{Lab}
 use Rattle.lab_phase.specs.Alone.{ops_by-alone_client, ops_by-alone_reader}
 use Rattle.lab_phase.specs.AtStage.{AreActorsOf, IsAtStage, IsNextItem, IsSameScript, capture_of, played_by, played_of, session_of}
 use Rattle.lab_phase.specs.CardStage.{IsCardIn, IsCardIn-after, IsCardIn-same}
-use Rattle.lab_phase.specs.PhaseRuns.{AreStopsOf, HasRunPhase, IsLonger, PlaysAlone, RunsPhase, Stops, asks_of_lab}
+use Rattle.lab_phase.specs.AskLaws.{same_asks-reaped_clients, same_asks-reaped_readers}
+use Rattle.lab_phase.specs.PhaseRuns.{AreStopsOf, HasRunPhase, HaveSameAsks, IsLonger, PlaysAlone, RunsPhase, Stops, asks_of_lab}
 use Rattle.lab_phase.proofs.PhaseStages.{phase-lines}
 
 -- one where there are lines, and none where there are not
@@ -125,7 +126,7 @@ module _ (lab after : Lab) (lines : List Line) (is : IsNextItem lab (item.Phase 
         ∙ (ap (λ (rows : List Row). rows ++ card_rows (stage.phases + 1) stage.position ops) at.rows
         ∙ sym (rows-nil stage.rows (card_rows (stage.phases + 1) stage.position ops))))
 
-    has-run-alone : (base stops : Stops) → AreStopsOf base stops stage → HasRunPhase base stops lab stage lines after
+    has-run-alone : (base stops : Stops) → AreStopsOf base stops stage → HasRunPhase HaveSameAsks base stops lab stage lines after
     has-run-alone base stops counted = record {
       next = next-alone;
       may = record {
@@ -146,6 +147,10 @@ module _ (lab after : Lab) (lines : List Line) (is : IsNextItem lab (item.Phase 
         clients = subst (λ (xs : List (AtPort × Client)). AreCounted base.clients stops.clients 0 xs) (sym still-clients.same_clients) counted.clients;
         readers = subst (λ (xs : List (AtPort × Reader)). AreCounted base.readers stops.readers 0 xs) (sym still-readers.reaped) counted.readers;
       };
+      gates = record {
+        clients = same_asks-reaped_clients (session_of lab).ring 0 stage.clients;
+        readers = same_asks-reaped_readers (session_of lab).ring 0 stage.readers;
+      };
     }
 
   played-alone : IsLonger (played_of lab) (played_of after)
@@ -157,7 +162,8 @@ module _ (lab after : Lab) (lines : List Line) (is : IsNextItem lab (item.Phase 
             ∙ (plays.samples_are ∙ (plays.part.did.played ∙ ap (λ (xs : List ℤ). xs ++ samples) (plays.same_samples ∙ sym (ap played_by card_is))));
       }
 
-  pub RunsPhase-alone : IsSameScript lab after → after.phases ≡ lab.phases → after.next ≡ lab.next → after.room ≡ lab.room → (stops : Stops) → RunsPhase stops stops lab lines after
+  pub RunsPhase-alone : IsSameScript lab after → after.phases ≡ lab.phases → after.next ≡ lab.next → after.room ≡ lab.room → (stops : Stops)
+      → RunsPhase HaveSameAsks stops stops lab lines after
   RunsPhase-alone same phases next room stops = record {
     same = same;
     phases = phases;

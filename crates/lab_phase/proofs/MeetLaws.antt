@@ -3,6 +3,7 @@ use Rattle.std.specs.Prelude.{◌≡◌, ℕ, ◌+◌, ◌*◌, ◌≤◌, ◌++
 use Rattle.std.specs.Global.{Vec}
 use Rattle.std.proofs.Common.{ap, sym, ◌∙◌, subst, arith}
 use Rattle.std.proofs.lemmas.List.{drop-append-le, drop_all, take-append-le, take_all}
+use Rattle.mix_core.specs.declared.gate.Gate as gate
 use Rattle.snd_base.specs.declared.geometry.Geometry.{Geometry}
 use Rattle.snd_base.specs.Places.{end_frame}
 use Rattle.sum_table.specs.Players.{player_key, player_ring}
@@ -13,7 +14,6 @@ use Rattle.lab_lines.specs.declared.line.Op.{Op}
 use Rattle.lab_lines.specs.Script.{is_of_card}
 use Rattle.lab_lines.specs.declared.row.Row.{Row}
 use Rattle.lab_run.specs.Phases.{ops_by}
-use Rattle.lab_actors.specs.Gates.{stops_at}
 use Rattle.lab_actors.specs.Walks.{AreEach, AreEach-length}
 use Rattle.lab_card.specs.declared.card.CardActor.{CardActor}
 use Rattle.lab_card.specs.CardLines.{frames_by}
@@ -89,26 +89,26 @@ module _ (gates : ℕ) (asked : Asked) (a : CardActor) (cs ds : LabClients) (rs 
 -- ---- after the lines
 
 -- the clients are of the ring of the card, which did its lines
-pub AreOfCard-ran : {G : Type 0} (stops : G → ℕ) (gates after : List G) (asked : Asks) (a b d : CardActor) (cs ds es : LabClients) → IsSameCard a.card b.card → CardHasRun asked b d
-    → AreEach (clients.IsInformedBy a.card) 0 (clients_of cs) (clients_of ds) → ClientsHaveRun stops gates after asked ds es → AreOfCard a.card (clients_of cs)
+pub AreOfCard-ran : {T : Type 0} (G : gate.Ghosts T) (gates after : List T) (asked : Asks) (a b d : CardActor) (cs ds es : LabClients) → IsSameCard a.card b.card → CardHasRun asked b d
+    → AreEach (clients.IsInformedBy a.card) 0 (clients_of cs) (clients_of ds) → ClientsHaveRun G gates after asked ds es → AreOfCard a.card (clients_of cs)
     → AreOfCard d.card (clients_of es)
-AreOfCard-ran stops gates after asked a b d cs ds es same card informed run are =
+AreOfCard-ran G gates after asked a b d cs ds es same card informed run are =
     let ring = player_ring (seat_of_card a.card) in
     let key = player_key (seat_of_card a.card) in
     let before : AreOfRing ring key (clients_of cs) = λ i x inside. IsOfRing-card a.card (slice_index_or (clients_of cs) i x) (are i x inside) in
     let met : AreOfRing ring key (clients_of ds) = AreOfRing-informed ring key a.card (clients_of cs) (clients_of ds) informed before in
     AreOfCard-ring ring key d.card (clients_of es)
     (record { of_ring = card.did.moves.player.ring ∙ same.player.ring; of_key = card.did.moves.player.key ∙ same.player.key })
-    (AreOfRing-run ring key stops gates after asked.sounds asked.phase asked.lines (clients_of ds) (clients_of es) run.each met)
+    (AreOfRing-run ring key G gates after asked.sounds asked.phase asked.lines (clients_of ds) (clients_of es) run.each met)
 
 -- so are the readers, also once it met others
-pub AreOf-lines : {G : Type 0} (stops : G → ℕ) (gates after : List G) (asked : Asks) (a b d : CardActor) (between heard : Card) (rs ss ts : LabReaders) → IsSameCard a.card b.card
-    → CardHasRun asked b d → IsSameCard d.card heard → EachReader (readers.IsInformedBy between) rs ss → ReadersHaveRun stops gates after asked ss ts → All (IsOf a.card) (readers_of rs)
+pub AreOf-lines : {T : Type 0} (G : gate.Ghosts T) (gates after : List T) (asked : Asks) (a b d : CardActor) (between heard : Card) (rs ss ts : LabReaders) → IsSameCard a.card b.card
+    → CardHasRun asked b d → IsSameCard d.card heard → EachReader (readers.IsInformedBy between) rs ss → ReadersHaveRun G gates after asked ss ts → All (IsOf a.card) (readers_of rs)
     → All (IsOf heard) (readers_of ts)
-AreOf-lines stops gates after asked a b d between heard rs ss ts same card hears informed run are =
+AreOf-lines G gates after asked a b d between heard rs ss ts same card hears informed run are =
     let met : All (IsOf a.card) (readers_of ss) = AreOf-informed a.card between rs ss informed are in
     let here : All (IsOf b.card) (readers_of ss) = AreOf-same a.card b.card (readers_of ss) same met in
-    let ran : All (IsOf b.card) (readers_of ts) = AreOf-ran b.card (stops_at stops gates) (stops_at stops after) asked.phase asked.lines ss ts run here in
+    let ran : All (IsOf b.card) (readers_of ts) = AreOf-ran G gates after b.card asked.phase asked.lines ss ts run here in
     let moved : All (IsOf d.card) (readers_of ts) =
     λ k r inside. IsOf-moved b.card d.card (slice_index_or (readers_of ts) k r) _ _ _ _ _ card.did.moves (ran k r inside) in
     AreOf-same d.card heard (readers_of ts) hears moved
@@ -122,14 +122,14 @@ drop-front : {X : Type 0} (n : ℕ) (front back : List X) → length front ≡ n
 drop-front n front back len = drop-append-le n front back (omega (arith, len)) ∙ ap (λ xs. xs ++ back) (drop_all n front (omega (arith, len)))
 
 -- all did their lines with the gates of a list, of which the first are the clients'
-pub HaveRun-halves : {G : Type 0} (stops : G → ℕ) (count : ℕ) (gates near near_after far far_after : List G) (asked : Asks) (a b : CardActor) (cs ds : LabClients) (rs ss : LabReaders)
-    → gates ≡ near ++ far → length near ≡ count → length near_after ≡ length near → HaveRun stops near near_after far far_after asked a b cs ds rs ss
-    → HaveRun stops (take count gates) (take count (near_after ++ far_after)) (drop count gates) (drop count (near_after ++ far_after)) asked a b cs ds rs ss
-HaveRun-halves {G = G} stops count gates near near_after far far_after asked a b cs ds rs ss halves len same run =
+pub HaveRun-halves : {T : Type 0} (G : gate.Ghosts T) (count : ℕ) (gates near near_after far far_after : List T) (asked : Asks) (a b : CardActor) (cs ds : LabClients) (rs ss : LabReaders)
+    → gates ≡ near ++ far → length near ≡ count → length near_after ≡ length near → HaveRun G near near_after far far_after asked a b cs ds rs ss
+    → HaveRun G (take count gates) (take count (near_after ++ far_after)) (drop count gates) (drop count (near_after ++ far_after)) asked a b cs ds rs ss
+HaveRun-halves {T = T} G count gates near near_after far far_after asked a b cs ds rs ss halves len same run =
     let after : length near_after ≡ count = same ∙ len in
     let front : take count gates ≡ near = ap (take count) halves ∙ take-front count near far len in
     let back : drop count gates ≡ far = ap (drop count) halves ∙ drop-front count near far len in
-    subst (λ (gs : List G). HaveRun stops gs (take count (near_after ++ far_after)) (drop count gates) (drop count (near_after ++ far_after)) asked a b cs ds rs ss) (sym front)
-    (subst (λ (gs : List G). HaveRun stops near gs (drop count gates) (drop count (near_after ++ far_after)) asked a b cs ds rs ss) (sym (take-front count near_after far_after after))
-    (subst (λ (gs : List G). HaveRun stops near near_after gs (drop count (near_after ++ far_after)) asked a b cs ds rs ss) (sym back)
-    (subst (λ (gs : List G). HaveRun stops near near_after far gs asked a b cs ds rs ss) (sym (drop-front count near_after far_after after)) run)))
+    subst (λ (gs : List T). HaveRun G gs (take count (near_after ++ far_after)) (drop count gates) (drop count (near_after ++ far_after)) asked a b cs ds rs ss) (sym front)
+    (subst (λ (gs : List T). HaveRun G near gs (drop count gates) (drop count (near_after ++ far_after)) asked a b cs ds rs ss) (sym (take-front count near_after far_after after))
+    (subst (λ (gs : List T). HaveRun G near near_after gs (drop count (near_after ++ far_after)) asked a b cs ds rs ss) (sym back)
+    (subst (λ (gs : List T). HaveRun G near near_after far gs asked a b cs ds rs ss) (sym (drop-front count near_after far_after after)) run)))

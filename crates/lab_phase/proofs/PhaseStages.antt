@@ -3,6 +3,7 @@ use Rattle.std.specs.Prelude.{◌≡◌, ◌≢◌, ℕ, ◌+◌, ◌≤◌, ◌
 use Rattle.std.specs.Global.{Vec}
 use Rattle.std.specs.List.{flat_map}
 use Rattle.std.proofs.Common.{sym, ap, subst, ◌∙◌, arith, append_assoc}
+use Rattle.mix_core.specs.declared.gate.Gate as gate
 use Rattle.snd_base.specs.declared.geometry.Geometry.{Geometry}
 use Rattle.sum_table.specs.declared.view.Key.{Key}
 use Rattle.sum_table.specs.Players.{player_key, player_ring}
@@ -23,7 +24,7 @@ use Rattle.lab_run.specs.Reader.{Reader}
 use Rattle.lab_run.specs.Rules.{AtPort}
 use Rattle.lab_run.specs.ScriptWords.{IsReached, PhasesAreOfScripts, StagesAreOfScripts}
 use Rattle.lab_run.specs.Stage.{Session, Stage}
-use Rattle.lab_actors.specs.Gates.{AreCounted}
+use Rattle.lab_actors.specs.Gates.{AreCounted, HaveAskedMore}
 use Rattle.lab_card.specs.declared.card.CardActor.{CardActor}
 use Rattle.lab_card.specs.Moves.{seat_of_card}
 use Rattle.lab_card.specs.Room.{FitsRing}
@@ -43,7 +44,8 @@ use Rattle.lab_phase.specs.AtStage.{AreActorsOf, AreOfRings, HasEndRoom, IsAtSta
 use Rattle.lab_phase.specs.BorderLaws.{HasDone-next, HasEndRoom-next, AreSetUp-same, session_of-same}
 use Rattle.lab_phase.specs.Counts.{AreAll-reached}
 use Rattle.lab_phase.specs.PhaseLaws.{ActorLaws, HaveDone, asks_at, few-rows, have-done}
-use Rattle.lab_phase.specs.PhaseRuns.{AreStopsOf, CountsPhase, DoesPhase, HasRunLines, HasRunPhase, IsLonger, Reaps, RunsPhase, Stops, asks_of_lab, stops_by}
+use Rattle.lab_phase.specs.AskLaws.{HaveAskedMore-then, same_asks-reaped_clients, same_asks-reaped_readers}
+use Rattle.lab_phase.specs.PhaseRuns.{AreStopsOf, CountsPhase, DoesPhase, HasRunLines, HasRunPhase, HaveAsked, IsLonger, Reaps, RunsPhase, Stops, asks_of_lab, stops_by}
 use Rattle.lab_phase.specs.PhaseSteps.{GiveFewRows, HaveMet, HaveRoom}
 use Rattle.lab_phase.specs.Reached.{IsFirstOf, IsFirstOf-next}
 use Rattle.lab_phase.specs.ReportRoom.{KeepsRoom}
@@ -138,33 +140,33 @@ rows-joined xs xs2 ks ks2 bs bs2 cs cs2 first more =
     before ∙ (ap (λ (rows : List Row). xs ++ rows) more ∙ (ap (λ (rows : List Row). rows ++ (ks2 ++ bs2 ++ cs2)) first ∙ sym after))
 
 -- the actors have no more rows of the phase than it has lines
-pub GiveFewRows-at : {G : Type 0} (stops : G → ℕ) (gates : List G) (lab : Lab) (lines : List Line) (a0 : CardActor) → ActorLaws → IsNextItem lab (item.Phase lines)
-    → length (ops_by is_of_card lines) ≢ length lines → lab.card ≡ Some a0 → (stage : Stage) (base : Stops) → IsAtStage lab stage → AreStopsOf base (stops_by stops gates) stage
-    → GiveFewRows stops gates (asks_of_lab lab lines) a0 lab.clients lab.readers
-GiveFewRows-at stops gates lab lines a0 laws is others card_is stage base at counted gates_after a f cs fs rs gs room met =
+pub GiveFewRows-at : {T : Type 0} (G : gate.Ghosts T) (gates : List T) (lab : Lab) (lines : List Line) (a0 : CardActor) → ActorLaws → IsNextItem lab (item.Phase lines)
+    → length (ops_by is_of_card lines) ≢ length lines → lab.card ≡ Some a0 → (stage : Stage) (base : Stops) → IsAtStage lab stage → AreStopsOf base (stops_by G.stops gates) stage
+    → GiveFewRows G gates (asks_of_lab lab lines) a0 lab.clients lab.readers
+GiveFewRows-at G gates lab lines a0 laws is others card_is stage base at counted gates_after a f cs fs rs gs room met =
     few-rows (session_of lab) (capture_of lab) stage lines laws (length lab.script.now.clients) (length lab.script.now.readers) (phase-lines lab stage lines at is)
-    (unplugs_by-others (length lab.script.now.clients) (length lab.script.now.readers) lines (phase-lines lab stage lines at is) others) stops (take 64 gates) (take 64 gates_after)
+    (unplugs_by-others (length lab.script.now.clients) (length lab.script.now.readers) lines (phase-lines lab stage lines at is) others) G (take 64 gates) (take 64 gates_after)
     (drop 64 gates) (drop 64 gates_after) a0 a f lab.clients cs fs lab.readers rs gs
     (subst (λ (card : Option CardActor). AreActorsOf (session_of lab) (capture_of lab) stage card lab.clients lab.readers) card_is at.actors) room
     (subst
-    (λ (n : ℕ). HaveMet stops (take 64 gates) (take 64 gates_after) (drop 64 gates) (drop 64 gates_after)
+    (λ (n : ℕ). HaveMet G (take 64 gates) (take 64 gates_after) (drop 64 gates) (drop 64 gates_after)
     (record { sounds = lab.wavs.now; capture = capture_of lab; phase = n + 1; lines = lines }) a cs rs f fs gs)
     at.phases met)
     base.clients base.readers
     (files-reached lab.script.now lab.wavs.now (session_of lab) at.has_done.done (first-item lab stage lines at is).others lines stage (reached-phase lab stage lines at is))
     (AreAll-reached (session_of lab) stage at.has_done.done at.has_done.reached.may).readers counted.clients counted.readers
 
-module _ {G : Type 0} (stops : G → ℕ) (gates gates_after : List G) (lab mid : Lab) (lines : List Line) (laws : ActorLaws) (is : IsNextItem lab (item.Phase lines))
-    (others : length (ops_by is_of_card lines) ≢ length lines) (run : HasRunLines stops gates gates_after lab lines mid) (stage : Stage) (base : Stops)
-    (at : IsAtStage lab stage) (counted : AreStopsOf base (stops_by stops gates) stage) where
+module _ {T : Type 0} (G : gate.Ghosts T) (gates gates_after : List T) (lab mid : Lab) (lines : List Line) (laws : ActorLaws) (is : IsNextItem lab (item.Phase lines))
+    (others : length (ops_by is_of_card lines) ≢ length lines) (run : HasRunLines G gates gates_after lab lines mid) (stage : Stage) (base : Stops)
+    (at : IsAtStage lab stage) (counted : AreStopsOf base (stops_by G.stops gates) stage) where
   actors-before : AreActorsOf (session_of lab) (capture_of lab) stage (Some run.card) lab.clients lab.readers
   actors-before = subst (λ (card : Option CardActor). AreActorsOf (session_of lab) (capture_of lab) stage card lab.clients lab.readers) run.card_is at.actors
 
-  met-at : HaveMet stops (take 64 gates) (take 64 gates_after) (drop 64 gates) (drop 64 gates_after) (asks_at (session_of lab) (capture_of lab) stage lines) run.run.roomy_card
+  met-at : HaveMet G (take 64 gates) (take 64 gates_after) (drop 64 gates) (drop 64 gates_after) (asks_at (session_of lab) (capture_of lab) stage lines) run.run.roomy_card
       run.run.roomy_clients run.run.roomy_readers run.run.met_card run.run.met_clients run.run.met_readers
   met-at =
       subst
-      (λ (n : ℕ). HaveMet stops (take 64 gates) (take 64 gates_after) (drop 64 gates) (drop 64 gates_after)
+      (λ (n : ℕ). HaveMet G (take 64 gates) (take 64 gates_after) (drop 64 gates) (drop 64 gates_after)
       (record { sounds = lab.wavs.now; capture = capture_of lab; phase = n + 1; lines = lines }) run.run.roomy_card run.run.roomy_clients run.run.roomy_readers run.run.met_card
       run.run.met_clients run.run.met_readers)
       at.phases run.run.met
@@ -172,11 +174,11 @@ module _ {G : Type 0} (stops : G → ℕ) (gates gates_after : List G) (lab mid 
   abbrev after_rows : List Row
   after_rows = run.run.met_card.rows.items ++ flat_map client.rows_of (clients.clients_of run.run.met_clients) ++ flat_map reader.rows_of (readers.readers_of run.run.met_readers)
 
-  pub done-lines : HaveDone (session_of lab) (capture_of lab) stage lines base.clients (stops_by stops gates_after).clients base.readers (stops_by stops gates_after).readers
-      run.card_after mid.clients mid.readers after_rows
+  pub done-lines : HaveDone (session_of lab) (capture_of lab) stage lines base.clients (stops_by G.stops gates_after).clients base.readers (stops_by G.stops gates_after).readers
+      (HaveAskedMore G.asked (take 64 gates) (take 64 gates_after)) (HaveAskedMore G.asked (drop 64 gates) (drop 64 gates_after)) run.card_after mid.clients mid.readers after_rows
   done-lines =
       have-done (session_of lab) (capture_of lab) stage lines laws (length lab.script.now.clients) (length lab.script.now.readers) (phase-lines lab stage lines at is)
-      (unplugs_by-others (length lab.script.now.clients) (length lab.script.now.readers) lines (phase-lines lab stage lines at is) others) stops (take 64 gates) (take 64 gates_after)
+      (unplugs_by-others (length lab.script.now.clients) (length lab.script.now.readers) lines (phase-lines lab stage lines at is) others) G (take 64 gates) (take 64 gates_after)
       (drop 64 gates) (drop 64 gates_after) run.card run.run.roomy_card run.run.met_card lab.clients run.run.roomy_clients run.run.met_clients lab.readers run.run.roomy_readers
       run.run.met_readers actors-before run.run.room met-at base.clients base.readers
       (files-reached lab.script.now lab.wavs.now (session_of lab) at.has_done.done (first-item lab stage lines at is).others lines stage (reached-phase lab stage lines at is))
@@ -239,7 +241,7 @@ module _ {G : Type 0} (stops : G → ℕ) (gates gates_after : List G) (lab mid 
       readers_are = reaps.readers (session_of lab) (capture_of lab) done-lines.next_readers done-lines.readers;
     }
 
-    pub run-phase : HasRunPhase base (stops_by stops gates_after) lab stage lines after
+    pub run-phase : HasRunPhase (HaveAsked G.asked gates gates_after) base (stops_by G.stops gates_after) lab stage lines after
     run-phase = record {
       next = next-stage;
       may = done-lines.may;
@@ -250,15 +252,21 @@ module _ {G : Type 0} (stops : G → ℕ) (gates gates_after : List G) (lab mid 
           (flat_map client.rows_of (clients.clients_of run.run.met_clients)) done-lines.client_rows (flat_map reader.rows_of (readers.readers_of run.run.met_readers))
           done-lines.reader_rows at.rows done-lines.rows_are);
       counted = record {
-        clients = AreCounted-reaped_clients (session_of lab).ring base.clients (stops_by stops gates_after).clients 0 done-lines.next_clients done-lines.clients_counted;
-        readers = AreCounted-reaped_readers (session_of lab).ring base.readers (stops_by stops gates_after).readers 0 done-lines.next_readers done-lines.readers_counted;
+        clients = AreCounted-reaped_clients (session_of lab).ring base.clients (stops_by G.stops gates_after).clients 0 done-lines.next_clients done-lines.clients_counted;
+        readers = AreCounted-reaped_readers (session_of lab).ring base.readers (stops_by G.stops gates_after).readers 0 done-lines.next_readers done-lines.readers_counted;
+      };
+      gates = record {
+        clients = HaveAskedMore-then G.asked (take 64 gates) (take 64 gates_after) stage.clients done-lines.next_clients next-stage.clients done-lines.clients_asked
+            (same_asks-reaped_clients (session_of lab).ring 0 done-lines.next_clients);
+        readers = HaveAskedMore-then G.asked (drop 64 gates) (drop 64 gates_after) stage.readers done-lines.next_readers next-stage.readers done-lines.readers_asked
+            (same_asks-reaped_readers (session_of lab).ring 0 done-lines.next_readers);
       };
     }
 
 -- what was played is longer by what the card took
-played-longer : {G : Type 0} (stops : G → ℕ) (gates gates_after : List G) (lab mid after : Lab) (lines : List Line) → HasRunLines stops gates gates_after lab lines mid → Reaps mid after
+played-longer : {T : Type 0} (G : gate.Ghosts T) (gates gates_after : List T) (lab mid after : Lab) (lines : List Line) → HasRunLines G gates gates_after lab lines mid → Reaps mid after
     → IsLonger (played_of lab) (played_of after)
-played-longer stops gates gates_after lab mid after lines run reaps =
+played-longer G gates gates_after lab mid after lines run reaps =
     let met = run.run.met in
     let samples : List ℤ = met.run.card.did.samples in
     let first : met.before.played.items ≡ played_of lab = ap (λ v. v.items) met.second.played ∙ (run.run.room.played ∙ sym (ap played_by run.card_is)) in
@@ -270,10 +278,10 @@ played-longer stops gates gates_after lab mid after lines run reaps =
     }
 
 -- at whatever stage it was
-pub RunsPhase-reaped : {G : Type 0} (stops : G → ℕ) (gates gates_after : List G) (lab mid after : Lab) (lines : List Line) → ActorLaws → IsNextItem lab (item.Phase lines)
-    → length (ops_by is_of_card lines) ≢ length lines → HasRunLines stops gates gates_after lab lines mid → Reaps mid after
-    → RunsPhase (stops_by stops gates) (stops_by stops gates_after) lab lines after
-RunsPhase-reaped stops gates gates_after lab mid after lines laws is others run reaps = record {
+pub RunsPhase-reaped : {T : Type 0} (G : gate.Ghosts T) (gates gates_after : List T) (lab mid after : Lab) (lines : List Line) → ActorLaws → IsNextItem lab (item.Phase lines)
+    → length (ops_by is_of_card lines) ≢ length lines → HasRunLines G gates gates_after lab lines mid → Reaps mid after
+    → RunsPhase (HaveAsked G.asked gates gates_after) (stops_by G.stops gates) (stops_by G.stops gates_after) lab lines after
+RunsPhase-reaped G gates gates_after lab mid after lines laws is others run reaps = record {
   same = record {
     script = reaps.same.script ∙ run.same.script;
     wavs = reaps.same.wavs ∙ run.same.wavs;
@@ -287,13 +295,14 @@ RunsPhase-reaped stops gates gates_after lab mid after lines laws is others run 
       let same = ap (λ v. length v.items) reaps.rows in
       let few : length mid.rows.items ≤ length lab.rows.items + length lines = run.run.few in
       omega (arith, same, few);
-  played = played-longer stops gates gates_after lab mid after lines run reaps;
-  does = λ stage base at counted. run-phase stops gates gates_after lab mid lines laws is others run stage base at counted after reaps;
+  played = played-longer G gates gates_after lab mid after lines run reaps;
+  does = λ stage base at counted. run-phase G gates gates_after lab mid lines laws is others run stage base at counted after reaps;
 }
 
 -- ---- a phase that is counted
 
-module _ (stops stops_after : Stops) (lab mid after : Lab) (lines : List Line) (is : IsNextItem lab (item.Phase lines)) (runs : RunsPhase stops stops_after lab lines mid)
+module _ (Gates : Stage → Stage → Type 0) (stops stops_after : Stops) (lab mid after : Lab) (lines : List Line) (is : IsNextItem lab (item.Phase lines))
+    (runs : RunsPhase Gates stops stops_after lab lines mid)
     (has_room : HasEndRoom (length lines) lab) (counts : CountsPhase mid after) where
   same-then : Rattle.lab_phase.specs.AtStage.IsSameScript lab after
   same-then = record {
@@ -309,7 +318,7 @@ module _ (stops stops_after : Stops) (lab mid after : Lab) (lines : List Line) (
       let few = runs.few in
       HasEndRoom-next lab after (length lines) same-then (counts.room ∙ runs.room) (omega (arith, same, few)) has_room
 
-  pub DoesPhase-counted : DoesPhase stops stops_after lab lines after
+  pub DoesPhase-counted : DoesPhase Gates stops stops_after lab lines after
   DoesPhase-counted = record {
     same = same-then;
     next = counts.next ∙ ap (λ (n : ℕ). n + 1) runs.next;
@@ -331,13 +340,14 @@ module _ (stops stops_after : Stops) (lab mid after : Lab) (lines : List Line) (
         room = room-then;
       };
       counted = has.counted;
+      gates = has.gates;
     };
   }
 
 -- of a lab whose rows, and what the end of its run leaves, got other room before it
-pub DoesPhase-room : (stops stops_after : Stops) (lab after : Lab) (rows : Vec Row) (room : ReportRoom) (lines : List Line) → rows.items ≡ lab.rows.items → KeepsRoom lab.room room
-    → DoesPhase stops stops_after (record lab { rows = rows; room = room }) lines after → DoesPhase stops stops_after lab lines after
-DoesPhase-room stops stops_after lab after rows room lines same kept does = record {
+pub DoesPhase-room : (Gates : Stage → Stage → Type 0) (stops stops_after : Stops) (lab after : Lab) (rows : Vec Row) (room : ReportRoom) (lines : List Line) → rows.items ≡ lab.rows.items → KeepsRoom lab.room room
+    → DoesPhase Gates stops stops_after (record lab { rows = rows; room = room }) lines after → DoesPhase Gates stops stops_after lab lines after
+DoesPhase-room Gates stops stops_after lab after rows room lines same kept does = record {
   same = record { script = does.same.script; wavs = does.same.wavs; capture = does.same.capture; openings = does.same.openings };
   next = does.next;
   played = record { more = does.played.more; is = does.played.is };
@@ -346,5 +356,6 @@ DoesPhase-room stops stops_after lab after rows room lines same kept does = reco
     may = done.may;
     is = done.is;
     counted = done.counted;
+    gates = done.gates;
   };
 }

@@ -9,7 +9,8 @@ use Rattle.lab_lines.specs.Script.{first_frame}
 use Rattle.lab_run.specs.Client.{Client}
 use Rattle.lab_run.specs.Items.{Held}
 use Rattle.lab_run.specs.LabRun as runs
-use Rattle.lab_run.specs.LabRun.{AreWithin, LabRun, all_segments, mix_of, outcome_of}
+use Rattle.lab_run.specs.LabRun.{AreWithin, LabRun, all_segments, lab_text, mix_of, outcome_of}
+use Rattle.lab_run.specs.Phases.{AreUnmixed}
 use Rattle.lab_run.specs.Rules.{AtPort}
 use Rattle.lab_run.specs.Stage.{Session, Stage}
 use Rattle.lab_card.specs.Moves.{geometry_of_card, seat_of_card}
@@ -47,6 +48,13 @@ LeavesRun lab outcome =
     → AreWithin client_stops 0 stage.clients → AreWithin reader_stops 0 stage.readers
     → LabRun (session_of lab) (capture_of lab) lab.script.now.body client_stops
     reader_stops (outcome_in outcome)
+
+-- of a script without a mixed phase, where no actor's own gate stopped it, this is what its one run leaves
+abbrev pub LeavesOneRun : Lab → Outcome → Type 0
+LeavesOneRun lab outcome =
+    (stage : Stage) → IsAtStage lab stage → AreWithin (λ n. 0) 0 stage.clients
+    → AreWithin (λ n. 0) 0 stage.readers → AreUnmixed lab.script.now.body
+    → outcome_in outcome ≡ lab_text (session_of lab) (capture_of lab) lab.script.now.body
 
 -- the clients are those of a run, which has all places of their ring
 pub record HaveAllPlaces (cs : LabClients) : Type 0 where

@@ -1,4 +1,5 @@
 pub mod Alone
+pub mod AskLaws
 pub mod Asked
 pub mod AtStage
 pub mod BorderLaws

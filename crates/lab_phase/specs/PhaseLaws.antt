@@ -4,6 +4,7 @@ use Rattle.std.specs.List.{flat_map}
 use Rattle.std.proofs.Common.{refl, sym, ap, subst, ◌∙◌, arith}
 use Rattle.std.proofs.lemmas.Bool.{lt-ltb}
 use Rattle.std.proofs.lemmas.List.{length-append}
+use Rattle.mix_core.specs.declared.gate.Gate as gate
 use Rattle.wav_io.specs.Sound.{Sound}
 use Rattle.card_sim.specs.Runs.{records_of}
 use Rattle.lab_lines.specs.declared.line.Line.{Line}
@@ -17,7 +18,7 @@ use Rattle.lab_run.specs.Phases.{card_rows, ops_by}
 use Rattle.lab_run.specs.Reader.{Reader}
 use Rattle.lab_run.specs.Rules.{AtPort}
 use Rattle.lab_run.specs.Stage.{Session, Stage}
-use Rattle.lab_actors.specs.Gates.{AreCounted, stops_at}
+use Rattle.lab_actors.specs.Gates.{AreCounted, HaveAskedMore, stops_at}
 use Rattle.lab_actors.specs.Rows.{lines-most}
 use Rattle.lab_card.specs.declared.card.CardActor.{CardActor}
 use Rattle.lab_card.specs.CardLines.{unplugs_by}
@@ -51,9 +52,9 @@ pub record ActorLaws : Type 0 where
   pub readers : ReaderPartsAreRuns
 
 -- The actors did the lines of a phase as a run allows it, with these rows more, and none that was stopped is reaped yet. Their gates had stopped them
--- so often before the lab began.
+-- so often before the lab began, and were asked.
 pub record HaveDone (session : Session) (capture : Option Sound) (stage : Stage) (lines : List Line) (client_base client_stops reader_base reader_stops : ℕ → ℕ)
-    (a : CardActor) (cs : LabClients) (rs : LabReaders) (rows : List Row) : Type 0 where
+    (ClientsAsked : List (AtPort × Client) → List (AtPort × Client) → Type 0) (ReadersAsked : List (AtPort × Reader) → List (AtPort × Reader) → Type 0) (a : CardActor) (cs : LabClients) (rs : LabReaders) (rows : List Row) : Type 0 where
   pub next_clients : List (AtPort × Client)
   pub client_rows : List Row
   pub next_readers : List (AtPort × Reader)
@@ -65,6 +66,8 @@ pub record HaveDone (session : Session) (capture : Option Sound) (stage : Stage)
   pub readers : readers.AreDone session capture next_readers rs
   pub clients_counted : AreCounted client_base client_stops 0 next_clients
   pub readers_counted : AreCounted reader_base reader_stops 0 next_readers
+  pub clients_asked : ClientsAsked stage.clients next_clients
+  pub readers_asked : ReadersAsked stage.readers next_readers
   pub rows_are : rows ≡ card_rows (stage.phases + 1) stage.position (ops_by is_of_card lines) ++ client_rows ++ reader_rows
 
 -- the card has a row for each of its lines
@@ -73,9 +76,9 @@ length-card_rows phase position [] = refl
 length-card_rows phase position (asked ∷ more) = ap suc (length-card_rows phase (position + played_by asked) more)
 
 module _ (session : Session) (capture : Option Sound) (stage : Stage) (lines : List Line) (laws : ActorLaws) (client_count reader_count : ℕ)
-    (phase : IsPhase client_count reader_count lines) (plugged : unplugs_by (ops_by is_of_card lines) ≡ false) {G : Type 0} (stops : G → ℕ) (near near_after far far_after : List G)
+    (phase : IsPhase client_count reader_count lines) (plugged : unplugs_by (ops_by is_of_card lines) ≡ false) {T : Type 0} (G : gate.Ghosts T) (near near_after far far_after : List T)
     (a0 a1 f : CardActor) (cs0 cs1 fs : LabClients) (rs0 rs1 gs : LabReaders) (are : AreActorsOf session capture stage (Some a0) cs0 rs0) (room : HaveRoom lines a0 a1 cs0 cs1 rs0 rs1)
-    (met : HaveMet stops near near_after far far_after (asks_at session capture stage lines) a1 cs1 rs1 f fs gs) where
+    (met : HaveMet G near near_after far far_after (asks_at session capture stage lines) a1 cs1 rs1 f fs gs) where
   -- the card before the meets is the lab's
   at-room : IsCardIn session capture stage a1
   at-room = IsCardIn-same session capture stage stage a0 a1
@@ -108,7 +111,7 @@ module _ (session : Session) (capture : Option Sound) (stage : Stage) (lines : L
     };
   }
 
-  client-steps : ClientSteps stops near near_after session.sounds (stage.phases + 1) lines a1.card met.after.card cs0 fs
+  client-steps : ClientSteps G near near_after session.sounds (stage.phases + 1) lines a1.card met.after.card cs0 fs
   client-steps = record {
     roomy = cs1;
     informed = met.informed_clients;
@@ -119,7 +122,7 @@ module _ (session : Session) (capture : Option Sound) (stage : Stage) (lines : L
     hear = met.hear_clients;
   }
 
-  reader-steps : ReadersSteps met.between met.heard (stage.phases + 1) (stops_at stops far) (stops_at stops far_after) lines rs0 gs
+  reader-steps : ReadersSteps G far far_after met.between met.heard (stage.phases + 1) lines rs0 gs
   reader-steps = record {
     roomy = rs1;
     informed = met.informed_readers;
@@ -155,16 +158,16 @@ module _ (session : Session) (capture : Option Sound) (stage : Stage) (lines : L
       ∙ ap (λ (n : ℕ). card_rows (stage.phases + 1) n (ops_by is_of_card lines)) at-before.at.frame))
 
   module _ (client_base reader_base : ℕ → ℕ) (files : length session.sounds ≡ length stage.clients) (count : length stage.readers ≡ length session.readers)
-      (near_counted : AreCounted client_base (stops_at stops near) 0 stage.clients) (far_counted : AreCounted reader_base (stops_at stops far) 0 stage.readers) where
+      (near_counted : AreCounted client_base (stops_at G.stops near) 0 stage.clients) (far_counted : AreCounted reader_base (stops_at G.stops far) 0 stage.readers) where
     -- the actors have no more rows of a phase than it has lines
     pub few-rows : length (rows_by f fs gs) ≤ length lines
     few-rows =
         let own = ap length card-rows ∙ length-card_rows (stage.phases + 1) stage.position (ops_by is_of_card lines) in
         let of_clients =
-        length-client_rows session stage lines (held_of stage) stage.clients client_base laws.clients stops near near_after a1.card met.after.card cs0 fs files are.clients_are
+        length-client_rows session stage lines (held_of stage) stage.clients client_base laws.clients G near near_after a1.card met.after.card cs0 fs files are.clients_are
         card-in near_counted client-steps in
         let of_readers =
-        length-reader_rows session stage capture lines reader_base (stops_at stops far) (stops_at stops far_after) met.between met.before met.after met.heard reader-phase
+        length-reader_rows session stage capture lines reader_base G far far_after met.between met.before met.after met.heard reader-phase
         (IsCardAt-same session stage a1.card met.between met.first at-room.at) (IsCapturedUpTo-same capture a1.card met.between met.first at-room.captured) laws.readers
         stage.readers rs0 gs (records-met count) over-between are.readers_are far_counted reader-steps in
         let all = length-append (f.rows.items ++ flat_map client.rows_of (clients.clients_of fs)) (flat_map reader.rows_of (readers.readers_of gs)) in
@@ -173,18 +176,19 @@ module _ (session : Session) (capture : Option Sound) (stage : Stage) (lines : L
         omega (arith, own, of_clients, of_readers, all, first, most)
 
     module _ (b : CardActor) (ds : LabClients) (ss : LabReaders) (rows after : List Row) (given : HaveGivenRows rows after f b fs ds gs ss) where
-      clients-done : ClientsPhase session stage lines (held_of stage) client_base (stops_at stops near_after) stage.clients (flat_map client.rows_of (clients.clients_of fs)) ds
+      clients-done : ClientsPhase session stage lines (held_of stage) client_base (stops_at G.stops near_after) (HaveAskedMore G.asked near near_after) stage.clients (flat_map client.rows_of (clients.clients_of fs)) ds
       clients-done =
-          clients-phase session stage lines (held_of stage) stage.clients client_base laws.clients stops near near_after a1.card met.after.card cs0 fs files are.clients_are
+          clients-phase session stage lines (held_of stage) stage.clients client_base laws.clients G near near_after a1.card met.after.card cs0 fs files are.clients_are
           card-in near_counted client-steps ds given.clients (given.places ∙ (met.places ∙ room.places))
 
-      readers-done : ReadersMay session stage capture lines reader_base (stops_at stops far_after) stage.readers (flat_map reader.rows_of (readers.readers_of gs)) ss
+      readers-done : ReadersMay session stage capture lines reader_base (stops_at G.stops far_after) (HaveAskedMore G.asked far far_after) stage.readers (flat_map reader.rows_of (readers.readers_of gs)) ss
       readers-done =
-          readers-phase session stage capture lines reader_base (stops_at stops far) (stops_at stops far_after) met.between met.before met.after met.heard reader-phase
+          readers-phase session stage capture lines reader_base G far far_after met.between met.before met.after met.heard reader-phase
           (IsCardAt-same session stage a1.card met.between met.first at-room.at) (IsCapturedUpTo-same capture a1.card met.between met.first at-room.captured) laws.readers
           stage.readers rs0 gs (records-met count) over-between are.readers_are far_counted reader-steps ss given.readers
 
-      pub have-done : HaveDone session capture stage lines client_base (stops_at stops near_after) reader_base (stops_at stops far_after) b ds ss (rows_by f fs gs)
+      pub have-done : HaveDone session capture stage lines client_base (stops_at G.stops near_after) reader_base (stops_at G.stops far_after) (HaveAskedMore G.asked near near_after)
+          (HaveAskedMore G.asked far far_after) b ds ss (rows_by f fs gs)
       have-done =
           let client_rows : List Row = flat_map client.rows_of (clients.clients_of fs) in
           let reader_rows : List Row = flat_map reader.rows_of (readers.readers_of gs) in
@@ -216,5 +220,7 @@ module _ (session : Session) (capture : Option Sound) (stage : Stage) (lines : L
             readers = readers-done.done;
             clients_counted = clients-done.counted;
             readers_counted = readers-done.counted;
+            clients_asked = clients-done.asked;
+            readers_asked = readers-done.asked;
             rows_are = ap (λ (rs : List Row). rs ++ client_rows ++ reader_rows) card-rows;
           }

@@ -1,5 +1,8 @@
 -- A phase of a lab: what its steps make of its actors, and what it makes of a stage of a run.
 use Rattle.std.specs.Prelude.{◌≡◌, ℕ, ◌+◌, ◌≤◌, ◌++◌, ℤ, List, [], length, Option, Some, drop, map, take}
+use Rattle.mix_core.specs.declared.gate.Gate as gate
+use Rattle.mix_core.specs.declared.gate.Pass.{Pass}
+use Rattle.mix_core.specs.declared.gate.StepKind.{StepKind}
 use Rattle.lab_lines.specs.declared.line.Item.TheVariants as item
 use Rattle.lab_lines.specs.declared.line.Line.{Line}
 use Rattle.lab_lines.specs.declared.row.Row.{Row}
@@ -9,7 +12,8 @@ use Rattle.lab_run.specs.Reader.{Reader}
 use Rattle.lab_run.specs.Rules.{AtPort}
 use Rattle.lab_run.specs.Stage.{Session, Stage}
 use Rattle.wav_io.specs.Sound.{Sound}
-use Rattle.lab_actors.specs.Gates.{AreCounted, stops_at}
+use Rattle.lab_actors.specs.Gates.{AreCounted, HaveAskedMore, stops_at}
+use Rattle.lab_actors.specs.Walks.{AreEach}
 use Rattle.lab_card.specs.declared.card.CardActor.{CardActor}
 use Rattle.lab_places.specs.Held.{IsSameCard}
 use Rattle.lab_clients.specs.AtStage as clients
@@ -18,6 +22,7 @@ use Rattle.lab_readers.specs.AtStage as readers
 use Rattle.lab_readers.specs.declared.readers.LabReaders.{LabReaders}
 use Rattle.lab_phase.specs.declared.lab.Lab.{Lab}
 use Rattle.lab_phase.specs.AtStage.{AreActorsOf, IsAtStage, IsSameRing, IsSameScript, capture_of, items_done, played_of, session_of}
+use Rattle.lab_phase.specs.Borders.{HasSameAsks}
 use Rattle.lab_phase.specs.ReportRoom.{KeepsRoom}
 use Rattle.lab_phase.specs.PhaseSteps.{AreSameButRoom, Asks, CardHasRun, HaveGivenRows, HaveMet, HaveRoom}
 
@@ -38,6 +43,17 @@ pub record AreStopsOf (base stops : Stops) (stage : Stage) : Type 0 where
   pub clients : AreCounted base.clients stops.clients 0 stage.clients
   pub readers : AreCounted base.readers stops.readers 0 stage.readers
 
+-- from a stage to a later one the actors asked these gates as often as the later one counts more
+pub record HaveAsked {T : Type 0} (asked : T → T → List StepKind → Pass → Type 0)
+    (gates after : List T) (stage next : Stage) : Type 0 where
+  pub clients : HaveAskedMore asked (take 64 gates) (take 64 after) stage.clients next.clients
+  pub readers : HaveAskedMore asked (drop 64 gates) (drop 64 after) stage.readers next.readers
+
+-- they asked none
+pub record HaveSameAsks (stage next : Stage) : Type 0 where
+  pub clients : AreEach HasSameAsks 0 stage.clients next.clients
+  pub readers : AreEach HasSameAsks 0 stage.readers next.readers
+
 -- a lab is at a stage of a run, and nothing but these gates stopped its actors since it began
 pub record IsLabWith (stops : Stops) (lab : Lab) : Type 0 where
   pub stage : Stage
@@ -52,36 +68,40 @@ pub record IsLonger (samples after : List ℤ) : Type 0 where
   pub more : List ℤ
   pub is : after ≡ samples ++ more
 
--- the lab did a phase as a run may do it
-pub record HasDonePhase (base stops : Stops) (lab : Lab) (stage : Stage)
-    (lines : List Line) (after : Lab) : Type 0 where
+-- the lab did a phase as a run may do it, with its gates so
+pub record HasDonePhase (Gates : Stage → Stage → Type 0) (base stops : Stops) (lab : Lab)
+    (stage : Stage) (lines : List Line) (after : Lab) : Type 0 where
   pub next : Stage
   pub may : ItemMay (session_of lab) stage (item.Phase lines) next
   pub is : IsAtStage after next
   pub counted : AreStopsOf base stops next
+  pub gates : Gates stage next
 
--- the lab did a phase of the script that it runs, at whatever stage it was, and its gates stopped actors so often before it, and so often after it
-pub record DoesPhase (stops stops_after : Stops) (lab : Lab) (lines : List Line)
-    (after : Lab) : Type 0 where
+-- the lab did a phase of the script that it runs, at whatever stage it was; its gates stopped actors so often before it, and so often after it, and
+-- did so from this stage to the next
+pub record DoesPhase (Gates : Stage → Stage → Type 0) (stops stops_after : Stops)
+    (lab : Lab) (lines : List Line) (after : Lab) : Type 0 where
   pub same : IsSameScript lab after
   pub next : items_done after ≡ items_done lab + 1
   pub played : IsLonger (played_of lab) (played_of after)
   pub does : (stage : Stage) (base : Stops) → IsAtStage lab stage
-      → AreStopsOf base stops stage → HasDonePhase base stops_after lab stage lines after
+      → AreStopsOf base stops stage
+      → HasDonePhase Gates base stops_after lab stage lines after
 
 -- its actors are those of the next stage, and its rows that stage's
-pub record HasRunPhase (base stops : Stops) (lab : Lab) (stage : Stage)
-    (lines : List Line) (after : Lab) : Type 0 where
+pub record HasRunPhase (Gates : Stage → Stage → Type 0) (base stops : Stops) (lab : Lab)
+    (stage : Stage) (lines : List Line) (after : Lab) : Type 0 where
   pub next : Stage
   pub may : PhaseMay (session_of lab) stage lines next
   pub actors : AreActorsOf (session_of lab) (capture_of lab) next after.card
       after.clients after.readers
   pub rows : after.rows.items ≡ next.rows
   pub counted : AreStopsOf base stops next
+  pub gates : Gates stage next
 
 -- the actors did the phase, which isn't counted yet
-pub record RunsPhase (stops stops_after : Stops) (lab : Lab) (lines : List Line)
-    (after : Lab) : Type 0 where
+pub record RunsPhase (Gates : Stage → Stage → Type 0) (stops stops_after : Stops)
+    (lab : Lab) (lines : List Line) (after : Lab) : Type 0 where
   pub same : IsSameScript lab after
   pub phases : after.phases ≡ lab.phases
   pub next : after.next ≡ lab.next
@@ -89,7 +109,7 @@ pub record RunsPhase (stops stops_after : Stops) (lab : Lab) (lines : List Line)
   pub few : length after.rows.items ≤ length lab.rows.items + length lines
   pub played : IsLonger (played_of lab) (played_of after)
   pub does : (stage : Stage) (base : Stops) → IsAtStage lab stage
-      → AreStopsOf base stops stage → HasRunPhase base stops_after lab stage lines after
+      → AreStopsOf base stops stage → HasRunPhase Gates base stops_after lab stage lines after
 
 -- a phase and an item more is counted; else the lab is as before
 pub record CountsPhase (lab after : Lab) : Type 0 where
@@ -139,7 +159,7 @@ pub record PlaysAlone (asked : Asks) (rows after : List Row) (a b : CardActor) :
   pub few : length after ≤ length rows + length asked.lines
 
 -- the card, the clients and the readers took the room of their lines, met, did the lines, met again, and gave their rows to the lab
-pub record HaveRunLines {G : Type 0} (stops : G → ℕ) (gates gates_after : List G) (asked : Asks)
+pub record HaveRunLines {T : Type 0} (G : gate.Ghosts T) (gates gates_after : List T) (asked : Asks)
     (rows after : List Row) (a b : CardActor) (cs ds : LabClients) (rs ss : LabReaders)
     : Type 0 where
   pub roomy_card : CardActor
@@ -149,7 +169,7 @@ pub record HaveRunLines {G : Type 0} (stops : G → ℕ) (gates gates_after : Li
   pub met_clients : LabClients
   pub met_readers : LabReaders
   pub room : HaveRoom asked.lines a roomy_card cs roomy_clients rs roomy_readers
-  pub met : HaveMet stops (take 64 gates) (take 64 gates_after) (drop 64 gates)
+  pub met : HaveMet G (take 64 gates) (take 64 gates_after) (drop 64 gates)
       (drop 64 gates_after) asked roomy_card roomy_clients roomy_readers met_card
       met_clients met_readers
   pub given : HaveGivenRows rows after met_card b met_clients ds met_readers ss
@@ -166,7 +186,7 @@ asks_of_lab lab lines =
     }
 
 -- its actors went through a phase's lines; those that were stopped aren't reaped yet
-pub record HasRunLines {G : Type 0} (stops : G → ℕ) (gates gates_after : List G)
+pub record HasRunLines {T : Type 0} (G : gate.Ghosts T) (gates gates_after : List T)
     (lab : Lab) (lines : List Line) (after : Lab) : Type 0 where
   pub same : IsSameScript lab after
   pub room : after.room ≡ lab.room
@@ -176,7 +196,7 @@ pub record HasRunLines {G : Type 0} (stops : G → ℕ) (gates gates_after : Lis
   pub card_after : CardActor
   pub card_is : lab.card ≡ Some card
   pub card_then : after.card ≡ Some card_after
-  pub run : HaveRunLines stops gates gates_after (asks_of_lab lab lines) lab.rows.items
+  pub run : HaveRunLines G gates gates_after (asks_of_lab lab lines) lab.rows.items
       after.rows.items card card_after lab.clients after.clients lab.readers after.readers
 
 -- the stopped actors were reaped

@@ -3,13 +3,13 @@ use Rattle.std.specs.Prelude.{◌≡◌, ℕ, ◌+◌, ◌≤◌, List, [], ◌+
 use Rattle.std.specs.List.{flat_map}
 use Rattle.std.proofs.Common.{ap, arith, refl}
 use Rattle.std.proofs.lemmas.List.{length-append}
+use Rattle.mix_core.specs.declared.gate.Gate as gate
 use Rattle.wav_io.specs.Sound.{Sound}
 use Rattle.card_sim.specs.declared.card.Card.{Card}
 use Rattle.lab_lines.specs.declared.line.Line.{Line}
 use Rattle.lab_lines.specs.Script.{is_of_card}
 use Rattle.lab_lines.specs.declared.row.Row.{Row}
 use Rattle.lab_run.specs.Phases.{ops_by}
-use Rattle.lab_actors.specs.Gates.{stops_at}
 use Rattle.lab_actors.specs.Walks.{AreEach, AreEach-same}
 use Rattle.lab_card.specs.declared.card.CardActor.{CardActor}
 use Rattle.lab_card.specs.CardLines.{CardPart, frames_by}
@@ -71,24 +71,23 @@ AreSameButRoom-card a b cs rs same = record {
 abbrev pub CardHasRun : Asks → CardActor → CardActor → Type 0
 CardHasRun asked a b = CardPart asked.capture asked.phase a b (ops_by is_of_card asked.lines)
 
-pub record ClientsHaveRun {G : Type 0} (stops : G → ℕ) (gates after : List G)
+pub record ClientsHaveRun {T : Type 0} (G : gate.Ghosts T) (gates after : List T)
     (asked : Asks) (cs ds : LabClients) : Type 0 where
-  pub each : AreEach (clients.RunsAt stops gates after asked.sounds asked.phase asked.lines)
+  pub each : AreEach (clients.RunsAt G gates after asked.sounds asked.phase asked.lines)
       0 (clients_of cs) (clients_of ds)
   pub places : places_of ds ≡ places_of cs
 
-abbrev pub ReadersHaveRun : {G : Type 0} → (G → ℕ) → List G → List G → Asks
+abbrev pub ReadersHaveRun : {T : Type 0} → gate.Ghosts T → List T → List T → Asks
     → LabReaders → LabReaders → Type 0
-ReadersHaveRun stops gates after asked rs ss =
-    EachReader (readers.RunsBehind (stops_at stops gates) (stops_at stops after)
-    asked.phase asked.lines) rs ss
+ReadersHaveRun G gates after asked rs ss =
+    EachReader (readers.RunsBehind G gates after asked.phase asked.lines) rs ss
 
 -- all did their lines
-pub record HaveRun {G : Type 0} (stops : G → ℕ) (near near_after far far_after : List G)
+pub record HaveRun {T : Type 0} (G : gate.Ghosts T) (near near_after far far_after : List T)
     (asked : Asks) (a b : CardActor) (cs ds : LabClients) (rs ss : LabReaders) : Type 0 where
   pub card : CardHasRun asked a b
-  pub clients : ClientsHaveRun stops near near_after asked cs ds
-  pub readers : ReadersHaveRun stops far far_after asked rs ss
+  pub clients : ClientsHaveRun G near near_after asked cs ds
+  pub readers : ReadersHaveRun G far far_after asked rs ss
 
 -- a card that met notes or gave some, and did nothing else
 pub record IsSameButCard (a b : CardActor) : Type 0 where
@@ -98,7 +97,7 @@ pub record IsSameButCard (a b : CardActor) : Type 0 where
   pub captured : b.captured ≡ a.captured
 
 -- The meets before the lines, the lines, and the meets after them.
-pub record HaveMet {G : Type 0} (stops : G → ℕ) (near near_after far far_after : List G)
+pub record HaveMet {T : Type 0} (G : gate.Ghosts T) (near near_after far far_after : List T)
     (asked : Asks) (a : CardActor) (cs : LabClients) (rs : LabReaders)
     (f : CardActor) (fs : LabClients) (gs : LabReaders) : Type 0 where
   pub between : Card
@@ -114,7 +113,7 @@ pub record HaveMet {G : Type 0} (stops : G → ℕ) (near near_after far far_aft
   pub inform_clients : AreEach (clients.IsInformedBy a.card) 0 (clients_of cs)
       (clients_of informed_clients)
   pub inform_readers : EachReader (readers.IsInformedBy between) rs informed_readers
-  pub run : HaveRun stops near near_after far far_after asked before after
+  pub run : HaveRun G near near_after far far_after asked before after
       informed_clients run_clients informed_readers run_readers
   pub third : IsSameCard after.card heard
   pub last : IsSameButCard after f
@@ -130,12 +129,12 @@ rows_by a cs rs =
     ++ flat_map reader.rows_of (readers_of rs)
 
 -- Whatever actors do by the lines of a phase, once they took the room of them, they have no more rows of it than it has lines.
-abbrev pub GiveFewRows : {G : Type 0} → (G → ℕ) → List G → Asks → CardActor → LabClients
+abbrev pub GiveFewRows : {T : Type 0} → gate.Ghosts T → List T → Asks → CardActor → LabClients
     → LabReaders → Type 0
-GiveFewRows {G = G} stops gates asked a cs rs =
-    (gates_after : List G) (b d : CardActor) (ds es : LabClients) (ss ts : LabReaders)
+GiveFewRows {T = T} G gates asked a cs rs =
+    (gates_after : List T) (b d : CardActor) (ds es : LabClients) (ss ts : LabReaders)
     → HaveRoom asked.lines a b cs ds rs ss
-    → HaveMet stops (take 64 gates) (take 64 gates_after) (drop 64 gates) (drop 64 gates_after)
+    → HaveMet G (take 64 gates) (take 64 gates_after) (drop 64 gates) (drop 64 gates_after)
     asked b ds ss d es ts
     → length (rows_by d es ts) ≤ length asked.lines
 

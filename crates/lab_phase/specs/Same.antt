@@ -21,7 +21,7 @@ use Rattle.lab_card.specs.MeetLaws.{IsSameCard-none}
 use Rattle.lab_card.specs.Meets.{IsSameCard}
 use Rattle.lab_card.specs.Moves.{seat_of_card}
 use Rattle.lab_places.specs.Held.{key_of_places, ring_of_places, share_of, shares_of}
-use Rattle.lab_actors.specs.Walks.{AreEach}
+use Rattle.lab_actors.specs.Walks.{AreEach, AreEach-same}
 use Rattle.lab_clients.specs.AtStage.{clients_of, places_of}
 use Rattle.lab_clients.specs.Same.{AreAt-same}
 use Rattle.lab_clients.specs.Steps.{IsSameWithRows}
@@ -34,7 +34,7 @@ use Rattle.lab_phase.specs.declared.report_room.ReportRoom.{ReportRoom}
 use Rattle.lab_phase.specs.ReportRoom.{HasReportRoom, KeepsRoom}
 use Rattle.lab_phase.specs.AtStage.{AreActorsOf, DoesItem, HasDone, HasEndRoom, IsAtStage, IsCardOf, IsNextItem, IsNextItem-at, IsSameCount, IsSameRing, IsSameScript, capture_of, played_by, session_of}
 use Rattle.lab_phase.specs.BorderLaws.{AreActorsOf-client, AreActorsOf-reader, AreSetUp-same, session_of-same}
-use Rattle.lab_phase.specs.Borders.{IsSameAtCard}
+use Rattle.lab_phase.specs.Borders.{HasSameAsks, IsSameAtCard}
 use Rattle.lab_phase.specs.CardStage.{IsCardIn-same, IsSameActor}
 use Rattle.lab_phase.specs.PhaseRuns.{IsSameLab, StaysAtStage}
 use Rattle.lab_phase.specs.PhaseSteps.{AreSameButRoom, AreSameButRoom-card}
@@ -133,7 +133,13 @@ module _ (lab after : Lab) (same : IsSameScript lab after) (count : IsSameCount 
           share = ap share_of places;
           channels = ap (λ p. (shares_of p).channels) places;
         })
-        (record { card = no-change stage; readers = refl; count = refl; stops = λ base stops counted. counted })
+        (record {
+          card = no-change stage;
+          readers = refl;
+          count = refl;
+          stops = λ base stops counted. counted;
+          asks = AreEach-same HasSameAsks 0 stage.clients (λ n x. refl);
+        })
         (AreAt-same (session_of lab) (held_of stage) stage.clients lab.clients after.clients each places at.actors.clients_are) before)))
         at;
   }
@@ -151,7 +157,14 @@ module _ (lab after : Lab) (same : IsSameScript lab after) (count : IsSameCount 
         (subst (λ (own : Option CardActor). AreActorsOf (session_of lab) (capture_of lab) stage own after.clients after.readers) (sym card)
         (subst (λ (cs : LabClients). AreActorsOf (session_of lab) (capture_of lab) stage lab.card cs after.readers) (sym others)
         (AreActorsOf-reader (session_of lab) (capture_of lab) stage stage lab.card lab.clients lab.readers after.readers ring
-        (record { card = no-change stage; clients = refl; held = refl; count = refl; stops = λ base stops counted. counted })
+        (record {
+          card = no-change stage;
+          clients = refl;
+          held = refl;
+          count = refl;
+          stops = λ base stops counted. counted;
+          asks = AreEach-same HasSameAsks 0 stage.readers (λ n x. refl);
+        })
         (kept (session_of lab) (capture_of lab) stage.readers at.actors.readers_are) at.actors)))
         at;
   }

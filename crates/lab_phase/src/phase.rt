@@ -60,9 +60,9 @@ fn run_together<R: Threads + Sync, G: Gate + Send>(
     requires meet { (a : CardActor) (cs : LabClients) (rs : LabReaders)
         → HaveRoom asked.now.lines.now card.old a clients.old cs readers.old rs
         → CanMeet (length gates.old) asked.now a cs rs }
-    requires few_rows { GiveFewRows G.stops gates.old (asks_of asked.now)
+    requires few_rows { GiveFewRows G.Gate gates.old (asks_of asked.now)
         card.old clients.old readers.old }
-    ensures run { OnOk result (HaveRunLines G.stops gates.old gates.new (asks_of asked.now)
+    ensures run { OnOk result (HaveRunLines G.Gate gates.old gates.new (asks_of asked.now)
         rows.old.items rows.new.items card.old card.new clients.old clients.new
         readers.old readers.new) }
     ensures kept { OnErr result (AreSameButRoom
@@ -85,12 +85,14 @@ impl<'r> Lab<'r, '_> {
     ghost use Rattle.lab_clients.specs.Reaped.{AreDoneInRun};
     ghost use Rattle.lab_readers.specs.AtStage.{AreOfRing};
     ghost use Rattle.lab_phase.specs.AtStage.{IsLab, IsNextItem};
-    ghost use Rattle.lab_phase.specs.PhaseRuns.{CountsPhase, DoesPhase, HasRunLines, IsLabWith, IsSameLab, Reaps, RunsPhase, Stops, stops_by};
+    ghost use Rattle.lab_phase.specs.PhaseRuns.{CountsPhase, DoesPhase, HasRunLines, HaveAsked, HaveSameAsks, IsLabWith, IsSameLab, Reaps, RunsPhase, Stops, stops_by};
 
     /// Does the next phase of the script's body: the card and all clients and readers do their lines, at once where two of them have some,
     /// each in a thread of its own where one can be made. Before the lines each client and reader gets a note of the card's position, and
     /// after them the card gets one of each; then those are closed that their gates stopped. The room for all that the phase leaves is taken
     /// first. It refuses, with `Memory`, only where no memory is left; then no line was done, and the lab is as it was, but for its room.
+    ///
+    /// Each client and reader asks its own gate before each of its steps, and no other, as often as the run counts.
     ///
     /// The caller has the lines of the script's next item, and 128 gates, the same in each call: the first 64 are the clients', by their
     /// numbers, and the ones after them the readers'. Nothing else stopped an actor since the lab began.
@@ -104,8 +106,8 @@ impl<'r> Lab<'r, '_> {
         requires next { IsNextItem self.old (item.Phase lines.now) }
         requires gates { 128 ≤ length gates.old }
         ensures does { OnOk result
-            (DoesPhase (stops_by G.stops gates.old) (stops_by G.stops gates.new)
-            self.old lines.now self.new) }
+            (DoesPhase (HaveAsked G.asked gates.old gates.new) (stops_by G.stops gates.old)
+            (stops_by G.stops gates.new) self.old lines.now self.new) }
         ensures kept { OnErr result (IsSameLab self.old self.new) }
         ensures gates { OnErr result (gates.new ≡ gates.old) }
         ensures only { IfErr result (λ e. e ≡ PcmError.Memory) }
@@ -129,8 +131,8 @@ impl<'r> Lab<'r, '_> {
         requires next { IsNextItem self.old (item.Phase lines.now) }
         requires gates { 128 ≤ length gates.old }
         ensures runs { OnOk result
-            (RunsPhase (stops_by G.stops gates.old) (stops_by G.stops gates.new)
-            self.old lines.now self.new) }
+            (RunsPhase (HaveAsked G.asked gates.old gates.new) (stops_by G.stops gates.old)
+            (stops_by G.stops gates.new) self.old lines.now self.new) }
         ensures kept { OnErr result (IsSameLab self.old self.new) }
         ensures gates { OnErr result (gates.new ≡ gates.old) }
         ensures only { IfErr result (λ e. e ≡ PcmError.Memory) }
@@ -148,7 +150,7 @@ impl<'r> Lab<'r, '_> {
         requires next { IsNextItem self.old (item.Phase lines.now) }
         requires alone { length (ops_by is_of_card lines.now) ≡ length lines.now }
         ensures runs { OnOk result
-            ((stops : Stops) → RunsPhase stops stops self.old lines.now self.new) }
+            ((stops : Stops) → RunsPhase HaveSameAsks stops stops self.old lines.now self.new) }
         ensures kept { OnErr result (IsSameLab self.old self.new) }
         ensures only { IfErr result (λ e. e ≡ PcmError.Memory) }
     {
@@ -177,8 +179,8 @@ impl<'r> Lab<'r, '_> {
         requires gates { 128 ≤ length gates.old }
         requires others { length (ops_by is_of_card lines.now) ≢ length lines.now }
         ensures runs { OnOk result
-            (RunsPhase (stops_by G.stops gates.old) (stops_by G.stops gates.new)
-            self.old lines.now self.new) }
+            (RunsPhase (HaveAsked G.asked gates.old gates.new) (stops_by G.stops gates.old)
+            (stops_by G.stops gates.new) self.old lines.now self.new) }
         ensures kept { OnErr result (IsSameLab self.old self.new) }
         ensures gates { OnErr result (gates.new ≡ gates.old) }
         ensures only { IfErr result (λ e. e ≡ PcmError.Memory) }
@@ -203,7 +205,7 @@ impl<'r> Lab<'r, '_> {
         requires gates { 128 ≤ length gates.old }
         requires others { length (ops_by is_of_card lines.now) ≢ length lines.now }
         ensures runs { OnOk result
-            (HasRunLines G.stops gates.old gates.new self.old lines.now self.new) }
+            (HasRunLines G.Gate gates.old gates.new self.old lines.now self.new) }
         ensures kept { OnErr result (IsSameLab self.old self.new) }
         ensures gates { OnErr result (gates.new ≡ gates.old) }
         ensures only { IfErr result (λ e. e ≡ PcmError.Memory) }

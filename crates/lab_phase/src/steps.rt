@@ -68,7 +68,7 @@ fn run_in_turn<G: Gate>(
     requires card { CardCanRun asked.now.lines.now card.old }
     requires clients { ClientsCanRun (length near.old) asked.now clients.old }
     requires readers { ReadersCanRun (length far.old) asked.now readers.old }
-    ensures { HaveRun G.stops near.old near.new far.old far.new (asks_of asked.now)
+    ensures { HaveRun G.Gate near.old near.new far.old far.new (asks_of asked.now)
         card.old card.new clients.old clients.new readers.old readers.new }
 {
     card.run_lines(asked.capture, asked.phase, asked.lines);
@@ -87,23 +87,23 @@ fn run_actors_at_once<R: Threads + Sync, G: Gate + Send>(
 )
     requires clients { ClientsCanRun (length near.old) asked.now clients.old }
     requires readers { ReadersCanRun (length far.old) asked.now readers.old }
-    ensures clients { ClientsHaveRun G.stops near.old near.new (asks_of asked.now)
+    ensures clients { ClientsHaveRun G.Gate near.old near.new (asks_of asked.now)
         clients.old clients.new }
-    ensures readers { ReadersHaveRun G.stops far.old far.new (asks_of asked.now)
+    ensures readers { ReadersHaveRun G.Gate far.old far.new (asks_of asked.now)
         readers.old readers.new }
 {
     let mut play = ||
         requires shared { IsSync R.row }
         requires sent { IsSend G.row }
         requires ready { ClientsCanRun (length near.now) asked.now clients.now }
-        ensures { ClientsHaveRun G.stops near.entry.now near.exit.now (asks_of asked.entry.now)
+        ensures { ClientsHaveRun G.Gate near.entry.now near.exit.now (asks_of asked.entry.now)
             clients.entry.now clients.exit.now }
     { clients.run_lines_at_once(rt, near, asked.wavs, asked.phase, asked.lines) };
     let mut record = ||
         requires shared { IsSync R.row }
         requires sent { IsSend G.row }
         requires ready { ReadersCanRun (length far.now) asked.now readers.now }
-        ensures { ReadersHaveRun G.stops far.entry.now far.exit.now (asks_of asked.entry.now)
+        ensures { ReadersHaveRun G.Gate far.entry.now far.exit.now (asks_of asked.entry.now)
             readers.entry.now readers.exit.now }
     { readers.run_lines_at_once(rt, far, asked.phase, asked.lines) };
     join_mut(rt, &mut play, &mut record);
@@ -122,7 +122,7 @@ fn run_at_once<R: Threads + Sync, G: Gate + Send>(
     requires card { CardCanRun asked.now.lines.now card.old }
     requires clients { ClientsCanRun (length near.old) asked.now clients.old }
     requires readers { ReadersCanRun (length far.old) asked.now readers.old }
-    ensures { HaveRun G.stops near.old near.new far.old far.new (asks_of asked.now)
+    ensures { HaveRun G.Gate near.old near.new far.old far.new (asks_of asked.now)
         card.old card.new clients.old clients.new readers.old readers.new }
 {
     let mut play = ||
@@ -134,9 +134,9 @@ fn run_at_once<R: Threads + Sync, G: Gate + Send>(
         requires sent { IsSend G.row }
         requires clients { ClientsCanRun (length near.now) asked.now clients.now }
         requires readers { ReadersCanRun (length far.now) asked.now readers.now }
-        ensures clients { ClientsHaveRun G.stops near.entry.now near.exit.now
+        ensures clients { ClientsHaveRun G.Gate near.entry.now near.exit.now
             (asks_of asked.entry.now) clients.entry.now clients.exit.now }
-        ensures readers { ReadersHaveRun G.stops far.entry.now far.exit.now
+        ensures readers { ReadersHaveRun G.Gate far.entry.now far.exit.now
             (asks_of asked.entry.now) readers.entry.now readers.exit.now }
     { run_actors_at_once(rt, clients, readers, near, far, asked) };
     join_mut(rt, &mut play, &mut others);
@@ -163,7 +163,7 @@ fn run_all<R: Threads + Sync, G: Gate + Send>(
     requires card { CardCanRun asked.now.lines.now card.old }
     requires clients { ClientsCanRun (length near.old) asked.now clients.old }
     requires readers { ReadersCanRun (length far.old) asked.now readers.old }
-    ensures { HaveRun G.stops near.old near.new far.old far.new (asks_of asked.now)
+    ensures { HaveRun G.Gate near.old near.new far.old far.new (asks_of asked.now)
         card.old card.new clients.old clients.new readers.old readers.new }
 {
     if busy_count(clients, readers, asked.lines) > 1 {
@@ -186,7 +186,7 @@ pub(crate) fn run_lines<R: Threads + Sync, G: Gate + Send>(
     asked: &Asked<'_>,
 )
     requires { CanMeet (length gates.old) asked.now card.old clients.old readers.old }
-    ensures { HaveMet G.stops (take 64 gates.old) (take 64 gates.new)
+    ensures { HaveMet G.Gate (take 64 gates.old) (take 64 gates.new)
         (drop 64 gates.old) (drop 64 gates.new) (asks_of asked.now)
         card.old clients.old readers.old card.new clients.new readers.new }
 {

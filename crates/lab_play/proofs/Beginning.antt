@@ -79,6 +79,12 @@ module _ (input : RunInput) (name : List ℕ) (stops : Stops) (lab : Lab) (outpu
     };
   }
 
+  -- it is at the first stage
+  pub stage-first : (files : Option Files) (taken_after : Option (List ℕ)) (going : IsGoingOn outputs.files.items outputs.samples.items (nothing outputs.files.items) before files)
+      (text : taken_after ≡ option_map (λ t. t ++ head_text) taken) → (IsPlaying-first files taken_after going text).stage ≡ first_stage (session_of lab)
+  unfolding IsPlaying-first
+  stage-first files taken_after going text = refl
+
   -- some of that is missing: nothing is played, which is the mix of no segments
   pub HasStopped-first : (files : Option Files) (taken_after : Option (List ℕ)) → Changes (MayHold outputs.files.items (nothing outputs.files.items)) before files
       → TookPart taken taken_after head_text → IsStopped start-of stops files taken_after

@@ -4,8 +4,10 @@ use Rattle.std.specs.List.{flat_map}
 use Rattle.std.specs.Option.{option_map}
 use Rattle.std.specs.Result.{IsErrAnd}
 use Rattle.std.proofs.Common.{refl, inl, inr, sym, ap, subst, ◌∙◌, arith, append_assoc}
-use Rattle.std.proofs.lemmas.List.{length-append, take-append-drop}
+use Rattle.std.proofs.lemmas.List.{append-nil, length-append, take-append-drop}
 use Rattle.std.proofs.lemmas.List.Concat.{flat_map-append}
+use Rattle.mix_core.specs.declared.gate.Pass.{Pass}
+use Rattle.mix_core.specs.declared.gate.StepKind.{StepKind}
 use Rattle.wav_io.specs.Sound.{Sound}
 use Rattle.lab_headline.specs.Headline.{Headline}
 use Rattle.lab_headline.specs.OneSample.{AreSamples, PlaysOneSample}
@@ -17,8 +19,8 @@ use Rattle.lab_output.specs.Text.{head_text, tail_from, text_so_far}
 use Rattle.lab_phase.specs.declared.finish.Outcome as left
 use Rattle.lab_phase.specs.declared.lab.Lab.{Lab}
 use Rattle.lab_phase.specs.AtStage.{capture_of, items_done, played_of, session_of}
-use Rattle.lab_phase.specs.Ended.{HasPlayedMix, LeavesRun, LeavesStage, outcome_in}
-use Rattle.lab_phase.specs.PhaseRuns.{Stops}
+use Rattle.lab_phase.specs.Ended.{HasPlayedMix, LeavesStage, outcome_in}
+use Rattle.lab_phase.specs.PhaseRuns.{HaveAsked, Stops}
 use Rattle.lab_phase.specs.StopLaws.{AreWithin-counted}
 use Rattle.lab_lines.specs.declared.report.Report.{Report}
 use Rattle.lab_lines.specs.declared.row.Row.{Row}
@@ -26,14 +28,16 @@ use Rattle.lab_report.specs.Text.{IsReportOf, report_text, row_line, tail_text}
 use Rattle.lab_rows.specs.Reports.{OutcomesAreOfScripts}
 use Rattle.lab_run.specs.LabRun.{LabRun, Outcome, outcome_of, recorded_from}
 use Rattle.lab_run.specs.Openings.{IsSessionOf}
-use Rattle.lab_run.specs.Stage.{Session, Stage}
+use Rattle.lab_run.specs.Items.{ItemsMay}
+use Rattle.lab_run.specs.Stage.{Session, Stage, first_stage}
 use Rattle.lab_lines.specs.declared.line.Item.{Item}
 use Rattle.lab_lines.specs.declared.script.Script.{Script}
 use Rattle.lab_lines.specs.Limits.{IsScript}
 use Rattle.lab_shelf.specs.Changes.{Changes, TookPart-all, TookPart-then}
 use Rattle.lab_shelf.specs.Files.{Files, TookPart}
 use Rattle.lab_stop.specs.declared.stop.Stop.{Stop}
-use Rattle.lab_play.specs.Played.{HasPlayed, sounds_of}
+use Rattle.lab_play.specs.Ends.{EndsAt}
+use Rattle.lab_play.specs.Played.{HasPlayedAsking, sounds_of}
 use Rattle.lab_play.specs.Order.{StopsInHeads, StopsInTail}
 use Rattle.lab_play.specs.Playing.{IsPlaying, IsStopped, Scene, Start, scene, sounds_at, text_at}
 use Rattle.lab_play.specs.Stops.{rises}
@@ -79,7 +83,7 @@ none-left done (one ∷ others) all = let len = length-append done (one ∷ othe
 -- ---- a run whose items are all done
 
 module _ (start : Start) (stops : Stops) (lab : Lab) (outputs : Outputs) (files : Option Files) (taken : Option (List ℕ)) (is : IsPlaying start stops (scene lab outputs files taken))
-    (all : items_done lab ≡ length start.input.script.body) (outcome : left.Outcome) (leaves : LeavesStage lab outcome) (runs : LeavesRun lab outcome)
+    (all : items_done lab ≡ length start.input.script.body) (outcome : left.Outcome) (leaves : LeavesStage lab outcome)
     (samples : outcome.played.items ≡ played_of lab) where
   stage : Stage
   stage = is.stage
@@ -95,16 +99,30 @@ module _ (start : Start) (stops : Stops) (lab : Lab) (outputs : Outputs) (files 
       ap (λ (xs : List ℤ). xs ∷ recorded_from (session_of lab) (capture_of lab) 0 is.stage.readers) (sym samples)
       ∙ ap (λ (xss : List (List ℤ)). outcome.played.items ∷ xss) (sym (ap (λ (o : Outcome). o.recorded) at-end))
 
-  run-at_end : LabRun (session_of lab) start.input.capture start.input.script.body (rises start.stops stops).clients (rises start.stops stops).readers (outcome_in outcome)
-  run-at_end =
+  -- no item is left
+  last-end : is.lab_is.stage_is.has_done.others ≡ []
+  last-end =
+      let has = is.lab_is.stage_is.has_done in
       let own = is.lab_is.script_is in
-      let counted = is.lab_is.counted in
-      subst (λ (capture : Option Sound). LabRun (session_of lab) capture start.input.script.body (rises start.stops stops).clients (rises start.stops stops).readers (outcome_in outcome))
-      own.capture_is
-      (subst (λ (s : Script). LabRun (session_of lab) (capture_of lab) s.body (rises start.stops stops).clients (rises start.stops stops).readers (outcome_in outcome)) own.script_is
-      (runs is.stage (rises start.stops stops).clients (rises start.stops stops).readers is.lab_is.stage_is
-      (AreWithin-counted start.stops.clients stops.clients 0 is.stage.clients counted.clients)
-      (AreWithin-counted start.stops.readers stops.readers 0 is.stage.readers counted.readers)))
+      none-left has.done has.others
+      (sym has.next ∙ (all ∙ (ap (λ (s : Script). length s.body) (sym own.script_is) ∙ ap length has.reached.body)))
+
+  body-at_end : is.lab_is.stage_is.has_done.done ≡ start.input.script.body
+  body-at_end =
+      let has = is.lab_is.stage_is.has_done in
+      sym (append-nil has.done)
+      ∙ (ap (λ (others : List Item). has.done ++ others) (sym last-end)
+      ∙ (sym has.reached.body ∙ ap (λ (s : Script). s.body) is.lab_is.script_is.script_is))
+
+  -- the run ends at the lab's stage
+  abbrev run-at_end : LabRun (session_of lab) start.input.capture start.input.script.body (rises start.stops stops).clients (rises start.stops stops).readers (outcome_in outcome)
+  run-at_end = record {
+    end = is.stage;
+    may = subst (λ (body : List Item). ItemsMay (session_of lab) (first_stage (session_of lab)) body is.stage) body-at_end is.lab_is.stage_is.has_done.reached.may;
+    clients = AreWithin-counted start.stops.clients stops.clients 0 is.stage.clients is.lab_is.counted.clients;
+    readers = AreWithin-counted start.stops.readers stops.readers 0 is.stage.readers is.lab_is.counted.readers;
+    is = at-end ∙ ap (λ (capture : Option Sound). outcome_of (session_of lab) capture is.stage) is.lab_is.script_is.capture_is;
+  }
 
   valid-at_end : IsScript start.input.script
   valid-at_end = subst IsScript is.lab_is.script_is.script_is is.lab_is.stage_is.has_done.reached.script_is
@@ -123,39 +141,35 @@ module _ (start : Start) (stops : Stops) (lab : Lab) (outputs : Outputs) (files 
       is.written.text ∙ ap (λ (rows : List Row). option_map (λ t. t ++ text_so_far start.input.script (take outputs.rows rows)) start.taken) (sym rows-at_end)
 
   -- all is written
-  pub HasPlayed-end : (facts : RunFacts) (ones : OneFacts) (files_after : Option Files) (taken_after : Option (List ℕ)) → files_after ≡ option_map (finished_files outputs.files.items (sounds_at lab is.stage)) start.files
+  pub EndsAt-all : (facts : RunFacts) (ones : OneFacts) (files_after : Option Files) (taken_after : Option (List ℕ)) → files_after ≡ option_map (finished_files outputs.files.items (sounds_at lab is.stage)) start.files
       → taken_after ≡ option_map (λ t. t ++ tail_from start.input.script outputs.rows outcome.report) taken
-      → HasPlayed start.input start.out (rises start.stops stops) (outcome_in outcome) start.files files_after start.taken taken_after
-  HasPlayed-end facts ones files_after taken_after files_are text = record {
-    session = session_of lab;
-    is = record {
-      session_is = is.lab_is.script_is.session_is;
-      run = run-at_end;
-      headline = facts start.input.script start.input.sounds (session_of lab) start.input.capture (rises start.stops stops).clients (rises start.stops stops).readers (outcome_in outcome)
-          valid-at_end is.lab_is.script_is.session_is run-at_end;
-      one = ones start.input.script start.input.sounds (session_of lab) start.input.capture (rises start.stops stops).clients (rises start.stops stops).readers (outcome_in outcome)
-          valid-at_end is.lab_is.script_is.session_is is.lab_is.samples run-at_end;
+      → EndsAt (session_of lab) is.stage start stops (outcome_in outcome) files_after taken_after
+  EndsAt-all facts ones files_after taken_after files_are text = record {
+    played = record {
+      session = session_of lab;
+      is = record {
+        session_is = is.lab_is.script_is.session_is;
+        run = run-at_end;
+        headline = facts start.input.script start.input.sounds (session_of lab) start.input.capture (rises start.stops stops).clients (rises start.stops stops).readers (outcome_in outcome)
+            valid-at_end is.lab_is.script_is.session_is run-at_end;
+        one = ones start.input.script start.input.sounds (session_of lab) start.input.capture (rises start.stops stops).clients (rises start.stops stops).readers (outcome_in outcome)
+            valid-at_end is.lab_is.script_is.session_is is.lab_is.samples run-at_end;
+      };
+      files = files_are
+          ∙ (ap (λ (outs : List OutputFile). option_map (finished_files outs (sounds_at lab is.stage)) start.files) is.written.files_are
+          ∙ ap (λ (sounds : List (List ℤ)). option_map (finished_files (output_files start.input.script start.out) sounds) start.files) sounds-at_end);
+      text = text
+          ∙ (ap (option_map (λ t. t ++ tail_from start.input.script outputs.rows outcome.report)) text-written
+          ∙ (option_map-then start.taken (text_so_far start.input.script (take outputs.rows outcome.report.rows)) (tail_from start.input.script outputs.rows outcome.report)
+          ∙ ap (λ (text : List ℕ). option_map (λ t. t ++ text) start.taken) (text-whole start.input.script outcome.report outputs.rows)));
     };
-    files = files_are
-        ∙ (ap (λ (outs : List OutputFile). option_map (finished_files outs (sounds_at lab is.stage)) start.files) is.written.files_are
-        ∙ ap (λ (sounds : List (List ℤ)). option_map (finished_files (output_files start.input.script start.out) sounds) start.files) sounds-at_end);
-    text = text
-        ∙ (ap (option_map (λ t. t ++ tail_from start.input.script outputs.rows outcome.report)) text-written
-        ∙ (option_map-then start.taken (text_so_far start.input.script (take outputs.rows outcome.report.rows)) (tail_from start.input.script outputs.rows outcome.report)
-        ∙ ap (λ (text : List ℕ). option_map (λ t. t ++ text) start.taken) (text-whole start.input.script outcome.report outputs.rows)));
+    session_is = refl;
+    end_is = refl;
   }
 
   changes-end : (files_after : Option Files) → Changes (MayHold outputs.files.items (sounds_at lab is.stage)) start.files files_after
       → Changes (MayHold (output_files start.input.script start.out) (sounds_at lab is.stage)) start.files files_after
   changes-end files_after changes = subst (λ (outs : List OutputFile). Changes (MayHold outs (sounds_at lab is.stage)) start.files files_after) is.written.files_are changes
-
-  -- no item is left
-  last-end : is.lab_is.stage_is.has_done.others ≡ []
-  last-end =
-      let has = is.lab_is.stage_is.has_done in
-      let own = is.lab_is.script_is in
-      none-left has.done has.others
-      (sym has.next ∙ (all ∙ (ap (λ (s : Script). length s.body) (sym own.script_is) ∙ ap length has.reached.body)))
 
   -- what the card played is the mix of the segments
   mixed-end : HasPlayedMix lab
@@ -201,6 +215,20 @@ module _ (start : Start) (stops : Stops) (lab : Lab) (outputs : Outputs) (files 
         text = text;
         order = inr (inr (inr (inr tail)));
       }) mixed-end
+
+-- ---- a run that is done, with what its gates were asked
+
+-- from its first stage on
+pub HasPlayedAsking-end : {T : Type 0} (asked : T → T → List StepKind → Pass → Type 0) (gates gates_after : List T) (session : Session) (first stage : Stage) (start : Start) (stops : Stops)
+    (outcome : Outcome) (files : Option Files) (taken : Option (List ℕ)) → first ≡ first_stage session → HaveAsked asked gates gates_after first stage
+    → EndsAt session stage start stops outcome files taken
+    → HasPlayedAsking asked gates gates_after start.input start.out (rises start.stops stops) outcome start.files files start.taken taken
+HasPlayedAsking-end asked gates gates_after session first stage start stops outcome files taken first_is have ends = record {
+  played = ends.played;
+  gates_asked = subst (λ (s : Session). HaveAsked asked gates gates_after (first_stage s) ends.played.is.run.end) (sym ends.session_is)
+      (subst (λ (end : Stage). HaveAsked asked gates gates_after (first_stage session) end) (sym ends.end_is)
+      (subst (λ (from : Stage). HaveAsked asked gates gates_after from stage) first_is have));
+}
 
 -- ---- results
 

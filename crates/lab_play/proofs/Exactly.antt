@@ -29,7 +29,7 @@ use Rattle.lab_output.specs.Text.{head_text, text_so_far}
 use Rattle.lab_phase.specs.PhaseRuns.{Stops}
 use Rattle.lab_shelf.specs.Changes.{TookPart-first}
 use Rattle.lab_shelf.specs.Files.{Files, TookPart}
-use Rattle.lab_play.specs.Exact.{HasStoppedRun, IsPartOf}
+use Rattle.lab_play.specs.Exact.{HasStoppedRun, IsFirstPartOf}
 use Rattle.lab_play.specs.Played.{sounds_of}
 use Rattle.lab_play.specs.Playing.{HasStopped, text_at}
 use Rattle.lab_play.specs.Stops.{HaveNoStops}
@@ -186,7 +186,7 @@ module _ (laws : StopLaws) (input : RunInput) (out : List ℕ) (stops : Stops) (
   rows-are : text.report.rows ≡ stage.rows ++ goes.more
   rows-are = ap (λ (o : Outcome). o.report.rows) (sym whole) ∙ goes.rows
 
-  pub stopped-part : IsPartOf input.script others (stopped.played ∷ recorded_from session input.capture 0 stage.readers) stage.rows text taken taken_after
+  pub stopped-part : IsFirstPartOf input.script others (stopped.played ∷ recorded_from session input.capture 0 stage.readers) stage.rows text taken taken_after
   stopped-part = record {
     samples = subst (λ (sounds : List (List ℤ)). AreLonger sounds (sounds_of text)) so-far
         (subst (λ (o : Outcome). AreLonger (sounds_of o) (sounds_of text)) same-mid

@@ -1,7 +1,8 @@
 -- What an item of a script's body makes of a run that goes on.
 --     StaysWritten-stage      the lab stays at its stage: all that it holds is written still
 --     StaysWritten-border      an opening or a closing: all that the lab holds is written still
---     HasUnwrittenPhase-phase      a phase: what it played, recorded and answered isn't written yet
+--     HasGoneBehind-phase      a phase: what it played, recorded and answered isn't written yet
+--     GoesOn-written      and then it is
 use Rattle.std.specs.Prelude.{◌≡◌, ℕ, ◌+◌, ℤ, List, [], ◌∷◌, ◌++◌, length, take, slice_get, Option, Some}
 use Rattle.std.specs.Option.{option_map}
 use Rattle.std.proofs.Common.{sym, ap, subst, ◌∙◌, arith}
@@ -24,6 +25,7 @@ use Rattle.lab_rows.specs.Growth.{AreGrown, BordersKeepFrames, StagesGrow, frame
 use Rattle.lab_phase.specs.declared.lab.Lab.{Lab}
 use Rattle.lab_phase.specs.AtStage.{DoesItem, IsBorderItem, IsNextItem, IsOfScript, IsSameScript, capture_of, played_of, session_of}
 use Rattle.lab_phase.specs.BorderLaws.{session_of-same}
+use Rattle.lab_phase.specs.AskLaws.{HaveSameAsks-border, HaveSameAsks-none}
 use Rattle.lab_phase.specs.PhaseRuns.{DoesPhase, StaysAtStage, Stops}
 use Rattle.lab_phase.specs.StopLaws.{AreStopsOf-border}
 use Rattle.lab_output.specs.declared.outputs.Outputs.{Outputs}
@@ -32,7 +34,7 @@ use Rattle.lab_output.specs.Text.{text_so_far}
 use Rattle.lab_shelf.specs.Changes.{TookPart-all}
 use Rattle.lab_shelf.specs.Files.{Files}
 use Rattle.lab_play.specs.Order.{StopsInFrames}
-use Rattle.lab_play.specs.Playing.{AreWritten, HasUnwrittenPhase, IsPlaying, Start, StaysWritten, scene, sounds_at}
+use Rattle.lab_play.specs.Playing.{AreWritten, GoesOn, HasUnwrittenPhase, IsPlaying, Scene, Start, StaysWritten, scene, sounds_at}
 use Rattle.lab_play.proofs.ItemsStopped.{TookPart-rows}
 
 -- ---- the lab
@@ -80,14 +82,17 @@ StaysWritten-stage lab after stays stops outputs files taken start is =
     ap (λ (samples : List ℤ). samples ∷ recorded_from (session_of after) (capture_of after) 0 is.stage.readers) stays.played
     ∙ ap (λ (recorded : List (List ℤ)). played_of lab ∷ recorded) (recorded-script lab after is.stage.readers stays.same) in
     record {
-      stage = is.stage;
-      lab_is = record {
-        script_is = IsOfScript-same start.input.script start.input.sounds start.input.capture lab after stays.same own.script_is;
-        samples = own.samples;
-        stage_is = stays.at is.stage own.stage_is;
-        counted = own.counted;
+      playing = record {
+        stage = is.stage;
+        lab_is = record {
+          script_is = IsOfScript-same start.input.script start.input.sounds start.input.capture lab after stays.same own.script_is;
+          samples = own.samples;
+          stage_is = stays.at is.stage own.stage_is;
+          counted = own.counted;
+        };
+        written = subst (λ (samples : List (List ℤ)). AreWritten start samples is.stage.rows outputs files taken) (sym sounds) is.written;
       };
-      written = subst (λ (samples : List (List ℤ)). AreWritten start samples is.stage.rows outputs files taken) (sym sounds) is.written;
+      gates = HaveSameAsks-none is.stage;
     }
 
 -- ---- what is longer
@@ -129,16 +134,19 @@ StaysWritten-border grow keeps lab after one border does played stops outputs fi
     let done = does.does is.stage own.stage_is in
     let grown = grow (session_of lab) is.stage done.next one done.may in
     record {
-      stage = done.next;
-      lab_is = record {
-        script_is = IsOfScript-same start.input.script start.input.sounds start.input.capture lab after does.same own.script_is;
-        samples = own.samples;
-        stage_is = done.is;
-        counted = AreStopsOf-border start.stops stops (session_of lab) is.stage done.next one border done.may own.counted;
+      playing = record {
+        stage = done.next;
+        lab_is = record {
+          script_is = IsOfScript-same start.input.script start.input.sounds start.input.capture lab after does.same own.script_is;
+          samples = own.samples;
+          stage_is = done.is;
+          counted = AreStopsOf-border start.stops stops (session_of lab) is.stage done.next one border done.may own.counted;
+        };
+        written = subst (λ (sounds : List (List ℤ)). AreWritten start sounds done.next.rows outputs files taken)
+            (sym (sounds-border keeps lab after is.stage done.next one border done.may does.same played))
+            (AreWritten-rows start (sounds_at lab is.stage) is.stage.rows grown.more done.next.rows outputs files taken grown.rows is.written);
       };
-      written = subst (λ (sounds : List (List ℤ)). AreWritten start sounds done.next.rows outputs files taken)
-          (sym (sounds-border keeps lab after is.stage done.next one border done.may does.same played))
-          (AreWritten-rows start (sounds_at lab is.stage) is.stage.rows grown.more done.next.rows outputs files taken grown.rows is.written);
+      gates = HaveSameAsks-border (session_of lab) is.stage done.next one border done.may;
     }
 
 -- ---- a phase
@@ -158,11 +166,11 @@ others-next (item ∷ done) others (first ∷ done_after) others_after one same 
     others-next done others done_after others_after one (let rest : done ++ others ≡ done_after ++ others_after = cc in rest) (omega (arith, len)) is
 
 -- its frames aren't appended yet, and none of its rows was put
-order-phase : (stops stops_after : Stops) (lab after : Lab) (lines : List Line) (does : DoesPhase stops stops_after lab lines after) (outputs : Outputs) (files : Option Files)
-    (taken : Option (List ℕ)) (start : Start) (is : IsPlaying start stops (scene lab outputs files taken)) → IsNextItem lab (item.Phase lines)
+order-phase : (Gates : Stage → Stage → Type 0) (stops stops_after : Stops) (lab after : Lab) (lines : List Line) (does : DoesPhase Gates stops stops_after lab lines after)
+    (outputs : Outputs) (files : Option Files) (taken : Option (List ℕ)) (start : Start) (is : IsPlaying start stops (scene lab outputs files taken)) → IsNextItem lab (item.Phase lines)
     → StopsInFrames start.input (session_of after) (does.does is.stage start.stops is.lab_is.stage_is is.lab_is.counted).is.has_done.others
     (does.does is.stage start.stops is.lab_is.stage_is is.lab_is.counted).next start.taken taken
-order-phase stops stops_after lab after lines does outputs files taken start is next =
+order-phase Gates stops stops_after lab after lines does outputs files taken start is next =
     let own = is.lab_is.script_is in
     let has = is.lab_is.stage_is.has_done in
     let done = does.does is.stage start.stops is.lab_is.stage_is is.lab_is.counted in
@@ -188,28 +196,45 @@ order-phase stops stops_after lab after lines does outputs files taken start is 
           (TookPart-all start.taken taken (text_so_far start.input.script (take outputs.rows is.stage.rows)) is.written.text);
     }
 
-pub HasUnwrittenPhase-phase : StagesGrow → (stops stops_after : Stops) (lab after : Lab) (lines : List Line) → DoesPhase stops stops_after lab lines after → IsNextItem lab (item.Phase lines)
-    → (outputs : Outputs) (files : Option Files) (taken : Option (List ℕ)) (start : Start) → IsPlaying start stops (scene lab outputs files taken)
-    → HasUnwrittenPhase start stops_after (scene after outputs files taken)
-HasUnwrittenPhase-phase grow stops stops_after lab after lines does first outputs files taken start is =
+-- a run that was at this stage did a phase of which nothing is written yet, and its gates did so from there to where it is
+pub record HasGoneBehind (Gates : Stage → Stage → Type 0) (start : Start) (stage : Stage) (stops : Stops) (at : Scene) : Type 0 where
+  pub behind : HasUnwrittenPhase start stops at
+  pub gates : Gates stage behind.stage
+
+pub HasGoneBehind-phase : (Gates : Stage → Stage → Type 0) → StagesGrow → (stops stops_after : Stops) (lab after : Lab) (lines : List Line)
+    → DoesPhase Gates stops stops_after lab lines after → IsNextItem lab (item.Phase lines)
+    → (outputs : Outputs) (files : Option Files) (taken : Option (List ℕ)) (start : Start) → (is : IsPlaying start stops (scene lab outputs files taken))
+    → HasGoneBehind Gates start is.stage stops_after (scene after outputs files taken)
+HasGoneBehind-phase Gates grow stops stops_after lab after lines does first outputs files taken start is =
     let own = is.lab_is in
     let done = does.does is.stage start.stops own.stage_is own.counted in
     let grown = grow (session_of lab) is.stage done.next (item.Phase lines) done.may in
     record {
-      stage = done.next;
-      lab_is = record {
-        script_is = IsOfScript-same start.input.script start.input.sounds start.input.capture lab after does.same own.script_is;
-        samples = own.samples;
-        stage_is = done.is;
-        counted = done.counted;
+      behind = record {
+        stage = done.next;
+        lab_is = record {
+          script_is = IsOfScript-same start.input.script start.input.sounds start.input.capture lab after does.same own.script_is;
+          samples = own.samples;
+          stage_is = done.is;
+          counted = done.counted;
+        };
+        sounds = sounds_at lab is.stage;
+        longer = (
+          IsPartOf-longer (played_of lab) does.played.more (played_of after) does.played.is,
+          subst (λ (sounds : List (List ℤ)). AreLonger (recorded_from (session_of lab) (capture_of lab) 0 is.stage.readers) sounds)
+              (sym (recorded-script lab after done.next.readers does.same))
+              (AreLonger-grown (session_of lab) (capture_of lab) 0 is.stage.readers done.next.readers grown.readers),
+        );
+        written = AreWritten-rows start (sounds_at lab is.stage) is.stage.rows grown.more done.next.rows outputs files taken grown.rows is.written;
+        order = order-phase Gates stops stops_after lab after lines does outputs files taken start is first;
       };
-      sounds = sounds_at lab is.stage;
-      longer = (
-        IsPartOf-longer (played_of lab) does.played.more (played_of after) does.played.is,
-        subst (λ (sounds : List (List ℤ)). AreLonger (recorded_from (session_of lab) (capture_of lab) 0 is.stage.readers) sounds)
-            (sym (recorded-script lab after done.next.readers does.same))
-            (AreLonger-grown (session_of lab) (capture_of lab) 0 is.stage.readers done.next.readers grown.readers),
-      );
-      written = AreWritten-rows start (sounds_at lab is.stage) is.stage.rows grown.more done.next.rows outputs files taken grown.rows is.written;
-      order = order-phase stops stops_after lab after lines does outputs files taken start is first;
+      gates = done.gates;
     }
+
+-- and then it is written
+pub GoesOn-written : (Gates : Stage → Stage → Type 0) (start : Start) (stage : Stage) (stops : Stops) (before after : Scene)
+    → (is : HasGoneBehind Gates start stage stops before) → GoesOn (λ at next. next ≡ at) start is.behind.stage stops after → GoesOn Gates start stage stops after
+GoesOn-written Gates start stage stops before after is caught = record {
+  playing = caught.playing;
+  gates = subst (λ (next : Stage). Gates stage next) (sym caught.gates) is.gates;
+}

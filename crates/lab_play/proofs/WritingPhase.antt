@@ -1,5 +1,5 @@
 -- What a phase writes: that it fits into WAV files and a report, and what the run is once it is written, or where that stopped.
-use Rattle.std.proofs.Common.{◌≡◌, ℕ, ◌<◌, ◌≤◌, List, [], ◌++◌, length, take, map, get_or, arith, inl, inr, sym, ap, subst, ◌∙◌, suc, zero, option_map}
+use Rattle.std.proofs.Common.{◌≡◌, ℕ, ◌<◌, ◌≤◌, List, [], ◌++◌, length, take, map, get_or, arith, inl, inr, refl, sym, ap, subst, ◌∙◌, suc, zero, option_map}
 use Rattle.std.proofs.Math.Seq.{take-length}
 use Rattle.std.proofs.lemmas.List.{get_or_default, length-map}
 use Rattle.std.specs.Prelude.{ℤ, Option, All, OnOk, OnErr, Ok, Err, Result}
@@ -22,7 +22,7 @@ use Rattle.lab_output.specs.Text.{rows_text, text_so_far}
 use Rattle.lab_shelf.specs.Changes.{Changes, TookPart-all}
 use Rattle.lab_shelf.specs.Files.{Files, TookPart}
 use Rattle.lab_play.specs.Appending.{CanAppend}
-use Rattle.lab_play.specs.Playing.{HasUnwrittenPhase, IsPlaying, IsStoppedAt, Start, scene, sounds_at}
+use Rattle.lab_play.specs.Playing.{GoesOn, HasUnwrittenPhase, IsStoppedAt, Start, scene, sounds_at}
 use Rattle.lab_play.proofs.ItemsStopped.{IsStoppedAt-rows, TookPart-rows, frames-card, stops-in_rows}
 use Rattle.lab_play.proofs.Writing.{count-at, longer-length, member}
 
@@ -168,7 +168,7 @@ pub record IsCaughtUp (lab : Lab) (outputs after last : Outputs) (shelf shelf_af
 pub catches-up : (start : Start) (stops : Stops) (script : Script) (lab : Lab) (outputs after last : Outputs) (files files_after : Option Files) (taken taken_after : Option (List ℕ)) (rows : List Row)
     → lab.script.now ≡ script → rows ≡ rows_of lab → IsCaughtUp lab outputs after last files files_after
     → last.rows ≡ length rows → taken_after ≡ option_map (λ t. t ++ rows_text script after.rows rows) taken
-    → HasUnwrittenPhase start stops (scene lab outputs files taken) → IsPlaying start stops (scene lab last files_after taken_after)
+    → (is : HasUnwrittenPhase start stops (scene lab outputs files taken)) → GoesOn (λ stage next. next ≡ stage) start is.stage stops (scene lab last files_after taken_after)
 catches-up start stops script lab outputs after last files files_after taken taken_after rows same rows_are caught count text is =
     let own_script : script ≡ start.input.script = sym same ∙ is.lab_is.script_is.script_is in
     let own_rows : rows ≡ is.stage.rows = rows_are ∙ is.lab_is.stage_is.rows in
@@ -181,15 +181,18 @@ catches-up start stops script lab outputs after last files files_after taken tak
     let whole : taken_after ≡ option_map (λ t. t ++ text_so_far start.input.script is.stage.rows) start.taken =
     text_so_far-next start.input.script outputs.rows is.stage.rows start.taken taken taken_after is.written.text put in
     record {
-      stage = is.stage;
-      lab_is = is.lab_is;
-      written = record {
-        outputs_are = same-outputs after last caught.last_files caught.last_samples caught.outputs_are;
-        files_are = ap (λ v. v.items) (caught.last_files ∙ caught.files) ∙ is.written.files_are;
-        going_on = subst (λ fs. IsGoingOn fs.items last.samples.items (sounds_at lab is.stage) start.files files_after) (sym caught.last_files)
-            (subst (λ ns. IsGoingOn after.files.items ns.items (sounds_at lab is.stage) start.files files_after) (sym caught.last_samples) going);
-        few = subst (λ (n : ℕ). n ≤ length is.stage.rows) (sym all) (omega arith);
-        text = whole ∙ ap (λ (rs : List Row). option_map (λ t. t ++ text_so_far start.input.script rs) start.taken)
-            (sym (take-length is.stage.rows) ∙ ap (λ (n : ℕ). take n is.stage.rows) (sym all));
+      playing = record {
+        stage = is.stage;
+        lab_is = is.lab_is;
+        written = record {
+          outputs_are = same-outputs after last caught.last_files caught.last_samples caught.outputs_are;
+          files_are = ap (λ v. v.items) (caught.last_files ∙ caught.files) ∙ is.written.files_are;
+          going_on = subst (λ fs. IsGoingOn fs.items last.samples.items (sounds_at lab is.stage) start.files files_after) (sym caught.last_files)
+              (subst (λ ns. IsGoingOn after.files.items ns.items (sounds_at lab is.stage) start.files files_after) (sym caught.last_samples) going);
+          few = subst (λ (n : ℕ). n ≤ length is.stage.rows) (sym all) (omega arith);
+          text = whole ∙ ap (λ (rs : List Row). option_map (λ t. t ++ text_so_far start.input.script rs) start.taken)
+              (sym (take-length is.stage.rows) ∙ ap (λ (n : ℕ). take n is.stage.rows) (sym all));
+        };
       };
+      gates = refl;
     }

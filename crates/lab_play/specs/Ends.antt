@@ -2,7 +2,7 @@
 use Rattle.std.specs.Prelude.{◌≡◌, ℕ, List, [], Option, IsSome}
 use Rattle.lab_lines.specs.declared.script.Script.{Script}
 use Rattle.lab_run.specs.LabRun.{Outcome}
-use Rattle.lab_run.specs.Stage.{first_stage}
+use Rattle.lab_run.specs.Stage.{Session, Stage, first_stage}
 use Rattle.lab_headline.specs.OneSample.{AreSamples}
 use Rattle.lab_input.specs.Input.{RunInput}
 use Rattle.lab_phase.specs.declared.lab.Lab.{Lab}
@@ -39,10 +39,19 @@ pub record CanEnd (script : Script) (at : Scene) : Type 0 where
   pub script_is : start.input.script ≡ script
   pub is : IsPlaying start stops at
 
+-- a run of this session is done at this stage with this outcome
+pub record EndsAt (session : Session) (stage : Stage) (start : Start) (stops : Stops)
+    (outcome : Outcome) (files : Option Files) (taken : Option (List ℕ)) : Type 0 where
+  pub played : HasPlayed start.input start.out (rises start.stops stops) outcome start.files files
+      start.taken taken
+  pub session_is : played.session ≡ session
+  pub end_is : played.is.run.end ≡ stage
+
 -- a run of which all items are done is done with this outcome
 abbrev pub EndsWith : Scene → Outcome → Option Files → Option (List ℕ) → Type 0
 EndsWith before outcome files taken =
-    (start : Start) (stops : Stops) → IsPlaying start stops before → HasPlayed start.input start.out (rises start.stops stops) outcome start.files files start.taken taken
+    (start : Start) (stops : Stops) → (is : IsPlaying start stops before)
+    → EndsAt (session_of before.lab) is.stage start stops outcome files taken
 
 abbrev pub StopsAtEnd : Scene → Option Files → Option (List ℕ) → Type 0
 StopsAtEnd before files taken = (start : Start) (stops : Stops) → IsPlaying start stops before → IsStopped start stops files taken

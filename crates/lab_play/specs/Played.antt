@@ -1,14 +1,16 @@
 -- What a run of a script leaves that is done.
 use Rattle.std.specs.Prelude.{◌≡◌, ◌⊎◌, ℕ, ℤ, List, ◌∷◌, ◌++◌, Option}
 use Rattle.std.specs.Option.{option_map}
+use Rattle.mix_core.specs.declared.gate.Pass.{Pass}
+use Rattle.mix_core.specs.declared.gate.StepKind.{StepKind}
 use Rattle.lab_report.specs.Text.{report_text}
 use Rattle.lab_run.specs.LabRun.{LabRun, Outcome}
 use Rattle.lab_run.specs.Openings.{IsSessionOf}
-use Rattle.lab_run.specs.Stage.{Session}
+use Rattle.lab_run.specs.Stage.{Session, first_stage}
 use Rattle.lab_headline.specs.Headline.{Headline}
 use Rattle.lab_headline.specs.OneSample.{PlaysOneSample}
 use Rattle.lab_input.specs.Input.{RunInput}
-use Rattle.lab_phase.specs.PhaseRuns.{Stops}
+use Rattle.lab_phase.specs.PhaseRuns.{HaveAsked, Stops}
 use Rattle.lab_output.specs.Files.{output_files, finished_files}
 use Rattle.lab_shelf.specs.Files.{Files}
 use Rattle.lab_play.specs.Exact.{HasStoppedRun}
@@ -36,6 +38,15 @@ pub record HasPlayed (input : RunInput) (out : List ℕ) (stops : Stops) (outcom
   pub files : after
       ≡ option_map (finished_files (output_files input.script out) (sounds_of outcome)) before
   pub text : taken_after ≡ option_map (λ t. t ++ report_text input.script outcome.report) taken
+
+-- and from its beginning to its end its actors asked these gates as often as it counts
+pub record HasPlayedAsking {T : Type 0} (asked : T → T → List StepKind → Pass → Type 0)
+    (gates gates_after : List T) (input : RunInput) (out : List ℕ) (stops : Stops)
+    (outcome : Outcome) (before after : Option Files)
+    (taken taken_after : Option (List ℕ)) : Type 0 where
+  pub played : HasPlayed input out stops outcome before after taken taken_after
+  pub gates_asked : HaveAsked asked gates gates_after (first_stage played.session)
+      played.is.run.end
 
 -- nothing was written
 pub record IsUntouched (before after : Option Files)

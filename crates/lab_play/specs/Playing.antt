@@ -5,6 +5,7 @@
 --     HasUnwrittenPhase      a phase is done of which nothing is written yet
 --     HasStopped      what is left of a run that stopped
 --     IsStoppedAt      a run stopped at the stage of a lab, whose rings aren't closed yet
+--     GoesOn      a run goes on from a stage, and what its gates were asked since
 use Rattle.std.specs.Prelude.{◌≡◌, ℕ, ◌-◌, ◌*◌, ◌≤◌, ℤ, List, [], ◌∷◌, ◌++◌, length, take, Option}
 use Rattle.std.specs.Option.{option_map}
 use Rattle.lab_lines.specs.declared.line.Item.{Item}
@@ -20,7 +21,7 @@ use Rattle.lab_headline.specs.OneSample.{AreSamples}
 use Rattle.lab_input.specs.Input.{RunInput}
 use Rattle.lab_phase.specs.declared.lab.Lab.{Lab}
 use Rattle.lab_phase.specs.AtStage.{IsAtStage, IsOfScript, capture_of, played_of, session_of}
-use Rattle.lab_phase.specs.PhaseRuns.{AreStopsOf, Stops}
+use Rattle.lab_phase.specs.PhaseRuns.{AreStopsOf, HaveSameAsks, Stops}
 use Rattle.lab_output.specs.declared.outputs.Outputs.{Outputs}
 use Rattle.lab_output.specs.Files.{MayHold, output_files}
 use Rattle.lab_output.specs.Going.{AreLonger, AreOutputs, IsGoingOn}
@@ -129,22 +130,31 @@ pub record IsStoppedAt (start : Start) (stops : Stops) (lab : Lab) (files : Opti
 
 -- ---- what calls make of a run, whatever it began with
 
--- the run goes on
-abbrev pub SceneGoesOn : Stops → Scene → Stops → Scene → Type 0
-SceneGoesOn stops before stops_after after = (start : Start) → IsPlaying start stops before → IsPlaying start stops_after after
+-- the run goes on from this stage, and its gates did so from there to where it is
+pub record GoesOn (Gates : Stage → Stage → Type 0) (start : Start) (stage : Stage)
+    (stops : Stops) (at : Scene) : Type 0 where
+  pub playing : IsPlaying start stops at
+  pub gates : Gates stage playing.stage
+
+abbrev pub SceneGoesOn : (Stage → Stage → Type 0) → Stops → Scene → Stops → Scene → Type 0
+SceneGoesOn Gates stops before stops_after after =
+    (start : Start) → (is : IsPlaying start stops before) → GoesOn Gates start is.stage stops_after after
 
 -- it stopped at the stage of a lab, when its gates had stopped so often, and left this
 abbrev pub StopsAt : Stops → Scene → Stops → Lab → Option Files → Option (List ℕ) → Type 0
 StopsAt stops before stops_after lab files taken = (start : Start) → IsPlaying start stops before → IsStoppedAt start stops_after lab files taken
 
--- and all that the lab holds after an item is written still, where it was before, and however often gates have stopped
+-- and all that the lab holds after an item is written still, where it was before, and however often gates have stopped; none was asked
 abbrev pub StaysWritten : Lab → Lab → Type 0
 StaysWritten lab after =
-    (stops : Stops) (outputs : Outputs) (files : Option Files) (taken : Option (List ℕ)) → SceneGoesOn stops (scene lab outputs files taken) stops (scene after outputs files taken)
+    (stops : Stops) (outputs : Outputs) (files : Option Files) (taken : Option (List ℕ))
+    → SceneGoesOn HaveSameAsks stops (scene lab outputs files taken) stops (scene after outputs files taken)
 
--- what was played and recorded is written
+-- what was played and recorded is written, and the run is at the same stage
 abbrev pub CatchesUp : Scene → Scene → Type 0
-CatchesUp before after = (start : Start) (stops : Stops) → HasUnwrittenPhase start stops before → IsPlaying start stops after
+CatchesUp before after =
+    (start : Start) (stops : Stops) → (is : HasUnwrittenPhase start stops before)
+    → GoesOn (λ stage next. next ≡ stage) start is.stage stops after
 
 abbrev pub StopsBehind : Scene → Option Files → Option (List ℕ) → Type 0
 StopsBehind before files taken = (start : Start) (stops : Stops) → HasUnwrittenPhase start stops before → IsStoppedAt start stops before.lab files taken

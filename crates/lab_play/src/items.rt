@@ -4,7 +4,7 @@ ghost use Rattle.lab_lines.specs.declared.line.Item.TheVariants as item;
 ghost use Rattle.lab_stop.specs.Stops.{IsWriteStop, OutputFaults};
 ghost use Rattle.lab_stop.specs.declared.stop.Stop.TheVariants as stops;
 ghost use Rattle.lab_phase.specs.AtStage.{DoesItem, IsBorderItem, IsLab, IsNextItem, IsSameScript, items_done, played_of};
-ghost use Rattle.lab_phase.specs.PhaseRuns.{stops_by};
+ghost use Rattle.lab_phase.specs.PhaseRuns.{HaveAsked, stops_by};
 ghost use Rattle.lab_play.specs.Playing.{CanPlay, SceneGoesOn, IsKnownRun, StaysWritten, StopsAt, scene};
 
 use crate::write::write_phase;
@@ -23,6 +23,9 @@ use std::thread::Threads;
 /// answered. It stops with `Write` where the shelf or the output fails, and with `Memory` only
 /// where no memory is left; the lab is at a stage then, between two items.
 ///
+/// Each client and reader asks its own gate before each of its steps, and no other, as often as the
+/// run counts.
+///
 /// The caller has a lab before the first item of the script's body, whose outputs are begun, and
 /// 128 gates: the first 64 are the clients', by their numbers, and those after them the readers'.
 pub(crate) fn do_items<R: Threads + Sync, S: Shelf, K: Sink, G: Gate + Send>(
@@ -39,12 +42,13 @@ pub(crate) fn do_items<R: Threads + Sync, S: Shelf, K: Sink, G: Gate + Send>(
         (scene lab.old outputs.old (S.files shelf.old) (K.taken out.old)) }
     requires first { items_done lab.old ≡ 0 }
     requires gates { 128 ≤ length gates.old }
-    ensures done { OnOk result (SceneGoesOn
+    ensures done { OnOk result (SceneGoesOn (HaveAsked G.asked gates.old gates.new)
         (stops_by G.stops gates.old)
         (scene lab.old outputs.old (S.files shelf.old) (K.taken out.old))
         (stops_by G.stops gates.new)
         (scene lab.new outputs.new (S.files shelf.new) (K.taken out.new))) }
     ensures all { OnOk result (items_done lab.new ≡ length script.now.body) }
+    ensures same { OnOk result (IsSameScript lab.old lab.new) }
     ensures part { OnErr result (StopsAt
         (stops_by G.stops gates.old)
         (scene lab.old outputs.old (S.files shelf.old) (K.taken out.old))
@@ -93,7 +97,7 @@ fn do_item<R: Threads + Sync, S: Shelf, K: Sink, G: Gate + Send>(
         (scene lab.old outputs.old (S.files shelf.old) (K.taken out.old)) }
     requires next { IsNextItem lab.old item.now }
     requires gates { 128 ≤ length gates.old }
-    ensures done { OnOk result (SceneGoesOn
+    ensures done { OnOk result (SceneGoesOn (HaveAsked G.asked gates.old gates.new)
         (stops_by G.stops gates.old)
         (scene lab.old outputs.old (S.files shelf.old) (K.taken out.old))
         (stops_by G.stops gates.new)
@@ -147,7 +151,7 @@ fn do_phase<R: Threads + Sync, S: Shelf, K: Sink, G: Gate + Send>(
         (scene lab.old outputs.old (S.files shelf.old) (K.taken out.old)) }
     requires next { IsNextItem lab.old (item.Phase lines.now) }
     requires gates { 128 ≤ length gates.old }
-    ensures done { OnOk result (SceneGoesOn
+    ensures done { OnOk result (SceneGoesOn (HaveAsked G.asked gates.old gates.new)
         (stops_by G.stops gates.old)
         (scene lab.old outputs.old (S.files shelf.old) (K.taken out.old))
         (stops_by G.stops gates.new)

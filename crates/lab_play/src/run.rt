@@ -17,7 +17,7 @@ ghost use Rattle.lab_output.specs.Files.{MayHold, nothing};
 ghost use Rattle.lab_output.specs.Going.{AreOutputs, IsGoingOn};
 ghost use Rattle.lab_output.specs.Text.{head_text};
 ghost use Rattle.lab_play.specs.Ends.{CanEnd, EndsWith, IsKnownAtEnd, IsNewRun, IsSomeNewRun, StopsAtEnd};
-ghost use Rattle.lab_play.specs.Played.{HasPlayed, HasPlayedPart};
+ghost use Rattle.lab_play.specs.Played.{HasPlayedAsking, HasPlayedPart};
 ghost use Rattle.lab_play.specs.Playing.{HasStopped, scene};
 ghost use Rattle.lab_play.specs.Stops.{rises};
 
@@ -51,7 +51,7 @@ use sum_table::SumRing;
 /// `out` fails, which counts that, and with `Memory` only where no memory is left.
 ///
 /// The caller has read the input (`lab_input::read_input`), and has 128 gates: the first 64 are the clients', by the numbers of their lines, and
-/// the ones after them the readers'.
+/// the ones after them the readers'. Each client and reader asks its own gate before each of its steps, and no other.
 pub fn play<R: Threads + Sync, S: Shelf, K: Sink, G: Gate + Send>(
     rt: &R,
     alloc: Global,
@@ -65,8 +65,10 @@ pub fn play<R: Threads + Sync, S: Shelf, K: Sink, G: Gate + Send>(
     requires files { length input.now.wavs.items ≡ length input.now.script.clients }
     requires gates { 128 ≤ length gates.old }
 
-    // The files and the report's text are those of a run of the script, in which each gate stopped its actor at most so often.
-    ensures done { IfOk result (λ outcome. HasPlayed (input_of input.now) name.now
+    // The files and the report's text are those of a run of the script, in which each gate stopped its actor at most so often, and was
+    // asked as often as the run counts.
+    ensures done { IfOk result (λ outcome. HasPlayedAsking G.asked gates.old gates.new
+        (input_of input.now) name.now
         (rises (stops_by G.stops gates.old) (stops_by G.stops gates.new)) (outcome_in outcome)
         (S.files shelf.old) (S.files shelf.new) (K.taken out.old) (K.taken out.new)) }
 
@@ -183,8 +185,8 @@ fn play_all<R: Threads + Sync, S: Shelf, K: Sink, G: Gate + Send>(
     requires gates { 128 ≤ length gates.old }
     ensures done { IfOk result (λ outcome. (input : RunInput) (name : List ℕ)
         → IsNewRun input name lab.entry outputs
-        → HasPlayed input name (rises (stops_by G.stops gates.old) (stops_by G.stops gates.new))
-        (outcome_in outcome)
+        → HasPlayedAsking G.asked gates.old gates.new input name
+        (rises (stops_by G.stops gates.old) (stops_by G.stops gates.new)) (outcome_in outcome)
         (S.files shelf.old) (S.files shelf.new) (K.taken out.old) (K.taken out.new)) }
     ensures part { OnErr result ((input : RunInput) (name : List ℕ)
         → IsNewRun input name lab.entry outputs

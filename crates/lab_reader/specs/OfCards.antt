@@ -74,10 +74,10 @@ IsOf-informed c d r s informed is =
 pub IsOf-heard : (c d : Card) (r s : LabReader) → IsHeard d r s → IsOf c r → IsOf c s
 IsOf-heard c d r s heard is = OnSeats-follow (IsReaderOf c) (IsReaderOf c) IsSameReader r.seat s.seat (λ p q on. of-ring c p q on.ring on.geometry) heard.seats is
 
-pub IsOf-ran : (c : Card) (phase stops after : ℕ) (lines : List Line) (r s : LabReader) → HasRun phase stops after lines r s → IsOf c r → IsOf c s
-IsOf-ran c phase stops after lines r s has is = by_seats r.seat s.seat has.ran is
+pub IsOf-ran : (c : Card) (phase stops after asks : ℕ) (lines : List Line) (r s : LabReader) → HasRun phase stops after asks lines r s → IsOf c r → IsOf c s
+IsOf-ran c phase stops after asks lines r s has is = by_seats r.seat s.seat has.ran is
   where
-    by_seats : (p q : Option ReaderSeat) → HasRunAt phase stops after (played_in lines) (ops_of r lines) r.actor s.actor p q → OnSeat p (IsReaderOf c) → OnSeat q (IsReaderOf c)
+    by_seats : (p q : Option ReaderSeat) → HasRunAt phase stops after asks (played_in lines) (ops_of r lines) r.actor s.actor p q → OnSeat p (IsReaderOf c) → OnSeat q (IsReaderOf c)
     by_seats None None has of = tt
     by_seats (Some t) (Some u) has of = of-ring c t u has.same_ring.0 has.same_ring.1 of
     by_seats None (Some u) has of = absurd has

@@ -33,8 +33,8 @@ reader_in-new number r new =
     ap (λ (seat : Option ReaderSeat). reader_in_run seat r.actor) new.closed
     ∙ ap (λ (runs : List (ℕ × ℕ)). record { own = None; frames = frames_of_runs runs }) new.frames
 
-pub IsAt-new : (ring : TableId) (geometry : Geometry) (number k : ℕ) (r : LabReader) → IsNeverOpen number r → IsAt ring geometry r (new_port geometry k)
-IsAt-new ring geometry number k r new = subst (λ (seat : Option ReaderSeat). IsSeatedAt ring geometry r.actor seat (new_port geometry k)) (sym new.closed) refl
+pub IsAt-new : (ring : TableId) (geometry : Geometry) (number k asks : ℕ) (r : LabReader) → IsNeverOpen number r → IsAt ring geometry r (new_port geometry k asks)
+IsAt-new ring geometry number k asks r new = subst (λ (seat : Option ReaderSeat). IsSeatedAt ring geometry r.actor seat (new_port geometry k asks)) (sym new.closed) refl
 
 pub IsRecorded-new : (capture : Option Sound) (geometry : Geometry) (bindings : List ℕ) (ended_got : List Frame) (number : ℕ) (r : LabReader) → All (λ channel. channel < geometry.channels) bindings
     → IsNeverOpen number r → IsRecorded capture geometry bindings ended_got r
@@ -101,11 +101,11 @@ reader_in-opened seat setup r s opened =
     ∙ ap (λ (runs : List (ℕ × ℕ)). record { own = Some (opened_reader (geometry_of seat) setup); frames = frames_of_runs runs }) opened.file.frames)
 
 -- it is at a new port, whichever position its seat has seen
-pub IsAt-opened : (ring : TableId) (geometry : Geometry) (k : ℕ) (seat : ReaderSeat) (setup : Setup) (r s : LabReader) → ring_of seat ≡ ring → geometry_of seat ≡ geometry
-    → HasOpened seat setup r s → IsAt ring geometry s (new_port geometry k)
-IsAt-opened ring geometry k seat setup r s of_ring of_geometry opened =
+pub IsAt-opened : (ring : TableId) (geometry : Geometry) (k asks : ℕ) (seat : ReaderSeat) (setup : Setup) (r s : LabReader) → ring_of seat ≡ ring → geometry_of seat ≡ geometry
+    → HasOpened seat setup r s → IsAt ring geometry s (new_port geometry k asks)
+IsAt-opened ring geometry k asks seat setup r s of_ring of_geometry opened =
     let usable : CanUse (opened_reader (geometry_of seat) setup) (seat_view seat) = record { same_geometry = refl; newer = omega arith } in
-    let is : IsOpenAt ring geometry s.actor seat (new_port geometry k) =
+    let is : IsOpenAt ring geometry s.actor seat (new_port geometry k asks) =
     record {
       of_ring = of_ring;
       of_geometry = of_geometry;
@@ -113,7 +113,7 @@ IsAt-opened ring geometry k seat setup r s of_ring of_geometry opened =
       seen = omega arith;
       left = sym opened.left;
     } in
-    subst (λ (at : Option ReaderSeat). IsSeatedAt ring geometry s.actor at (new_port geometry k)) (sym opened.seat_is) is
+    subst (λ (at : Option ReaderSeat). IsSeatedAt ring geometry s.actor at (new_port geometry k asks)) (sym opened.seat_is) is
 
 pub IsRecorded-opened : (capture : Option Sound) (geometry : Geometry) (bindings : List ℕ) (ended_got : List Frame) (seat : ReaderSeat) (setup : Setup) (r s : LabReader)
     → setup.bindings ≡ bindings → HasOpened seat setup r s → IsRecorded capture geometry bindings ended_got r → IsRecorded capture geometry bindings ended_got s
@@ -137,8 +137,8 @@ reader_in-closed seat r s closed =
     ap (λ (at : Option ReaderSeat). reader_in_run at s.actor) closed.seat_is
     ∙ ap (λ (x : ReaderActor). record { own = None; frames = frames_of_runs x.frames.runs }) closed.actor
 
-pub IsAt-closed : (ring : TableId) (geometry : Geometry) (k : ℕ) (seat : ReaderSeat) (r s : LabReader) → HasClosed seat r s → IsAt ring geometry s (new_port geometry k)
-IsAt-closed ring geometry k seat r s closed = subst (λ (at : Option ReaderSeat). IsSeatedAt ring geometry s.actor at (new_port geometry k)) (sym closed.seat_is) refl
+pub IsAt-closed : (ring : TableId) (geometry : Geometry) (k asks : ℕ) (seat : ReaderSeat) (r s : LabReader) → HasClosed seat r s → IsAt ring geometry s (new_port geometry k asks)
+IsAt-closed ring geometry k asks seat r s closed = subst (λ (at : Option ReaderSeat). IsSeatedAt ring geometry s.actor at (new_port geometry k asks)) (sym closed.seat_is) refl
 
 -- its seat's frames are among those that ended seats got then
 pub IsRecorded-closed : (capture : Option Sound) (geometry : Geometry) (bindings : List ℕ) (ended_got more : List Frame) (seat : ReaderSeat) (r s : LabReader) → HasClosed seat r s

@@ -94,7 +94,7 @@ pub record IsOpenAt (ring : TableId) (geometry : Geometry) (actor : ReaderActor)
 
 -- one that isn't open is like an actor at a new port
 abbrev pub IsSeatedAt : TableId → Geometry → ReaderActor → Option ReaderSeat → AtPort → Type 0
-IsSeatedAt ring geometry actor None a = a ≡ new_port geometry a.by_gate
+IsSeatedAt ring geometry actor None a = a ≡ new_port geometry a.by_gate a.at_gate
 IsSeatedAt ring geometry actor (Some seat) a = IsOpenAt ring geometry actor seat a
 
 abbrev pub IsAt : TableId → Geometry → LabReader → AtPort → Type 0

@@ -189,10 +189,10 @@ module _ (capture : Option Sound) (ring : TableId) (geometry : Geometry) (d : Ca
       knows.got second.0 frame (ap (λ (v : View). get_elem? v.got second.0) same ∙ (ap (λ (fs : List Frame). get_elem? fs second.0) got_them.got ∙ second.1))
 
   -- its seat got the frames that it read, and those that it had got
-  got-open : (read_before : ℕ) (c : Card) (x y : ReaderActor) (s t u v : ReaderSeat) (phase stops after played : ℕ) (ops : List Op)
-      → IsRecordedAt capture geometry bindings ended_got read_before x (Some s) → IsInformedReader c s t → HasRunOpen phase stops after played ops x y t u → IsSameReader u v
+  got-open : (read_before : ℕ) (c : Card) (x y : ReaderActor) (s t u v : ReaderSeat) (phase stops after asks played : ℕ) (ops : List Op)
+      → IsRecordedAt capture geometry bindings ended_got read_before x (Some s) → IsInformedReader c s t → HasRunOpen phase stops after asks played ops x y t u → IsSameReader u v
       → HasGotFrames bindings ended_got read_before y (Some v)
-  got-open read_before c x y s t u v phase stops after played ops before informed ran same =
+  got-open read_before c x y s t u v phase stops after asks played ops before informed ran same =
       let appends = ran.part.appends in
       let read = appends.samples in
       let seats : (view_of v).got ≡ ((view_of s).got ++ (writer_view (writer_of c)).got) ++ read.got =
@@ -221,10 +221,10 @@ module _ (capture : Option Sound) (ring : TableId) (geometry : Geometry) (d : Ca
             ∙ (sym (flat_map-append (λ (frame : Frame). bound_samples bindings frame.samples) old read.frames) ∙ ap (through_all bindings) join)));
       }
 
-  recorded-open : (read_before : ℕ) (c : Card) (x y : ReaderActor) (s t u v : ReaderSeat) (phase stops after played : ℕ) (ops : List Op)
+  recorded-open : (read_before : ℕ) (c : Card) (x y : ReaderActor) (s t u v : ReaderSeat) (phase stops after asks played : ℕ) (ops : List Op)
       → IsRecordedAt capture geometry bindings ended_got read_before x (Some s) → IsInformedReader c s t
-      → HasRunOpen phase stops after played ops x y t u → IsSameReader u v → KnowsReader d v → IsRecordedAt capture geometry bindings ended_got read_before y (Some v)
-  recorded-open read_before c x y s t u v phase stops after played ops before informed ran same knows =
+      → HasRunOpen phase stops after asks played ops x y t u → IsSameReader u v → KnowsReader d v → IsRecordedAt capture geometry bindings ended_got read_before y (Some v)
+  recorded-open read_before c x y s t u v phase stops after asks played ops before informed ran same knows =
       let appends = ran.part.appends in
       let read = appends.samples in
       let first : ℕ = first_frame geometry in
@@ -241,16 +241,16 @@ module _ (capture : Option Sound) (ring : TableId) (geometry : Geometry) (d : Ca
       record {
         on_card = before.on_card;
         bound = ap (λ (z : streams.Setup). z.bindings) ran.part.same.setup.same_setup ∙ before.bound;
-        got = got-open read_before c x y s t u v phase stops after played ops before informed ran same;
+        got = got-open read_before c x y s t u v phase stops after asks played ops before informed ran same;
         samples = appends.more_are
             ∙ (ap (λ (zs : List ℤ). zs ++ appends.more) before.samples
             ∙ (ap (λ (zs : List ℤ). recorded_samples capture first bindings (frames_of_runs x.frames.runs) ++ zs) more
             ∙ (sym (recorded-append capture first bindings (frames_of_runs x.frames.runs) appends.numbers) ∙ ap (recorded_samples capture first bindings) (sym appends.numbers_are))));
       }
 
-  recorded-closed : (read_before : ℕ) (x y : ReaderActor) (phase stops after : ℕ) (ops : List Op) → IsRecordedAt capture geometry bindings ended_got read_before x None
-      → HasRefused phase stops after ops x y → IsRecordedAt capture geometry bindings ended_got read_before y None
-  recorded-closed read_before x y phase stops after ops before ran = record {
+  recorded-closed : (read_before : ℕ) (x y : ReaderActor) (phase stops after asks : ℕ) (ops : List Op) → IsRecordedAt capture geometry bindings ended_got read_before x None
+      → HasRefused phase stops after asks ops x y → IsRecordedAt capture geometry bindings ended_got read_before y None
+  recorded-closed read_before x y phase stops after asks ops before ran = record {
     on_card = before.on_card;
     bound = tt;
     got = record {
@@ -265,25 +265,25 @@ module _ (capture : Option Sound) (ring : TableId) (geometry : Geometry) (d : Ca
     samples = ran.file.samples ∙ (before.samples ∙ ap (λ (runs : List (ℕ × ℕ)). recorded_samples capture (first_frame geometry) bindings (frames_of_runs runs)) (sym ran.file.frames));
   }
 
-  recorded-seats : (read_before : ℕ) (c : Card) (x y : ReaderActor) (p q l m : Option ReaderSeat) (phase stops after played : ℕ) (ops : List Op) → IsRecordedAt capture geometry bindings ended_got read_before x p
-      → OnSeats p q (IsInformedReader c) → HasRunAt phase stops after played ops x y q l → OnSeats l m IsSameReader → OnSeats l m (λ seat later. KnowsReader d later)
+  recorded-seats : (read_before : ℕ) (c : Card) (x y : ReaderActor) (p q l m : Option ReaderSeat) (phase stops after asks played : ℕ) (ops : List Op) → IsRecordedAt capture geometry bindings ended_got read_before x p
+      → OnSeats p q (IsInformedReader c) → HasRunAt phase stops after asks played ops x y q l → OnSeats l m IsSameReader → OnSeats l m (λ seat later. KnowsReader d later)
       → IsRecordedAt capture geometry bindings ended_got read_before y m
-  recorded-seats read_before c x y None None None None phase stops after played ops before informed ran same knows = recorded-closed read_before x y phase stops after ops before ran
-  recorded-seats read_before c x y (Some s) (Some t) (Some u) (Some v) phase stops after played ops before informed ran same knows =
-      recorded-open read_before c x y s t u v phase stops after played ops before informed ran same knows
-  recorded-seats read_before c x y None (Some t) l m phase stops after played ops before informed ran same knows = absurd informed
-  recorded-seats read_before c x y (Some s) None l m phase stops after played ops before informed ran same knows = absurd informed
-  recorded-seats read_before c x y None None (Some u) m phase stops after played ops before informed ran same knows = absurd ran
-  recorded-seats read_before c x y (Some s) (Some t) None m phase stops after played ops before informed ran same knows = absurd ran
-  recorded-seats read_before c x y None None None (Some v) phase stops after played ops before informed ran same knows = absurd same
-  recorded-seats read_before c x y (Some s) (Some t) (Some u) None phase stops after played ops before informed ran same knows = absurd same
+  recorded-seats read_before c x y None None None None phase stops after asks played ops before informed ran same knows = recorded-closed read_before x y phase stops after asks ops before ran
+  recorded-seats read_before c x y (Some s) (Some t) (Some u) (Some v) phase stops after asks played ops before informed ran same knows =
+      recorded-open read_before c x y s t u v phase stops after asks played ops before informed ran same knows
+  recorded-seats read_before c x y None (Some t) l m phase stops after asks played ops before informed ran same knows = absurd informed
+  recorded-seats read_before c x y (Some s) None l m phase stops after asks played ops before informed ran same knows = absurd informed
+  recorded-seats read_before c x y None None (Some u) m phase stops after asks played ops before informed ran same knows = absurd ran
+  recorded-seats read_before c x y (Some s) (Some t) None m phase stops after asks played ops before informed ran same knows = absurd ran
+  recorded-seats read_before c x y None None None (Some v) phase stops after asks played ops before informed ran same knows = absurd same
+  recorded-seats read_before c x y (Some s) (Some t) (Some u) None phase stops after asks played ops before informed ran same knows = absurd same
 
   -- What a reader recorded is what the capture file has, also after a phase, of a card that stored nothing else.
-  pub IsRecorded-phase : (c : Card) (phase stops after : ℕ) (lines : List Line) (r s t u : LabReader) → IsRecorded capture geometry bindings ended_got r
-      → Steps c d phase stops after lines r s t u → IsRecorded capture geometry bindings ended_got u
-  IsRecorded-phase c phase stops after lines r s t u before steps =
-      let ran : HasRunAt phase stops after (played_in lines) (ops_of r lines) r.actor t.actor s.seat t.seat =
-      subst (λ (x : ReaderActor). HasRunAt phase stops after (played_in lines) (ops_by (is_reader x.number) lines) x t.actor s.seat t.seat) steps.informed.actor steps.ran.ran in
+  pub IsRecorded-phase : (c : Card) (phase stops after asks : ℕ) (lines : List Line) (r s t u : LabReader) → IsRecorded capture geometry bindings ended_got r
+      → Steps c d phase stops after asks lines r s t u → IsRecorded capture geometry bindings ended_got u
+  IsRecorded-phase c phase stops after asks lines r s t u before steps =
+      let ran : HasRunAt phase stops after asks (played_in lines) (ops_of r lines) r.actor t.actor s.seat t.seat =
+      subst (λ (x : ReaderActor). HasRunAt phase stops after asks (played_in lines) (ops_by (is_reader x.number) lines) x t.actor s.seat t.seat) steps.informed.actor steps.ran.ran in
       subst (λ (n : ℕ). IsRecordedAt capture geometry bindings ended_got n u.actor u.seat) (sym (steps.heard.read_before ∙ (steps.ran.read_before ∙ steps.informed.read_before)))
       (subst (λ (y : ReaderActor). IsRecordedAt capture geometry bindings ended_got r.read_before y u.seat) (sym steps.heard.actor)
-      (recorded-seats r.read_before c r.actor t.actor r.seat s.seat t.seat u.seat phase stops after (played_in lines) (ops_of r lines) before steps.informed.seats ran steps.heard.seats steps.heard.knows))
+      (recorded-seats r.read_before c r.actor t.actor r.seat s.seat t.seat u.seat phase stops after asks (played_in lines) (ops_of r lines) before steps.informed.seats ran steps.heard.seats steps.heard.knows))

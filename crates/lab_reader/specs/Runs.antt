@@ -10,7 +10,7 @@ use Rattle.lab_lines.specs.declared.line.Op.{Op}
 use Rattle.lab_run.specs.Phases.{played_in}
 use Rattle.lab_run.specs.Stage.{Setup, opened_reader}
 use Rattle.lab_actor.specs.declared.reader.ReaderActor.{ReaderActor}
-use Rattle.lab_actor.specs.ClientPart.{left_in, stops_in}
+use Rattle.lab_actor.specs.ClientPart.{at_gate_in, left_in, stops_in}
 use Rattle.lab_actor.specs.ReaderPart.{ReaderPart}
 use Rattle.lab_actor.specs.Refused.{AreRefused, refused_rows}
 use Rattle.lab_card.specs.Meets.{IsInformedReader, IsSameReader, KnowsReader}
@@ -52,32 +52,33 @@ pub record IsNeverOpen (number : ℕ) (r : LabReader) : Type 0 where
   pub samples : r.actor.samples.items ≡ []
   pub rows : r.actor.rows.items ≡ []
 
--- what lines made of an open reader at its seat, with a gate that stopped so often before them and after them, in a phase in which the card plays so
--- many frames
-pub record HasRunOpen (phase stops after played : ℕ) (ops : List Op) (a b : ReaderActor)
+-- what lines made of an open reader at its seat, with a gate that stopped so often before them and after them, and that it asked so often, in a phase
+-- in which the card plays so many frames
+pub record HasRunOpen (phase stops after asks played : ℕ) (ops : List Op) (a b : ReaderActor)
     (seat later : ReaderSeat) : Type 0 where
-  pub part : ReaderPart seat_port left_in stops_in (seat, (a.left, stops))
-      (later, (b.left, after)) phase played a b ops
+  pub part : ReaderPart seat_port left_in stops_in at_gate_in (seat, (a.left, stops, 0))
+      (later, (b.left, after, asks)) phase played a b ops
   pub same_ring : SameReader seat later
   pub usable : CanUse b.reader (seat_view later)
 
--- what lines made of one that isn't open: each was refused
-pub record HasRefused (phase stops after : ℕ) (ops : List Op) (a b : ReaderActor) : Type 0 where
+-- what lines made of one that isn't open: each was refused, and its gate wasn't asked
+pub record HasRefused (phase stops after asks : ℕ) (ops : List Op) (a b : ReaderActor) : Type 0 where
   pub rows : b.rows.items ≡ a.rows.items ++ refused_rows phase (actor.Reader a.number) ops
   pub part : AreRefused phase a.number ops
   pub file : HasSameFile a b
   pub same_stops : after ≡ stops
+  pub no_asks : asks ≡ 0
 
-abbrev pub HasRunAt : ℕ → ℕ → ℕ → ℕ → List Op → ReaderActor → ReaderActor
+abbrev pub HasRunAt : ℕ → ℕ → ℕ → ℕ → ℕ → List Op → ReaderActor → ReaderActor
     → Option ReaderSeat → Option ReaderSeat → Type 0
-HasRunAt phase stops after played ops a b None None = HasRefused phase stops after ops a b
-HasRunAt phase stops after played ops a b (Some seat) (Some later) =
-    HasRunOpen phase stops after played ops a b seat later
-HasRunAt phase stops after played ops a b seat later = ⊥
+HasRunAt phase stops after asks played ops a b None None = HasRefused phase stops after asks ops a b
+HasRunAt phase stops after asks played ops a b (Some seat) (Some later) =
+    HasRunOpen phase stops after asks played ops a b seat later
+HasRunAt phase stops after asks played ops a b seat later = ⊥
 
 -- it did its lines of a phase
-pub record HasRun (phase stops after : ℕ) (lines : List Line) (r s : LabReader) : Type 0 where
-  pub ran : HasRunAt phase stops after (played_in lines) (ops_of r lines) r.actor s.actor
+pub record HasRun (phase stops after asks : ℕ) (lines : List Line) (r s : LabReader) : Type 0 where
+  pub ran : HasRunAt phase stops after asks (played_in lines) (ops_of r lines) r.actor s.actor
       r.seat s.seat
   pub read_before : s.read_before ≡ r.read_before
 

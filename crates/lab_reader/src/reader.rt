@@ -1,6 +1,7 @@
 //! One reader of a script, whether it is open or not.
 ghost use Rattle.std.specs.Prelude.{◌≡◌, ◌≢◌, ◌++◌, ◌<◌, ◌≤◌, ◌∷◌, ◌↔◌, [], All, IfErr, IfOk, IsSome, IsTrue, None, OnErr, OnOk, Some, length, vec_capacity, vec_len};
 ghost use Rattle.lab_lines.specs.declared.line.Line.{Line};
+ghost use Rattle.lab_run.specs.GateAsks.{AsksGate};
 ghost use Rattle.lab_run.specs.Items.{is_reader_stopped};
 ghost use Rattle.lab_run.specs.LabRun.{runs_of};
 ghost use Rattle.lab_run.specs.Reader.{row_by};
@@ -235,7 +236,8 @@ impl<'r> LabReader<'r> {
         requires few { All (λ (line : Line). IsFewRead line.op) lines.now }
         requires usable { CanRun self.old }
         requires room { HasRoom self.old lines.now }
-        ensures { HasRun phase (G.stops gate.old) (G.stops gate.new) lines.now self.old self.new }
+        ensures { AsksGate G.Gate gate.old gate.new (λ stops after asks.
+            HasRun phase stops after asks lines.now self.old self.new) }
     {
         match &mut self.seat {
             Some(seat) => self.actor.run_lines(seat, gate, phase, lines),

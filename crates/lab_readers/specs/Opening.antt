@@ -67,7 +67,7 @@ module _ (session : Session) (capture : Option Sound) (spare : ReaderSeat)
     is = record {
       numbered = new.number_is;
       reader = reader_in-new number r new;
-      at = IsAt-new (seats.ring_of spare) session.ring number 0 r new;
+      at = IsAt-new (seats.ring_of spare) session.ring number 0 0 r new;
       recorded = IsRecorded-new capture session.ring (bindings_of (slice_index_or session.readers number None)) (seats.view_of spare).got number r (on number) new;
     };
     goes = refl;
@@ -205,7 +205,7 @@ module _ (session : Session) (capture : Option Sound) (stage : Stage) (number ph
           reader = reader_in-opened opens.seat setup before s opens.opened
               ∙ (ap (λ (ring : Geometry). record (reader_in before) { own = Some (opened_reader ring setup) }) geometry
               ∙ ap (λ (x : Reader). record x { own = Some (opened_reader session.ring setup) }) is-at.is.reader);
-          at = IsAt-opened (ring_of ss) session.ring actor-before.0.by_gate opens.seat setup before s (opens.of_ring.0 ∙ sym exchanged.card.same_ring.0) geometry opens.opened;
+          at = IsAt-opened (ring_of ss) session.ring actor-before.0.by_gate actor-before.0.at_gate opens.seat setup before s (opens.of_ring.0 ∙ sym exchanged.card.same_ring.0) geometry opens.opened;
           recorded = IsRecorded-opened capture session.ring (bindings_of (slice_index_or session.readers number None)) (seats.view_of (spare_of ss)).got opens.seat setup
               before s (sym (ap bindings_of setup_is)) opens.opened is-later.is.recorded;
         };

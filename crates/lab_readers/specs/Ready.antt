@@ -2,6 +2,7 @@
 use Rattle.std.specs.Prelude.{◌≡◌, ℕ, ◌+◌, List, [], ◌∷◌, All, Option, Some, None, slice_index_or}
 use Rattle.std.proofs.Common.{sym, ◌∙◌, arith}
 use Rattle.std.proofs.lemmas.List.Elements.{All-cons, All-head, All-tail}
+use Rattle.mix_core.specs.declared.gate.Gate as gate
 use Rattle.snoop_table.specs.declared.seats.reader.ReaderSeat.{ReaderSeat}
 use Rattle.snoop_table.specs.Readers as seats
 use Rattle.wav_io.specs.Sound.{Sound}
@@ -10,6 +11,7 @@ use Rattle.lab_lines.specs.declared.line.Line.{Line}
 use Rattle.lab_run.specs.Reader.{Reader}
 use Rattle.lab_run.specs.Rules.{AtPort}
 use Rattle.lab_run.specs.Stage.{Session}
+use Rattle.lab_actors.specs.Gates.{stops_at}
 use Rattle.lab_actors.specs.Walks.{AreEach, AreEach-joined, AreJoined}
 use Rattle.lab_card.specs.Meets.{IsSameCard}
 use Rattle.lab_reader.specs.declared.reader.LabReader.{LabReader}
@@ -59,11 +61,12 @@ pub AreOf-informed : (c d : Card) (rs ss : LabReaders) → EachReader (IsInforme
 AreOf-informed c d rs ss informed =
     All-moved (IsInformedBy d) (IsOf c) (IsOf c) 0 (readers_of rs) (readers_of ss) (λ n r s is. IsOf-informed c is.card r s is.informed) informed.each
 
-pub AreOf-ran : (c : Card) (stops after : ℕ → ℕ) (phase : ℕ) (lines : List Line) (rs ss : LabReaders) → EachReader (RunsBehind stops after phase lines) rs ss
+pub AreOf-ran : {T : Type 0} (G : gate.Ghosts T) (gates after : List T) (c : Card) (phase : ℕ) (lines : List Line) (rs ss : LabReaders)
+    → EachReader (RunsBehind G gates after phase lines) rs ss
     → All (IsOf c) (readers_of rs) → All (IsOf c) (readers_of ss)
-AreOf-ran c stops after phase lines rs ss ran =
-    All-moved (RunsBehind stops after phase lines) (IsOf c) (IsOf c) 0 (readers_of rs) (readers_of ss)
-    (λ n r s has. IsOf-ran c phase (stops n) (after n) lines r s has) ran.each
+AreOf-ran G gates after c phase lines rs ss ran =
+    All-moved (RunsBehind G gates after phase lines) (IsOf c) (IsOf c) 0 (readers_of rs) (readers_of ss)
+    (λ n r s has. IsOf-ran c phase (stops_at G.stops gates n) (stops_at G.stops after n) has.asks lines r s has.then) ran.each
 
 -- ---- readers of the spare seat's ring
 

@@ -26,7 +26,7 @@ module _ (session : Session) (capture : Option Sound) (spare later : ReaderSeat)
     is = record {
       numbered = ap (λ (actor : ReaderActor). actor.number) closes.closed.actor ∙ done.is.numbered;
       reader = reader_in-closed closes.seat r s closes.closed ∙ ap (λ (reader : Reader). record reader { own = None }) done.is.reader;
-      at = IsAt-closed (seats.ring_of later) session.ring x.0.by_gate closes.seat r s closes.closed;
+      at = IsAt-closed (seats.ring_of later) session.ring x.0.by_gate x.0.at_gate closes.seat r s closes.closed;
       recorded = IsRecorded-closed capture session.ring (bindings_of (slice_index_or session.readers number None)) (seats.view_of spare).got (seats.view_of later).got closes.seat r s
           closes.closed more.got closes.got done.is.recorded;
     };

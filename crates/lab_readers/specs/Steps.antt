@@ -1,11 +1,13 @@
 -- All readers of a script, in a phase: what each step of it makes of them.
 use Rattle.std.specs.Prelude.{◌≡◌, ℕ, Bool, true, false, List, [], ◌∷◌}
 use Rattle.std.proofs.Common.{refl}
+use Rattle.mix_core.specs.declared.gate.Gate as gate
 use Rattle.snoop_table.specs.declared.seats.reader.ReaderSeat.{ReaderSeat}
 use Rattle.card_sim.specs.declared.card.Card.{Card}
 use Rattle.lab_lines.specs.declared.line.Line.{Line}
 use Rattle.lab_lines.specs.declared.line.Op.{Op}
 use Rattle.lab_run.specs.Items.{is_reader_stopped}
+use Rattle.lab_actors.specs.Gates.{AsksGateAt}
 use Rattle.lab_actors.specs.Walks.{AreEach}
 use Rattle.lab_card.specs.Meets.{IsSameCard}
 use Rattle.lab_reader.specs.declared.reader.LabReader.{LabReader}
@@ -52,9 +54,12 @@ pub record IsHeardBy (c : Card) (number : ℕ) (r s : LabReader) : Type 0 where
   pub same : IsSameCard c card
   pub heard : IsHeard card r s
 
--- a reader did its lines with the gate of its number, which stopped so often before them and after them
-abbrev pub RunsBehind : (ℕ → ℕ) → (ℕ → ℕ) → ℕ → List Line → ℕ → LabReader → LabReader → Type 0
-RunsBehind stops after phase lines number r s = HasRun phase (stops number) (after number) lines r s
+-- a reader did its lines with the gate of its number
+abbrev pub RunsBehind : {T : Type 0} → gate.Ghosts T → List T → List T → ℕ → List Line → ℕ
+    → LabReader → LabReader → Type 0
+RunsBehind G gates after phase lines number r s =
+    AsksGateAt G gates after number
+    (λ before later asks. HasRun phase before later asks lines r s)
 
 -- a reader's rows were taken
 pub record HasRowsTaken (number : ℕ) (r s : LabReader) : Type 0 where

@@ -23,7 +23,6 @@ impl LabReaders<'_> {
     ghost use Rattle.lab_run.specs.Stage.{Session};
     ghost use Rattle.lab_actor.specs.ReaderLines.{IsFewRead};
     ghost use Rattle.lab_actor.specs.Room.{HasSpace};
-    ghost use Rattle.lab_actors.specs.Gates.{stops_at};
     ghost use Rattle.lab_card.specs.Meets.{IsSameCard};
     ghost use Rattle.lab_reader.specs.Readers.{IsOf, rows_of};
     ghost use Rattle.lab_readers.specs.AtStage.{AreAt, AreDone, AreOfRing, readers_of};
@@ -73,8 +72,8 @@ impl LabReaders<'_> {
         requires few { All (λ (line : Line). IsFewRead line.op) lines.now }
         requires gates { length (readers_of self.old) ≤ length gates.old }
         requires ready { All (IsReady lines.now) (readers_of self.old) }
-        ensures { EachReader (RunsBehind (stops_at G.stops gates.old) (stops_at G.stops gates.new)
-            phase lines.now) self.old self.new }
+        ensures { EachReader (RunsBehind G.Gate gates.old gates.new phase lines.now)
+            self.old self.new }
     {
         run_in_turn(self.readers.as_mut_slice(), gates, phase, lines);
     }
@@ -91,8 +90,8 @@ impl LabReaders<'_> {
         requires few { All (λ (line : Line). IsFewRead line.op) lines.now }
         requires gates { length (readers_of self.old) ≤ length gates.old }
         requires ready { All (IsReady lines.now) (readers_of self.old) }
-        ensures { EachReader (RunsBehind (stops_at G.stops gates.old) (stops_at G.stops gates.new)
-            phase lines.now) self.old self.new }
+        ensures { EachReader (RunsBehind G.Gate gates.old gates.new phase lines.now)
+            self.old self.new }
     {
         run_at_once(rt, self.readers.as_mut_slice(), gates, phase, lines);
     }

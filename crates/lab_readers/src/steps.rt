@@ -4,7 +4,6 @@ ghost use Rattle.std.specs.List.{flat_map};
 ghost use Rattle.lab_lines.specs.declared.line.Line.{Line};
 ghost use Rattle.lab_actor.specs.ReaderLines.{IsFewRead};
 ghost use Rattle.lab_actor.specs.Room.{HasSpace};
-ghost use Rattle.lab_actors.specs.Gates.{stops_at};
 ghost use Rattle.lab_actors.specs.Walks.{AreEach};
 ghost use Rattle.lab_card.specs.Meets.{IsSameCard};
 ghost use Rattle.lab_reader.specs.Readers.{IsOf, rows_of};
@@ -65,8 +64,8 @@ pub(crate) fn run_in_turn<G: Gate>(
     requires few { All (λ (line : Line). IsFewRead line.op) lines.now }
     requires gates { length readers.old ≤ length gates.old }
     requires ready { All (IsReady lines.now) readers.old }
-    ensures { AreEach (RunsBehind (stops_at G.stops gates.old) (stops_at G.stops gates.new)
-        phase lines.now) 0 readers.old readers.new }
+    ensures { AreEach (RunsBehind G.Gate gates.old gates.new phase lines.now) 0
+        readers.old readers.new }
 {
     for index in 0..readers.len() {
         readers[index].run_lines(&mut gates[index], phase, lines);

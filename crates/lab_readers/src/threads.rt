@@ -2,7 +2,6 @@
 ghost use Rattle.std.specs.Prelude.{◌≡◌, ◌≤◌, All, length};
 ghost use Rattle.lab_lines.specs.declared.line.Line.{Line};
 ghost use Rattle.lab_actor.specs.ReaderLines.{IsFewRead};
-ghost use Rattle.lab_actors.specs.Gates.{stops_at};
 ghost use Rattle.lab_actors.specs.Walks.{AreEach};
 ghost use Rattle.lab_readers.specs.Steps.{IsReady, RunsBehind};
 
@@ -24,8 +23,8 @@ pub(crate) fn run_at_once<R: Threads + Sync, G: Gate + Send>(
     requires few { All (λ (line : Line). IsFewRead line.op) lines.now }
     requires gates { length readers.old ≤ length gates.old }
     requires ready { All (IsReady lines.now) readers.old }
-    ensures { AreEach (RunsBehind (stops_at G.stops gates.old) (stops_at G.stops gates.new)
-        phase lines.now) 0 readers.old readers.new }
+    ensures { AreEach (RunsBehind G.Gate gates.old gates.new phase lines.now) 0
+        readers.old readers.new }
 {
     for_each_pair(
         rt,

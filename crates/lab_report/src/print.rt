@@ -2,10 +2,10 @@
 ghost use Rattle.std.specs.Prelude.{◌≡◌, ◌++◌, All, string_bytes, IfErr, IfOk, Ok, OnOk};
 ghost use Rattle.std.specs.List.{flat_map};
 ghost use Rattle.lab_lines.specs.Limits.{IsScript};
-ghost use Rattle.lab_report.specs.Ranges.{IsReportInRange};
 ghost use Rattle.lab_report.specs.Reading.{report_in_text};
 ghost use Rattle.lab_report.specs.Text.{report_text, row_line, segment_line, run_line, played_line, tail_text, IsReportOf, IsRowOf, IsSegmentOf, IsRunOf, IsTailOf};
 
+use crate::ranges::numbers_are_in_range;
 use crate::text::{push_row, push_run, push_segment};
 use lab_lines::{Report, Row, Script};
 use snd_base::{PcmError, Segment};
@@ -127,17 +127,15 @@ pub fn print_tail(report: &Report, script: &Script, text: &mut Vec<u8>) -> Resul
 /// The report has to be one of the script: its rows are those of the script's lines, in order, and such as
 /// `print_row` takes; its segments and runs are of the script's clients and readers.
 ///
-/// The one error is `PcmError::Memory`.
+/// What is printed is read by `read_report` as the same report. The one error is `PcmError::Memory`.
 pub fn print_report(alloc: Global, report: &Report, script: &Script) -> Result<Vec<u8>, PcmError>
     requires of { IsReportOf script.now report.now }
     requires script { IsScript script.now }
     ensures text { IfOk result (λ bytes. bytes.items ≡ report_text script.now report.now) }
-
-    // What is printed is read as the same report, where its numbers are within their types, as each report's are.
-    ensures back { IsReportInRange report.now
-        → IfOk result (λ bytes. report_in_text script.now bytes.items ≡ Ok report.now) }
+    ensures back { IfOk result (λ bytes. report_in_text script.now bytes.items ≡ Ok report.now) }
     ensures only { IfErr result (λ error. error ≡ PcmError.Memory) }
 {
+    numbers_are_in_range(report);
     let mut text = String::new(alloc);
     writeln!(text, "dmixlab 1")?;
     push_rows(&mut text, script, report.rows.as_slice())?;

@@ -101,8 +101,8 @@ module _ (ring : Geometry) where
   Done before m after end = Takes DoesLoad (DoesLay ring) (DoesGet ring) before m after end
 
 module _ {S T : Type 0} (P : mixport.Ghosts S) (G : gates.Ghosts T) (shown_laid : (p q : S) (es : List Entry) (f c word : ℕ) → P.laid p q es → P.shows p f c ≡ Some word → ShowsFrom P.shows q f c word)
-    (composes : Composes P.loaded) (left : T → Option ℕ) (by_gate : T → ℕ) (counts : CountsDown G.asked left by_gate) (first : S) (ring : Geometry) (from : ℕ) where
-  pub client-lines : ClientLinesAreParts P G left by_gate first ring from
+    (composes : Composes P.loaded) (left : T → Option ℕ) (by_gate at_gate : T → ℕ) (counts : CountsDown G.asked left by_gate at_gate) (first : S) (ring : Geometry) (from : ℕ) where
+  pub client-lines : ClientLinesAreParts P G left by_gate at_gate first ring from
   client-lines s t phase wav number (a, found) client c held samples asked after answer makes offered at takes =
       let own : PlaybackStream = with_member number c in
       let taken : PlaybackStream × Answer → Client × Answer = λ done. after_call client own asked (with_member number done.0, done.1) in
@@ -115,7 +115,7 @@ module _ {S T : Type 0} (P : mixport.Ghosts S) (G : gates.Ghosts T) (shown_laid 
       (λ x y is. ap (after_call client own asked) (sym is)) in
       let took : TakesAt P G s made t (taken (after, answer)) =
       Takes-map (LoadsAt P G) (LaysAt P G) NoGet s t (made_call held samples (P.view s.0).marks c asked) taken (after, answer) (taken (after, answer)) takes refl in
-      let part = course-part P G shown_laid composes left by_gate counts first ring from (λ (x y : Client × Answer). x ≡ y) s t (a, found) made line
+      let part = course-part P G shown_laid composes left by_gate at_gate counts first ring from (λ (x y : Client × Answer). x ≡ y) s t (a, found) made line
       (taken (after, answer)) alike at took in
       let left : Client = after_seat_call number client c asked after answer in
       let same : part.result ≡ (left, answer) =

@@ -6,7 +6,7 @@ use Rattle.mix_core.specs.declared.port.Entry.{Entry}
 use Rattle.snoop_core.specs.declared.port.Got.TheVariants as got
 use Rattle.course.specs.Course.{Course, ends, gets, lays, loads}
 use Rattle.lab_run.specs.Rules.{AtPort, May, MayGet, MayLay, MayLoad, Rules, lets_pass, with_asks, with_stop}
-use Rattle.lab_run.specs.CourseText.{course_text, get_by, get_text, lay_by, lay_text, load_by, load_text, out_of_asks}
+use Rattle.lab_run.specs.CourseText.{asks_left, course_text, get_by, get_text, lay_by, lay_text, load_by, load_text, out_of_asks}
 
 -- nothing is left after the last ask that passes
 pub last-ask : (asks : ℕ) (left : Option ℕ) → lets_pass asks left ≡ true → lets_pass (asks + 1) left ≡ false → left ≡ Some asks
@@ -28,7 +28,10 @@ pub stop-at_once : (a : AtPort) → lets_pass 1 a.left ≡ false → with_stop a
 stop-at_once a is = rw is (by_left a.left refl is)
   where
     same : a.left ≡ Some 0 → a ≡ out_of_asks a
-    same at = ap (λ (l : Option ℕ). let v : AtPort = record a { left = l } in v) at
+    same at =
+        let none : asks_left a.left ≡ 0 = ap asks_left at in
+        let count : a.at_gate ≡ a.at_gate + asks_left a.left = omega (arith, none) in
+        λ i. record { seen = a.seen; marks = a.marks; left = at i; by_gate = a.by_gate; at_gate = count i }
 
     by_left : (left : Option ℕ) → a.left ≡ left → lets_pass 1 left ≡ false → a ≡ out_of_asks a
     by_left None at runs_out = absurd (cc)

@@ -104,12 +104,17 @@ lay-only rules a b e Stopped now same (inl (asks, inl none, all, is)) =
     by_time (nat_le rules.at.position e.frame) out.left out.after
   where
     by_time : (time : Bool) → a.left ≡ Some 0 → b ≡ out_of_asks a → IsText Stopped b (lay_by time (lets_pass 2 a.left) (lets_pass 1 a.left) rules.at e a)
-    by_time true left after = rw left (record { answer_is = refl; after_is = after })
-    by_time false left after = rw left (record { answer_is = refl; after_is = after })
+    by_time true left after =
+        let none : lets_pass 2 a.left ≡ false = rw left (grind (arith, nat_tests)) in
+        rw none (record { answer_is = refl; after_is = after })
+    by_time false left after =
+        let none : lets_pass 1 a.left ≡ false = rw left (grind (arith, nat_tests)) in
+        rw none (record { answer_is = refl; after_is = after })
 lay-only rules a b e Stopped now same (inl (asks, inr (one, low), all, is)) =
     let out : RunsOut 1 a b = runs_out 1 a b (rw one at all) (rw one at is) same in
     let time : nat_le rules.at.position e.frame ≡ true = grind (arith, nat_tests) in
-    rw (time, out.left) (record { answer_is = refl; after_is = out.after })
+    let none : lets_pass 2 a.left ≡ false = rw out.left (grind (arith, nat_tests)) in
+    rw (time, none) (record { answer_is = refl; after_is = out.after })
 
 get-only : (rules : Rules) (a b : AtPort) (frame : ℕ) (g : Got) → a.seen ≡ rules.at.position → b.by_gate ≡ a.by_gate
     → MayGet rules a frame g b → IsText g b (get_text rules.at a frame)
@@ -130,7 +135,9 @@ get-only rules a b frame got.Stopped now same (asks, few_asks, which, all, is) =
         → (asks ≡ 0) ⊎ (a.seen ≤ frame + rules.at.ring.frames) → b ≡ out_of_asks a
         → IsText got.Stopped b (get_by time (lets_pass rules.at.ring.channels a.left) (lets_pass 1 a.left) rules.at a)
     by_time true time left none which after = rw none (record { answer_is = refl; after_is = after })
-    by_time false time left none (inl zero_asks) after = rw (left, zero_asks) (record { answer_is = refl; after_is = after })
+    by_time false time left none (inl zero_asks) after =
+        let one : lets_pass 1 a.left ≡ false = rw (left, zero_asks) (grind (arith, nat_tests)) in
+        rw one (record { answer_is = refl; after_is = after })
     by_time false time left none (inr low) after = absurd (grind (arith, nat_tests))
 
 -- the position that an actor saw is the phase's, once it loaded one

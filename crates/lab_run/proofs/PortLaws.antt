@@ -1,5 +1,5 @@
 -- A course that was taken at a port and its gate is a part of an actor.
-use Rattle.std.proofs.Common.{◌≡◌, ℕ, zero, suc, ◌/◌, ◌<◌, ◌≤◌, refl, sym, ◌∙◌, ap, subst, arith, inl, inr, Option, Some, None}
+use Rattle.std.proofs.Common.{◌≡◌, ℕ, zero, suc, ◌+◌, ◌/◌, ◌<◌, ◌≤◌, refl, sym, ◌∙◌, ap, subst, arith, inl, inr, Option, Some, None}
 use Rattle.std.proofs.lemmas.Bool.Decides.{nat_tests}
 use Rattle.std.specs.Prelude.{Bool, true, false, nat_le, List, [], ◌∷◌, ◌++◌, replicate}
 use Rattle.snd_base.specs.declared.geometry.Geometry.{Geometry}
@@ -41,7 +41,9 @@ ask_count-placing (suc zero) some = absurd (omega (arith, some))
 ask_count-placing (suc (suc n)) some = omega (arith, ask_count-again n)
 
 pub no-asks : (a : AtPort) → with_asks 0 a ≡ a
-no-asks a = ap (λ (l : Option ℕ). let b : AtPort = record a { left = l } in b) (same a.left)
+no-asks a =
+    let none : a.at_gate + 0 ≡ a.at_gate = omega arith in
+    λ i. record { seen = a.seen; marks = a.marks; left = same a.left i; by_gate = a.by_gate; at_gate = none i }
   where
     same : (left : Option ℕ) → left_after 0 left ≡ left
     same None = refl
@@ -57,8 +59,10 @@ again-last zero = refl
 again-last (suc n) = again-last n
 
 -- an actor whose gate is this one
-pub gate-same : {T : Type 0} (left : T → Option ℕ) (by_gate : T → ℕ) (g : T) (a : AtPort) → a.left ≡ left g → a.by_gate ≡ by_gate g → with_gate left by_gate g a ≡ a
-gate-same left by_gate g a left_is by_gate_is = λ i. record { seen = a.seen; marks = a.marks; left = sym left_is i; by_gate = sym by_gate_is i }
+pub gate-same : {T : Type 0} (left : T → Option ℕ) (by_gate at_gate : T → ℕ) (g : T) (a : AtPort) → a.left ≡ left g → a.by_gate ≡ by_gate g → a.at_gate ≡ at_gate g
+    → with_gate left by_gate at_gate g a ≡ a
+gate-same left by_gate at_gate g a left_is by_gate_is at_gate_is =
+    λ i. record { seen = a.seen; marks = a.marks; left = sym left_is i; by_gate = sym by_gate_is i; at_gate = sym at_gate_is i }
 
 -- ---- what is shown
 
@@ -78,7 +82,7 @@ asked-on n seen port_seen frame once low = by_test (nat_le port_seen frame) refl
     by_test false is = let below : frame < port_seen = grind (arith, nat_tests) in absurd (omega (arith, once below))
 
 module _ {S T : Type 0} (P : mixport.Ghosts S) (G : gates.Ghosts T) (shown_laid : (p q : S) (es : List Entry) (f c word : ℕ) → P.laid p q es → P.shows p f c ≡ Some word → ShowsFrom P.shows q f c word)
-    (composes : Composes P.loaded) (left : T → Option ℕ) (by_gate : T → ℕ) (counts : CountsDown G.asked left by_gate) (first : S) (ring : Geometry) (from : ℕ) where
+    (composes : Composes P.loaded) (left : T → Option ℕ) (by_gate at_gate : T → ℕ) (counts : CountsDown G.asked left by_gate at_gate) (first : S) (ring : Geometry) (from : ℕ) where
   past-stays : (p q : S) (es : List Entry) (frame channel word : ℕ) → P.laid p q es → (P.view q).geometry ≡ (P.view p).geometry
       → IsPast P.view P.shows p frame channel word → (now : ℕ) × IsPast P.view P.shows q frame channel now
   past-stays p q es frame channel word laid same past =
@@ -99,17 +103,17 @@ module _ {S T : Type 0} (P : mixport.Ghosts S) (G : gates.Ghosts T) (shown_laid 
       (past-stays p q es place.0 place.1 each.0.0 laid same each.0.1, all_past-stays p q es places laid same each.1)
 
   -- what asks that were answered make of the actor, by its own fields
-  told : (g h : T) (kinds : List StepKind) (pass : Pass) (a : AtPort) → a.left ≡ left g → a.by_gate ≡ by_gate g → G.asked g h kinds pass
-      → IsAnswered kinds pass a (with_gate left by_gate h a)
-  told g h kinds pass a left_is by_gate_is asked =
-      subst (λ x. IsAnswered kinds pass x (with_gate left by_gate h a)) (gate-same left by_gate g a left_is by_gate_is) (counts.tells g h kinds pass a asked)
+  told : (g h : T) (kinds : List StepKind) (pass : Pass) (a : AtPort) → a.left ≡ left g → a.by_gate ≡ by_gate g → a.at_gate ≡ at_gate g → G.asked g h kinds pass
+      → IsAnswered kinds pass a (with_gate left by_gate at_gate h a)
+  told g h kinds pass a left_is by_gate_is at_gate_is asked =
+      subst (λ x. IsAnswered kinds pass x (with_gate left by_gate at_gate h a)) (gate-same left by_gate at_gate g a left_is by_gate_is at_gate_is) (counts.tells g h kinds pass a asked)
 
-  load-part : (s t : S × T) (w : Doing) (load : Option positions.Position) → IsAtPort P left by_gate first ring from s w → LoadsAt P G s load t
-      → (v : Doing) × DoesLoad w load v × IsAtPort P left by_gate first ring from t v
+  load-part : (s t : S × T) (w : Doing) (load : Option positions.Position) → IsAtPort P left by_gate at_gate first ring from s w → LoadsAt P G s load t
+      → (v : Doing) × DoesLoad w load v × IsAtPort P left by_gate at_gate first ring from t v
   load-part s t (a, found) None at step =
-      let answered = told s.1 t.1 (Position ∷ []) Stop a at.left_is at.by_gate_is step.asked_it in
+      let answered = told s.1 t.1 (Position ∷ []) Stop a at.left_is at.by_gate_is at.at_gate_is step.asked_it in
       let same : (P.view t.0).geometry ≡ (P.view s.0).geometry = ap (λ (v : PortView). v.geometry) step.view_is in (
-        (with_gate left by_gate t.1 a, found),
+        (with_gate left by_gate at_gate t.1 a, found),
         (answered.1 ∙ ap with_stop (no-asks a), refl),
         record {
           geometry = same ∙ at.geometry;
@@ -118,15 +122,16 @@ module _ {S T : Type 0} (P : mixport.Ghosts S) (G : gates.Ghosts T) (shown_laid 
           marks = rw (ap (λ (v : PortView). v.marks) step.view_is) (at.marks);
           left_is = refl;
           by_gate_is = refl;
+          at_gate_is = refl;
           loads = Composes-none_after P.loaded first s.0 t.0 found.loads composes at.loads step.loaded_it;
           late = all_past-stays s.0 t.0 [] found.late step.laid_nothing same at.late;
           overtaken = at.overtaken;
         },
       )
   load-part s t (a, found) (Some position) at step =
-      let answered = told s.1 t.1 (Position ∷ []) Go a at.left_is at.by_gate_is step.asked_it in
+      let answered = told s.1 t.1 (Position ∷ []) Go a at.left_is at.by_gate_is at.at_gate_is step.asked_it in
       let same : (P.view t.0).geometry ≡ (P.view s.0).geometry = ap (λ (v : PortView). v.geometry) step.view_is in
-      let b : AtPort = record (with_gate left by_gate t.1 a) { seen = position.frame } in (
+      let b : AtPort = record (with_gate left by_gate at_gate t.1 a) { seen = position.frame } in (
         (b, with_position position found),
         (answered.0, omega (arith, at.seen, step.newer), ap (λ (x : AtPort). let y : AtPort = record x { seen = position.frame } in y) answered.1, refl),
         record {
@@ -136,6 +141,7 @@ module _ {S T : Type 0} (P : mixport.Ghosts S) (G : gates.Ghosts T) (shown_laid 
           marks = rw (ap (λ (v : PortView). v.marks) step.view_is) (at.marks);
           left_is = refl;
           by_gate_is = refl;
+          at_gate_is = refl;
           loads = composes.joined first s.0 t.0 found.loads (position ∷ []) at.loads step.loaded_it;
           late = all_past-stays s.0 t.0 [] found.late step.laid_nothing same at.late;
           overtaken = at.overtaken;
@@ -146,15 +152,15 @@ module _ {S T : Type 0} (P : mixport.Ghosts S) (G : gates.Ghosts T) (shown_laid 
   marks-same : (marks : Marks) (g : Geometry) (e d : Entry) → IsSamePlace e d → g ≡ ring → marks_after g marks e ≡ marks_after ring marks d
   marks-same marks g e d place same = λ i. marks_with (place.kind i) (same i) marks (place.frame i) (place.channel i)
 
-  lay-part : (s t : S × T) (w : Doing) (e d : Entry) (ended : Ended) → IsSamePlace e d → IsAtPort P left by_gate first ring from s w → LaysAt P G s e ended t
-      → (v : Doing) × DoesLay ring w d (without_word ended) v × IsAtPort P left by_gate first ring from t v
+  lay-part : (s t : S × T) (w : Doing) (e d : Entry) (ended : Ended) → IsSamePlace e d → IsAtPort P left by_gate at_gate first ring from s w → LaysAt P G s e ended t
+      → (v : Doing) × DoesLay ring w d (without_word ended) v × IsAtPort P left by_gate at_gate first ring from t v
   lay-part s t (a, found) e d Whole place at step =
-      let answered = told s.1 t.1 (placement_asks step.asks) Go a at.left_is at.by_gate_is step.asked_them in
+      let answered = told s.1 t.1 (placement_asks step.asks) Go a at.left_is at.by_gate_is at.at_gate_is step.asked_them in
       let two : ask_count (placement_asks step.asks) ≡ 2 = ask_count-placing step.asks step.asks_number in
       let same : (P.view t.0).geometry ≡ (P.view s.0).geometry = ap (λ (v : PortView). v.geometry) step.view_is in
-      let b : AtPort = record (with_gate left by_gate t.1 a) { marks = marks_after ring a.marks d } in
+      let b : AtPort = record (with_gate left by_gate at_gate t.1 a) { marks = marks_after ring a.marks d } in
       let passes : lets_pass 2 a.left ≡ true = rw two at answered.0 in
-      let after : with_gate left by_gate t.1 a ≡ with_asks 2 a = rw two at answered.1 in (
+      let after : with_gate left by_gate at_gate t.1 a ≡ with_asks 2 a = rw two at answered.1 in (
         (b, found),
         (omega (arith, at.seen, step.not_before_seen, place.frame), passes, ap (λ (x : AtPort). let y : AtPort = record x { marks = marks_after ring a.marks d } in y) after, refl),
         record {
@@ -165,6 +171,7 @@ module _ {S T : Type 0} (P : mixport.Ghosts S) (G : gates.Ghosts T) (shown_laid 
               (entry-alike ring from (P.view first).marks.high d a.marks (P.view s.0).marks (omega (arith, at.after, step.not_before_seen, place.frame)) at.marks);
           left_is = refl;
           by_gate_is = refl;
+          at_gate_is = refl;
           loads = Composes-none_after P.loaded first s.0 t.0 found.loads composes at.loads step.loaded_nothing;
           late = all_past-stays s.0 t.0 (entry_if Whole e) found.late step.laid_it same at.late;
           overtaken = at.overtaken;
@@ -173,8 +180,8 @@ module _ {S T : Type 0} (P : mixport.Ghosts S) (G : gates.Ghosts T) (shown_laid 
   lay-part s t (a, found) e d (Late word) place at step =
       let same : (P.view t.0).geometry ≡ (P.view s.0).geometry = ap (λ (v : PortView). v.geometry) step.view_is in
       let past : IsPast P.view P.shows t.0 d.frame d.channel word = rw (sym place.frame, sym place.channel) step.shown in (
-        (with_gate left by_gate t.1 a, with_late d.frame d.channel found),
-        by_asks step.asks step.asks_number (told s.1 t.1 (placement_asks step.asks) Go a at.left_is at.by_gate_is step.asked_them),
+        (with_gate left by_gate at_gate t.1 a, with_late d.frame d.channel found),
+        by_asks step.asks step.asks_number (told s.1 t.1 (placement_asks step.asks) Go a at.left_is at.by_gate_is at.at_gate_is step.asked_them),
         record {
           geometry = same ∙ at.geometry;
           after = rw (ap (λ (v : PortView). v.seen) step.view_is) (at.after);
@@ -182,26 +189,27 @@ module _ {S T : Type 0} (P : mixport.Ghosts S) (G : gates.Ghosts T) (shown_laid 
           marks = rw (ap (λ (v : PortView). v.marks) step.view_is) (at.marks);
           left_is = refl;
           by_gate_is = refl;
+          at_gate_is = refl;
           loads = Composes-none_after P.loaded first s.0 t.0 found.loads composes at.loads step.loaded_nothing;
           late = Each-more _ found.late (d.frame, d.channel) (all_past-stays s.0 t.0 (entry_if (Late word) e) found.late step.laid_it same at.late) (word, past);
           overtaken = at.overtaken;
         },
       )
     where
-      by_asks : (n : ℕ) → (1 ≤ n) × (e.frame < (P.view s.0).seen → n ≡ 1) → IsAnswered (placement_asks n) Go a (with_gate left by_gate t.1 a)
-          → DoesLay ring (a, found) d (Late 0) (with_gate left by_gate t.1 a, with_late d.frame d.channel found)
+      by_asks : (n : ℕ) → (1 ≤ n) × (e.frame < (P.view s.0).seen → n ≡ 1) → IsAnswered (placement_asks n) Go a (with_gate left by_gate at_gate t.1 a)
+          → DoesLay ring (a, found) d (Late 0) (with_gate left by_gate at_gate t.1 a, with_late d.frame d.channel found)
       by_asks zero number answered = absurd (omega (arith, number.0))
       by_asks (suc zero) number answered = (0, refl, inl refl, answered.0, answered.1, refl)
       by_asks (suc (suc n)) number answered =
           let two : ask_count (placement_asks (suc (suc n))) ≡ 2 = ask_count-placing (suc (suc n)) (omega arith) in
           let low : a.seen ≤ d.frame = asked-on n a.seen (P.view s.0).seen d.frame (λ below. number.1 (rw place.frame below)) at.seen in
           let passes : lets_pass 2 a.left ≡ true = rw two at answered.0 in
-          let after : with_gate left by_gate t.1 a ≡ with_asks 2 a = rw two at answered.1 in
+          let after : with_gate left by_gate at_gate t.1 a ≡ with_asks 2 a = rw two at answered.1 in
           (1, refl, inr (refl, low), passes, after, refl)
   lay-part s t (a, found) e d Stopped place at step =
       let same : (P.view t.0).geometry ≡ (P.view s.0).geometry = ap (λ (v : PortView). v.geometry) step.view_is in (
-        (with_gate left by_gate t.1 a, found),
-        by_asks step.asks step.asks_number (told s.1 t.1 (placement_asks step.asks) Stop a at.left_is at.by_gate_is step.asked_them),
+        (with_gate left by_gate at_gate t.1 a, found),
+        by_asks step.asks step.asks_number (told s.1 t.1 (placement_asks step.asks) Stop a at.left_is at.by_gate_is at.at_gate_is step.asked_them),
         record {
           geometry = same ∙ at.geometry;
           after = rw (ap (λ (v : PortView). v.seen) step.view_is) (at.after);
@@ -209,14 +217,15 @@ module _ {S T : Type 0} (P : mixport.Ghosts S) (G : gates.Ghosts T) (shown_laid 
           marks = rw (ap (λ (v : PortView). v.marks) step.view_is) (at.marks);
           left_is = refl;
           by_gate_is = refl;
+          at_gate_is = refl;
           loads = Composes-none_after P.loaded first s.0 t.0 found.loads composes at.loads step.loaded_nothing;
           late = all_past-stays s.0 t.0 (entry_if Stopped e) found.late step.laid_it same at.late;
           overtaken = at.overtaken;
         },
       )
     where
-      by_asks : (n : ℕ) → (1 ≤ n) × (e.frame < (P.view s.0).seen → n ≡ 1) → IsAnswered (placement_asks n) Stop a (with_gate left by_gate t.1 a)
-          → DoesLay ring (a, found) d Stopped (with_gate left by_gate t.1 a, found)
+      by_asks : (n : ℕ) → (1 ≤ n) × (e.frame < (P.view s.0).seen → n ≡ 1) → IsAnswered (placement_asks n) Stop a (with_gate left by_gate at_gate t.1 a)
+          → DoesLay ring (a, found) d Stopped (with_gate left by_gate at_gate t.1 a, found)
       by_asks zero number answered = absurd (omega (arith, number.0))
       by_asks (suc zero) number answered = (inl (0, inl refl, answered.0, answered.1), refl)
       by_asks (suc (suc zero)) number answered =
@@ -227,21 +236,21 @@ module _ {S T : Type 0} (P : mixport.Ghosts S) (G : gates.Ghosts T) (shown_laid 
           let two : ask_count (without_last (placement_asks (suc (suc (suc n))))) ≡ 2 = omega (arith, ap ask_count (again-before n), ask_count-again n) in
           let again : last_kind (placement_asks (suc (suc (suc n)))) ≡ Again = again-last n in
           let passes : lets_pass 2 a.left ≡ true = rw two at answered.0 in
-          let after : with_gate left by_gate t.1 a ≡ with_gate_stop (with_asks 2 a) = rw (two, again) at answered.1 in
+          let after : with_gate left by_gate at_gate t.1 a ≡ with_gate_stop (with_asks 2 a) = rw (two, again) at answered.1 in
           (inr (low, passes, after), refl)
 
   -- a course that was taken, and one that is like it
   pub course-part : {X Y : Type 0} (R : X → Y → Type 0) (s t : S × T) (w : Doing) (m : Course X) (n : Course Y) (x : X) → Alike from R m n
-      → IsAtPort P left by_gate first ring from s w → TakesAt P G s m t x → IsActorPart P left by_gate first ring from R t w n x
+      → IsAtPort P left by_gate at_gate first ring from s w → TakesAt P G s m t x → IsActorPart P left by_gate at_gate first ring from R t w n x
   course-part R s t w m n x alike at takes =
-      let part = Takes-alike (LoadsAt P G) (LaysAt P G) NoGet DoesLoad (DoesLay ring) (DoesGet ring) (IsAtPort P left by_gate first ring from) from R
+      let part = Takes-alike (LoadsAt P G) (LaysAt P G) NoGet DoesLoad (DoesLay ring) (DoesGet ring) (IsAtPort P left by_gate at_gate first ring from) from R
       load-at lay-part (λ s t w frame g at step. absurd step) s t w m n x alike at takes in
       record { after = part.0; result = part.1; does = part.2; at = part.3; alike = part.4 }
     where
-      after-seen : (s t : S × T) (w : Doing) (load : Option positions.Position) → IsAtPort P left by_gate first ring from s w → LoadsAt P G s load t → IsFromOn from load
+      after-seen : (s t : S × T) (w : Doing) (load : Option positions.Position) → IsAtPort P left by_gate at_gate first ring from s w → LoadsAt P G s load t → IsFromOn from load
       after-seen s t w None at step = tt
       after-seen s t w (Some position) at step = omega (arith, at.after, step.newer)
 
-      load-at : (s t : S × T) (w : Doing) (load : Option positions.Position) → IsAtPort P left by_gate first ring from s w → LoadsAt P G s load t
-          → (v : Doing) × DoesLoad w load v × IsAtPort P left by_gate first ring from t v × IsFromOn from load
+      load-at : (s t : S × T) (w : Doing) (load : Option positions.Position) → IsAtPort P left by_gate at_gate first ring from s w → LoadsAt P G s load t
+          → (v : Doing) × DoesLoad w load v × IsAtPort P left by_gate at_gate first ring from t v × IsFromOn from load
       load-at s t w load at step = let part = load-part s t w load at step in (part.0, part.1, part.2, after-seen s t w load at step)

@@ -73,8 +73,8 @@ module _ (ring : Geometry) where
   Done before m after end = Takes DoesLoad (DoesLay ring) (DoesGet ring) before m after end
 
 module _ {S T : Type 0} (P : snoopport.Ghosts S) (G : gates.Ghosts T) (shown_got : (p q : S) (fs : List Frame) (f c word : ℕ) → P.got p q fs → P.shows p f c ≡ Some word → ShowsFrom P.shows q f c word)
-    (composes : Composes P.loaded) (left : T → Option ℕ) (by_gate : T → ℕ) (counts : CountsDown G.asked left by_gate) (first : S) (ring : Geometry) where
-  pub reader-lines : ReaderLinesAreParts P G left by_gate first ring
+    (composes : Composes P.loaded) (left : T → Option ℕ) (by_gate at_gate : T → ℕ) (counts : CountsDown G.asked left by_gate at_gate) (first : S) (ring : Geometry) where
+  pub reader-lines : ReaderLinesAreParts P G left by_gate at_gate first ring
   reader-lines s t phase number (a, found) reader r asked after answer reads at takes =
       let finish : CaptureStream × Answer → Course (Reader × Answer) = λ done. ends (after_call reader asked done) in
       let line : Course (Reader × Answer) = call_of r asked >>= finish in
@@ -83,7 +83,7 @@ module _ {S T : Type 0} (P : snoopport.Ghosts S) (G : gates.Ghosts T) (shown_got
       Alike-then 0 (λ x y. x ≡ y) (λ x y. x ≡ y) (call_of r asked) (call_of r asked) finish finish (call-alike r asked) (λ x y is. ap (after_call reader asked) is) in
       let took : TakesAtSnoop P G s line t end =
       Takes-map (LoadsAtSnoop P G) NoLay (GetsAtSnoop P G) s t (call_of r asked) (after_call reader asked) (after, answer) end takes refl in
-      let part = course-part_snoop P G shown_got composes left by_gate counts first ring (λ (x y : Reader × Answer). x ≡ y) s t (a, found) line line end alike at took in
+      let part = course-part_snoop P G shown_got composes left by_gate at_gate counts first ring (λ (x y : Reader × Answer). x ≡ y) s t (a, found) line line end alike at took in
       record {
         doing = part.0;
         done = subst (λ (b : AtPort). Done ring (b, found) (line_by reader reader.own asked) part.0 end) (sym (begins-same reader r asked a reads))

@@ -79,26 +79,26 @@ after_seat_call number client c asked after answer =
 
 -- a line of a client was done at a port, after which it is so
 pub record IsClientLine {S T : Type 0} (P : mixport.Ghosts S) (left : T → Option ℕ)
-    (by_gate : T → ℕ) (first : S) (ring : Geometry) (from : ℕ) (t : S × T)
+    (by_gate at_gate : T → ℕ) (first : S) (ring : Geometry) (from : ℕ) (t : S × T)
     (phase : ℕ) (wav : Sound) (number : ℕ) (before : Doing) (client : Client)
     (asked : Op) (after : Client) (answer : Answer) : Type 0 where
   pub doing : Doing
   pub done : LineDone (client_kind phase wav number) ring ((before.0, client), before.1)
       asked ((doing.0, after), doing.1) answer
-  pub at : IsAtPort P left by_gate first ring from t doing
+  pub at : IsAtPort P left by_gate at_gate first ring from t doing
 
 -- Each line that makes a call is a part of its client. The client that makes it has the member of its seat; that of the run is the same with its
 -- own number as member, before the call and after it.
 abbrev pub ClientLinesAreParts : {S T : Type 0} → mixport.Ghosts S → gates.Ghosts T
-    → (T → Option ℕ) → (T → ℕ) → S → Geometry → ℕ → Type 0
-ClientLinesAreParts {S = S} {T = T} P G left by_gate first ring from =
+    → (T → Option ℕ) → (T → ℕ) → (T → ℕ) → S → Geometry → ℕ → Type 0
+ClientLinesAreParts {S = S} {T = T} P G left by_gate at_gate first ring from =
     (s t : S × T) (phase : ℕ) (wav : Sound) (number : ℕ) (before : Doing)
     (client : Client) (c : PlaybackStream) (held samples : List ℤ) (asked : Op)
     (after : PlaybackStream) (answer : Answer) → MakesCall client (with_member number c) asked
     → IsOffered wav c samples asked
-    → IsAtPort P left by_gate first ring from s before
+    → IsAtPort P left by_gate at_gate first ring from s before
     → TakesAt P G s (made_call held samples (P.view s.0).marks c asked) t (after, answer)
-    → IsClientLine P left by_gate first ring from t phase wav number before client
+    → IsClientLine P left by_gate at_gate first ring from t phase wav number before client
     asked (after_seat_call number client c asked after answer) answer
 
 -- the lines that make no call: of a client that isn't open, of one that was stopped in this phase, and a `die`

@@ -10,9 +10,14 @@ use Rattle.snoop_core.specs.declared.port.Got.TheVariants as got
 use Rattle.course.specs.Course.{Course, ends, gets, lays, loads}
 use Rattle.lab_run.specs.Rules.{AtPort, CardEnd, Rules, lets_pass, with_asks, with_entry, with_load}
 
--- after a stop by a `die`
+-- how many asks a `die` lets pass yet, where there was one
+abbrev pub asks_left : Option ℕ → ℕ
+asks_left None = 0
+asks_left (Some left) = left
+
+-- after a stop by a `die`, which let the asks before it pass
 abbrev pub out_of_asks : AtPort → AtPort
-out_of_asks a = record a { left = Some 0 }
+out_of_asks a = record a { left = Some 0; at_gate = a.at_gate + asks_left a.left }
 
 -- what each kind of step gives, and the actor at its port afterwards
 abbrev pub load_by : Bool → CardEnd → AtPort → Option Position × AtPort

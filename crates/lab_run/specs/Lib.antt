@@ -4,6 +4,7 @@ pub mod Claims
 pub mod Client
 pub mod ClientAtPort
 pub mod CourseText
+pub mod GateAsks
 pub mod Items
 pub mod LabRun
 pub mod LateRows

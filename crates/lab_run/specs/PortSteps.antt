@@ -46,14 +46,17 @@ IsAnswered kinds Stop a b =
     × (b ≡ stop_at (last_kind kinds) (with_asks (ask_count (without_last kinds)) a))
 
 -- an actor at its port, by its gate
-abbrev pub with_gate : {T : Type 0} → (T → Option ℕ) → (T → ℕ) → T → AtPort → AtPort
-with_gate left by_gate g a = record a { left = left g; by_gate = by_gate g }
+abbrev pub with_gate : {T : Type 0} → (T → Option ℕ) → (T → ℕ) → (T → ℕ) → T → AtPort → AtPort
+with_gate left by_gate at_gate g a =
+    record a { left = left g; by_gate = by_gate g; at_gate = at_gate g }
 
--- a gate that counts asks down for a `die` in front of an actor's own gate
+-- a gate that counts asks down for a `die` in front of an actor's own gate, and that tells how often this one stopped the actor and how
+-- often it was asked, but for the asks of kind Again
 pub record CountsDown {T : Type 0} (asked : T → T → List StepKind → Pass → Type 0)
-    (left : T → Option ℕ) (by_gate : T → ℕ) : Type 0 where
+    (left : T → Option ℕ) (by_gate at_gate : T → ℕ) : Type 0 where
   pub tells : (g h : T) (kinds : List StepKind) (pass : Pass) (a : AtPort) → asked g h kinds pass
-      → IsAnswered kinds pass (with_gate left by_gate g a) (with_gate left by_gate h a)
+      → IsAnswered kinds pass (with_gate left by_gate at_gate g a)
+      (with_gate left by_gate at_gate h a)
 
 -- a cursor isn't past a frame
 abbrev pub IsLow : ℕ → Cursor → Type 0
@@ -104,14 +107,16 @@ pub record HasOwnLast (ring : Geometry) (from : ℕ) (before own port : Marks) :
 
 -- An actor at a port, which others used up to a frame, with what it found since a first state of the port. Where it placed no sample yet, the port's
 -- high is that of the first state.
-pub record IsAtPort {S T : Type 0} (P : mixport.Ghosts S) (left : T → Option ℕ) (by_gate : T → ℕ)
-    (first : S) (ring : Geometry) (from : ℕ) (s : S × T) (doing : Doing) : Type 0 where
+pub record IsAtPort {S T : Type 0} (P : mixport.Ghosts S) (left : T → Option ℕ)
+    (by_gate at_gate : T → ℕ) (first : S) (ring : Geometry) (from : ℕ) (s : S × T)
+    (doing : Doing) : Type 0 where
   pub geometry : (P.view s.0).geometry ≡ ring
   pub after : from ≤ (P.view s.0).seen
   pub seen : doing.0.seen ≤ (P.view s.0).seen
   pub marks : MarksAlike ring from (P.view first).marks.high doing.0.marks (P.view s.0).marks
   pub left_is : doing.0.left ≡ left s.1
   pub by_gate_is : doing.0.by_gate ≡ by_gate s.1
+  pub at_gate_is : doing.0.at_gate ≡ at_gate s.1
   pub loads : P.loaded first s.0 doing.1.loads
   pub late : Each (λ (place : ℕ × ℕ). (word : ℕ) × IsPast P.view P.shows s.0 place.0 place.1 word)
       doing.1.late
@@ -119,10 +124,10 @@ pub record IsAtPort {S T : Type 0} (P : mixport.Ghosts S) (left : T → Option �
 
 -- a course that was taken at a port and its gate is a part of an actor: one that is like it was done so, from how the actor was to how it is
 pub record IsActorPart {S T X Y : Type 0} (P : mixport.Ghosts S) (left : T → Option ℕ)
-    (by_gate : T → ℕ) (first : S) (ring : Geometry) (from : ℕ) (R : X → Y → Type 0)
+    (by_gate at_gate : T → ℕ) (first : S) (ring : Geometry) (from : ℕ) (R : X → Y → Type 0)
     (t : S × T) (before : Doing) (n : Course Y) (x : X) : Type 0 where
   pub after : Doing
   pub result : Y
   pub does : Takes DoesLoad (DoesLay ring) (DoesGet ring) before n after result
-  pub at : IsAtPort P left by_gate first ring from t after
+  pub at : IsAtPort P left by_gate at_gate first ring from t after
   pub alike : R x result

@@ -18,11 +18,12 @@ use Rattle.lab_run.specs.Rules.{AtPort}
 
 -- an actor at a port to captured frames, with what it found since a first state of the port
 pub record IsAtSnoop {S T : Type 0} (P : snoopport.Ghosts S) (left : T → Option ℕ)
-    (by_gate : T → ℕ) (first : S) (ring : Geometry) (s : S × T) (doing : Doing) : Type 0 where
+    (by_gate at_gate : T → ℕ) (first : S) (ring : Geometry) (s : S × T) (doing : Doing) : Type 0 where
   pub geometry : (P.view s.0).geometry ≡ ring
   pub seen : doing.0.seen ≤ (P.view s.0).seen
   pub left_is : doing.0.left ≡ left s.1
   pub by_gate_is : doing.0.by_gate ≡ by_gate s.1
+  pub at_gate_is : doing.0.at_gate ≡ at_gate s.1
   pub loads : P.loaded first s.0 doing.1.loads
   pub late : doing.1.late ≡ []
   pub overtaken : Each
@@ -37,23 +38,23 @@ pub record ReadsBy (reader : Reader) (r : CaptureStream) (asked : Op) : Type 0 w
 
 -- a line of a reader was done at a port, after which it is so
 pub record IsReaderLine {S T : Type 0} (P : snoopport.Ghosts S) (left : T → Option ℕ)
-    (by_gate : T → ℕ) (first : S) (ring : Geometry) (t : S × T)
+    (by_gate at_gate : T → ℕ) (first : S) (ring : Geometry) (t : S × T)
     (phase : ℕ) (number : ℕ) (before : Doing) (reader : Reader) (asked : Op)
     (after : Reader) (answer : Answer) : Type 0 where
   pub doing : Doing
   pub done : LineDone (reader_kind phase number) ring ((before.0, reader), before.1)
       asked ((doing.0, after), doing.1) answer
-  pub at : IsAtSnoop P left by_gate first ring t doing
+  pub at : IsAtSnoop P left by_gate at_gate first ring t doing
 
 -- each line that makes a call is a part of its reader
 abbrev pub ReaderLinesAreParts : {S T : Type 0} → snoopport.Ghosts S → gates.Ghosts T
-    → (T → Option ℕ) → (T → ℕ) → S → Geometry → Type 0
-ReaderLinesAreParts {S = S} {T = T} P G left by_gate first ring =
+    → (T → Option ℕ) → (T → ℕ) → (T → ℕ) → S → Geometry → Type 0
+ReaderLinesAreParts {S = S} {T = T} P G left by_gate at_gate first ring =
     (s t : S × T) (phase number : ℕ) (before : Doing) (reader : Reader)
     (r : CaptureStream) (asked : Op) (after : CaptureStream) (answer : Answer)
-    → ReadsBy reader r asked → IsAtSnoop P left by_gate first ring s before
+    → ReadsBy reader r asked → IsAtSnoop P left by_gate at_gate first ring s before
     → TakesAtSnoop P G s (call_of r asked) t (after, answer)
-    → IsReaderLine P left by_gate first ring t phase number before reader asked
+    → IsReaderLine P left by_gate at_gate first ring t phase number before reader asked
     (after_call reader asked (after, answer)).0 answer
 
 -- the lines that make no call: of a reader that isn't open, of one that was stopped in this phase, and a `die`

@@ -22,13 +22,14 @@ pub record Rules : Type 0 where
   pub at : CardEnd
   pub published : List ℕ
 
--- an actor at its port: the position that it saw last, its marks, how many asks a `die` lets pass yet, and how often its own
--- gate stopped it
+-- an actor at its port: the position that it saw last, its marks, how many asks a `die` lets pass yet, how often its own gate stopped
+-- it, and how often it asked this gate, but for the asks of kind Again
 pub record AtPort : Type 0 where
   pub seen : ℕ
   pub marks : Marks
   pub left : Option ℕ
   pub by_gate : ℕ
+  pub at_gate : ℕ
 
 -- a `die` lets so many asks pass
 abbrev pub lets_pass : ℕ → Option ℕ → Bool
@@ -40,9 +41,9 @@ abbrev pub left_after : ℕ → Option ℕ → Option ℕ
 left_after asks None = None
 left_after asks (Some left) = Some (left - asks)
 
--- after so many asks that passed
+-- after so many asks that passed, each of which came to the actor's own gate
 abbrev pub with_asks : ℕ → AtPort → AtPort
-with_asks asks a = record a { left = left_after asks a.left }
+with_asks asks a = record a { left = left_after asks a.left; at_gate = a.at_gate + asks }
 
 -- after a stop by the actor's own gate
 abbrev pub with_gate_stop : AtPort → AtPort

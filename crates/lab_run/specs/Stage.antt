@@ -59,16 +59,18 @@ pub record Stage : Type 0 where
   pub readers : List (AtPort × Reader)
   pub rows : List Row
 
--- a new port of an actor that its own gate stopped so often: it saw no position and placed nothing, and no `die` counts
-abbrev pub new_port : Geometry → ℕ → AtPort
-new_port ring stops = record { seen = 0; marks = start_marks ring; left = None; by_gate = stops }
+-- a new port of an actor that its own gate stopped so often, and that asked it so often: it saw no position and placed nothing, and no
+-- `die` counts
+abbrev pub new_port : Geometry → ℕ → ℕ → AtPort
+new_port ring stops asks =
+    record { seen = 0; marks = start_marks ring; left = None; by_gate = stops; at_gate = asks }
 
 -- an actor that was never open
 abbrev pub no_client : Geometry → AtPort × Client
-no_client ring = (new_port ring 0, record { own = None; ended = [] })
+no_client ring = (new_port ring 0 0, record { own = None; ended = [] })
 
 abbrev pub no_reader : Geometry → AtPort × Reader
-no_reader ring = (new_port ring 0, record { own = None; frames = [] })
+no_reader ring = (new_port ring 0 0, record { own = None; frames = [] })
 
 -- a run before the first item
 abbrev pub first_stage : Session → Stage
@@ -112,7 +114,7 @@ with_reader number reader stage = record stage { readers = slice_set stage.reade
 
 -- an actor's port anew
 abbrev pub renewed_port : Geometry → AtPort → AtPort
-renewed_port ring a = new_port ring a.by_gate
+renewed_port ring a = new_port ring a.by_gate a.at_gate
 
 -- ---- open
 

@@ -166,9 +166,9 @@ pub fn claims_are_of_owners()
 ///
 /// It does nothing.
 pub fn client_lines_are_parts<P: MixPort, G: Gate>()
-    ensures { (left : G → Option ℕ) (by_gate : G → ℕ) (first : P) (ring : Geometry) (from : ℕ) →
-        CountsDown G.asked left by_gate →
-        ClientLinesAreParts P.MixPort G.Gate left by_gate first ring from }
+    ensures { (left : G → Option ℕ) (by_gate at_gate : G → ℕ)
+        (first : P) (ring : Geometry) (from : ℕ) → CountsDown G.asked left by_gate at_gate →
+        ClientLinesAreParts P.MixPort G.Gate left by_gate at_gate first ring from }
 {}
 
 /// Each line of an open reader that a port of captured frames and a gate that counts asks down took
@@ -176,9 +176,9 @@ pub fn client_lines_are_parts<P: MixPort, G: Gate>()
 ///
 /// It does nothing.
 pub fn reader_lines_are_parts<P: SnoopPort, G: Gate>()
-    ensures { (left : G → Option ℕ) (by_gate : G → ℕ) (first : P) (ring : Geometry) →
-        CountsDown G.asked left by_gate →
-        ReaderLinesAreParts P.SnoopPort G.Gate left by_gate first ring }
+    ensures { (left : G → Option ℕ) (by_gate at_gate : G → ℕ) (first : P) (ring : Geometry) →
+        CountsDown G.asked left by_gate at_gate →
+        ReaderLinesAreParts P.SnoopPort G.Gate left by_gate at_gate first ring }
 {}
 
 /// A stage of a run of a script is where the script has it after as many phases; and what the next

@@ -2,6 +2,8 @@
 use Rattle.std.proofs.Common.{◌≡◌, ◌∙◌, ◌⊎◌, ℕ, List, [], ◌++◌, ap, sym, subst, refl, inl, inr}
 use Rattle.std.specs.Prelude.{All, ℤ, Option, Some, None, Result, Ok, Err, OnErr, OnOk}
 use Rattle.std.specs.Option.{ForSome, option_map}
+use Rattle.mix_core.specs.declared.gate.Pass.{Pass}
+use Rattle.mix_core.specs.declared.gate.StepKind.{StepKind}
 use Rattle.wav_io.specs.Sound.{Sound}
 use Rattle.lab_headline.specs.Exact.{IsExactRun, IsOwnRun, IsUnstoppedRun}
 use Rattle.lab_headline.specs.OneSession.{HaveOneSession}
@@ -15,7 +17,7 @@ use Rattle.lab_make.specs.Summary.{IsSummaryOf, summary_text}
 use Rattle.lab_make.specs.Workload.{IsWorkload}
 use Rattle.lab_output.specs.Files.{output_files, finished_files}
 use Rattle.lab_phase.specs.PhaseRuns.{Stops}
-use Rattle.lab_play.specs.Played.{HasPlayed, HasPlayedPart, IsRunOf, IsUntouched, sounds_of}
+use Rattle.lab_play.specs.Played.{HasPlayed, HasPlayedAsking, HasPlayedPart, IsRunOf, IsUntouched, sounds_of}
 use Rattle.lab_play.specs.Stops.{HaveNoStops}
 use Rattle.lab_report.specs.Text.{report_text}
 use Rattle.lab_run.specs.LabRun.{Outcome}
@@ -27,7 +29,7 @@ use Rattle.lab_lines.specs.Limits.{IsScript}
 use Rattle.lab_script.specs.Reading.{script_of}
 use Rattle.lab_shelf.specs.Files.{Files, IsPartWritten, TookPart, with_file}
 use Rattle.lab_workload.specs.Stored.{InputInPart, IsReadBack, made_input, script_name, with_input, with_workload}
-use Rattle.lab_workload.specs.Made.{HasPutSummary, HasPutSummaryPart, IsMade, IsMadePart, IsOnlyMade, StoppedAtEnd, StoppedBefore, StoppedAfterRun, StoppedInRun, made_outcome, made_report, output_name, report_name, with_made, with_run_files}
+use Rattle.lab_workload.specs.Made.{HasPutSummary, HasPutSummaryPart, IsMadeAsking, IsMadePart, IsOnlyMade, StoppedAtEnd, StoppedBefore, StoppedAfterRun, StoppedInRun, made_outcome, made_report, output_name, report_name, with_made, with_run_files}
 use Rattle.lab_workload.proofs.Reading.{input-made}
 use Rattle.lab_workload.proofs.Unmixed.{AreUnmixed-made}
 
@@ -98,9 +100,13 @@ module _ (w : Workload) (stops : Stops) (input : RunInput) (wavs : List Sound) (
         text = refl;
       }))
 
-  module _ (ran : Option Files) (outcome : Outcome) (report : List ℕ) (played : HasPlayed input output_name stops outcome between ran (Some []) (Some report)) where
-    of-workload : HasPlayed (made_input w) output_name stops outcome between ran (Some []) (Some report)
-    of-workload = subst (λ (i : RunInput). HasPlayed i output_name stops outcome between ran (Some []) (Some report)) input_is played
+  module _ {T : Type 0} (asked : T → T → List StepKind → Pass → Type 0) (gates gates_after : List T) (ran : Option Files) (outcome : Outcome) (report : List ℕ)
+      (played : HasPlayedAsking asked gates gates_after input output_name stops outcome between ran (Some []) (Some report)) where
+    asking-of-workload : HasPlayedAsking asked gates gates_after (made_input w) output_name stops outcome between ran (Some []) (Some report)
+    asking-of-workload = subst (λ (i : RunInput). HasPlayedAsking asked gates gates_after i output_name stops outcome between ran (Some []) (Some report)) input_is played
+
+    abbrev of-workload : HasPlayed (made_input w) output_name stops outcome between ran (Some []) (Some report)
+    of-workload = asking-of-workload.played
 
     ran-files : ran ≡ option_map (with_run_files w outcome) before
     ran-files =
@@ -176,14 +182,17 @@ module _ (w : Workload) (stops : Stops) (input : RunInput) (wavs : List Sound) (
       }
 
       pub IsMade-all : IsWorkload w → script_of (made_text w.clients w.phases) ≡ Ok (made_script w.clients w.phases)
-          → All IsMadeSound (made_sounds w.seed w.clients) → All IsReadBack (made_sounds w.seed w.clients) → IsMade w stops before after taken taken_after
+          → All IsMadeSound (made_sounds w.seed w.clients) → All IsReadBack (made_sounds w.seed w.clients) → IsMadeAsking asked gates gates_after w stops before after taken taken_after
       IsMade-all workload spelled made back = record {
-        session = of-workload.session;
-        outcome = outcome;
-        read = λ files known. input-made w workload spelled made back files;
-        is = of-workload.is;
-        own = λ none. laws.own (made_script w.clients w.phases) (made_input w).sounds of-workload.session None outcome script_is of-workload.is.session_is (unstopped none);
-        only = only-made;
-        files = made-files after is;
-        text = put;
+        made = record {
+          session = of-workload.session;
+          outcome = outcome;
+          read = λ files known. input-made w workload spelled made back files;
+          is = of-workload.is;
+          own = λ none. laws.own (made_script w.clients w.phases) (made_input w).sounds of-workload.session None outcome script_is of-workload.is.session_is (unstopped none);
+          only = only-made;
+          files = made-files after is;
+          text = put;
+        };
+        gates_asked = asking-of-workload.gates_asked;
       }

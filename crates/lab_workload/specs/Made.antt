@@ -1,19 +1,22 @@
 -- What the command `make` leaves.
 --     IsMade      it is done: the workload is stored and run, its report is stored, and its summary was put
+--     IsMadeAsking      and the run asked its gates as often as it counts
 --     IsOnlyMade      what it leaves is the only thing that it can leave
 --     IsMadePart      it stopped in its output
 use Rattle.std.specs.Prelude.{◌≡◌, ◌⊎◌, ◌++◌, ℕ, List, [], codes, Option, Some, None, Ok}
 use Rattle.std.specs.Option.{ForSome, option_map}
+use Rattle.mix_core.specs.declared.gate.Pass.{Pass}
+use Rattle.mix_core.specs.declared.gate.StepKind.{StepKind}
 use Rattle.lab_headline.specs.Exact.{IsOwnRun}
 use Rattle.lab_input.specs.Input.{input_in}
 use Rattle.lab_output.specs.Files.{output_files, finished_files}
-use Rattle.lab_phase.specs.PhaseRuns.{Stops}
+use Rattle.lab_phase.specs.PhaseRuns.{HaveAsked, Stops}
 use Rattle.lab_play.specs.Played.{HasPlayedPart, IsRunOf, sounds_of}
 use Rattle.lab_play.specs.Stops.{HaveNoStops}
 use Rattle.lab_report.specs.Text.{report_text}
 use Rattle.lab_run.specs.LabRun.{Outcome, lab_text}
 use Rattle.lab_run.specs.Openings.{IsSessionOf}
-use Rattle.lab_run.specs.Stage.{Session}
+use Rattle.lab_run.specs.Stage.{Session, first_stage}
 use Rattle.lab_shelf.specs.Files.{Files, IsPartWritten, TookPart, with_file}
 use Rattle.lab_make.specs.declared.summary.Summary.{Summary}
 use Rattle.lab_make.specs.declared.workload.Workload.{Workload}
@@ -87,6 +90,13 @@ pub record IsMade (w : Workload) (stops : Stops) (before after : Option Files)
   pub only : HaveNoStops stops → IsOnlyMade w before after taken taken_after
   pub files : after ≡ option_map (with_made w outcome) before
   pub text : HasPutSummary w outcome taken taken_after
+
+-- and from the beginning of the run to its end the clients asked these gates as often as it counts
+pub record IsMadeAsking {T : Type 0} (asked : T → T → List StepKind → Pass → Type 0)
+    (gates gates_after : List T) (w : Workload) (stops : Stops) (before after : Option Files)
+    (taken taken_after : Option (List ℕ)) : Type 0 where
+  pub made : IsMade w stops before after taken taken_after
+  pub gates_asked : HaveAsked asked gates gates_after (first_stage made.session) made.is.run.end
 
 -- the command stopped while it stored the workload
 pub record StoppedBefore (w : Workload) (before after : Option Files)

@@ -6,7 +6,7 @@ ghost use Rattle.lab_play.specs.Played.{IsUntouched};
 ghost use Rattle.lab_play.specs.Stops.{rises};
 ghost use Rattle.lab_stop.specs.Stops.{IsWriteStop, OutputFaults};
 ghost use Rattle.lab_stop.specs.declared.stop.Stop.TheVariants as stops;
-ghost use Rattle.lab_workload.specs.Made.{IsMade, IsMadePart};
+ghost use Rattle.lab_workload.specs.Made.{IsMadeAsking, IsMadePart};
 
 use crate::input::made_input;
 use crate::run::run_input;
@@ -46,8 +46,8 @@ pub fn make_workload<R: Threads + Sync, S: Shelf, K: Sink, G: Gate + Send>(
     requires workload { IsWorkload workload.now }
     requires gates { 128 ≤ length gates.old }
 
-    // The workload, a run of it and their summary are written, and nothing else.
-    ensures done { OnOk result (IsMade workload.now
+    // The workload, a run of it and their summary are written, and nothing else; the run asked its gates as often as it counts.
+    ensures done { OnOk result (IsMadeAsking G.asked gates.old gates.new workload.now
         (rises (stops_by G.stops gates.old) (stops_by G.stops gates.new))
         (S.files shelf.old) (S.files shelf.new) (K.taken out.old) (K.taken out.new)) }
 

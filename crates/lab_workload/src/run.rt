@@ -3,7 +3,7 @@ ghost use Rattle.std.specs.Prelude.{[], ◌≡◌, ◌≢◌, ◌≤◌, ℕ, Er
 ghost use Rattle.lab_input.specs.Read.{input_of};
 ghost use Rattle.lab_phase.specs.Ended.{outcome_in};
 ghost use Rattle.lab_phase.specs.PhaseRuns.{stops_by};
-ghost use Rattle.lab_play.specs.Played.{HasPlayed, HasPlayedPart};
+ghost use Rattle.lab_play.specs.Played.{HasPlayedAsking, HasPlayedPart};
 ghost use Rattle.lab_play.specs.Stops.{rises};
 ghost use Rattle.lab_lines.specs.Limits.{IsScript};
 ghost use Rattle.lab_stop.specs.Stops.{IsWriteStop, OutputFaults};
@@ -54,7 +54,8 @@ pub(crate) fn run_input<R: Threads + Sync, S: Shelf, G: Gate + Send>(
     requires script { IsScript input.now.script }
     requires files { length input.now.wavs.items ≡ length input.now.script.clients }
     requires gates { 128 ≤ length gates.old }
-    ensures done { IfOk result (λ made. HasPlayed (input_of input.now) output_name
+    ensures done { IfOk result (λ made. HasPlayedAsking G.asked gates.old gates.new
+        (input_of input.now) output_name
         (rises (stops_by G.stops gates.old) (stops_by G.stops gates.new)) (outcome_in made.outcome)
         (S.files shelf.old) (S.files shelf.new) (Some []) (Some made.report.items)) }
     ensures part { OnErr result ((report : List ℕ) × HasPlayedPart (input_of input.now) output_name

@@ -3,16 +3,17 @@ use crate::finish::{Outcome, close_rings, frames_of, report_of};
 use crate::lab::Lab;
 use crate::report_room::ReportRoom;
 use lab_card::CardActor;
-use lab_run::reports_are_within_rows;
+use lab_run::{one_run, reports_are_within_rows};
 
 impl<'r> Lab<'r, '_> {
     ghost use Rattle.std.specs.Prelude.{◌≡◌};
-    ghost use Rattle.lab_phase.specs.AtStage.{IsLab, played_of};
-    ghost use Rattle.lab_phase.specs.Ended.{HasPlayedMix, IsAtEnd, IsMixAtStage, LeavesRun, LeavesStage};
+    ghost use Rattle.lab_run.specs.LabRun.{IsOneRun};
+    ghost use Rattle.lab_phase.specs.AtStage.{IsLab, capture_of, played_of, session_of};
+    ghost use Rattle.lab_phase.specs.Ended.{HasPlayedMix, IsAtEnd, IsMixAtStage, LeavesOneRun, LeavesRun, LeavesStage};
 
     /// Ends the run: closes what is still open and both rings, and gives the report with all segments and runs, what the card played and
     /// what each reader recorded. The card played the mix of all that the clients' seats placed, which is seat by seat what the segments
-    /// say. It takes no memory.
+    /// say. Where no phase is mixed and no actor's own gate stopped it, the script has no other run. It takes no memory.
     ///
     /// The caller has done all items of the script's body.
     pub fn finish(self) -> Outcome
@@ -20,10 +21,14 @@ impl<'r> Lab<'r, '_> {
         requires end { IsAtEnd self }
         ensures stage { LeavesStage self.entry result }
         ensures run { LeavesRun self.entry result }
+        ensures one { IsOneRun (session_of self.entry) (capture_of self.entry)
+            self.entry.script.now.body }
+        ensures exact { LeavesOneRun self.entry result }
         ensures placed { IsMixAtStage self.entry }
         ensures played { result.played.items ≡ played_of self.entry }
         ensures mix { HasPlayedMix self.entry }
     {
+        one_run();
         reports_are_within_rows();
         let Lab {
             alloc: _,

@@ -1,6 +1,5 @@
-use Rattle.std.proofs.Common.{refl, ◌∙◌}
-use Rattle.lab_actor.specs.Countdown.{IsSameGate, by_gate_of, left_of}
-use Rattle.lab_actor.specs.CountdownLaws.{CountsAsks-down}
+use Rattle.lab_actor.specs.Countdown.{KeepsGate, at_gate_of, by_gate_of, left_of}
+use Rattle.lab_actor.specs.CountdownLaws.{CountsAsks-down, CountsAsks-keeps, KeepsGate-joined, KeepsGate-none}
 use Rattle.lab_actor.specs.Room.{spare_frames}
 use Rattle.lab_actor.proofs.ReaderAnswered.{answered-call}
 use Rattle.lab_actor.proofs.Gates.{TakesAtSnoop-gate, both}
@@ -10,13 +9,15 @@ pub returns-clause-answered : goal.returns-clause-answered
 returns-clause-answered g c =
     let P = g.P.SnoopPort in
     let stops = g.G.Gate.stops in
-    answered-call P g.met.P.SnoopPort.got_composes g.met.P.SnoopPort.loaded_composes left_of (by_gate_of stops) _
-    (λ first ring. c.reader_lines_are_parts.ensures left_of (by_gate_of stops) first ring (CountsAsks-down stops))
+    answered-call P g.met.P.SnoopPort.got_composes g.met.P.SnoopPort.loaded_composes left_of (by_gate_of stops) at_gate_of _
+    (λ first ring. c.reader_lines_are_parts.ensures left_of (by_gate_of stops) at_gate_of first ring (CountsAsks-down stops g.G.Gate.asked))
     (both c.args.port.now c.args.gate.now) (both c.call_fitting.new.port c.call_fitting.new.gate) c.args.reader.now c.call_fitting.new.reader
     c.args.samples.now.items c.call_fitting.new.samples.items c.args.asked (spare_frames c.args.reader.now c.args.samples.now) c.call_fitting.result c.requires.can
     c.call_fitting.ensures.called
 
-pub returns-clause-same_gate : goal.returns-clause-same_gate
-returns-clause-same_gate g c =
-    TakesAtSnoop-gate g.P.SnoopPort _ IsSameGate (λ h. refl) (λ h k m one two. two ∙ one) (λ h k kinds pass asks. asks.same_gate)
+pub returns-clause-own_gate : goal.returns-clause-own_gate
+returns-clause-own_gate g c =
+    let asked = g.G.Gate.asked in
+    TakesAtSnoop-gate g.P.SnoopPort _ (KeepsGate asked) (KeepsGate-none asked) (KeepsGate-joined asked)
+    (λ h k kinds pass asks. CountsAsks-keeps asked g.G.Gate.stops h k kinds pass asks)
     (both c.args.port.now c.args.gate.now) (both c.call_fitting.new.port c.call_fitting.new.gate) _ _ c.call_fitting.ensures.called.takes

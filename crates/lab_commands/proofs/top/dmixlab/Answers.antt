@@ -9,6 +9,9 @@ pub returns-clause-exact : goal.returns-clause-exact
 returns-clause-exact g c zero =
     DoneIn-only c.scripts_have_one_session.ensures c.command-end.result (form_of (texts c.args.words.now)) _ _ _ _ _ c.command-end.ensures.leaves (sym c.status.ensures ∙ zero)
 
+pub returns-clause-asked : goal.returns-clause-asked
+returns-clause-asked g c zero = OnOk-done c.command-end.result _ c.command-end.ensures.asked (sym c.status.ensures ∙ zero)
+
 pub returns-clause-statuses : goal.returns-clause-statuses
 returns-clause-statuses g c = rw c.status.ensures c.command-end.ensures.statuses
 

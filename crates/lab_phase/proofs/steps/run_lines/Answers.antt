@@ -36,7 +36,7 @@ pub hear-requires : goal.hear-requires
 hear-requires g c =
     let a = c.args.card.now in
     let before : CardActor = record { card = c.inform-2.new.card; played = a.played; rows = a.rows; captured = a.captured } in
-    AreOfCard-ran g.G.Gate.stops _ _ (asks_of c.args.asked.now) a before c.run_all.new.card c.args.clients.now c.inform.new.self c.run_all.new.clients
+    AreOfCard-ran g.G.Gate _ _ (asks_of c.args.asked.now) a before c.run_all.new.card c.args.clients.now c.inform.new.self c.run_all.new.clients
     (IsSameCard-joined a.card c.inform.new.card c.inform-2.new.card c.inform.ensures.card c.inform-2.ensures.card) c.run_all.ensures.card c.inform.ensures.informed c.run_all.ensures.clients
     c.requires.clients_of_card
 
@@ -44,7 +44,7 @@ pub hear-requires-2 : goal.hear-requires-2
 hear-requires-2 g c =
     let a = c.args.card.now in
     let before : CardActor = record { card = c.inform-2.new.card; played = a.played; rows = a.rows; captured = a.captured } in
-    AreOf-lines g.G.Gate.stops _ _ (asks_of c.args.asked.now) a before c.run_all.new.card c.inform.new.card c.hear.new.card c.args.readers.now c.inform-2.new.self c.run_all.new.readers
+    AreOf-lines g.G.Gate _ _ (asks_of c.args.asked.now) a before c.run_all.new.card c.inform.new.card c.hear.new.card c.args.readers.now c.inform-2.new.self c.run_all.new.readers
     (IsSameCard-joined a.card c.inform.new.card c.inform-2.new.card c.inform.ensures.card c.inform-2.ensures.card) c.run_all.ensures.card c.hear.ensures.card c.inform-2.ensures.informed
     c.run_all.ensures.readers c.requires.readers_of_card
 
@@ -71,7 +71,7 @@ returns g c =
       };
       inform_clients = c.inform.ensures.informed;
       inform_readers = c.inform-2.ensures.informed;
-      run = HaveRun-halves g.G.Gate.stops 64 c.args.gates.now near.result.0.now c.run_all.new.near near.result.1.now c.run_all.new.far (asks_of c.args.asked.now) before
+      run = HaveRun-halves g.G.Gate 64 c.args.gates.now near.result.0.now c.run_all.new.near near.result.1.now c.run_all.new.far (asks_of c.args.asked.now) before
           c.run_all.new.card c.inform.new.self c.run_all.new.clients c.inform-2.new.self c.run_all.new.readers near.ensures.value near.ensures.front_len c.run_all.auto.near
           c.run_all.ensures;
       third = c.hear.ensures.card;

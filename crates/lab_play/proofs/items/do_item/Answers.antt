@@ -1,4 +1,5 @@
-use Rattle.lab_phase.specs.PhaseRuns.{Stops, stops_by}
+use Rattle.lab_phase.specs.AskLaws.{HaveAsked-none}
+use Rattle.lab_phase.specs.PhaseRuns.{HaveAsked, Stops, stops_by}
 use Rattle.lab_stop.specs.FaultLaws.{OutputFaults-memory}
 use Rattle.lab_play.specs.Playing.{SceneGoesOn, Scene, StopsAt, scene}
 use Rattle.lab_play.proofs.ItemsResults.{OnErr-all, OnOk-all}
@@ -10,7 +11,9 @@ returns-in-Opens-clause-done g c =
     let stops : Stops = stops_by g.G.Gate.stops c.args.gates.now in
     let before : Scene = scene c.args.lab.now c.args.outputs.now (g.S.Shelf.files c.args.shelf.now) (g.K.Sink.taken c.args.out.now) in
     let after : Scene = scene c.do_border.new.lab before.outputs before.files before.taken in
-    OnOk-all (SceneGoesOn stops before stops after) c.do_border.result (c.do_border.ensures.written stops before.outputs before.files before.taken)
+    OnOk-all (SceneGoesOn (HaveAsked g.G.Gate.asked c.args.gates.now c.args.gates.now) stops before stops after) c.do_border.result
+    (λ start is. let goes = c.do_border.ensures.written stops before.outputs before.files before.taken start is in
+    record { playing = goes.playing; gates = HaveAsked-none g.G.Gate.asked c.args.gates.now is.stage goes.playing.stage goes.gates })
 
 pub returns-in-Opens-clause-part : goal.returns-in-Opens-clause-part
 returns-in-Opens-clause-part g c =
@@ -18,7 +21,7 @@ returns-in-Opens-clause-part g c =
     let before : Scene = scene c.args.lab.now c.args.outputs.now (g.S.Shelf.files c.args.shelf.now) (g.K.Sink.taken c.args.out.now) in
     let after : Scene = scene c.do_border.new.lab before.outputs before.files before.taken in
     OnErr-all (StopsAt stops before stops after.lab before.files before.taken) c.do_border.result
-    (λ start is. IsStoppedAt-playing start stops after (c.do_border.ensures.written stops before.outputs before.files before.taken start is))
+    (λ start is. IsStoppedAt-playing start stops after (c.do_border.ensures.written stops before.outputs before.files before.taken start is).playing)
 
 pub returns-in-Opens-clause-faults : goal.returns-in-Opens-clause-faults
 returns-in-Opens-clause-faults g c = OutputFaults-memory c.do_border.result _ _ c.do_border.ensures.only

@@ -1,19 +1,20 @@
 -- The run has gone on since the call, and the items before the index are done.
 use Rattle.std.proofs.Common.{◌≡◌}
-use Rattle.lab_phase.specs.AtStage.{items_done}
-use Rattle.lab_phase.specs.PhaseRuns.{stops_by}
+use Rattle.lab_phase.specs.AtStage.{IsSameScript, items_done}
+use Rattle.lab_phase.specs.PhaseRuns.{HaveAsked, stops_by}
 use Rattle.lab_stop.specs.Stops.{AreSameCounts}
 use Rattle.lab_play.specs.Playing.{SceneGoesOn, scene}
 use Rattle.lab_play.proofs.items.do_items.Given as goal
 
 abbrev pub invariant-loop-index : goal.invariant-loop-index
 invariant-loop-index g l = record {
-  goes_on : SceneGoesOn
+  goes_on : SceneGoesOn (HaveAsked g.G.Gate.asked l.fn.gates l.gates)
       (stops_by g.G.Gate.stops l.fn.gates)
       (scene l.fn.lab l.fn.outputs (g.S.Shelf.files l.fn.shelf) (g.K.Sink.taken l.fn.out))
       (stops_by g.G.Gate.stops l.gates)
       (scene l.lab l.outputs (g.S.Shelf.files l.shelf) (g.K.Sink.taken l.out));
   done : items_done l.lab ≡ l.index;
+  same : IsSameScript l.fn.lab l.lab;
   fetch_faults : g.S.Shelf.fetch_faults l.shelf ≡ g.S.Shelf.fetch_faults l.fn.shelf;
   faults : AreSameCounts (g.S.Shelf.write_faults l.fn.shelf) (g.S.Shelf.write_faults l.shelf) (g.K.Sink.faults l.fn.out) (g.K.Sink.faults l.out);
   reliable : g.S.Shelf.is_reliable l.fn.shelf → g.S.Shelf.is_reliable l.shelf;

@@ -1,10 +1,11 @@
 use Rattle.std.proofs.Common.{List, Option, ap, subst, sym, ℕ}
 use Rattle.lab_shelf.specs.Files.{Files}
 use Rattle.lab_phase.specs.BorderLaws.{OnOk-more}
-use Rattle.lab_phase.specs.PhaseRuns.{Stops, stops_by}
+use Rattle.lab_phase.specs.PhaseRuns.{HaveAsked, Stops, stops_by}
+use Rattle.lab_run.specs.Stage.{Stage}
 use Rattle.lab_phase.specs.Same.{StaysAtStage-same}
 use Rattle.lab_play.specs.Playing.{CatchesUp, IsStoppedAt, SceneGoesOn, Scene, StopsAt, StopsBehind, scene}
-use Rattle.lab_play.proofs.ItemsDone.{HasUnwrittenPhase-phase, StaysWritten-stage}
+use Rattle.lab_play.proofs.ItemsDone.{GoesOn-written, HasGoneBehind-phase, StaysWritten-stage}
 use Rattle.lab_play.proofs.ItemsResults.{OnErr-more}
 use Rattle.lab_play.proofs.ItemsStopped.{IsStoppedAt-playing}
 use Rattle.lab_play.proofs.items.do_phase.Goals as goal
@@ -16,9 +17,9 @@ write_phase-requires g c =
       start = playing.start;
       stops = stops_by g.G.Gate.stops c.run_phase.new.gates;
       script_is = playing.script_is;
-      is = HasUnwrittenPhase-phase c.stages_grow.ensures.grow (stops_by g.G.Gate.stops c.args.gates.now) (stops_by g.G.Gate.stops c.run_phase.new.gates) c.args.lab.now
-          c.run_phase.new.self c.args.lines.now c.in-Ok.ensures.does c.requires.next c.args.outputs.now (g.S.Shelf.files c.args.shelf.now) (g.K.Sink.taken c.args.out.now) playing.start
-          playing.is;
+      is = (HasGoneBehind-phase (HaveAsked g.G.Gate.asked c.args.gates.now c.run_phase.new.gates) c.stages_grow.ensures.grow (stops_by g.G.Gate.stops c.args.gates.now)
+          (stops_by g.G.Gate.stops c.run_phase.new.gates) c.args.lab.now c.run_phase.new.self c.args.lines.now c.in-Ok.ensures.does c.requires.next c.args.outputs.now
+          (g.S.Shelf.files c.args.shelf.now) (g.K.Sink.taken c.args.out.now) playing.start playing.is).behind;
     }
 
 pub returns-in-Ok-clause-done : goal.returns-in-Ok-clause-done
@@ -31,9 +32,12 @@ returns-in-Ok-clause-done g c =
     let behind : Scene = scene c.run_phase.new.self c.args.outputs.now files taken in
     let after : Scene =
     scene c.run_phase.new.self c.write_phase.new.outputs (g.S.Shelf.files c.write_phase.new.shelf) (g.K.Sink.taken c.write_phase.new.out) in
-    OnOk-more (CatchesUp behind after) (SceneGoesOn stops before stops_after after) c.write_phase.result
-    (λ catches start is. catches start stops_after
-    (HasUnwrittenPhase-phase c.stages_grow.ensures.grow stops stops_after c.args.lab.now c.run_phase.new.self c.args.lines.now c.in-Ok.ensures.does c.requires.next c.args.outputs.now files taken start is))
+    let Gates : Stage → Stage → Type 0 = HaveAsked g.G.Gate.asked c.args.gates.now c.run_phase.new.gates in
+    OnOk-more (CatchesUp behind after) (SceneGoesOn Gates stops before stops_after after) c.write_phase.result
+    (λ catches start is.
+    let gone = HasGoneBehind-phase Gates c.stages_grow.ensures.grow stops stops_after c.args.lab.now c.run_phase.new.self c.args.lines.now c.in-Ok.ensures.does c.requires.next
+    c.args.outputs.now files taken start is in
+    GoesOn-written Gates start is.stage stops_after behind after gone (catches start stops_after gone.behind))
     c.write_phase.ensures.done
 
 pub returns-in-Ok-clause-part : goal.returns-in-Ok-clause-part
@@ -48,7 +52,8 @@ returns-in-Ok-clause-part g c =
     let taken_now : Option (List ℕ) = g.K.Sink.taken c.write_phase.new.out in
     OnErr-more (StopsBehind behind files_now taken_now) (StopsAt stops before stops_after c.run_phase.new.self files_now taken_now) c.write_phase.result
     (λ stopped start is. stopped start stops_after
-    (HasUnwrittenPhase-phase c.stages_grow.ensures.grow stops stops_after c.args.lab.now c.run_phase.new.self c.args.lines.now c.in-Ok.ensures.does c.requires.next c.args.outputs.now files taken start is))
+    (HasGoneBehind-phase (HaveAsked g.G.Gate.asked c.args.gates.now c.run_phase.new.gates) c.stages_grow.ensures.grow stops stops_after c.args.lab.now c.run_phase.new.self
+    c.args.lines.now c.in-Ok.ensures.does c.requires.next c.args.outputs.now files taken start is).behind)
     c.write_phase.ensures.part
 
 pub returns-in-Ok-clause-never : goal.returns-in-Ok-clause-never
@@ -59,8 +64,8 @@ returns-in-Ok-clause-never g c shelf_reliable out_reliable known =
     (record {
       start = known.start;
       stops = stops_after;
-      is = HasUnwrittenPhase-phase c.stages_grow.ensures.grow stops stops_after c.args.lab.now c.run_phase.new.self c.args.lines.now c.in-Ok.ensures.does c.requires.next c.args.outputs.now
-          (g.S.Shelf.files c.args.shelf.now) (g.K.Sink.taken c.args.out.now) known.start known.is;
+      is = (HasGoneBehind-phase (HaveAsked g.G.Gate.asked c.args.gates.now c.run_phase.new.gates) c.stages_grow.ensures.grow stops stops_after c.args.lab.now c.run_phase.new.self
+          c.args.lines.now c.in-Ok.ensures.does c.requires.next c.args.outputs.now (g.S.Shelf.files c.args.shelf.now) (g.K.Sink.taken c.args.out.now) known.start known.is).behind;
       known = known.known;
     })
 
@@ -72,7 +77,7 @@ returns-in-Err-clause-part g c start is =
     let stays = StaysAtStage-same c.args.lab.now c.run_phase.new.self c.in-Err.ensures.kept in
     let stopped : IsStoppedAt start stops c.run_phase.new.self files taken =
     IsStoppedAt-playing start stops (scene c.run_phase.new.self c.args.outputs.now files taken)
-    (StaysWritten-stage c.args.lab.now c.run_phase.new.self stays stops c.args.outputs.now files taken start is) in
+    (StaysWritten-stage c.args.lab.now c.run_phase.new.self stays stops c.args.outputs.now files taken start is).playing in
     subst (λ (s : Stops). IsStoppedAt start s c.run_phase.new.self files taken) (ap (stops_by g.G.Gate.stops) (sym c.in-Err.ensures.gates)) stopped
 
 pub returns-in-Ok-clause-only : goal.returns-in-Ok-clause-only

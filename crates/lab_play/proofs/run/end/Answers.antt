@@ -11,7 +11,7 @@ use Rattle.lab_stop.specs.FaultLaws.{OutputFaults-puts, OutputFaults-writes}
 use Rattle.lab_stop.specs.declared.stop.Stop.TheVariants as stop
 use Rattle.lab_play.specs.Ends.{StopsAtEnd}
 use Rattle.lab_play.specs.Playing.{Scene, scene, sounds_at}
-use Rattle.lab_play.proofs.Ending.{HasPlayed-end, HasStopped-finish, HasStopped-tail, report-at_end, rows-few, same-script, stop-passed}
+use Rattle.lab_play.proofs.Ending.{EndsAt-all, HasStopped-finish, HasStopped-tail, report-at_end, rows-few, same-script, stop-passed}
 use Rattle.lab_play.proofs.ItemsResults.{OnErr-all}
 use Rattle.lab_play.proofs.run.end.Goals as goal
 
@@ -23,7 +23,7 @@ returns-in_err-finish-clause-part g c =
     OnErr-all (StopsAtEnd at (g.S.Shelf.files c.finish.new.shelf) (g.K.Sink.taken c.args.out.now)) c.from_residual.result
     (λ start stops is. HasStopped-finish start stops c.args.lab c.args.outputs.now (g.S.Shelf.files c.args.shelf.now) (g.K.Sink.taken c.args.out.now) is
     (subst (λ (s : Script). items_done c.args.lab ≡ length s.body) (same-script script own.start start own.stops stops at own.script_is own.is is) c.requires.all) c.finish-outcome.result
-    c.finish-outcome.ensures.stage c.finish-outcome.ensures.run c.finish-outcome.ensures.played (g.S.Shelf.files c.finish.new.shelf)
+    c.finish-outcome.ensures.stage c.finish-outcome.ensures.played (g.S.Shelf.files c.finish.new.shelf)
     (c.finish.ensures.changes start.files (sounds_at c.args.lab is.stage) is.written.going_on)
     (c.finish.ensures.kept start.files (sounds_at c.args.lab is.stage) is.written.going_on))
 
@@ -37,7 +37,7 @@ put_tail-requires-clause-rows g c =
     let own = c.requires.playing in
     (subst (λ (s : Script). IsReportOf s c.finish-outcome.result.report) own.script_is
     (report-at_end own.start own.stops c.args.lab c.args.outputs.now (g.S.Shelf.files c.args.shelf.now) (g.K.Sink.taken c.args.out.now) own.is
-    (subst (λ (s : Script). items_done c.args.lab ≡ length s.body) (sym own.script_is) c.requires.all) c.finish-outcome.result c.finish-outcome.ensures.stage c.finish-outcome.ensures.run c.finish-outcome.ensures.played
+    (subst (λ (s : Script). items_done c.args.lab ≡ length s.body) (sym own.script_is) c.requires.all) c.finish-outcome.result c.finish-outcome.ensures.stage c.finish-outcome.ensures.played
     c.outcomes_are_of_scripts.ensures)).rows
 
 pub put_tail-requires-clause-tail : goal.put_tail-requires-clause-tail
@@ -45,14 +45,14 @@ put_tail-requires-clause-tail g c =
     let own = c.requires.playing in
     (subst (λ (s : Script). IsReportOf s c.finish-outcome.result.report) own.script_is
     (report-at_end own.start own.stops c.args.lab c.args.outputs.now (g.S.Shelf.files c.args.shelf.now) (g.K.Sink.taken c.args.out.now) own.is
-    (subst (λ (s : Script). items_done c.args.lab ≡ length s.body) (sym own.script_is) c.requires.all) c.finish-outcome.result c.finish-outcome.ensures.stage c.finish-outcome.ensures.run c.finish-outcome.ensures.played
+    (subst (λ (s : Script). items_done c.args.lab ≡ length s.body) (sym own.script_is) c.requires.all) c.finish-outcome.result c.finish-outcome.ensures.stage c.finish-outcome.ensures.played
     c.outcomes_are_of_scripts.ensures)).tail
 
 pub put_tail-requires-clause-more : goal.put_tail-requires-clause-more
 put_tail-requires-clause-more g c =
     let own = c.requires.playing in
     rows-few own.start own.stops c.args.lab c.args.outputs.now (g.S.Shelf.files c.args.shelf.now) (g.K.Sink.taken c.args.out.now) own.is
-    (subst (λ (s : Script). items_done c.args.lab ≡ length s.body) (sym own.script_is) c.requires.all) c.finish-outcome.result c.finish-outcome.ensures.stage c.finish-outcome.ensures.run c.finish-outcome.ensures.played
+    (subst (λ (s : Script). items_done c.args.lab ≡ length s.body) (sym own.script_is) c.requires.all) c.finish-outcome.result c.finish-outcome.ensures.stage c.finish-outcome.ensures.played
 
 pub returns-in_err-put_tail-clause-part : goal.returns-in_err-put_tail-clause-part
 returns-in_err-put_tail-clause-part g c =
@@ -64,7 +64,7 @@ returns-in_err-put_tail-clause-part g c =
     OnErr-all (StopsAtEnd at (g.S.Shelf.files c.finish.new.shelf) taken_after) c.from_residual-in_err-put_tail.result
     (λ start stops is. let same = same-script script own.start start own.stops stops at own.script_is own.is is in
     HasStopped-tail start stops c.args.lab c.args.outputs.now (g.S.Shelf.files c.args.shelf.now) taken is
-    (subst (λ (s : Script). items_done c.args.lab ≡ length s.body) same c.requires.all) c.finish-outcome.result c.finish-outcome.ensures.stage c.finish-outcome.ensures.run c.finish-outcome.ensures.played
+    (subst (λ (s : Script). items_done c.args.lab ≡ length s.body) same c.requires.all) c.finish-outcome.result c.finish-outcome.ensures.stage c.finish-outcome.ensures.played
     (g.S.Shelf.files c.finish.new.shelf) taken_after (c.finish.ensures.changes start.files (sounds_at c.args.lab is.stage) is.written.going_on)
     (c.in_ok-finish.ensures.stored start.files (sounds_at c.args.lab is.stage) is.written.going_on)
     (subst (λ (s : Script). TookPart taken taken_after (tail_from s c.args.outputs.now.rows c.finish-outcome.result.report)) same c.in_err-put_tail.ensures.text))
@@ -82,8 +82,8 @@ returns-clause-done g c start stops is =
     let taken : Option (List ℕ) = g.K.Sink.taken c.args.out.now in
     let taken_after : Option (List ℕ) = g.K.Sink.taken c.put_tail.new.out in
     let same = same-script script own.start start own.stops stops at own.script_is own.is is in
-    HasPlayed-end start stops c.args.lab c.args.outputs.now (g.S.Shelf.files c.args.shelf.now) taken is
-    (subst (λ (s : Script). items_done c.args.lab ≡ length s.body) same c.requires.all) c.finish-outcome.result c.finish-outcome.ensures.stage c.finish-outcome.ensures.run c.finish-outcome.ensures.played
+    EndsAt-all start stops c.args.lab c.args.outputs.now (g.S.Shelf.files c.args.shelf.now) taken is
+    (subst (λ (s : Script). items_done c.args.lab ≡ length s.body) same c.requires.all) c.finish-outcome.result c.finish-outcome.ensures.stage c.finish-outcome.ensures.played
     c.runs_keep_headline.ensures.headline c.runs_keep_headline.ensures.one (g.S.Shelf.files c.finish.new.shelf) taken_after
     (c.in_ok-finish.ensures.stored start.files (sounds_at c.args.lab is.stage) is.written.going_on)
     (subst (λ (s : Script). taken_after ≡ option_map (λ t. t ++ tail_from s c.args.outputs.now.rows c.finish-outcome.result.report) taken) same c.in_ok-put_tail.ensures.taken)

@@ -11,7 +11,7 @@ use Rattle.lab_phase.specs.PhaseRuns.{Stops, stops_by}
 use Rattle.lab_shelf.specs.Files.{Files}
 use Rattle.wav_io.specs.Sound.{Sound}
 use Rattle.lab_play.specs.Ends.{IsNewRun}
-use Rattle.lab_play.specs.Played.{HasPlayed, HasPlayedPart}
+use Rattle.lab_play.specs.Played.{HasPlayedAsking, HasPlayedPart}
 use Rattle.lab_play.specs.Playing.{HasStopped}
 use Rattle.lab_play.specs.Stops.{rises}
 use Rattle.lab_play.proofs.Exactly.{HasStoppedRun-stopped}
@@ -46,8 +46,8 @@ returns-clause-done g c =
     let taken_after : Option (List ℕ) = g.K.Sink.taken c.play_all.new.out in
     IfOk-weaker c.play_all.result
     (λ outcome. (own : RunInput) (name : List ℕ) → IsNewRun own name c.in-Ok.lab c.in_ok-outputs.outputs
-    → HasPlayed own name stops (outcome_in outcome) files files_after taken taken_after)
-    (λ outcome. HasPlayed input c.args.name.now stops (outcome_in outcome) files files_after taken taken_after)
+    → HasPlayedAsking g.G.Gate.asked c.args.gates.now c.play_all.new.gates own name stops (outcome_in outcome) files files_after taken taken_after)
+    (λ outcome. HasPlayedAsking g.G.Gate.asked c.args.gates.now c.play_all.new.gates input c.args.name.now stops (outcome_in outcome) files files_after taken taken_after)
     (λ outcome done. done input c.args.name.now (record {
       script_is =
           subst (λ (capture : Option Sound). IsOfScript c.args.input.now.script c.args.input.now.wavs.items capture c.in-Ok.lab) c.as_ref.ensures.value

@@ -1,18 +1,22 @@
 use Rattle.std.specs.Prelude.{◌≡◌, ℕ, List, Option, Err}
 use Rattle.std.proofs.lemmas.Result.{err_from_is_err_and, IfOk-weaker}
-use Rattle.std.proofs.Common.{ap, ◌∙◌}
+use Rattle.std.proofs.Common.{ap, sym, ◌∙◌}
 use Rattle.lab_input.specs.Input.{RunInput}
 use Rattle.lab_phase.specs.declared.finish.Outcome.{Outcome}
+use Rattle.lab_phase.specs.AtStage.{session_of}
+use Rattle.lab_phase.specs.BorderLaws.{session_of-same}
 use Rattle.lab_phase.specs.Ended.{outcome_in}
 use Rattle.lab_phase.specs.PhaseRuns.{Stops, stops_by}
+use Rattle.lab_run.specs.Stage.{first_stage}
 use Rattle.lab_shelf.specs.Files.{Files}
 use Rattle.lab_stop.specs.FaultLaws.{OutputFaults-after}
 use Rattle.lab_stop.specs.declared.stop.Stop.TheVariants as stop
 use Rattle.lab_play.specs.Ends.{EndsWith, IsNewRun, StopsAtEnd}
-use Rattle.lab_play.specs.Played.{HasPlayed}
+use Rattle.lab_play.specs.Played.{HasPlayedAsking}
 use Rattle.lab_play.specs.Playing.{HasStopped, Scene, Start, scene}
 use Rattle.lab_play.specs.Stops.{rises}
-use Rattle.lab_play.proofs.Beginning.{HasStopped-first, IsPlaying-first, start-of}
+use Rattle.lab_play.proofs.Beginning.{HasStopped-first, IsPlaying-first, stage-first, start-of}
+use Rattle.lab_play.proofs.Ending.{HasPlayedAsking-end}
 use Rattle.lab_play.proofs.ItemsResults.{OnErr-all, OnErr-more}
 use Rattle.lab_play.proofs.ItemsStopped.{HasStopped-closed}
 use Rattle.lab_play.proofs.run.play_all.Goals as goal
@@ -90,9 +94,9 @@ end-requires-clause-playing g c =
       start = start-of new.input new.out stops c.args.lab c.args.outputs files taken new.is;
       stops = stops_by g.G.Gate.stops c.do_items.new.gates;
       script_is = new.script_is;
-      is = c.in-Ok.ensures.done (start-of new.input new.out stops c.args.lab c.args.outputs files taken new.is)
+      is = (c.in-Ok.ensures.done (start-of new.input new.out stops c.args.lab c.args.outputs files taken new.is)
           (IsPlaying-first new.input new.out stops c.args.lab c.args.outputs files taken new.is (g.S.Shelf.files c.begin.new.shelf) (g.K.Sink.taken c.begin.new.out)
-          c.in_ok-begin.ensures.going_on c.in_ok-begin.ensures.taken);
+          c.in_ok-begin.ensures.going_on c.in_ok-begin.ensures.taken)).playing;
     }
 
 pub returns-in-Ok-clause-done : goal.returns-in-Ok-clause-done
@@ -104,11 +108,18 @@ returns-in-Ok-clause-done g c =
     let at : Scene = scene c.do_items.new.lab c.do_items.new.outputs (g.S.Shelf.files c.do_items.new.shelf) (g.K.Sink.taken c.do_items.new.out) in
     IfOk-weaker c.end.result (λ outcome. EndsWith at (outcome_in outcome) (g.S.Shelf.files c.end.new.shelf) (g.K.Sink.taken c.end.new.out))
     (λ outcome. (input : RunInput) (name : List ℕ) → IsNewRun input name c.args.lab c.args.outputs
-    → HasPlayed input name (rises stops after) (outcome_in outcome) files (g.S.Shelf.files c.end.new.shelf) taken (g.K.Sink.taken c.end.new.out))
-    (λ outcome ends input name is. ends (start-of input name stops c.args.lab c.args.outputs files taken is) after
-    (c.in-Ok.ensures.done (start-of input name stops c.args.lab c.args.outputs files taken is)
-    (IsPlaying-first input name stops c.args.lab c.args.outputs files taken is (g.S.Shelf.files c.begin.new.shelf) (g.K.Sink.taken c.begin.new.out) c.in_ok-begin.ensures.going_on
-    c.in_ok-begin.ensures.taken)))
+    → HasPlayedAsking g.G.Gate.asked c.args.gates.now c.do_items.new.gates input name (rises stops after) (outcome_in outcome) files (g.S.Shelf.files c.end.new.shelf) taken
+    (g.K.Sink.taken c.end.new.out))
+    (λ outcome ends input name is.
+    let start : Start = start-of input name stops c.args.lab c.args.outputs files taken is in
+    let first = IsPlaying-first input name stops c.args.lab c.args.outputs files taken is (g.S.Shelf.files c.begin.new.shelf) (g.K.Sink.taken c.begin.new.out)
+    c.in_ok-begin.ensures.going_on c.in_ok-begin.ensures.taken in
+    let first_is = stage-first input name stops c.args.lab c.args.outputs files taken is (g.S.Shelf.files c.begin.new.shelf) (g.K.Sink.taken c.begin.new.out)
+    c.in_ok-begin.ensures.going_on c.in_ok-begin.ensures.taken in
+    let goes = c.in-Ok.ensures.done start first in
+    HasPlayedAsking-end g.G.Gate.asked c.args.gates.now c.do_items.new.gates (session_of c.do_items.new.lab) first.stage goes.playing.stage start after (outcome_in outcome)
+    (g.S.Shelf.files c.end.new.shelf) (g.K.Sink.taken c.end.new.out)
+    (first_is ∙ ap first_stage (sym (session_of-same c.args.lab c.do_items.new.lab c.in-Ok.ensures.same))) goes.gates (ends start after goes.playing))
     c.end.ensures.done
 
 pub returns-in-Ok-clause-part : goal.returns-in-Ok-clause-part
@@ -125,7 +136,7 @@ returns-in-Ok-clause-part g c =
     (λ ends input name is. ends (start-of input name stops c.args.lab c.args.outputs files taken is) after
     (c.in-Ok.ensures.done (start-of input name stops c.args.lab c.args.outputs files taken is)
     (IsPlaying-first input name stops c.args.lab c.args.outputs files taken is (g.S.Shelf.files c.begin.new.shelf) (g.K.Sink.taken c.begin.new.out) c.in_ok-begin.ensures.going_on
-    c.in_ok-begin.ensures.taken)))
+    c.in_ok-begin.ensures.taken)).playing)
     c.end.ensures.part
 
 pub returns-in-Ok-clause-never : goal.returns-in-Ok-clause-never
@@ -138,9 +149,9 @@ returns-in-Ok-clause-never g c shelf out known failed =
     (record {
       start = start-of new.input new.out stops c.args.lab c.args.outputs files taken new.is;
       stops = stops_by g.G.Gate.stops c.do_items.new.gates;
-      is = c.in-Ok.ensures.done (start-of new.input new.out stops c.args.lab c.args.outputs files taken new.is)
+      is = (c.in-Ok.ensures.done (start-of new.input new.out stops c.args.lab c.args.outputs files taken new.is)
           (IsPlaying-first new.input new.out stops c.args.lab c.args.outputs files taken new.is (g.S.Shelf.files c.begin.new.shelf) (g.K.Sink.taken c.begin.new.out)
-          c.in_ok-begin.ensures.going_on c.in_ok-begin.ensures.taken);
+          c.in_ok-begin.ensures.going_on c.in_ok-begin.ensures.taken)).playing;
       known = known;
     })
     failed

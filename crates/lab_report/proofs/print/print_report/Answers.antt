@@ -1,5 +1,4 @@
 use Rattle.std.proofs.Common.{◌≡◌, ap, ◌∙◌, rules}
-use Rattle.lab_report.specs.Ranges.{IsReportInRange}
 use Rattle.lab_report.specs.Reading.{report_in_text}
 use Rattle.lab_report.specs.Text.{report_text}
 use Rattle.lab_report.proofs.Back.{report_in_text-text}
@@ -8,5 +7,5 @@ use Rattle.lab_report.proofs.print.print_report.Goals as goal
 pub returns-clause-back : goal.returns-clause-back
 returns-clause-back c =
     let same : c.into_bytes.result.items ≡ report_text c.args.script.now c.args.report.now = search rules in
-    λ (n : IsReportInRange c.args.report.now).
-    ap (report_in_text c.args.script.now) same ∙ report_in_text-text c.args.script.now c.args.report.now c.requires.script c.requires.of n
+    ap (report_in_text c.args.script.now) same
+    ∙ report_in_text-text c.args.script.now c.args.report.now c.requires.script c.requires.of c.numbers_are_in_range.ensures

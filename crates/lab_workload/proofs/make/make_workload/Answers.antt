@@ -49,7 +49,7 @@ returns-in_err-store-clause-part g c =
     (inr (IsMadePart-report w stops (input_of c.in_ok-made.made.input) c.as_slice.result.now c.as_slice-2.result.now (g.S.Shelf.files c.args.shelf.now) (g.S.Shelf.files c.store_input.new.shelf)
     (g.K.Sink.taken c.args.out.now) c.in_ok-made.ensures.input
     (c.as_slice.ensures.value ∙ ap (λ (i : RunInput). i.sounds) c.in_ok-made.ensures.input) (c.as_slice-2.ensures.value ∙ c.in_ok-made.ensures.text)
-    c.in_ok-store_input.ensures.stored ran (outcome_in c.in_ok-run.run'.outcome) c.in_ok-run.run'.report.items c.in_ok-run.ensures.done after
+    c.in_ok-store_input.ensures.stored g.G.Gate.asked c.args.gates.now c.run_input.new.gates ran (outcome_in c.in_ok-run.run'.outcome) c.in_ok-run.run'.report.items c.in_ok-run.ensures.done after
     (subst (λ (bytes : List ℕ). IsPartWritten ran after report_name bytes) c.as_slice-3.ensures.value c.in_err-store.ensures.part)))
 
 pub returns-clause-part : goal.returns-clause-part
@@ -62,7 +62,7 @@ returns-clause-part g c =
     (λ part. inr (IsMadePart-summary w stops (input_of c.in_ok-made.made.input) c.as_slice.result.now c.as_slice-2.result.now (g.S.Shelf.files c.args.shelf.now) (g.S.Shelf.files c.store_input.new.shelf)
     (g.K.Sink.taken c.args.out.now) c.in_ok-made.ensures.input
     (c.as_slice.ensures.value ∙ ap (λ (i : RunInput). i.sounds) c.in_ok-made.ensures.input) (c.as_slice-2.ensures.value ∙ c.in_ok-made.ensures.text)
-    c.in_ok-store_input.ensures.stored ran (outcome_in c.in_ok-run.run'.outcome) c.in_ok-run.run'.report.items c.in_ok-run.ensures.done after (g.K.Sink.taken c.put_summary.new.out)
+    c.in_ok-store_input.ensures.stored g.G.Gate.asked c.args.gates.now c.run_input.new.gates ran (outcome_in c.in_ok-run.run'.outcome) c.in_ok-run.run'.report.items c.in_ok-run.ensures.done after (g.K.Sink.taken c.put_summary.new.out)
     (c.in_ok-store.ensures.stored ∙ ap (λ (bytes : List ℕ). option_map (λ files. with_file files report_name bytes) ran) c.as_slice-3.ensures.value) part))
     c.put_summary.ensures.part
 
@@ -77,7 +77,7 @@ returns-clause-done g c =
     (λ put. IsMade-all w stops (input_of c.in_ok-made.made.input) c.as_slice.result.now c.as_slice-2.result.now (g.S.Shelf.files c.args.shelf.now) (g.S.Shelf.files c.store_input.new.shelf)
     (g.K.Sink.taken c.args.out.now) input_is
     (c.as_slice.ensures.value ∙ ap (λ (i : RunInput). i.sounds) input_is) (c.as_slice-2.ensures.value ∙ c.in_ok-made.ensures.text)
-    c.in_ok-store_input.ensures.stored ran (outcome_in c.in_ok-run.run'.outcome) c.in_ok-run.run'.report.items c.in_ok-run.ensures.done
+    c.in_ok-store_input.ensures.stored g.G.Gate.asked c.args.gates.now c.run_input.new.gates ran (outcome_in c.in_ok-run.run'.outcome) c.in_ok-run.run'.report.items c.in_ok-run.ensures.done
     (record { exact = c.runs_are_exact.ensures; own = c.actors_do_their_own.ensures; one = c.scripts_have_one_session.ensures })
     (subst IsScript (ap (λ (i : RunInput). i.script) input_is) c.in_ok-made.ensures.script) after (g.K.Sink.taken c.put_summary.new.out)
     (c.in_ok-store.ensures.stored ∙ ap (λ (bytes : List ℕ). option_map (λ files. with_file files report_name bytes) ran) c.as_slice-3.ensures.value) put

@@ -5,7 +5,7 @@ use Rattle.lab_input.specs.Input.{RunInput}
 use Rattle.lab_input.specs.Read.{input_of}
 use Rattle.lab_phase.specs.Ended.{outcome_in}
 use Rattle.lab_phase.specs.PhaseRuns.{Stops, stops_by}
-use Rattle.lab_play.specs.Played.{HasPlayed, HasPlayedPart}
+use Rattle.lab_play.specs.Played.{HasPlayedAsking, HasPlayedPart}
 use Rattle.lab_play.specs.Stops.{rises}
 use Rattle.lab_stop.specs.declared.stop.Stop.TheVariants as stops
 use Rattle.lab_workload.specs.Made.{output_name}
@@ -37,7 +37,8 @@ pub returns-clause-done : goal.returns-clause-done
 returns-clause-done g c =
     let input : RunInput = input_of c.args.input.now in
     let stops : Stops = rises (stops_by g.G.Gate.stops c.args.gates.now) (stops_by g.G.Gate.stops c.play.new.gates) in
-    let played : List ℕ → List ℕ → Type 0 = λ text text_now. HasPlayed input output_name stops (outcome_in c.in_ok-outcome.outcome) (g.S.Shelf.files c.args.shelf.now)
+    let played : List ℕ → List ℕ → Type 0 = λ text text_now. HasPlayedAsking g.G.Gate.asked c.args.gates.now c.play.new.gates input output_name stops
+    (outcome_in c.in_ok-outcome.outcome) (g.S.Shelf.files c.args.shelf.now)
     (g.S.Shelf.files c.play.new.shelf) (Some text) (Some text_now) in
     subst (λ (text : List ℕ). played [] text) (sym c.into_bytes.ensures)
     (subst (λ (text : List ℕ). played text c.play.new.out) c.new-text.ensures c.in_ok-outcome.ensures.done)

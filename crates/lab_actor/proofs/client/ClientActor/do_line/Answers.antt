@@ -8,7 +8,7 @@ use Rattle.lab_run.specs.ClientAtPort.{IsClientLine}
 use Rattle.lab_run.specs.Members.{with_member}
 use Rattle.lab_actor.specs.ClientLines.{ends_stretch, laid_of}
 use Rattle.lab_actor.specs.ClientPart.{client_of}
-use Rattle.lab_actor.specs.Countdown.{by_gate_of, left_of}
+use Rattle.lab_actor.specs.Countdown.{at_gate_of, by_gate_of, left_of}
 use Rattle.lab_actor.proofs.Answered.{ended_by-test}
 use Rattle.lab_actor.proofs.Gates.{both}
 use Rattle.lab_actor.proofs.client.ClientActor.do_line.Goals as goal
@@ -41,7 +41,7 @@ returns g c =
           seen = c.seen.ensures i;
         } in row) ∷ []);
         line = λ first ring from before at.
-            subst (λ (segments : List Segment). IsClientLine P left_of by_gate first ring from t c.args.phase c.args.wav.now a.number before (client_of a) asked (record { own = Some (with_member a.number d.stream); ended = segments }) answer)
+            subst (λ (segments : List Segment). IsClientLine P left_of by_gate at_gate_of first ring from t c.args.phase c.args.wav.now a.number before (client_of a) asked (record { own = Some (with_member a.number d.stream); ended = segments }) answer)
             (sym ended_is) (answered.line c.args.phase a.number a.ended.items first ring from before at);
         ended = ended;
         ended_are = ended_is;
@@ -49,7 +49,7 @@ returns g c =
         same = refl;
       };
       ready = answered.ready;
-      same_gate = c.answer_line-answer.ensures.same_gate;
+      own_gate = c.answer_line-answer.ensures.own_gate;
       rows_room = record { few = (let one = c.push_row.ensures.one in omega (arith, one)); kept = c.push_row.ensures.room };
       ended_room = record { few = c.push_ended.ensures.few; kept = c.push_ended.ensures.room };
     }

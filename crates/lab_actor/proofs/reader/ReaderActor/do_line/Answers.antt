@@ -8,7 +8,7 @@ use Rattle.lab_run.specs.ReaderAtPort.{IsReaderLine}
 use Rattle.lab_actor.specs.declared.reader.ReaderActor.{ReaderActor}
 use Rattle.lab_actor.specs.FrameRuns.{frames_of_runs}
 use Rattle.lab_actor.specs.ReaderPart.{reader_of}
-use Rattle.lab_actor.specs.Countdown.{by_gate_of, left_of}
+use Rattle.lab_actor.specs.Countdown.{at_gate_of, by_gate_of, left_of}
 use Rattle.lab_actor.proofs.Gates.{both}
 use Rattle.lab_actor.proofs.Read.{frames_by-count}
 use Rattle.lab_actor.proofs.ReaderParts.{HasGot-line}
@@ -42,7 +42,7 @@ returns g c =
           seen = c.seen.ensures i;
         } in row) ∷ []);
         line = λ fits first ring before at.
-            subst (λ (frames : List ℕ). IsReaderLine P left_of by_gate first ring t c.args.phase a.number before (reader_of a) asked (record { own = Some d; frames = frames }) answer)
+            subst (λ (frames : List ℕ). IsReaderLine P left_of by_gate at_gate_of first ring t c.args.phase a.number before (reader_of a) asked (record { own = Some d; frames = frames }) answer)
             (sym frames_are) (answered.line fits c.args.phase a.number (frames_of_runs a.frames.runs) first ring before at);
         loaded = answered.loaded;
         appends = record {
@@ -55,10 +55,10 @@ returns g c =
         same = record { number = refl; setup = has_read.same };
       };
       usable = has_read.usable;
-      same_gate = c.answer_line-answer.ensures.same_gate;
+      own_gate = c.answer_line-answer.ensures.own_gate;
       room = record {
         rows = record { few = (let one = c.push_row.ensures.one in omega (arith, one)); kept = c.push_row.ensures.room };
         runs = c.push.ensures.room;
       };
-      got = HasGot-line P left_of by_gate (both c.args.port.now c.args.gate.now) t a after asked answer answered c.answer_line-answer.ensures.room;
+      got = HasGot-line P left_of by_gate at_gate_of (both c.args.port.now c.args.gate.now) t a after asked answer answered c.answer_line-answer.ensures.room;
     }

@@ -1,4 +1,4 @@
-use Rattle.std.proofs.Common.{◌≡◌, ℕ, ◌<◌, List, ◌≤◌, ap, arith, get_or, length, refl, subst, sym, take, ◌∙◌}
+use Rattle.std.proofs.Common.{◌≡◌, ℕ, ◌<◌, List, ◌≤◌, ap, arith, get_or, length, subst, sym, take}
 use Rattle.std.proofs.lemmas.List.{get_or_default, take_all}
 use Rattle.std.specs.Prelude.{true, false}
 use Rattle.lab_lines.specs.declared.line.Actor.TheVariants as actor
@@ -6,7 +6,8 @@ use Rattle.lab_lines.specs.declared.line.Line.{Line}
 use Rattle.lab_lines.specs.declared.line.Op.TheVariants as op
 use Rattle.lab_run.specs.Phases.{is_reader, ops_by, played_in}
 use Rattle.pcm_stream.specs.declared.setup.Setup.{Setup}
-use Rattle.lab_actor.specs.Countdown.{by_gate_of, left_of}
+use Rattle.lab_actor.specs.Countdown.{at_gate_of, by_gate_of, left_of}
+use Rattle.lab_actor.specs.CountdownLaws.{KeepsGate-joined, KeepsGate-none}
 use Rattle.lab_actor.proofs.Gates.{both}
 use Rattle.lab_actor.specs.ReaderPart.{ReaderPart, channels_of}
 use Rattle.lab_actor.proofs.Parts.{asked-within}
@@ -15,9 +16,9 @@ use Rattle.lab_actor.proofs.reader.ReaderActor.do_lines.Goals as goal
 
 pub loop-index-init : goal.loop-index-init
 loop-index-init g c = record {
-  part = ReaderPart-none g.P.SnoopPort g.met.P.SnoopPort.got_composes g.met.P.SnoopPort.loaded_composes left_of (by_gate_of g.G.Gate.stops) (both c.args.port.now c.args.gate.now) c.args.phase (played_in c.args.lines.now) c.args.self.now;
+  part = ReaderPart-none g.P.SnoopPort g.met.P.SnoopPort.got_composes g.met.P.SnoopPort.loaded_composes left_of (by_gate_of g.G.Gate.stops) at_gate_of (both c.args.port.now c.args.gate.now) c.args.phase (played_in c.args.lines.now) c.args.self.now;
   usable = c.requires.usable;
-  same_gate = refl;
+  own_gate = KeepsGate-none g.G.Gate.asked c.args.gate.now;
   room = c.requires.room.lines;
   got = HasGot-none (g.P.SnoopPort.view c.args.port.now) c.args.self.now;
 }
@@ -63,14 +64,14 @@ loop-index-preserved g c =
     let same : channels_of x ≡ channels_of c.args.self.now = ap (λ (setup : Setup). length setup.bindings) before.part.same.setup.same_setup in
     omega (arith, first.value, first.some, same)) in
     record {
-      part = ReaderPart-next g.P.SnoopPort g.met.P.SnoopPort.got_composes g.met.P.SnoopPort.loaded_composes left_of (by_gate_of g.G.Gate.stops) c.parts_grow.ensures.readers
+      part = ReaderPart-next g.P.SnoopPort g.met.P.SnoopPort.got_composes g.met.P.SnoopPort.loaded_composes left_of (by_gate_of g.G.Gate.stops) at_gate_of c.parts_grow.ensures.readers
           (both c.args.port.now c.args.gate.now) (both c.loop-index.port c.loop-index.gate) (both c.do_own.new.port c.do_own.new.gate) c.args.phase played c.args.self.now x b mine lines index line within is
           (λ own. (got own).progress.rising)
           (λ own most. line-fits played (view c.args.port.now) (view c.loop-index.port) c.args.self.now x (ops_by mine lines) (ops_by mine (take index lines)) line.op some before.part.same
           before.got (asked-within mine lines index line within is own) c.requires.room.samples most)
           before.part (λ own. call.own (own_is own)) others;
       usable = call.usable;
-      same_gate = call.same_gate ∙ before.same_gate;
+      own_gate = KeepsGate-joined g.G.Gate.asked c.args.gate.now c.loop-index.gate c.do_own.new.gate before.own_gate call.own_gate;
       room = rows-next x b mine lines index line within is before.room (λ own. call.room (own_is own)) (λ other. (others other).0);
       got = HasGot-next (view c.args.port.now) (view c.loop-index.port) (view c.do_own.new.port) c.args.self.now x b mine lines index line within is before.part.same before.got got
           (λ other. ((others other).0, ap view (others other).1));
@@ -80,12 +81,12 @@ pub returns-clause-part : goal.returns-clause-part
 returns-clause-part g c =
     let past = c.loop-index-test.false in
     subst
-    (λ (done : List Line). ReaderPart g.P.SnoopPort left_of (by_gate_of g.G.Gate.stops) (both c.args.port.now c.args.gate.now) (both c.loop-index.port c.loop-index.gate) c.args.phase
+    (λ (done : List Line). ReaderPart g.P.SnoopPort left_of (by_gate_of g.G.Gate.stops) at_gate_of (both c.args.port.now c.args.gate.now) (both c.loop-index.port c.loop-index.gate) c.args.phase
     (played_in c.args.lines.now) c.args.self.now c.loop-index.self (ops_by (is_reader c.args.self.now.number) done)) (take_all c.loop-index.index c.args.lines.now (omega (arith, past)))
     c.loop-index.invariant.part
 
 pub returns-clause-usable : goal.returns-clause-usable
 returns-clause-usable g c = c.loop-index.invariant.usable
 
-pub returns-clause-same_gate : goal.returns-clause-same_gate
-returns-clause-same_gate g c = c.loop-index.invariant.same_gate
+pub returns-clause-own_gate : goal.returns-clause-own_gate
+returns-clause-own_gate g c = c.loop-index.invariant.own_gate

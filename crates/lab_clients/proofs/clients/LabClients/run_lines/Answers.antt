@@ -18,7 +18,7 @@ pub returns-clause-run : goal.returns-clause-run
 returns-clause-run g c =
     let same = c.run_in_turn.auto.clients in
     let len = c.as_mut_slice.ensures.len in
-    AreEach-lent (RunsAt g.G.Gate.stops c.args.gates.now c.run_in_turn.new.gates c.args.wavs.now c.args.phase c.args.lines.now) _ _ c.run_in_turn.new.clients _ c.as_mut_slice.ensures.value
+    AreEach-lent (RunsAt g.G.Gate c.args.gates.now c.run_in_turn.new.gates c.args.wavs.now c.args.phase c.args.lines.now) _ _ c.run_in_turn.new.clients _ c.as_mut_slice.ensures.value
     (omega (arith, same, len)) c.run_in_turn.ensures.run
 
 pub returns-clause-others : goal.returns-clause-others

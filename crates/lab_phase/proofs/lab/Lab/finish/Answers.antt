@@ -70,6 +70,14 @@ returns-clause-run c stage client_stops reader_stops at clients readers = record
   is = returns-clause-stage c stage at;
 }
 
+pub returns-clause-one : goal.returns-clause-one
+returns-clause-one c = c.one_run.ensures (session_of c.args.self) (capture_of c.args.self) c.args.self.script.now.body
+
+pub returns-clause-exact : goal.returns-clause-exact
+returns-clause-exact c stage at clients readers unmixed =
+    (c.one_run.ensures (session_of c.args.self) (capture_of c.args.self) c.args.self.script.now.body).only unmixed _
+    (returns-clause-run c stage (λ n. 0) (λ n. 0) at clients readers)
+
 pub returns-clause-placed : goal.returns-clause-placed
 returns-clause-placed c stage at =
     subst (λ (card : Option CardActor). IsSomeAnd card (λ (a : CardActor). IsMixOf (session_of c.args.self) stage.clients a.card)) (sym c.unwrap-card.ensures)

@@ -13,7 +13,7 @@ reap-requires-clause-clients g c =
       clients = record { lasts = c.last_frames_are_own.ensures; parts = c.parts_are_runs.ensures.clients; alike = c.members_are_unreported.ensures.entries };
       readers = c.parts_are_runs.ensures.readers;
     } in
-    let done = done-lines g.G.Gate.stops c.args.gates.now c.run_unreaped.new.gates lab c.run_unreaped.new.self c.args.lines.now laws c.requires.next c.requires.others
+    let done = done-lines g.G.Gate c.args.gates.now c.run_unreaped.new.gates lab c.run_unreaped.new.self c.args.lines.now laws c.requires.next c.requires.others
     c.in_ok-run_unreaped.ensures.runs c.requires.at.stage c.requires.at.base c.requires.at.at c.requires.at.counted in
     record { session = session_of lab; held = held_of c.requires.at.stage; xs = done.next_clients; are = done.clients }
 
@@ -24,7 +24,7 @@ reap-requires-clause-readers g c =
       clients = record { lasts = c.last_frames_are_own.ensures; parts = c.parts_are_runs.ensures.clients; alike = c.members_are_unreported.ensures.entries };
       readers = c.parts_are_runs.ensures.readers;
     } in
-    let done = done-lines g.G.Gate.stops c.args.gates.now c.run_unreaped.new.gates lab c.run_unreaped.new.self c.args.lines.now laws c.requires.next c.requires.others
+    let done = done-lines g.G.Gate c.args.gates.now c.run_unreaped.new.gates lab c.run_unreaped.new.self c.args.lines.now laws c.requires.next c.requires.others
     c.in_ok-run_unreaped.ensures.runs c.requires.at.stage c.requires.at.base c.requires.at.at c.requires.at.counted in
     AreOfRing-done (session_of lab) (capture_of lab) done.next_readers c.run_unreaped.new.self.readers done.readers
 
@@ -34,5 +34,5 @@ returns-clause-runs g c =
       clients = record { lasts = c.last_frames_are_own.ensures; parts = c.parts_are_runs.ensures.clients; alike = c.members_are_unreported.ensures.entries };
       readers = c.parts_are_runs.ensures.readers;
     } in
-    RunsPhase-reaped g.G.Gate.stops c.args.gates.now c.run_unreaped.new.gates c.args.self.now c.run_unreaped.new.self c.reap.new.self c.args.lines.now laws c.requires.next
+    RunsPhase-reaped g.G.Gate c.args.gates.now c.run_unreaped.new.gates c.args.self.now c.run_unreaped.new.self c.reap.new.self c.args.lines.now laws c.requires.next
     c.requires.others c.in_ok-run_unreaped.ensures.runs c.reap.ensures

@@ -3,7 +3,7 @@ use Rattle.lab_phase.specs.Asked.{asks_of}
 use Rattle.lab_phase.specs.declared.lab.Lab.{Lab}
 use Rattle.lab_phase.specs.declared.steps.Asked.{Asked}
 use Rattle.lab_phase.specs.BorderLaws.{OnErr-both, OnOk-more}
-use Rattle.lab_phase.specs.PhaseRuns.{IsSameLab, PlaysAlone, RunsPhase, Stops}
+use Rattle.lab_phase.specs.PhaseRuns.{HaveSameAsks, IsSameLab, PlaysAlone, RunsPhase, Stops}
 use Rattle.lab_phase.specs.PhaseSteps.{AreSameButRoom-card, IsSameButRoom}
 use Rattle.lab_phase.proofs.AloneStages.{RunsPhase-alone}
 use Rattle.lab_phase.proofs.PhaseStages.{fits-phase, no-rows, phases-few}
@@ -50,7 +50,7 @@ returns-clause-runs c =
     let asked : Asked = record { wavs = lab.wavs; capture = lab.capture; phase = lab.phases + 1; lines = c.args.lines } in
     let after : Lab = record lab { card = Some c.play_alone.new.card; rows = c.play_alone.new.rows } in
     OnOk-more (PlaysAlone (asks_of asked) lab.rows.items c.play_alone.new.rows.items c.in-Some.card c.play_alone.new.card)
-    ((stops : Stops) → RunsPhase stops stops lab c.args.lines.now after) c.play_alone.result
+    ((stops : Stops) → RunsPhase HaveSameAsks stops stops lab c.args.lines.now after) c.play_alone.result
     (λ plays. RunsPhase-alone lab after c.args.lines.now c.requires.next c.requires.alone c.in-Some.card c.play_alone.new.card c.in-Some.is refl refl refl plays
     (record { script = refl; wavs = refl; capture = refl; openings = refl }) refl refl refl)
     c.play_alone.ensures.plays

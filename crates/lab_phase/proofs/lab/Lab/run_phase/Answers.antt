@@ -7,7 +7,7 @@ use Rattle.lab_phase.specs.declared.lab.Lab.{Lab}
 use Rattle.lab_phase.specs.AtStage.{HasEndRoom}
 use Rattle.lab_phase.specs.BorderLaws.{OnErr-always, next-inside}
 use Rattle.lab_phase.specs.declared.report_room.ReportRoom.{ReportRoom}
-use Rattle.lab_phase.specs.PhaseRuns.{Stops, stops_by}
+use Rattle.lab_phase.specs.PhaseRuns.{HaveAsked, Stops, stops_by}
 use Rattle.lab_phase.specs.ReportRoom.{HasReportRoom-fewer}
 use Rattle.lab_phase.specs.Same.{IsAtStage-room, IsSameLab-after, IsSameLab-room}
 use Rattle.lab_phase.proofs.PhaseStages.{DoesPhase-counted, DoesPhase-room, phases-few}
@@ -67,6 +67,6 @@ returns-clause-does g c =
     let has_room : HasEndRoom lines (record lab { rows = rows; room = room }) =
     HasReportRoom-fewer c.capacity.result (length rows.items + lines) readers room (omega (arith, space, capacity, len))
     (c.in_ok-reserve-2.ensures.room (length lab.rows.items + 0) readers c.requires.at.at.room) in
-    DoesPhase-room before after lab c.count_phase.new.self rows room c.args.lines.now c.reserve.ensures.items c.reserve-2.ensures.kept
-    (DoesPhase-counted before after (record lab { rows = rows; room = room }) c.do_lines.new.self c.count_phase.new.self c.args.lines.now c.requires.next c.in_ok-do_lines.ensures.runs
+    DoesPhase-room (HaveAsked g.G.Gate.asked c.args.gates.now c.do_lines.new.gates) before after lab c.count_phase.new.self rows room c.args.lines.now c.reserve.ensures.items c.reserve-2.ensures.kept
+    (DoesPhase-counted (HaveAsked g.G.Gate.asked c.args.gates.now c.do_lines.new.gates) before after (record lab { rows = rows; room = room }) c.do_lines.new.self c.count_phase.new.self c.args.lines.now c.requires.next c.in_ok-do_lines.ensures.runs
     has_room c.count_phase.ensures)

@@ -32,7 +32,7 @@ run_together-requires-clause-few_rows g c κs within =
       clients = record { lasts = c.last_frames_are_own.ensures; parts = c.parts_are_runs.ensures.clients; alike = c.members_are_unreported.ensures.entries };
       readers = c.parts_are_runs.ensures.readers;
     } in
-    GiveFewRows-at g.G.Gate.stops c.args.gates.now c.args.self.now c.args.lines.now c.in-Some.card laws c.requires.next c.requires.others c.in-Some.is c.requires.at.stage c.requires.at.base
+    GiveFewRows-at g.G.Gate c.args.gates.now c.args.self.now c.args.lines.now c.in-Some.card laws c.requires.next c.requires.others c.in-Some.is c.requires.at.stage c.requires.at.base
     c.requires.at.at c.requires.at.counted
 
 pub returns-clause-kept : goal.returns-clause-kept
@@ -71,9 +71,9 @@ returns-clause-runs g c =
       rows = c.run_together.new.rows;
     } in
     OnOk-more
-    (HaveRunLines g.G.Gate.stops c.args.gates.now c.run_together.new.gates (asks_of asked) lab.rows.items after.rows.items c.in-Some.card c.run_together.new.card lab.clients after.clients
+    (HaveRunLines g.G.Gate c.args.gates.now c.run_together.new.gates (asks_of asked) lab.rows.items after.rows.items c.in-Some.card c.run_together.new.card lab.clients after.clients
     lab.readers after.readers)
-    (HasRunLines g.G.Gate.stops c.args.gates.now c.run_together.new.gates lab c.args.lines.now after) c.run_together.result
+    (HasRunLines g.G.Gate c.args.gates.now c.run_together.new.gates lab c.args.lines.now after) c.run_together.result
     (λ run. record {
       same = record { script = refl; wavs = refl; capture = refl; openings = refl };
       room = refl;

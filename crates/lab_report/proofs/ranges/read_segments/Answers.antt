@@ -4,7 +4,7 @@ use Rattle.std.proofs.lemmas.List.Elements.{All-more}
 use Rattle.std.specs.Prelude.{All}
 use Rattle.snd_base.specs.declared.places.Segment.{Segment}
 use Rattle.lab_report.specs.Ranges.{IsSegmentInRange}
-use Rattle.lab_rows.proofs.ranges.read_segments.Goals as goal
+use Rattle.lab_report.proofs.ranges.read_segments.Goals as goal
 
 pub loop-pair-preserved : goal.loop-pair-preserved
 loop-pair-preserved c =

@@ -1,7 +1,7 @@
 use Rattle.std.proofs.Common.{take}
 use Rattle.std.specs.Prelude.{All}
 use Rattle.lab_report.specs.Ranges.{IsRowInRange}
-use Rattle.lab_rows.proofs.ranges.read_rows.Given as goal
+use Rattle.lab_report.proofs.ranges.read_rows.Given as goal
 
 abbrev pub invariant-loop-row : goal.invariant-loop-row
 invariant-loop-row l = All IsRowInRange (take l.row-index l.rows)

@@ -3,7 +3,7 @@ use Rattle.std.proofs.lemmas.List.{take_all}
 use Rattle.std.proofs.lemmas.List.Elements.{All-more}
 use Rattle.std.specs.Prelude.{All}
 use Rattle.lab_report.specs.Ranges.{IsRunInRange}
-use Rattle.lab_rows.proofs.ranges.read_runs.Goals as goal
+use Rattle.lab_report.proofs.ranges.read_runs.Goals as goal
 
 pub loop-run-preserved : goal.loop-run-preserved
 loop-run-preserved c =

@@ -3,7 +3,7 @@ use Rattle.std.proofs.lemmas.List.{take_all}
 use Rattle.std.proofs.lemmas.List.Elements.{All-more}
 use Rattle.std.specs.Prelude.{All}
 use Rattle.lab_report.specs.Ranges.{IsRowInRange}
-use Rattle.lab_rows.proofs.ranges.read_rows.Goals as goal
+use Rattle.lab_report.proofs.ranges.read_rows.Goals as goal
 
 pub loop-row-preserved : goal.loop-row-preserved
 loop-row-preserved c = All-more IsRowInRange c.args.rows.now c.loop-row.row-index _ (omega arith) c.loop-row.invariant c.read_row.ensures

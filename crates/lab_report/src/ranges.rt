@@ -125,7 +125,7 @@ fn read_runs(runs: &[(u32, u64, u64)])
 }
 
 /// The numbers of each report that a program has are within their types, so that its text is read back as
-/// the same report (`lab_report::print_report`).
+/// the same report (`print_report`).
 ///
 /// It reads each number, and does nothing else.
 pub fn numbers_are_in_range(report: &Report)

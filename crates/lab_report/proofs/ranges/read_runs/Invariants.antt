@@ -1,7 +1,7 @@
 use Rattle.std.proofs.Common.{take}
 use Rattle.std.specs.Prelude.{All}
 use Rattle.lab_report.specs.Ranges.{IsRunInRange}
-use Rattle.lab_rows.proofs.ranges.read_runs.Given as goal
+use Rattle.lab_report.proofs.ranges.read_runs.Given as goal
 
 abbrev pub invariant-loop-run : goal.invariant-loop-run
 invariant-loop-run l = All IsRunInRange (take l.run-index l.runs)

@@ -1,0 +1,27 @@
+-- A command that runs nothing asks no gate.
+use Rattle.std.proofs.Common.{◌≡◌, ℕ, List, refl, subst}
+use Rattle.std.specs.Prelude.{Option, Some, Result, Ok, Err, OnOk, ⊤}
+use Rattle.mix_core.specs.declared.gate.Pass.{Pass}
+use Rattle.mix_core.specs.declared.gate.StepKind.{StepKind}
+use Rattle.lab_phase.specs.PhaseRuns.{Stops}
+use Rattle.lab_shelf.specs.Files.{Files}
+use Rattle.lab_commands.specs.Words.{Form, make, run}
+use Rattle.lab_commands.specs.Top.{AskedIn}
+
+-- a form that isn't one of a run
+abbrev pub RunsNothing : Option Form → Type 0
+RunsNothing (Some (run script out)) = ⊥
+RunsNothing (Some (make workload)) = ⊥
+RunsNothing other = ⊤
+
+module _ {X E T : Type 0} (asked : T → T → List StepKind → Pass → Type 0) (gates : List T) (stops : Stops) (before after : Option Files) (taken taken_after : Option (List ℕ)) where
+  asks-none : (own : Option Form) → RunsNothing own → (r : Result X E) → OnOk r (AskedIn asked gates gates own stops before after taken taken_after)
+  asks-none (Some (run script out)) none r = absurd none
+  asks-none (Some (make workload)) none r = absurd none
+  asks-none other none (Ok x) = refl
+  asks-none other none (Err e) = tt
+
+  -- whatever form the words have, it is one that runs nothing
+  pub AskedIn-none : (r : Result X E) (own form : Option Form) → own ≡ form → RunsNothing own → OnOk r (AskedIn asked gates gates form stops before after taken taken_after)
+  AskedIn-none r own form same none =
+      subst (λ (any : Option Form). OnOk r (AskedIn asked gates gates any stops before after taken taken_after)) same (asks-none own none r)
