@@ -1,4 +1,9 @@
 //! A worked value for what a clause defines, where neither a session nor a line of `parts` shows one.
+
+mod callers;
+mod refusals;
+
+use asound_conf::{ConfText, Group, Node, read_conf};
 use hw_space::Config;
 use mix_core::NeverStops;
 use pcm_format::{Areas, Format, copy_frames, silence_frames};
@@ -8,6 +13,7 @@ use plug_chain::{Plug, Table, Wide};
 use ring_pointers::Pointers;
 use snd_base::{Geometry, PcmError, Why};
 use snoop_core::{Loaded, SnoopCore, SnoopPort, can_load};
+use std::alloc::Global;
 use std::test::Fail;
 use sw_limits::{SwParams, boundary};
 
@@ -174,5 +180,44 @@ fn a_frame_is_overtaken_by_the_one_a_lap_later(rt: HostRuntime) -> Result<(), Fa
     };
     assert!(rt; load(&mut core, 0)? == (overtaken, 0));
     assert!(rt; load(&mut core, 1)? == (Loaded::Got, 1));
+    Ok(())
+}
+
+// The nodes in a group: each name, and its text or `{}`.
+fn items_of(alloc: Global, group: Group<'_>) -> Result<Vec<u8>, Fail> {
+    let mut line = Vec::new(alloc);
+    for (name, node) in group.items() {
+        match name {
+            ConfText::Bytes(bytes) => line.extend_from_slice(bytes)?,
+            ConfText::Number(number) => line.push(b'0' + (number % 10) as u8)?,
+        }
+        line.push(b' ')?;
+        match node {
+            Node::Text(text) => line.extend_from_slice(text)?,
+            Node::Group(_) => line.extend_from_slice(b"{}")?,
+        }
+        line.push(b';')?;
+    }
+    Ok(line)
+}
+
+// The values of `[ ]` are named by their numbers, and a text that is put again stays in its place.
+#[test]
+fn a_configuration_is_walked(rt: HostRuntime) -> Result<(), Fail> {
+    let Ok(conf) = read_conf(rt.alloc(), b"a { b c e 1 b d } f [ x y ]") else {
+        return Err("not read".into());
+    };
+    let root = conf.root();
+    assert!(rt; items_of(rt.alloc(), root)?.as_slice() == b"a {};f {};".as_slice());
+    let Some(Node::Group(first)) = root.get(b"a") else {
+        return Err("no group a".into());
+    };
+    let Some(Node::Group(list)) = root.get(b"f") else {
+        return Err("no group f".into());
+    };
+    assert!(rt; items_of(rt.alloc(), first)?.as_slice() == b"b d;e 1;".as_slice());
+    assert!(rt; items_of(rt.alloc(), list)?.as_slice() == b"0 x;1 y;".as_slice());
+    assert!(rt; list.len() == 2);
+    assert!(rt; root.get(b"b").is_none());
     Ok(())
 }

@@ -8,6 +8,3 @@ mod wav_in_pieces;
 pub use two_clients::{Mixed, mix_two};
 pub use two_threads::sum_in_threads;
 pub use wav_in_pieces::read_pieces;
-
-#[cfg(test)]
-mod tests;

@@ -1,14 +1,15 @@
-//! Each caller once, where there is memory, with values worked out by hand.
-use super::*;
+//! Each caller of the library once, where there is memory, with values worked out by hand, and the calls that a client or a reader
+//! makes by no line of a script.
 use bindings::Bindings;
 use dmix_client::Client;
 use dsnoop_client::Reader;
+use examples::{mix_two, read_pieces, sum_in_threads};
 use hw_space::Config;
 use mix_core::{Core, Taken};
 use pcm_states::State;
 use snd_base::{Geometry, PcmError, Segment, Why};
 use snoop_core::SnoopCore;
-use std::test::*;
+use std::test::Fail;
 use wav_io::WavError;
 
 const MONO_RING: Geometry = Geometry {
@@ -57,9 +58,9 @@ fn what_two_clients_placed_is_summed_and_saturated(rt: HostRuntime) -> Result<()
         taken(3, 7),
         taken(4, 0),
     ];
-    assert_eq!(rt; mixed.taken.as_slice(), wanted.as_slice());
-    assert_eq!(rt; mixed.first, from_start(3));
-    assert_eq!(rt; mixed.second, from_start(4));
+    assert!(rt; mixed.taken.as_slice() == wanted.as_slice());
+    assert!(rt; mixed.first == from_start(3));
+    assert!(rt; mixed.second == from_start(4));
     Ok(())
 }
 
@@ -70,14 +71,14 @@ fn a_configuration_that_does_not_fit_is_refused(rt: HostRuntime) -> Result<(), F
         ..MONO
     };
     let refused = mix_two(rt.alloc(), MONO_RING, stereo, &[], &[], 1).err();
-    assert_eq!(rt; refused, Some(PcmError::Invalid(Why::Config)));
+    assert!(rt; refused == Some(PcmError::Invalid(Why::Config)));
     Ok(())
 }
 
 #[test]
 fn two_threads_add_to_one_word(rt: HostRuntime) -> Result<(), Fail> {
-    assert_eq!(rt; sum_in_threads(&rt, rt.alloc(), -5, 7)?, 2);
-    assert_eq!(rt; sum_in_threads(&rt, rt.alloc(), 20000, 15000)?, 32767);
+    assert!(rt; sum_in_threads(&rt, rt.alloc(), -5, 7)? == 2);
+    assert!(rt; sum_in_threads(&rt, rt.alloc(), 20000, 15000)? == 32767);
     Ok(())
 }
 
@@ -94,12 +95,12 @@ fn a_file_in_pieces_is_the_whole_file(rt: HostRuntime) -> Result<(), Fail> {
     let wav = read_pieces(rt.alloc(), &pieces)
         .ok()
         .ok_or("the file is read")?;
-    assert_eq!(rt; wav.channels, 1);
-    assert_eq!(rt; wav.rate, 48000);
-    assert_eq!(rt; wav.samples.as_slice(), [1i16, -2].as_slice());
+    assert!(rt; wav.channels == 1);
+    assert!(rt; wav.rate == 48000);
+    assert!(rt; wav.samples.as_slice() == [1i16, -2].as_slice());
     let other: [&[u8]; 2] = [b"RI", b"FX"];
     let refused = read_pieces(rt.alloc(), &other).err();
-    assert_eq!(rt; refused, Some(WavError::NotRiff));
+    assert!(rt; refused == Some(WavError::NotRiff));
     Ok(())
 }
 
