@@ -14,11 +14,11 @@ JOBS =
 
 .PHONY: build build-alone test tools-test proof ci docs install clean
 
-# build/rules.mk has a rule for each crate, by crates.txt
-rules = $(MAKE) --no-print-directory -f build/rules.mk build/dmixlab
+# build/rules.mk has a rule for each crate, by crates.txt. All that are ready are begun, and each proof waits for its turn among the lanes
+letters = $(filter-out - --%,$(firstword -$(MAKEFLAGS)))
+rules = MAKEFLAGS= $(MAKE) $(letters) --no-print-directory -f build/rules.mk build/dmixlab
 given = $(filter -j%,$(MAKEFLAGS))
 lanes = $(or $(filter-out -j,$(given:-j%=%)),$(shell $(PYTHON) tools/machine.py))
-side = $(if $(given),,-j$(lanes))
 
 # another make in this folder waits, and then finds what this one proved
 build:
@@ -27,8 +27,9 @@ build:
 
 build-alone:
 	+@$(PYTHON) maintenance/build_rules.py
-	@rm -rf build/count build/running && mkdir build/count build/running
-	+@LANES=$(lanes) TOTAL=$$($(rules) --dry-run | grep -c '^maintenance/prove_crate.sh'); export LANES TOTAL; exec $(rules) --silent $(side)
+	@rm -rf build/count build/running build/waiting build/refused && mkdir build/count build/running build/waiting
+	+@LANES=$(lanes) TOTAL=$$($(rules) --dry-run | grep -c '^maintenance/prove_crate.sh'); export LANES TOTAL MAKEFLAGS=; exec $(MAKE) $(letters) \
+	  --silent -j --no-print-directory -f build/rules.mk build/dmixlab
 	@mv build/begun build/built && echo "$(CURDIR)/build/dmixlab is proved and built"
 
 test:
@@ -39,7 +40,7 @@ tools-test:
 	@$(PYTHON) maintenance/tests/with_real_rt.py
 
 proof:
-	@RT_JOBS=$${RT_JOBS-$$($(PYTHON) tools/machine.py)} rt ci
+	@RT_JOBS=$${RT_JOBS-$$($(PYTHON) tools/machine.py)} MIMALLOC_PURGE_DELAY=$${MIMALLOC_PURGE_DELAY--1} rt ci
 
 ci:
 	@bash .ci/run

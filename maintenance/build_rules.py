@@ -68,15 +68,15 @@ def link_words(kit):
 
 
 def rule_of(root, kit, lines, name, order, urgency):
-    """The rule of a crate, whose words and list of files are a file of their own: where they change, so does it. Its proof has the
-    least number of processes and the niceness of its urgency."""
+    """The rule of a crate, whose words and list of files are a file of their own: where they change, so does it. Its proof has its turn in
+    this order, and the least number of processes and the niceness of its urgency."""
     crate = f"{root}/crates/{name}"
     files = [os.path.relpath(it, root) for part in PROVED_FILES for it in files_in(f"{crate}/{part}")]
     words = " ".join(words_for(kit, lines, name))
     write_if_new(f"{root}/build/words/{name}", "\n".join([kit.version, words, *files, ""]))
     marks = [f"{LIBRARIES}/{it}.proved" for it in order if it in lines[name]]
     needed = " ".join([f"build/words/{name}", *files, *marks])
-    return f"\n{LIBRARIES}/{name}.proved: {needed}\n\t@maintenance/prove_crate.sh {name} $@ {urgency} {words}\n"
+    return f"\n{LIBRARIES}/{name}.proved: {needed}\n\t@maintenance/prove_crate.sh {name} $@ {order.index(name):03} {urgency} {words}\n"
 
 
 def urgency(part):
@@ -94,7 +94,6 @@ def rules(root, kit):
     order = sorted(wanted, key=lambda it: (-length[it], it))
     through = chains_through(root, uses, wanted)
     urgencies = {it: urgency(through[it] / max(through.values())) for it in wanted}
-    # GNU make begins what is ready in this order
     marks = " ".join(f"{LIBRARIES}/{it}.proved" for it in order)
     link = " ".join(link_words(kit))
     text = HEAD.replace(f": {LIBRARIES}/{PROGRAM}.proved", f": {marks}") + f"\t@{link}\n"

@@ -110,14 +110,26 @@ class BuildRules(unittest.TestCase):
 
     def test_a_proof_has_the_processors_that_no_other_one_has(self):
         repo = f"{self.at}/repo"
-        for others, lanes, least, jobs in (([], 4, 1, 4), (["a"], 4, 1, 2), (["a", "b", "c"], 4, 1, 1), (["a", "b", "c"], 4, 2, 2), (["a"], 1, 1, 1)):
+        for others, lanes, least, jobs in (([], 4, 1, 4), (["a"], 4, 1, 2), (["a", "b", "c"], 4, 1, 1), (["a", "b", "c"], 4, 2, 2), ([], 1, 1, 1)):
             shutil.rmtree(f"{repo}/build", ignore_errors=True)
             for it in ("build/logs", "build/count", self.libraries, *(f"build/running/{it}" for it in others)):
                 os.makedirs(os.path.join(repo, it), exist_ok=True)
-            words = ["sh", "maintenance/prove_crate.sh", "low", f"{self.libraries}/low.proved", str(least), "0", "echo"]
+            words = ["sh", "maintenance/prove_crate.sh", "low", f"{self.libraries}/low.proved", "000", str(least), "0", "echo"]
             subprocess.run(words, cwd=repo, env={"PATH": os.environ["PATH"], "LANES": str(lanes)}, stdout=subprocess.PIPE, check=True)
             self.assertEqual(self.read("repo/build/logs/low.log"), f"--jobs {jobs}\n")
             self.assertEqual(sorted(os.listdir(f"{repo}/build/running")), others)
+
+    def test_what_waits_has_its_turn_in_the_order_of_the_ranks(self):
+        repo, proofs = f"{self.at}/repo", []
+        for it in ("build/logs", "build/count", "build/running/other", "build/waiting", self.libraries):
+            os.makedirs(os.path.join(repo, it))
+        for name, rank in (("wide", "001"), ("middle", "002"), ("low", "000")):
+            words = ["sh", "maintenance/prove_crate.sh", name, f"{self.libraries}/{name}.proved", rank, "1", "0", "echo"]
+            proofs.append(subprocess.Popen(words, cwd=repo, env={"PATH": os.environ["PATH"], "LANES": "1"}, stdout=subprocess.PIPE, text=True))
+        while len(os.listdir(f"{repo}/build/waiting")) < 3:
+            time.sleep(0.02)
+        os.rmdir(f"{repo}/build/running/other")
+        self.assertEqual([it.communicate()[0] for it in proofs], ["[2/?] proving wide\n", "[3/?] proving middle\n", "[1/?] proving low\n"])
 
     def test_a_crate_of_the_longest_chain_has_two_processes_at_least(self):
         self.write("repo/crates/low/src/lib.rt", "fn f() {}\n" * 1000)
@@ -172,6 +184,11 @@ class BuildRules(unittest.TestCase):
         log = f"{self.at}/repo/build/logs/middle.log"
         self.assertIn(f"middle isn't proved. All that was said of it is in {log}, which has\nmiddle was checked\n", ran.said)
         self.assertFalse(os.path.exists(f"{self.at}/repo/build/built"))
+
+    def test_what_waits_is_not_begun_after_one_is_not_proved_but_by_keep_going(self):
+        self.assertEqual(list(self.run_it("-j1", FAILS="low")[1]), ["low"])
+        ran, calls = self.run_it("-j1", "-k", FAILS="low")
+        self.assertEqual((list(calls), ran.returncode), (["low", "wide"], 2))
 
     def test_a_build_that_was_stopped_goes_on_where_it_was(self):
         self.run_it(FAILS="top")
