@@ -119,7 +119,9 @@ class Sweep:
     def way(self, session, way, count):
         """Runs a session with each fault of a way."""
         faults = way.faults(count)
-        runs = self.pool.map(lambda it: shim.run(self.words(session), session.files, self.library, it), faults)
+        runs = list(self.pool.map(lambda it: shim.run(self.words(session), session.files, self.library, it), faults))
+        if session.errors and (way.kind, way.extent) == ("memory", EACH) and not judge.has_kept_status(session, runs):
+            self.wrong.append(f"{session.name}: no run in which its line alone has no memory has its status")
         for fault, ran in zip(faults, runs):
             names = sorted({it.name for it in ran.hits()})
             what = f"{way.kind} {fault.first} ({', '.join(names)}), {way.name()}"

@@ -98,6 +98,11 @@ def error_faults(session, ran, hits):
     return [f"errors is {ran.errors!r:.{MOST_SHOWN}} and not {line!r:.{MOST_SHOWN}}"]
 
 
+def has_kept_status(session, runs):
+    """Whether the line of a session's status alone had no memory in one of some runs, which had the same status then."""
+    return any(ran.status == session.status and not ran.errors for ran in runs)
+
+
 def faults_of(session, ran, allowed, hits):
     """All that is wrong in what a run left, of which these statuses are allowed and in which these calls failed; None: it isn't known."""
     if ran.status is None:

@@ -27,6 +27,8 @@ CASES = (
     ("scripts", "a script without words"),
     ("refusals", "an empty file"),
     ("conf", "quotes that a line's end leaves open"),
+    ("checks", "the check of a run of one client"),
+    ("checks", "a sample that is another"),
 )
 # the files that `make` stores whole; all other WAV files that a session leaves are begun with an open head
 STORED = ("made-0.wav",)

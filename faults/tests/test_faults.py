@@ -8,6 +8,7 @@ import subprocess
 import sys
 import tempfile
 import unittest
+from dataclasses import replace
 from unittest import mock
 
 HERE = os.path.dirname(os.path.abspath(__file__))
@@ -70,6 +71,12 @@ class Judging(unittest.TestCase):
         self.assertEqual(self.wrong(ran(6), hit("memory", "-"), how=errno.ENOMEM), [])
         self.assertEqual(len(self.wrong(ran(5, errors=b"dmixlab: write\n"), hit("memory", "-"), how=errno.ENOMEM)), 1)
 
+    def test_a_line_without_memory_keeps_the_status(self):
+        it = replace(session(), status=2, errors=b"dmixlab: script line 0: NoCard\n")
+        lacking = [ran(6, errors=b"dmixlab: memory\n"), ran(6), ran(2, errors=it.errors)]
+        self.assertFalse(judge.has_kept_status(it, lacking))
+        self.assertTrue(judge.has_kept_status(it, [*lacking, ran(2)]))
+
     def test_a_thread_that_cannot_be_made_changes_nothing(self):
         self.assertEqual(self.wrong(ran(0, b"done\n", to=CONTENT), hit("thread", "-"), how=errno.EAGAIN), [])
         self.assertEqual(len(self.wrong(ran(0), hit("thread", "-"), how=errno.EAGAIN)), 2)
@@ -96,7 +103,7 @@ class Sessions(unittest.TestCase):
     def test_each_has_what_it_must_leave(self):
         found = sessions.all_sessions()
         self.assertEqual(len({it.name for it in found}), len(found))
-        self.assertTrue({b"run", b"refine", b"conf", b"make", b"--help"} <= {word for it in found for word in it.words[:1]})
+        self.assertTrue({b"run", b"check", b"refine", b"conf", b"make", b"--help"} <= {word for it in found for word in it.words[:1]})
 
     def test_the_mixed_one_may_end_in_eight_ways(self):
         outcomes = sessions.mixed().outcomes
