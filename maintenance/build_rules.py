@@ -14,12 +14,10 @@ ROOT = os.path.dirname(os.path.dirname(os.path.abspath(__file__)))
 sys.path.insert(0, f"{ROOT}/tools")
 
 import command
-from crate_graph import PROVED_FILES, below, chains, chains_through, files_in, read_lines, uses_of
+from crate_graph import PROVED_FILES, below, chains, files_in, read_lines, uses_of
 from machine import Kit, NoKit, say
 
 PROGRAM, NO_KIT = "dmixlab", 70
-# a crate is on a long chain that has so much of the longest one's work; its proof has so many processes at least
-LONG, LEAST_OF_LONG, MOST_NICENESS = 0.95, 2, 19
 # rt refuses files of crates anywhere but in the crates, and in their folders out/rlib, which no commit has
 LIBRARIES = f"crates/{PROGRAM}/out/rlib"
 HEAD = f"""# Made by maintenance/build_rules.py.
@@ -67,22 +65,16 @@ def link_words(kit):
     return [f"{kit.at}/bin/rattle-link", *place, f"{LIBRARIES}/{PROGRAM}.o", *c_library]
 
 
-def rule_of(root, kit, lines, name, order, urgency):
-    """The rule of a crate, whose words and list of files are a file of their own: where they change, so does it. Its proof has its turn in
-    this order, and the least number of processes and the niceness of its urgency."""
+def rule_of(root, kit, lines, name, order, work):
+    """The rule of a crate, whose words and list of files are a file of their own: where they change, so does it. Its proof has its turn by the
+    work of the chain of crates from it."""
     crate = f"{root}/crates/{name}"
     files = [os.path.relpath(it, root) for part in PROVED_FILES for it in files_in(f"{crate}/{part}")]
     words = " ".join(words_for(kit, lines, name))
     write_if_new(f"{root}/build/words/{name}", "\n".join([kit.version, words, *files, ""]))
     marks = [f"{LIBRARIES}/{it}.proved" for it in order if it in lines[name]]
     needed = " ".join([f"build/words/{name}", *files, *marks])
-    return f"\n{LIBRARIES}/{name}.proved: {needed}\n\t@maintenance/prove_crate.sh {name} $@ {order.index(name):03} {urgency} {words}\n"
-
-
-def urgency(part):
-    """How urgent a proof is on whose longest chain is this part of the longest one's work: the least number of its processes, and its niceness,
-    by which it gives way."""
-    return f"{LEAST_OF_LONG if part >= LONG else 1} {min(MOST_NICENESS, int((MOST_NICENESS + 1) * (1 - part)))}"
+    return f"\n{LIBRARIES}/{name}.proved: {needed}\n\t@maintenance/prove_crate.sh {name} $@ {work} {words}\n"
 
 
 def rules(root, kit):
@@ -92,12 +84,10 @@ def rules(root, kit):
     wanted = [PROGRAM, *below(uses, PROGRAM)]
     length = chains(root, uses, wanted)
     order = sorted(wanted, key=lambda it: (-length[it], it))
-    through = chains_through(root, uses, wanted)
-    urgencies = {it: urgency(through[it] / max(through.values())) for it in wanted}
     marks = " ".join(f"{LIBRARIES}/{it}.proved" for it in order)
     link = " ".join(link_words(kit))
     text = HEAD.replace(f": {LIBRARIES}/{PROGRAM}.proved", f": {marks}") + f"\t@{link}\n"
-    return text + "".join(rule_of(root, kit, lines, it, order, urgencies[it]) for it in order), order
+    return text + "".join(rule_of(root, kit, lines, it, order, length[it]) for it in order), order
 
 
 def main():

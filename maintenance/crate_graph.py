@@ -48,30 +48,14 @@ def work_of(root, uses, name):
     return source_size(f"{root}/crates/{name}") + LIBRARY_SIZE * len(below(uses, name))
 
 
-def longest_chains(next_of, work):
-    """The work of the longest chain that begins with each crate and goes on with one of the crates that are next to it."""
+def chains(root, uses, wanted):
+    """The work of the longest chain that begins with each wanted crate, up to the topmost: the greatest goes first."""
     found = {}
 
     def chain(name):
         if name not in found:
-            found[name] = work[name] + max(map(chain, next_of[name]), default=0)
+            above = [it for it in wanted if name in uses[it]]
+            found[name] = work_of(root, uses, name) + max(map(chain, above), default=0)
         return found[name]
 
-    return {name: chain(name) for name in next_of}
-
-
-def above_of(uses, wanted):
-    """The wanted crates that use each wanted crate."""
-    return {name: [it for it in wanted if name in uses[it]] for name in wanted}
-
-
-def chains(root, uses, wanted):
-    """The work of the longest chain that begins with each wanted crate, up to the topmost: the greatest goes first."""
-    return longest_chains(above_of(uses, wanted), {it: work_of(root, uses, it) for it in wanted})
-
-
-def chains_through(root, uses, wanted):
-    """The work of the longest chain from the lowest to the topmost crate that each wanted crate is on."""
-    work = {it: work_of(root, uses, it) for it in wanted}
-    up, down = longest_chains(above_of(uses, wanted), work), longest_chains({it: uses[it] for it in wanted}, work)
-    return {it: up[it] + down[it] - work[it] for it in wanted}
+    return {name: chain(name) for name in wanted}

@@ -1,29 +1,33 @@
 #!/bin/sh
-# prove_crate.sh NAME MARK RANK LEAST NICENESS WORD..: proves a crate by the words, in its folder, and makes its mark; the rules of build/rules.mk call it.
-# make begins all that is ready, and here each waits for its turn: LANES proofs run at once, and the next one is that of the least RANK.
-# The proof takes an even share of the LANES processors among those that run or wait, and LEAST at least, as others wait for some crates.
-# With its NICENESS it gives way to those for which more work waits.
+# prove_crate.sh NAME MARK WORK WORD..: proves a crate by the words, in its folder, and makes its mark; the rules of build/rules.mk call it.
+# make begins all that is ready, and here each waits for its turn: LANES proofs run at once, and the next one is that of the most WORK, which
+# is the work of the longest chain of crates from this one up to the program.
+# A proof takes an even share of the lanes that no other one has among those that wait, and two processes at least on the longest chain, as
+# others wait for it. Where less work waits for it than for another one, it gives way.
 # The mark is as old as the proof's begin, so that what was changed meanwhile is newer. TOTAL is how many crates are to be proved.
 # The status is 1 where the crate isn't proved, or isn't begun since another one isn't proved; 2 without these words, and 5 where standard
 # output takes no more.
-[ $# -ge 6 ] || { echo "prove_crate: the words are NAME MARK RANK LEAST NICENESS WORD.." >&2; exit 2; }
-name=$1 mark=$2 waiting=build/waiting/$3-$1 least=$4 niceness=$5 log=build/logs/$1.log running=build/running/$1
-shift 5
+[ $# -ge 4 ] || { echo "prove_crate: the words are NAME MARK WORK WORD.." >&2; exit 2; }
+name=$1 mark=$2 work=$3 turn=$(printf %012d "$3")-$1 log=build/logs/$1.log
+waiting=build/waiting/$turn running=build/running/$turn
+shift 3
 
-# how many of these files there are
+# how many of these files there are, and the greatest work of their names
 count() {
-  number=0
-  for it; do [ ! -e "$it" ] || number=$((number + 1)); done
+  number=0 most=0
+  for it; do
+    [ -e "$it" ] || continue
+    number=$((number + 1)) it=${it##*/} it=${it%%-*}
+    it=${it#"${it%%[!0]*}"}
+    [ "${it:-0}" -le "$most" ] || most=$it
+  done
 }
 
-# whether it's this crate's turn: a lane is free, and no crate of a lesser rank waits
+# whether it's this crate's turn: a lane is free, and no crate of more work waits
 is_next() {
+  for next in build/waiting/*; do :; done
   count build/running/*
-  [ "$number" -lt "${LANES:-1}" ] || return 1
-  for first in build/waiting/*; do
-    [ "$first" = "$waiting" ]
-    return
-  done
+  [ "$next" = "$waiting" ] && [ "$number" -lt "${LANES:-1}" ]
 }
 
 # ends where a crate wasn't proved, unless the others are to go on by `make -k`
@@ -47,9 +51,10 @@ mkdir -p build/waiting build/running
 : >"$waiting"
 trap 'rm -f "$waiting"; exit 143' TERM INT HUP
 end_if_refused
-# meanwhile make begins what is ready since a lane is free, which may be of a lesser rank
-until is_next && sleep 0.3 && is_next && take_turn; do
-  sleep 0.2
+# meanwhile make begins what is ready since a lane is free, which may be of more work
+until is_next && sleep 0.1 && is_next && take_turn; do
+  # what is next looks often
+  if [ "$next" = "$waiting" ]; then sleep 0.1; else sleep 0.8; fi
   end_if_refused
 done
 
@@ -63,9 +68,16 @@ done
 
 rm -rf "$mark" "${mark%.proved}.rlib"
 touch "$mark.begun"
+count build/running/*
+others=$((number - 1))
+count build/waiting/*
+jobs=$(((${LANES:-1} - others) / (number + 1)))
+[ "$jobs" -ge 1 ] || jobs=1
 count build/running/* build/waiting/*
-jobs=$((${LANES:-1} / number))
-[ "$jobs" -ge "$least" ] || jobs=$least
+# of the longest chain is what has 95 of 100 parts of its work
+[ "$jobs" -ge 2 ] || [ "${LANES:-1}" -eq 1 ] || [ $((20 * work)) -lt $((19 * most)) ] || jobs=2
+niceness=$((20 * (most - work) / most))
+[ "$niceness" -le 19 ] || niceness=19
 (cd "crates/$name" && exec nice -n "$niceness" "$@" --jobs "$jobs") >"$log" 2>&1 </dev/null &
 proof=$!
 trap 'kill $proof; wait $proof; rm -rf "$mark.begun" "$running"; exit 143' TERM INT HUP

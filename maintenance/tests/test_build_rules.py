@@ -108,36 +108,40 @@ class BuildRules(unittest.TestCase):
         self.assertRegex(calls["middle"], f"--statements -o {libraries}/middle.rlib --jobs [0-9]$")
         self.assertIn("--backend llvm", calls["dmixlab"])
 
-    def test_a_proof_has_the_processors_that_no_other_one_has(self):
+    def test_a_proof_has_the_lanes_that_no_other_one_has_and_two_on_the_longest_chain(self):
         repo = f"{self.at}/repo"
-        for others, lanes, least, jobs in (([], 4, 1, 4), (["a"], 4, 1, 2), (["a", "b", "c"], 4, 1, 1), (["a", "b", "c"], 4, 2, 2), ([], 1, 1, 1)):
+        # each of the others with its work, that of this crate is 1000
+        a, b, c, most = ("000000000900-a", "000000000900-b", "000000000900-c", "000000001100-most")
+        for others, lanes, jobs in (([], 4, 4), ([a], 4, 3), ([a, b], 4, 2), ([a, b, most], 4, 1), ([a, b, c], 4, 2), ([], 1, 1)):
             shutil.rmtree(f"{repo}/build", ignore_errors=True)
             for it in ("build/logs", "build/count", self.libraries, *(f"build/running/{it}" for it in others)):
                 os.makedirs(os.path.join(repo, it), exist_ok=True)
-            words = ["sh", "maintenance/prove_crate.sh", "low", f"{self.libraries}/low.proved", "000", str(least), "0", "echo"]
+            words = ["sh", "maintenance/prove_crate.sh", "low", f"{self.libraries}/low.proved", "1000", "echo"]
             subprocess.run(words, cwd=repo, env={"PATH": os.environ["PATH"], "LANES": str(lanes)}, stdout=subprocess.PIPE, check=True)
             self.assertEqual(self.read("repo/build/logs/low.log"), f"--jobs {jobs}\n")
             self.assertEqual(sorted(os.listdir(f"{repo}/build/running")), others)
 
-    def test_what_waits_has_its_turn_in_the_order_of_the_ranks(self):
+    def test_what_waits_has_its_turn_by_the_work_that_waits_for_it(self):
         repo, proofs = f"{self.at}/repo", []
-        for it in ("build/logs", "build/count", "build/running/other", "build/waiting", self.libraries):
+        for it in ("build/logs", "build/count", "build/running/000000000001-other", "build/waiting", self.libraries):
             os.makedirs(os.path.join(repo, it))
-        for name, rank in (("wide", "001"), ("middle", "002"), ("low", "000")):
-            words = ["sh", "maintenance/prove_crate.sh", name, f"{self.libraries}/{name}.proved", rank, "1", "0", "echo"]
+        for name, work in (("wide", "90"), ("middle", "9"), ("low", "100")):
+            words = ["sh", "maintenance/prove_crate.sh", name, f"{self.libraries}/{name}.proved", work, "echo"]
             proofs.append(subprocess.Popen(words, cwd=repo, env={"PATH": os.environ["PATH"], "LANES": "1"}, stdout=subprocess.PIPE, text=True))
         while len(os.listdir(f"{repo}/build/waiting")) < 3:
             time.sleep(0.02)
-        os.rmdir(f"{repo}/build/running/other")
+        os.rmdir(f"{repo}/build/running/000000000001-other")
         self.assertEqual([it.communicate()[0] for it in proofs], ["[2/?] proving wide\n", "[3/?] proving middle\n", "[1/?] proving low\n"])
 
-    def test_a_crate_of_the_longest_chain_has_two_processes_at_least(self):
-        self.write("repo/crates/low/src/lib.rt", "fn f() {}\n" * 1000)
-        calls = self.run_it("-j1")[1]
-        self.assertEqual({name: said[-1] for name, said in calls.items()}, {"low": "2", "middle": "2", "top": "2", "dmixlab": "2", "wide": "1"})
-
-    def test_a_crate_of_a_shorter_chain_gives_way(self):
-        self.assertEqual([build_rules.urgency(it) for it in (1, 0.95, 0.5, 0)], ["2 0", "2 1", "1 10", "1 19"])
+    def test_a_crate_gives_way_to_one_for_which_more_work_waits(self):
+        repo = f"{self.at}/repo"
+        for others, niceness in (([], 0), (["000000001001-a"], 0), (["000000002000-a"], 10), (["000000099999-a"], 19)):
+            shutil.rmtree(f"{repo}/build", ignore_errors=True)
+            for it in ("build/logs", "build/count", self.libraries, *(f"build/running/{it}" for it in others)):
+                os.makedirs(os.path.join(repo, it), exist_ok=True)
+            words = ["sh", "maintenance/prove_crate.sh", "low", f"{self.libraries}/low.proved", "1000", "sh", "-c", "nice"]
+            subprocess.run(words, cwd=repo, env={"PATH": os.environ["PATH"], "LANES": "4"}, stdout=subprocess.PIPE, check=True)
+            self.assertEqual(int(self.read("repo/build/logs/low.log")), min(19, niceness + os.nice(0)))
 
     def test_a_second_make_waits_and_finds_what_the_first_one_proved(self):
         self.write("kit/bin/rattle", RATTLE + "sleep 0.5\n")

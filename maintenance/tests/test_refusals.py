@@ -42,7 +42,7 @@ class Words(unittest.TestCase):
             (("build_rules.py", "nope"), "unrecognized arguments: nope"),
             (("check_all.sh", "nope"), "it has no words"),
             (("install.sh",), "the words are DESTDIR and PREFIX"),
-            (("prove_crate.sh", "name"), "the words are NAME MARK RANK LEAST NICENESS WORD.."),
+            (("prove_crate.sh", "name"), "the words are NAME MARK WORK WORD.."),
         ]:
             ran = ended(*words)
             self.assertEqual((ran.returncode, ran.stdout, len(ran.stderr.splitlines())), (REFUSED, "", 1), (words, ran.stderr))
