@@ -1,0 +1,107 @@
+-- What it comes to that a handle is opened or closed, by the steps of the call.
+use Rattle.std.proofs.Common.{◌≡◌, ℕ, ℤ, ap, inl, inr, refl, subst, sym, ◌∙◌}
+use Rattle.std.specs.Prelude.{◌⊎◌, ◌↔◌, ◌||◌, Bool, true, false, IsSome, IsTrue, Option, None, Some, pos}
+use Rattle.std.specs.Option.{is_some}
+use Rattle.std.proofs.lemmas.Bool.{false≢true}
+use Rattle.snd_base.specs.declared.errors.PcmError.{PcmError}
+use Rattle.snd_base.specs.declared.errors.PcmError.TheVariants.{Again, Memory}
+use Rattle.sum_table.specs.Seats.{member_of}
+use Rattle.dmix_c.specs.declared.duplex_card.DuplexCard.{DuplexCard}
+use Rattle.dmix_c.specs.declared.open_ring.OpenRing.{OpenRing}
+use Rattle.dmix_c.specs.declared.opened.Kind.{Kind}
+use Rattle.dmix_c.specs.declared.opened.Opened.{Opened}
+use Rattle.dmix_c.specs.declared.opened.Opened.TheVariants.{Card, Client, Duplex, Ring}
+use Rattle.dmix_c.specs.declared.params.RingParams.{RingParams}
+use Rattle.dmix_c.specs.declared.playback.Playback.{Playback}
+use Rattle.dmix_c.specs.declared.playing_card.PlayingCard.{PlayingCard}
+use Rattle.dmix_c.specs.Answers.{bad_handle, error_number, handle_in_use}
+use Rattle.dmix_c.specs.Handles.{Closes, Ends, OpensAt, OpensBoth, OpensBy, OpensClient, OpensDuplexBoth, OpensPair, is_kind}
+use Rattle.dmix_c.specs.Params.{CanOpen}
+use Rattle.dmix_c.specs.RingPlaces.{GivesNone, GivesPlace, IsNewDuplex, IsNewOpenRing, KeepsRing}
+
+-- what was taken from a handle, by what was seen of its kind
+kind-seen : (asked : Kind) (taken seen : Opened) (test answer : Bool) → seen ≡ taken → test ≡ is_kind asked seen → test ≡ answer → is_kind asked taken ≡ answer
+kind-seen asked taken seen test answer same is said = ap (is_kind asked) (sym same) ∙ (sym is ∙ said)
+
+pub Closes-done : (asked : Kind) (before after : Option Opened) (taken seen : Opened) (test : Bool) (answer : ℤ) → before ≡ Some taken → seen ≡ taken
+    → test ≡ is_kind asked seen → test ≡ true → after ≡ None → answer ≡ pos 0 → Closes asked before after answer
+Closes-done asked before after taken seen test answer found same is said closed done =
+    subst (λ (h : Option Opened). Closes asked h after answer) (sym found)
+    (subst (λ (b : Bool). Ends b (Some taken) after answer) (sym (kind-seen asked taken seen test true same is said)) (closed, done))
+
+pub Closes-other : (asked : Kind) (before after : Option Opened) (taken seen : Opened) (test : Bool) (answer : ℤ) → before ≡ Some taken → seen ≡ taken
+    → test ≡ is_kind asked seen → test ≡ false → after ≡ Some taken → answer ≡ bad_handle → Closes asked before after answer
+Closes-other asked before after taken seen test answer found same is said put bad =
+    subst (λ (h : Option Opened). Closes asked h after answer) (sym found)
+    (subst (λ (b : Bool). Ends b (Some taken) after answer) (sym (kind-seen asked taken seen test false same is said)) (put, bad, tt))
+
+-- a client that can't be opened: by its ring, or for the memory of its handle
+pub OpensAt-failed : (r t : OpenRing) (client : Option Opened) (e : PcmError) (answer : ℤ) → client ≡ None → KeepsRing None r t → ((e ≡ Again) × GivesNone t) ⊎ (e ≡ Memory)
+    → answer ≡ error_number e → OpensAt r t client answer
+OpensAt-failed r t client e answer none keeps (inl again) is = inr (none, inl (keeps, again.1, is ∙ ap error_number again.0))
+OpensAt-failed r t client e answer none keeps (inr memory) is = inr (none, inr (None, keeps, is ∙ ap error_number memory))
+
+pub OpensAt-memory : (given : Option ℕ) (r t : OpenRing) (client : Option Opened) (answer : ℤ) → client ≡ None → KeepsRing given r t → answer ≡ error_number Memory
+    → OpensAt r t client answer
+OpensAt-memory given r t client answer none keeps is = inr (none, inr (given, keeps, is))
+
+-- and one that is
+pub OpensAt-done : (r t : OpenRing) (client : Option Opened) (p : Playback) (made : Opened) (answer : ℤ) → KeepsRing (Some (member_of p.seat)) r t → GivesPlace t p
+    → made ≡ Client p → client ≡ Some made → answer ≡ pos 0 → OpensAt r t client answer
+OpensAt-done r t client p made answer keeps gives is found done = inl (p, found ∙ ap (λ (o : Opened). Some o) is, keeps, gives, done)
+
+-- by the handle of a ring
+pub OpensBy-ring : (before after : Opened) (r t : OpenRing) (client : Option Opened) (answer : ℤ) → before ≡ Ring r → after ≡ Ring t
+    → OpensAt r t client answer → OpensBy (Some before) client (Some after) answer
+OpensBy-ring before after r t client answer is_r is_t opens =
+    subst (λ (o : Opened). OpensBy (Some o) client (Some after) answer) (sym is_r) (t, ap (λ (o : Opened). Some o) is_t, opens)
+
+-- a handle that isn't open stands for nothing
+pub closed-none : (handle : Option Opened) (test : Bool) → (IsTrue test ↔ IsSome handle) → test ≡ false → handle ≡ None
+closed-none None test tells shut = refl
+closed-none (Some opened) test tells shut = absurd (false≢true (sym shut ∙ tells.1 refl))
+
+-- by the client's own handle: it is open, or it is opened by its ring's
+pub OpensClient-open : (client ring after ring_after : Option Opened) (test : Bool) (answer : ℤ) → (IsTrue test ↔ IsSome client) → test ≡ true
+    → after ≡ client → ring_after ≡ ring → answer ≡ handle_in_use → OpensClient client ring after ring_after answer
+OpensClient-open None ring after ring_after test answer tells is same ring_same used = absurd (false≢true (tells.0 is))
+OpensClient-open (Some opened) ring after ring_after test answer tells is same ring_same used = (same, ring_same, used)
+
+pub OpensClient-closed : (client ring after ring_after : Option Opened) (answer : ℤ) → client ≡ None → OpensBy ring after ring_after answer
+    → OpensClient client ring after ring_after answer
+OpensClient-closed client ring after ring_after answer none opens = subst (λ (c : Option Opened). OpensClient c ring after ring_after answer) (sym none) opens
+
+-- whether a handle stands for something, by its test
+pub is_some-tested : (handle : Option Opened) (test : Bool) → (IsTrue test ↔ IsSome handle) → is_some handle ≡ test
+is_some-tested None true tells = absurd (false≢true (tells.0 refl))
+is_some-tested None false tells = refl
+is_some-tested (Some opened) true tells = refl
+is_some-tested (Some opened) false tells = absurd (false≢true (tells.1 refl))
+
+-- and two that are closed
+pub some_or-closed : (ring card : Option Opened) (first second : Bool) → (IsTrue first ↔ IsSome ring) → (IsTrue second ↔ IsSome card) → first ≡ false
+    → second ≡ false → (is_some ring || is_some card) ≡ false
+some_or-closed ring card first second tells also shut closed =
+    ap (λ (b : Bool). b || is_some card) (is_some-tested ring first tells ∙ shut) ∙ (is_some-tested card second also ∙ closed)
+
+-- a ring and its card are opened by two handles that are closed, of parameters that a ring can have
+pub OpensPair-done : (Opens : Option Opened → Option Opened → ℤ → Type 0) (params : RingParams) (ring card ring_after card_after : Option Opened) (answer : ℤ)
+    → (is_some ring || is_some card) ≡ false → CanOpen params → Opens ring_after card_after answer → OpensPair Opens params ring card ring_after card_after answer
+OpensPair-done Opens params ring card ring_after card_after answer shut can opens = record {
+  in_use = λ used. absurd (false≢true (sym shut ∙ used));
+  invalid = λ other refuses. absurd (refuses can);
+  opened = λ other also. opens;
+}
+
+-- a ring that captures nothing and its card, in boxes, by their handles
+module _ (params : RingParams) (ring card : Option Opened) (answer : ℤ) where
+  pub OpensBoth-done : (r : OpenRing) (c : PlayingCard) (made_ring made_card : Opened) → IsNewOpenRing params r c.player → r.capture ≡ None
+      → made_ring ≡ Ring r → made_card ≡ Card c → ring ≡ Some made_ring → card ≡ Some made_card → answer ≡ pos 0 → OpensBoth params ring card answer
+  OpensBoth-done r c made_ring made_card new alone is_ring is_card has_ring has_card done =
+      inl (r, c, has_ring ∙ ap (λ (o : Opened). Some o) is_ring, has_card ∙ ap (λ (o : Opened). Some o) is_card, new, alone, done)
+
+  -- and a ring that captures, with its card
+  pub OpensDuplexBoth-done : (r : OpenRing) (c : DuplexCard) (made_ring made_card : Opened) → IsNewDuplex params r c
+      → made_ring ≡ Ring r → made_card ≡ Duplex c → ring ≡ Some made_ring → card ≡ Some made_card → answer ≡ pos 0 → OpensDuplexBoth params ring card answer
+  OpensDuplexBoth-done r c made_ring made_card new is_ring is_card has_ring has_card done =
+      inl (r, c, has_ring ∙ ap (λ (o : Opened). Some o) is_ring, has_card ∙ ap (λ (o : Opened). Some o) is_card, new, done)

@@ -1,0 +1,104 @@
+-- A call of a client at its seat, from what the client's own call says.
+use Rattle.std.proofs.Common.{◌≡◌, ℕ, refl, sym, ◌∙◌, ap, subst}
+use Rattle.std.specs.Prelude.{false, Result, Ok, Err, Option, Some, None}
+use Rattle.std.proofs.lemmas.Bool.{false≢true}
+use Rattle.snd_base.specs.declared.errors.PcmError.{PcmError}
+use Rattle.mix_core.specs.declared.gate.NeverStops.{NeverStops}
+use Rattle.mix_core.specs.Port.{PortView}
+use Rattle.sum_table.specs.declared.seats.mix.MixSeat.{MixSeat}
+use Rattle.sum_table.specs.Seats.{seat_view}
+use Rattle.course.specs.AtPort.{LaysAt, LoadsAt, NoGet, TakesAt}
+use Rattle.course.specs.Course.{Course, ends}
+use Rattle.course.specs.CourseLaws.{Takes-map}
+use Rattle.pcm_states.specs.declared.calls.Call.{Call}
+use Rattle.pcm_stream.specs.declared.direction.Direction.TheVariants.{Playback}
+use Rattle.pcm_stream.specs.Status.{is_moving, refusal_of}
+use Rattle.dmix_client.specs.declared.stream.Identity.{Identity}
+use Rattle.dmix_client.specs.declared.stream.PlaybackStream.{PlaybackStream}
+use Rattle.dmix_client.specs.Calls.{Answered}
+use Rattle.dmix_client.specs.Course.{admitted_by, if_admitted}
+use Rattle.dmix_client.specs.Port.{CanUse}
+use Rattle.dmix_client.specs.View.{ClientView}
+use Rattle.dmix_c.specs.declared.client_calls.ClientCall.{ClientCall}
+use Rattle.dmix_c.specs.Answers.{done_of}
+use Rattle.dmix_c.specs.Backed.{StaysBacked}
+use Rattle.dmix_c.specs.SeatPort.{TakesAt-goes, no_gate, seat_port}
+use Rattle.dmix_c.specs.ClientCalls.{HasMade, call_course, done_course, ring_after}
+
+-- a course that gives nothing, with its answer
+pub done-taken : (s t : MixSeat × NeverStops) (m : Course (Answered (Unit {0}))) (d : PlaybackStream) (result : Result (Unit {0}) PcmError) (made : Result ℕ PcmError)
+    → TakesAt seat_port no_gate s m t (d, result) → made ≡ done_of result → TakesAt seat_port no_gate s (done_course m) t (d, made)
+done-taken s t m d result made takes is =
+    Takes-map (LoadsAt seat_port no_gate) (LaysAt seat_port no_gate) NoGet s t m (λ (done : Answered (Unit {0})). (done.0, done_of done.1)) (d, result) (d, made) takes
+    (ap (λ (a : Result ℕ PcmError). (d, a)) (sym is))
+
+-- a call without steps, unless it is refused
+admitted-taken : (s : MixSeat × NeverStops) (c d : PlaybackStream) (what : Call) (end : Answered (Unit {0})) (result : Result (Unit {0}) PcmError)
+    → ((e : PcmError) → refusal_of Playback c.status what ≡ Some e → (result ≡ Err e) × (d ≡ c))
+    → (refusal_of Playback c.status what ≡ None → (result ≡ end.1) × (d ≡ end.0))
+    → TakesAt seat_port no_gate s (if_admitted c what (ends end)) s (d, result)
+admitted-taken s c d what end result refused goes = by_refusal (refusal_of Playback c.status what) refl
+  where
+    by_refusal : (refusal : Option PcmError) → refusal_of Playback c.status what ≡ refusal → TakesAt seat_port no_gate s (admitted_by refusal c (ends end)) s (d, result)
+    by_refusal None is = let r = goes is in record { there = refl; result = λ i. (r.1 i, r.0 i) }
+    by_refusal (Some e) is = let r = refused e is in record { there = refl; result = λ i. (r.1 i, r.0 i) }
+
+-- a client that moves no frames can use the seat that it had
+pub CanUse-resting : (c d : PlaybackStream) (v : PortView) → d.identity ≡ c.identity → is_moving d.status.state ≡ false → CanUse c v → CanUse d v
+CanUse-resting c d v same rests usable = record {
+  same_geometry = usable.same_geometry ∙ ap (λ (i : Identity). i.geometry) (sym same);
+  same_member = usable.same_member ∙ ap (λ (i : Identity). i.member) (sym same);
+  can = usable.can;
+  behind = λ moves going. absurd (false≢true (sym rests ∙ moves));
+  newer = λ moves going. absurd (false≢true (sym rests ∙ moves));
+}
+
+-- a call by its course
+pub made-by : (asked : ClientCall) (s t : MixSeat) (g h : NeverStops) (c d : ClientView) (made : Result ℕ PcmError)
+    → TakesAt seat_port no_gate (s, g) (call_course asked c (seat_view s).marks) (t, h) (d.stream, made)
+    → d.ring ≡ ring_after asked made c.ring → CanUse d.stream (seat_view t) → StaysBacked s c t d → HasMade asked s c t d made
+made-by asked s t g h c d made takes ring usable stays = record {
+  before = g;
+  after = h;
+  takes = takes;
+  ring = ring;
+  usable = usable;
+  goes = TakesAt-goes (s, g) (t, h) (call_course asked c (seat_view s).marks) (d.stream, made) takes;
+  stays = stays;
+}
+
+StaysBacked-same : (s : MixSeat) (c : ClientView) → StaysBacked s c s c
+StaysBacked-same s c = record { configured = λ has. has; backed = λ has samples is. is }
+
+-- a call without steps, which leaves the client as `end`
+pub made-plain : (asked : ClientCall) (what : Call) (s : MixSeat) (g : NeverStops) (c d end : ClientView) (result : Result (Unit {0}) PcmError) (made : Result ℕ PcmError)
+    → call_course asked c (seat_view s).marks ≡ done_course (if_admitted c.stream what (ends (end.stream, Ok tt)))
+    → end.ring ≡ ring_after asked (Ok 0) c.ring → ((e : PcmError) → c.ring ≡ ring_after asked (Err e) c.ring)
+    → end.stream.identity ≡ c.stream.identity → is_moving end.stream.status.state ≡ false → CanUse c.stream (seat_view s)
+    → (refusal_of Playback c.stream.status what ≡ None → StaysBacked s c s end)
+    → ((e : PcmError) → refusal_of Playback c.stream.status what ≡ Some e → (result ≡ Err e) × (d ≡ c))
+    → (refusal_of Playback c.stream.status what ≡ None → (result ≡ Ok tt) × (d ≡ end))
+    → made ≡ done_of result → HasMade asked s c s d made
+made-plain asked what s g c d end result made course_is ring_ok ring_err same rests usable stays refused goes is = by_refusal (refusal_of Playback c.stream.status what) refl
+  where
+    takes : TakesAt seat_port no_gate (s, g) (call_course asked c (seat_view s).marks) (s, g) (d.stream, made)
+    takes = subst (λ (m : Course (Answered ℕ)). TakesAt seat_port no_gate (s, g) m (s, g) (d.stream, made)) (sym course_is)
+        (done-taken (s, g) (s, g) (if_admitted c.stream what (ends (end.stream, Ok tt))) d.stream result made
+        (admitted-taken (s, g) c.stream d.stream what (end.stream, Ok tt) result
+        (λ e found. let r = refused e found in (r.0, ap (λ (v : ClientView). v.stream) r.1))
+        (λ found. let r = goes found in (r.0, ap (λ (v : ClientView). v.stream) r.1)))
+        is)
+
+    by_refusal : (refusal : Option PcmError) → refusal_of Playback c.stream.status what ≡ refusal → HasMade asked s c s d made
+    by_refusal None found =
+        let r = goes found in
+        made-by asked s s g g c d made takes
+        (ap (λ (v : ClientView). v.ring) r.1 ∙ (ring_ok ∙ ap (λ (a : Result ℕ PcmError). ring_after asked a c.ring) (sym (is ∙ ap done_of r.0))))
+        (subst (λ (v : ClientView). CanUse v.stream (seat_view s)) (sym r.1) (CanUse-resting c.stream end.stream (seat_view s) same rests usable))
+        (subst (λ (v : ClientView). StaysBacked s c s v) (sym r.1) (stays found))
+    by_refusal (Some e) found =
+        let r = refused e found in
+        made-by asked s s g g c d made takes
+        (ap (λ (v : ClientView). v.ring) r.1 ∙ (ring_err e ∙ ap (λ (a : Result ℕ PcmError). ring_after asked a c.ring) (sym (is ∙ ap done_of r.0))))
+        (subst (λ (v : ClientView). CanUse v.stream (seat_view s)) (sym r.1) usable)
+        (subst (λ (v : ClientView). StaysBacked s c s v) (sym r.1) (StaysBacked-same s c))

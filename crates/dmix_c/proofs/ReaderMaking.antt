@@ -1,0 +1,77 @@
+-- A call of a reader at its seat, from what the reader's own call says.
+use Rattle.std.proofs.Common.{◌≡◌, ◌≤◌, ℕ, refl, sym, ◌∙◌, ap, subst}
+use Rattle.std.specs.Prelude.{Result, Ok, Err, Option, Some, None, unwrap_or}
+use Rattle.snd_base.specs.declared.errors.PcmError.{PcmError}
+use Rattle.mix_core.specs.declared.gate.NeverStops.{NeverStops}
+use Rattle.snoop_core.specs.Port.{SnoopView}
+use Rattle.snoop_table.specs.declared.seats.reader.ReaderSeat.{ReaderSeat}
+use Rattle.snoop_table.specs.Readers.{seat_view}
+use Rattle.course.specs.AtSnoopPort.{GetsAtSnoop, LoadsAtSnoop, NoLay, TakesAtSnoop}
+use Rattle.course.specs.Course.{Course, ends}
+use Rattle.course.specs.CourseLaws.{Takes-map}
+use Rattle.pcm_states.specs.declared.calls.Call.{Call}
+use Rattle.pcm_stream.specs.declared.direction.Direction.TheVariants.{Capture}
+use Rattle.pcm_stream.specs.Status.{refusal_of}
+use Rattle.dsnoop_client.specs.declared.stream.CaptureStream.{CaptureStream}
+use Rattle.dsnoop_client.specs.Calls.{Answered}
+use Rattle.dsnoop_client.specs.Course.{admitted_by, if_admitted}
+use Rattle.dsnoop_client.specs.View.{CanUse}
+use Rattle.dmix_c.specs.declared.reader_calls.ReaderCall.{ReaderCall}
+use Rattle.dmix_c.specs.Answers.{done_of}
+use Rattle.dmix_c.specs.ReaderCalls.{ReaderHasMade, reader_course, reader_done}
+use Rattle.dmix_c.specs.ReaderPort.{TakesAtSnoop-goes, reader_port}
+use Rattle.dmix_c.specs.SeatPort.{no_gate}
+
+-- a course that gives nothing, with its answer
+pub reader_done-taken : (s t : ReaderSeat × NeverStops) (m : Course (Answered (Unit {0}))) (d : CaptureStream) (result : Result (Unit {0}) PcmError) (made : Result ℕ PcmError)
+    → TakesAtSnoop reader_port no_gate s m t (d, result) → made ≡ done_of result → TakesAtSnoop reader_port no_gate s (reader_done m) t (d, made)
+reader_done-taken s t m d result made takes is =
+    Takes-map (LoadsAtSnoop reader_port no_gate) NoLay (GetsAtSnoop reader_port no_gate) s t m (λ (done : Answered (Unit {0})). (done.0, done_of done.1)) (d, result) (d, made) takes
+    (ap (λ (a : Result ℕ PcmError). (d, a)) (sym is))
+
+-- a call without steps, unless it is refused
+admitted-taken : (s : ReaderSeat × NeverStops) (c d : CaptureStream) (what : Call) (end : Answered (Unit {0})) (result : Result (Unit {0}) PcmError)
+    → ((e : PcmError) → refusal_of Capture c.status what ≡ Some e → (result ≡ Err e) × (d ≡ c))
+    → (refusal_of Capture c.status what ≡ None → (result ≡ end.1) × (d ≡ end.0))
+    → TakesAtSnoop reader_port no_gate s (if_admitted c what (ends end)) s (d, result)
+admitted-taken s c d what end result refused goes = by_refusal (refusal_of Capture c.status what) refl
+  where
+    by_refusal : (refusal : Option PcmError) → refusal_of Capture c.status what ≡ refusal → TakesAtSnoop reader_port no_gate s (admitted_by refusal c (ends end)) s (d, result)
+    by_refusal None is = let r = goes is in record { there = refl; result = λ i. (r.1 i, r.0 i) }
+    by_refusal (Some e) is = let r = refused e is in record { there = refl; result = λ i. (r.1 i, r.0 i) }
+
+-- a reader that saw what it had seen can use the seat that it had
+pub CanUse-seen : (c d : CaptureStream) (v : SnoopView) → d.geometry ≡ c.geometry → d.seen ≡ c.seen → CanUse c v → CanUse d v
+CanUse-seen c d v same saw usable = record {
+  same_geometry = usable.same_geometry ∙ sym same;
+  newer = subst (λ (o : Option ℕ). unwrap_or o 0 ≤ v.seen) (sym saw) usable.newer;
+}
+
+-- a call by its course
+pub reader-made-by : (asked : ReaderCall) (s t : ReaderSeat) (g h : NeverStops) (c d : CaptureStream) (made : Result ℕ PcmError)
+    → TakesAtSnoop reader_port no_gate (s, g) (reader_course asked c) (t, h) (d, made) → CanUse d (seat_view t) → ReaderHasMade asked s c t d made
+reader-made-by asked s t g h c d made takes usable = record {
+  before = g;
+  after = h;
+  takes = takes;
+  usable = usable;
+  goes = TakesAtSnoop-goes (s, g) (t, h) (reader_course asked c) (d, made) takes;
+}
+
+-- a call without steps, which leaves the reader as `end`
+pub reader-made-plain : (asked : ReaderCall) (what : Call) (s : ReaderSeat) (g : NeverStops) (c d end : CaptureStream) (result : Result (Unit {0}) PcmError) (made : Result ℕ PcmError)
+    → reader_course asked c ≡ reader_done (if_admitted c what (ends (end, Ok tt)))
+    → end.geometry ≡ c.geometry → end.seen ≡ c.seen → CanUse c (seat_view s)
+    → ((e : PcmError) → refusal_of Capture c.status what ≡ Some e → (result ≡ Err e) × (d ≡ c))
+    → (refusal_of Capture c.status what ≡ None → (result ≡ Ok tt) × (d ≡ end))
+    → made ≡ done_of result → ReaderHasMade asked s c s d made
+reader-made-plain asked what s g c d end result made course_is same saw usable refused goes is =
+    reader-made-by asked s s g g c d made takes (by_refusal (refusal_of Capture c.status what) refl)
+  where
+    takes : TakesAtSnoop reader_port no_gate (s, g) (reader_course asked c) (s, g) (d, made)
+    takes = subst (λ (m : Course (Answered ℕ)). TakesAtSnoop reader_port no_gate (s, g) m (s, g) (d, made)) (sym course_is)
+        (reader_done-taken (s, g) (s, g) (if_admitted c what (ends (end, Ok tt))) d result made (admitted-taken (s, g) c d what (end, Ok tt) result refused goes) is)
+
+    by_refusal : (refusal : Option PcmError) → refusal_of Capture c.status what ≡ refusal → CanUse d (seat_view s)
+    by_refusal None found = subst (λ (v : CaptureStream). CanUse v (seat_view s)) (sym (goes found).1) (CanUse-seen c end (seat_view s) same saw usable)
+    by_refusal (Some e) found = subst (λ (v : CaptureStream). CanUse v (seat_view s)) (sym (refused e found).1) usable

@@ -1,0 +1,37 @@
+-- A client that can be written to has no part of a frame, and has written all that it placed.
+use Rattle.std.proofs.Common.{◌≡◌, ◌≤◌, List, ap, arith, inl, inr, refl}
+use Rattle.std.specs.Prelude.{◌⊎◌, Bool, true, false, ℤ, None}
+use Rattle.pcm_states.specs.declared.calls.Call.TheVariants.{Transfer}
+use Rattle.pcm_states.specs.declared.states.State.{State}
+use Rattle.pcm_states.specs.declared.states.State.TheVariants.{Disconnected, Draining, Open, Paused, Prepared, Running, Setup, Suspended, Xrun}
+use Rattle.pcm_stream.specs.declared.direction.Direction.TheVariants.{Playback}
+use Rattle.pcm_stream.specs.Status.{is_moving, refusal_of}
+use Rattle.dmix_client.specs.declared.stream.PlaybackStream.{PlaybackStream}
+use Rattle.dmix_client.specs.View.{IsSoundClient}
+
+-- the states in which frames are written
+abbrev IsWritable : Bool → State → Type 0
+IsWritable stopped s = (stopped ≡ false) × ((s ≡ Prepared) ⊎ (s ≡ Running))
+
+writable : (stopped : Bool) (s : State) → refusal_of Playback (record { state = s; stopped = stopped }) Transfer ≡ None → IsWritable stopped s
+writable true s is = absurd (cc)
+writable false Prepared is = (refl, inl refl)
+writable false Running is = (refl, inr refl)
+writable false Open is = absurd (cc)
+writable false Setup is = absurd (cc)
+writable false Xrun is = absurd (cc)
+writable false Draining is = absurd (cc)
+writable false Paused is = absurd (cc)
+writable false Suspended is = absurd (cc)
+writable false Disconnected is = absurd (cc)
+
+settled-by : (c : PlaybackStream) (ring : List ℤ) → IsSoundClient c ring → c.status.stopped ≡ false → (c.status.state ≡ Prepared) ⊎ (c.status.state ≡ Running)
+    → (c.stretch.part ≡ 0) × (c.stretch.committed ≤ c.stretch.written)
+settled-by c ring sound going (inl waits) = let waiting = sound.prepared waits in (waiting.no_part, omega (arith, waiting.no_frame))
+settled-by c ring sound going (inr runs) = let moving = sound.moving (ap is_moving runs) going in (moving.whole, moving.laid_most)
+
+pub settled : (c : PlaybackStream) (ring : List ℤ) → IsSoundClient c ring → refusal_of Playback c.status Transfer ≡ None
+    → (c.stretch.part ≡ 0) × (c.stretch.committed ≤ c.stretch.written)
+settled c ring sound admitted =
+    let is : IsWritable c.status.stopped c.status.state = writable c.status.stopped c.status.state admitted in
+    settled-by c ring sound is.0 is.1

@@ -1,0 +1,13 @@
+use Rattle.std.proofs.Common.{to_z-of_z, w64}
+use Rattle.dmix_c.proofs.Handed.{handed}
+use Rattle.std.specs.Prelude.{⊤}
+use Rattle.dmix_c.specs.Handles.{OnEitherCard}
+use Rattle.dmix_c.specs.Cards.{IsUnplugged}
+use Rattle.dmix_c.specs.Duplex.{IsDuplexUnplugged}
+use Rattle.dmix_c.proofs.calls.card.dmix_c_card_unplug.Goals as goal
+
+-- what was taken from the handle was called, and put back
+pub returns : goal.returns
+returns c =
+    handed (OnEitherCard ⊤ IsUnplugged IsDuplexUnplugged) _ _ _ _ _ c.unplug_card-answer.result _ c.in-Some.ensures.value c.deref_mut.ensures.value c.put.ensures
+    (to_z-of_z {w = w64} {z = c.unplug_card-answer.result} (record { sfits = c.unplug_card-answer.type_inv })) c.unplug_card-answer.ensures

@@ -1,0 +1,13 @@
+use Rattle.std.proofs.Common.{◌≡◌, to_z-of_z, w64}
+use Rattle.dmix_c.proofs.Handed.{handed}
+use Rattle.dmix_c.specs.Handles.{OnClient}
+use Rattle.dmix_c.specs.Clients.{HasStatus}
+use Rattle.dmix_c.proofs.calls.client.params.dmix_c_status.Goals as goal
+
+-- what was taken from the handle was called, and put back
+pub returns : goal.returns
+returns c =
+    let old = c.args.status.now in
+    let new = c.tell_status-answer.new.status in
+    handed (OnClient (new ≡ old) (HasStatus new)) _ _ _ _ _ c.tell_status-answer.result _ c.in-Some.ensures.value c.deref_mut.ensures.value c.put.ensures
+    (to_z-of_z {w = w64} {z = c.tell_status-answer.result} (record { sfits = c.tell_status-answer.type_inv })) c.tell_status-answer.ensures

@@ -1,0 +1,18 @@
+use Rattle.std.proofs.Common.{ℤ, subst, sym, to_z-of_z, w64}
+use Rattle.dmix_c.specs.Handles.{OpensBoth}
+use Rattle.dmix_c.specs.Stands.{stands_for}
+use Rattle.dmix_c.proofs.HandleLaws.{OpensPair-done, some_or-closed}
+use Rattle.dmix_c.proofs.calls.ring.dmix_c_ring_open.Goals as goal
+
+-- both handles were closed
+pub returns : goal.returns
+returns c =
+    let params = c.args.params.now in
+    let ring = stands_for c.args.ring.now in
+    let card = stands_for c.args.card.now in
+    let made_ring = stands_for c.open_both.new.ring in
+    let made_card = stands_for c.open_both.new.card in
+    OpensPair-done (OpensBoth params) params ring card made_ring made_card _
+    (some_or-closed ring card c.is_open.result c.is_open-else-is_open.result c.is_open.ensures c.is_open-else-is_open.ensures c.if-is_open.false c.if-is_open-2.false)
+    (c.can_open.ensures.0 c.if-not-can_open.false)
+    (subst (λ (z : ℤ). OpensBoth params made_ring made_card z) (sym (to_z-of_z {w = w64} {z = c.open_both.result} (record { sfits = c.open_both.type_inv }))) c.open_both.ensures)

@@ -1,0 +1,34 @@
+use Rattle.std.proofs.Common.{◌≡◌, refl, subst}
+use Rattle.std.specs.Prelude.{OnOk}
+use Rattle.pcm_stream.specs.Setup.{Checks}
+use Rattle.sw_limits.specs.declared.params.SwParams.{SwParams}
+use Rattle.sum_table.specs.Seats.{seat_view}
+use Rattle.dmix_c.proofs.Thresholds.{CanUse-given, backed-given, given}
+use Rattle.dmix_c.proofs.Unstopped.{given-unstopped}
+use Rattle.dmix_c.proofs.playback.Playback.sw_params.Goals as goal
+
+pub returns : goal.returns
+returns c =
+    let ensures = c.sw_params.ensures in
+    record {
+      refused = λ e some. (ensures.refused e some).0;
+      checked = λ admitted.
+          let found = ensures.checked admitted in
+          (found.0, found.1, subst (λ (x : SwParams). Checks c.sw_params.result x found.0) c.thresholds.ensures found.2);
+      done = subst (λ (x : SwParams). OnOk c.sw_params.result (c.sw_params.new.self ≡ given c.args.self.now.client x)) c.thresholds.ensures ensures.ok;
+      kept = ensures.err;
+      seat = refl;
+      rate = refl;
+    }
+
+pub invariant_of-self : goal.invariant_of-self
+invariant_of-self c =
+    let p = c.args.self.now in
+    let ensures = c.sw_params.ensures in
+    record {
+      unstopped = given-unstopped p.client c.sw_params.new.self c.thresholds.result c.sw_params.result ensures.ok ensures.err p.unstopped;
+      usable = CanUse-given p.client c.sw_params.new.self c.thresholds.result (seat_view p.seat) c.sw_params.result ensures.ok ensures.err p.usable;
+      backed = backed-given p.seat p.client c.sw_params.new.self c.thresholds.result c.sw_params.result ensures.ok ensures.err p.backed;
+      own_way = p.own_way;
+      has_room = p.has_room;
+    }

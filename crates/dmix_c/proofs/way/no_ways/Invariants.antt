@@ -1,0 +1,6 @@
+use Rattle.std.proofs.Common.{◌≡◌, length}
+use Rattle.dmix_c.specs.Ways.{AreNone}
+use Rattle.dmix_c.proofs.way.no_ways.Given as goal
+
+abbrev pub invariant-loop-place : goal.invariant-loop-place
+invariant-loop-place l = record { none : AreNone l.ways.items; count : length l.ways.items ≡ l._place }

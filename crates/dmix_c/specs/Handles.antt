@@ -1,0 +1,160 @@
+-- What a call by a handle does to what the handle stands for, and what it answers.
+use Rattle.std.specs.Prelude.{◌≡◌, ◌⊎◌, ◌||◌, Bool, true, false, ⊤, ℕ, ℤ, pos, Option, None, Some, IsSome}
+use Rattle.std.specs.Option.{is_some}
+use Rattle.snd_base.specs.declared.errors.PcmError.TheVariants.{Again, Invalid, Memory, NotSupported}
+use Rattle.snd_base.specs.declared.errors.Why.TheVariants as why
+use Rattle.sum_table.specs.Seats.{member_of}
+use Rattle.dmix_c.specs.declared.duplex_card.DuplexCard.{DuplexCard}
+use Rattle.dmix_c.specs.declared.open_ring.OpenRing.{OpenRing}
+use Rattle.dmix_c.specs.declared.opened.Kind.{Kind}
+use Rattle.dmix_c.specs.declared.opened.Kind.TheVariants as kind
+use Rattle.dmix_c.specs.declared.opened.Opened.{Opened}
+use Rattle.dmix_c.specs.declared.opened.Opened.TheVariants.{Card, Client, Duplex, Reader, Ring}
+use Rattle.dmix_c.specs.declared.params.RingParams.{RingParams}
+use Rattle.dmix_c.specs.declared.playback.Playback.{Playback}
+use Rattle.dmix_c.specs.declared.playing_card.PlayingCard.{PlayingCard}
+use Rattle.dmix_c.specs.declared.recording.Recording.{Recording}
+use Rattle.dmix_c.specs.Answers.{bad_handle, error_number, handle_in_use}
+use Rattle.dmix_c.specs.Params.{CanOpen}
+use Rattle.dmix_c.specs.RingPlaces.{GivesNone, GivesPlace, GivesReader, IsNewDuplex, IsNewOpenRing, KeepsRing}
+
+-- what a handle stands for stays, the answer is -EBADF, and nothing else is done
+abbrev pub Refuses : Type 0 → Option Opened → Option Opened → ℤ → Type 0
+Refuses Idle before after answer = (after ≡ before) × (answer ≡ bad_handle) × Idle
+
+-- a call by a handle of a client: a handle that is closed, or stands for something else, is refused
+abbrev pub OnClient : Type 0 → (Playback → Playback → ℤ → Type 0) → Option Opened → Option Opened → ℤ → Type 0
+OnClient Idle Does None after answer = Refuses Idle None after answer
+OnClient Idle Does (Some (Client p)) after answer = (q : Playback) × (after ≡ Some (Client q)) × Does p q answer
+OnClient Idle Does (Some (Ring r)) after answer = Refuses Idle (Some (Ring r)) after answer
+OnClient Idle Does (Some (Reader p)) after answer = Refuses Idle (Some (Reader p)) after answer
+OnClient Idle Does (Some (Card c)) after answer = Refuses Idle (Some (Card c)) after answer
+OnClient Idle Does (Some (Duplex c)) after answer = Refuses Idle (Some (Duplex c)) after answer
+
+-- the same of a reader
+abbrev pub OnReader : Type 0 → (Recording → Recording → ℤ → Type 0) → Option Opened → Option Opened → ℤ → Type 0
+OnReader Idle Does None after answer = Refuses Idle None after answer
+OnReader Idle Does (Some (Reader p)) after answer = (q : Recording) × (after ≡ Some (Reader q)) × Does p q answer
+OnReader Idle Does (Some (Ring r)) after answer = Refuses Idle (Some (Ring r)) after answer
+OnReader Idle Does (Some (Client p)) after answer = Refuses Idle (Some (Client p)) after answer
+OnReader Idle Does (Some (Card c)) after answer = Refuses Idle (Some (Card c)) after answer
+OnReader Idle Does (Some (Duplex c)) after answer = Refuses Idle (Some (Duplex c)) after answer
+
+-- the same of a card that plays alone
+abbrev pub OnCard : Type 0 → (PlayingCard → PlayingCard → ℤ → Type 0) → Option Opened → Option Opened → ℤ → Type 0
+OnCard Idle Does None after answer = Refuses Idle None after answer
+OnCard Idle Does (Some (Card c)) after answer = (d : PlayingCard) × (after ≡ Some (Card d)) × Does c d answer
+OnCard Idle Does (Some (Ring r)) after answer = Refuses Idle (Some (Ring r)) after answer
+OnCard Idle Does (Some (Client p)) after answer = Refuses Idle (Some (Client p)) after answer
+OnCard Idle Does (Some (Reader p)) after answer = Refuses Idle (Some (Reader p)) after answer
+OnCard Idle Does (Some (Duplex c)) after answer = Refuses Idle (Some (Duplex c)) after answer
+
+-- the same of a card that captures and plays
+abbrev pub OnDuplex : Type 0 → (DuplexCard → DuplexCard → ℤ → Type 0) → Option Opened → Option Opened → ℤ → Type 0
+OnDuplex Idle Does None after answer = Refuses Idle None after answer
+OnDuplex Idle Does (Some (Duplex c)) after answer = (d : DuplexCard) × (after ≡ Some (Duplex d)) × Does c d answer
+OnDuplex Idle Does (Some (Ring r)) after answer = Refuses Idle (Some (Ring r)) after answer
+OnDuplex Idle Does (Some (Client p)) after answer = Refuses Idle (Some (Client p)) after answer
+OnDuplex Idle Does (Some (Reader p)) after answer = Refuses Idle (Some (Reader p)) after answer
+OnDuplex Idle Does (Some (Card c)) after answer = Refuses Idle (Some (Card c)) after answer
+
+-- the same of a card of either kind
+abbrev pub OnEitherCard : Type 0 → (PlayingCard → PlayingCard → ℤ → Type 0) → (DuplexCard → DuplexCard → ℤ → Type 0)
+    → Option Opened → Option Opened → ℤ → Type 0
+OnEitherCard Idle Does DoesDuplex None after answer = Refuses Idle None after answer
+OnEitherCard Idle Does DoesDuplex (Some (Card c)) after answer = (d : PlayingCard) × (after ≡ Some (Card d)) × Does c d answer
+OnEitherCard Idle Does DoesDuplex (Some (Duplex c)) after answer = (d : DuplexCard) × (after ≡ Some (Duplex d)) × DoesDuplex c d answer
+OnEitherCard Idle Does DoesDuplex (Some (Ring r)) after answer = Refuses Idle (Some (Ring r)) after answer
+OnEitherCard Idle Does DoesDuplex (Some (Client p)) after answer = Refuses Idle (Some (Client p)) after answer
+OnEitherCard Idle Does DoesDuplex (Some (Reader p)) after answer = Refuses Idle (Some (Reader p)) after answer
+
+-- of what kind it is that a handle stands for
+abbrev pub is_kind : Kind → Opened → Bool
+is_kind kind.Ring (Ring r) = true
+is_kind kind.Client (Client p) = true
+is_kind kind.Reader (Reader p) = true
+is_kind kind.Card (Card c) = true
+is_kind kind.Card (Duplex c) = true
+is_kind other opened = false
+
+-- a handle is closed, where it stands for something of a kind, and what it stood for ends
+abbrev pub Ends : Bool → Option Opened → Option Opened → ℤ → Type 0
+Ends true before after answer = (after ≡ None) × (answer ≡ pos 0)
+Ends false before after answer = Refuses ⊤ before after answer
+
+abbrev pub Closes : Kind → Option Opened → Option Opened → ℤ → Type 0
+Closes asked None after answer = Refuses ⊤ None after answer
+Closes asked (Some opened) after answer = Ends (is_kind asked opened) (Some opened) after answer
+
+-- no client was opened: no place is free and silent, or there is no memory. Without memory for the handle a place may have been given, whose
+-- seat comes back like a closed client's
+abbrev pub OpensNone : OpenRing → OpenRing → ℤ → Type 0
+OpensNone r t answer =
+    (KeepsRing None r t × GivesNone t × (answer ≡ error_number Again))
+    ⊎ ((given : Option ℕ) × KeepsRing given r t × (answer ≡ error_number Memory))
+
+-- a client was opened at a place of a ring, or none was
+abbrev pub OpensAt : OpenRing → OpenRing → Option Opened → ℤ → Type 0
+OpensAt r t client answer =
+    ((p : Playback) × (client ≡ Some (Client p)) × KeepsRing (Some (member_of p.seat)) r t × GivesPlace t p × (answer ≡ pos 0))
+    ⊎ ((client ≡ None) × OpensNone r t answer)
+
+-- a client is opened by two handles, its own and its ring's
+abbrev pub OpensBy : Option Opened → Option Opened → Option Opened → ℤ → Type 0
+OpensBy None client ring answer = (client ≡ None) × Refuses ⊤ None ring answer
+OpensBy (Some (Ring r)) client ring answer = (t : OpenRing) × (ring ≡ Some (Ring t)) × OpensAt r t client answer
+OpensBy (Some (Client p)) client ring answer = (client ≡ None) × Refuses ⊤ (Some (Client p)) ring answer
+OpensBy (Some (Reader p)) client ring answer = (client ≡ None) × Refuses ⊤ (Some (Reader p)) ring answer
+OpensBy (Some (Card c)) client ring answer = (client ≡ None) × Refuses ⊤ (Some (Card c)) ring answer
+OpensBy (Some (Duplex c)) client ring answer = (client ≡ None) × Refuses ⊤ (Some (Duplex c)) ring answer
+
+abbrev pub OpensClient : Option Opened → Option Opened → Option Opened → Option Opened → ℤ → Type 0
+OpensClient (Some opened) ring after ring_after answer = (after ≡ Some opened) × (ring_after ≡ ring) × (answer ≡ handle_in_use)
+OpensClient None ring after ring_after answer = OpensBy ring after ring_after answer
+
+-- a reader was opened at the capture ring of a ring, or there is no such ring, or no memory
+abbrev pub OpensReaderAt : OpenRing → Option Opened → ℤ → Type 0
+OpensReaderAt t reader answer =
+    ((p : Recording) × (reader ≡ Some (Reader p)) × GivesReader t p × (answer ≡ pos 0))
+    ⊎ ((reader ≡ None) × (((t.capture ≡ None) × (answer ≡ error_number NotSupported)) ⊎ (IsSome t.capture × (answer ≡ error_number Memory))))
+
+-- a reader is opened by two handles, its own and its ring's
+abbrev pub OpensReaderBy : Option Opened → Option Opened → Option Opened → ℤ → Type 0
+OpensReaderBy None reader ring answer = (reader ≡ None) × Refuses ⊤ None ring answer
+OpensReaderBy (Some (Ring r)) reader ring answer = (t : OpenRing) × (ring ≡ Some (Ring t)) × KeepsRing None r t × OpensReaderAt t reader answer
+OpensReaderBy (Some (Client p)) reader ring answer = (reader ≡ None) × Refuses ⊤ (Some (Client p)) ring answer
+OpensReaderBy (Some (Reader p)) reader ring answer = (reader ≡ None) × Refuses ⊤ (Some (Reader p)) ring answer
+OpensReaderBy (Some (Card c)) reader ring answer = (reader ≡ None) × Refuses ⊤ (Some (Card c)) ring answer
+OpensReaderBy (Some (Duplex c)) reader ring answer = (reader ≡ None) × Refuses ⊤ (Some (Duplex c)) ring answer
+
+abbrev pub OpensReader : Option Opened → Option Opened → Option Opened → Option Opened → ℤ → Type 0
+OpensReader (Some opened) ring after ring_after answer = (after ≡ Some opened) × (ring_after ≡ ring) × (answer ≡ handle_in_use)
+OpensReader None ring after ring_after answer = OpensReaderBy ring after ring_after answer
+
+-- a ring that captures nothing and its card were opened, or there is no memory
+abbrev pub OpensBoth : RingParams → Option Opened → Option Opened → ℤ → Type 0
+OpensBoth params ring card answer =
+    ((r : OpenRing) × (c : PlayingCard) × (ring ≡ Some (Ring r)) × (card ≡ Some (Card c))
+    × IsNewOpenRing params r c.player × (r.capture ≡ None) × (answer ≡ pos 0))
+    ⊎ ((ring ≡ None) × (card ≡ None) × (answer ≡ error_number Memory))
+
+-- a ring that captures and its card were opened, or there is no memory
+abbrev pub OpensDuplexBoth : RingParams → Option Opened → Option Opened → ℤ → Type 0
+OpensDuplexBoth params ring card answer =
+    ((r : OpenRing) × (c : DuplexCard) × (ring ≡ Some (Ring r)) × (card ≡ Some (Duplex c))
+    × IsNewDuplex params r c × (answer ≡ pos 0))
+    ⊎ ((ring ≡ None) × (card ≡ None) × (answer ≡ error_number Memory))
+
+-- a ring and its card are opened by two handles, in one of these two ways
+pub record OpensPair (Opens : Option Opened → Option Opened → ℤ → Type 0) (params : RingParams) (ring card ring_after card_after : Option Opened) (answer : ℤ) : Type 0 where
+  pub in_use : (is_some ring || is_some card) ≡ true
+      → (ring_after ≡ ring) × (card_after ≡ card) × (answer ≡ handle_in_use)
+  pub invalid : (is_some ring || is_some card) ≡ false → (CanOpen params → ⊥)
+      → (ring_after ≡ None) × (card_after ≡ None) × (answer ≡ error_number (Invalid why.Config))
+  pub opened : (is_some ring || is_some card) ≡ false → CanOpen params → Opens ring_after card_after answer
+
+abbrev pub OpensRing : RingParams → Option Opened → Option Opened → Option Opened → Option Opened → ℤ → Type 0
+OpensRing params ring card ring_after card_after answer = OpensPair (OpensBoth params) params ring card ring_after card_after answer
+
+abbrev pub OpensDuplex : RingParams → Option Opened → Option Opened → Option Opened → Option Opened → ℤ → Type 0
+OpensDuplex params ring card ring_after card_after answer = OpensPair (OpensDuplexBoth params) params ring card ring_after card_after answer

@@ -1,0 +1,8 @@
+//! The calls that C makes. `include/dmixlab.h` declares each of them, and has beside it a function that tests null
+//! pointers.
+mod card;
+mod client;
+mod closing;
+mod duplex;
+mod reader;
+mod ring;

@@ -1,0 +1,83 @@
+//! The calls of a card that plays alone, and those of every card.
+ghost use Rattle.std.specs.Prelude.{◌≡◌, Some, ⊤};
+ghost use Rattle.dmix_c.specs.Cards.{HasPlayed, IsUnplugged};
+ghost use Rattle.dmix_c.specs.Duplex.{IsDuplexUnplugged};
+ghost use Rattle.dmix_c.specs.Handles.{Closes, OnCard, OnEitherCard};
+ghost use Rattle.dmix_c.specs.Stands.{stands_for};
+ghost use Rattle.dmix_c.specs.declared.opened.Kind.TheVariants as kind;
+
+use super::closing::close;
+use crate::answers::{BAD_HANDLE, number_of};
+use crate::handle::Handle;
+use crate::opened::{Kind, Opened};
+use std::alloc::Global;
+
+/// Plays as many whole frames as there is room for, interleaved, and publishes the position at each period and at the end.
+///
+/// The number of frames; -EOVERFLOW exactly where the ring's end comes before, with the frames before it played; -EBADF
+/// where the handle isn't one of a card that plays alone, with the samples as they were.
+#[unsafe(no_mangle)]
+pub extern "C" fn dmix_c_card_play(alloc: Global, card: &mut Handle, out: &mut [i16]) -> i64
+    ensures { OnCard (out.new ≡ out.old) (HasPlayed out.old out.new) (stands_for card.old)
+        (stands_for card.new) result }
+{
+    let Some(mut opened) = card.take(alloc) else {
+        return BAD_HANDLE;
+    };
+    let answer = play_card(&mut opened, out);
+    card.put(opened);
+    answer
+}
+
+fn play_card(opened: &mut Opened, out: &mut [i16]) -> i64
+    ensures { OnCard (out.new ≡ out.old) (HasPlayed out.old out.new) (Some opened.old)
+        (Some opened.new) result }
+{
+    match opened {
+        Opened::Card(card) => number_of(card.play(out)),
+        _ => BAD_HANDLE,
+    }
+}
+
+/// Unplugs the card: from now on each client or reader that loads the position is DISCONNECTED, and answers -ENODEV.
+///
+/// 0; -EBADF where the handle isn't a card's.
+#[unsafe(no_mangle)]
+pub extern "C" fn dmix_c_card_unplug(alloc: Global, card: &mut Handle) -> i64
+    ensures { OnEitherCard ⊤ IsUnplugged IsDuplexUnplugged (stands_for card.old)
+        (stands_for card.new) result }
+{
+    let Some(mut opened) = card.take(alloc) else {
+        return BAD_HANDLE;
+    };
+    let answer = unplug_card(&mut opened);
+    card.put(opened);
+    answer
+}
+
+fn unplug_card(opened: &mut Opened) -> i64
+    ensures { OnEitherCard ⊤ IsUnplugged IsDuplexUnplugged (Some opened.old) (Some opened.new)
+        result }
+{
+    match opened {
+        Opened::Card(card) => {
+            card.unplug();
+            0
+        }
+        Opened::Duplex(card) => {
+            card.unplug();
+            0
+        }
+        _ => BAD_HANDLE,
+    }
+}
+
+/// Closes a card. Nobody takes frames of its ring any more, and none are captured.
+///
+/// 0, and the handle is closed; -EBADF where it isn't a card's.
+#[unsafe(no_mangle)]
+pub extern "C" fn dmix_c_card_free(alloc: Global, card: &mut Handle) -> i64
+    ensures { Closes kind.Card (stands_for card.old) (stands_for card.new) result }
+{
+    close(alloc, card, Kind::Card)
+}

@@ -1,0 +1,161 @@
+//! A reader is set up, and tells what it is.
+ghost use Rattle.std.specs.Prelude.{◌≡◌, Some, ⊤};
+ghost use Rattle.dmix_c.specs.Handles.{OnReader};
+ghost use Rattle.dmix_c.specs.Params.{first_channels};
+ghost use Rattle.dmix_c.specs.Readers.{ReaderHasHwParams, ReaderHasState, ReaderHasStatus, ReaderHasSwParams};
+ghost use Rattle.dmix_c.specs.Stands.{stands_for};
+
+use crate::answers::{BAD_HANDLE, done_of, number_of};
+use crate::handle::Handle;
+use crate::opened::Opened;
+use crate::params::{StreamHwParams, StreamStatus, StreamSwParams};
+use std::alloc::Global;
+
+/// Sets the hardware parameters (`snd_pcm_hw_params`), takes the memory of one frame, sets the default software parameters and
+/// prepares. Channel i of the reader is the card's channel i.
+///
+/// The answers are those of `dmix_c_reader_hw_params_bindings`.
+#[unsafe(no_mangle)]
+pub extern "C" fn dmix_c_reader_hw_params(
+    alloc: Global,
+    reader: &mut Handle,
+    params: &StreamHwParams,
+) -> i64
+    ensures { OnReader ⊤ (ReaderHasHwParams params.now (first_channels params.now.channels))
+        (stands_for reader.old) (stands_for reader.new) result }
+{
+    let all = [0u32, 1, 2, 3, 4, 5, 6, 7];
+    let count = params.channels.min(8) as usize;
+    set_hw_params(alloc, reader, params, &all[..count])
+}
+
+/// Sets the hardware parameters in the same way. Channel i of the reader is the card's channel `bindings[i]`.
+///
+/// 0; -EBADFD unless the state is OPEN, SETUP or PREPARED, -ENODEV in DISCONNECTED; -EINVAL exactly where the list of bindings
+/// has a defect, or the parameters aren't of as many channels, of the ring's rate, and of periods of at least one frame in a
+/// buffer of at most 16,384; -ENOMEM; -EBADF where the handle isn't a reader's. After an error the reader is as it was.
+#[unsafe(no_mangle)]
+pub extern "C" fn dmix_c_reader_hw_params_bindings(
+    alloc: Global,
+    reader: &mut Handle,
+    params: &StreamHwParams,
+    bindings: &[u32],
+) -> i64
+    ensures { OnReader ⊤ (ReaderHasHwParams params.now bindings.now) (stands_for reader.old)
+        (stands_for reader.new) result }
+{
+    set_hw_params(alloc, reader, params, bindings)
+}
+
+fn set_hw_params(alloc: Global, reader: &mut Handle, params: &StreamHwParams, list: &[u32]) -> i64
+    ensures { OnReader ⊤ (ReaderHasHwParams params.now list.now) (stands_for reader.old)
+        (stands_for reader.new) result }
+{
+    let Some(mut opened) = reader.take(alloc) else {
+        return BAD_HANDLE;
+    };
+    let answer = hw_params(alloc, &mut opened, params, list);
+    reader.put(opened);
+    answer
+}
+
+fn hw_params(alloc: Global, opened: &mut Opened, params: &StreamHwParams, list: &[u32]) -> i64
+    ensures { OnReader ⊤ (ReaderHasHwParams params.now list.now) (Some opened.old)
+        (Some opened.new) result }
+{
+    match opened {
+        Opened::Reader(recording) => number_of(recording.hw_params(alloc, params, list)),
+        _ => BAD_HANDLE,
+    }
+}
+
+/// Sets the software parameters (`snd_pcm_sw_params`).
+///
+/// 0; -EINVAL exactly where `avail_min` is 0, or a threshold isn't from 1 to the boundary of the buffer; -EBADFD in OPEN,
+/// -ENODEV in DISCONNECTED; -EBADF where the handle isn't a reader's. After an error the reader is as it was.
+#[unsafe(no_mangle)]
+pub extern "C" fn dmix_c_reader_sw_params(
+    alloc: Global,
+    reader: &mut Handle,
+    params: &StreamSwParams,
+) -> i64
+    ensures { OnReader ⊤ (ReaderHasSwParams params.now) (stands_for reader.old)
+        (stands_for reader.new) result }
+{
+    let Some(mut opened) = reader.take(alloc) else {
+        return BAD_HANDLE;
+    };
+    let answer = sw_params(&mut opened, params);
+    reader.put(opened);
+    answer
+}
+
+fn sw_params(opened: &mut Opened, params: &StreamSwParams) -> i64
+    ensures { OnReader ⊤ (ReaderHasSwParams params.now) (Some opened.old) (Some opened.new)
+        result }
+{
+    match opened {
+        Opened::Reader(recording) => number_of(done_of(recording.sw_params(params))),
+        _ => BAD_HANDLE,
+    }
+}
+
+/// The state, numbered as `snd_pcm_state_t` (`snd_pcm_state`).
+///
+/// -EBADF where the handle isn't a reader's.
+#[unsafe(no_mangle)]
+pub extern "C" fn dmix_c_reader_state(alloc: Global, reader: &mut Handle) -> i64
+    ensures { OnReader ⊤ ReaderHasState (stands_for reader.old) (stands_for reader.new) result }
+{
+    let Some(mut opened) = reader.take(alloc) else {
+        return BAD_HANDLE;
+    };
+    let answer = tell_state(&mut opened);
+    reader.put(opened);
+    answer
+}
+
+fn tell_state(opened: &mut Opened) -> i64
+    ensures { OnReader ⊤ ReaderHasState (Some opened.old) (Some opened.new) result }
+{
+    match opened {
+        Opened::Reader(recording) => recording.state().number() as i64,
+        _ => BAD_HANDLE,
+    }
+}
+
+/// Syncs as `dmix_c_reader_avail_update` does, by at most one load of the position, and tells what the reader is then
+/// (`snd_pcm_status`). What the sync finds shows in the state; both numbers of frames are 0 where it was refused or ended in an
+/// error.
+///
+/// 0; -EBADF where the handle isn't a reader's, with the status as it was.
+#[unsafe(no_mangle)]
+pub extern "C" fn dmix_c_reader_status(
+    alloc: Global,
+    reader: &mut Handle,
+    status: &mut StreamStatus,
+) -> i64
+    ensures { OnReader (status.new ≡ status.old) (ReaderHasStatus status.new)
+        (stands_for reader.old) (stands_for reader.new) result }
+{
+    let Some(mut opened) = reader.take(alloc) else {
+        return BAD_HANDLE;
+    };
+    let answer = tell_status(&mut opened, status);
+    reader.put(opened);
+    answer
+}
+
+fn tell_status(opened: &mut Opened, status: &mut StreamStatus) -> i64
+    ensures { OnReader (status.new ≡ status.old) (ReaderHasStatus status.new) (Some opened.old)
+        (Some opened.new) result }
+{
+    match opened {
+        Opened::Reader(recording) => {
+            let (told, _) = recording.status();
+            *status = told;
+            0
+        }
+        _ => BAD_HANDLE,
+    }
+}
