@@ -12,7 +12,7 @@ check() {
 for it in tools maintenance faults; do
   check python3 -m unittest discover -s "$it/tests" -p 'test_*.py'
 done
-for it in claims definitions library help refusals; do
+for it in claims definitions library help refusals header; do
   check "maintenance/check_$it.py"
 done
 exit $status
