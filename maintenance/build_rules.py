@@ -1,5 +1,6 @@
 #!/usr/bin/env python3
-"""build_rules.py: writes build/rules.mk, the rules by which `make` proves the crates that the program dmixlab uses, and builds it.
+"""build_rules.py: writes build/rules.mk, the rules by which `make` proves the crates that the program dmixlab uses, and builds it; and those
+by which `make library` builds the static library for C.
 
 Each crate has a rule. Its recipe is the kit's `rattle build --statements` in the crate's folder, over what the libraries below it state, and
 it makes a mark once the crate is proved. It has to be run anew where one of the crate's files is newer than its mark, where a crate below was
@@ -17,7 +18,7 @@ import command
 from crate_graph import PROVED_FILES, below, chains, files_in, read_lines, uses_of
 from machine import Kit, NoKit, say
 
-PROGRAM, NO_KIT = "dmixlab", 70
+PROGRAM, STATIC_LIBRARY, NO_KIT = "dmixlab", "dmix_c", 70
 # rt refuses files of crates anywhere but in the crates, and in their folders out/rlib, which no commit has
 LIBRARIES = f"crates/{PROGRAM}/out/rlib"
 HEAD = f"""# Made by maintenance/build_rules.py.
@@ -47,14 +48,17 @@ def words_for(kit, lines, name):
     """The words of the prover for a crate, in the crate's folder: `rattle build --help` explains them."""
     libraries = f"../../{LIBRARIES}"
     used = [f"{it}={libraries if it in lines else kit.at + '/rlibs'}/{it}.rlib" for it in lines[name]]
-    is_program = name == PROGRAM
-    how = ["--toolchain", f"{kit.at}/toolchain", "--backend", "llvm"] if is_program else ["--statements"]
+    source, how, made = "lib", ["--statements"], "rlib"
+    if name == PROGRAM:
+        source, how, made = "main", ["--toolchain", f"{kit.at}/toolchain", "--backend", "llvm"], "o"
+    elif name == STATIC_LIBRARY:
+        how, made = ["--crate-type", "staticlib", "--toolchain", f"{kit.at}/toolchain"], "a"
     return [
-        *(f"{kit.at}/bin/rattle", "build", "--crate-name", name, f"src/{'main' if is_program else 'lib'}.rt"),
+        *(f"{kit.at}/bin/rattle", "build", "--crate-name", name, f"src/{source}.rt"),
         *(word for it in [f"std={kit.at}/rlibs/std.rlib", *used] for word in ("--extern", it)),
         *("-L", f"dependency={kit.at}/rlibs", "-L", f"dependency={libraries}"),
         *("--antt-project", f"{kit.at}/rattle/logic/antt-project.json", "--logic-built", f"{kit.at}/logic_built", "--links", f"{name}="),
-        *(*how, "-o", f"{libraries}/{name}.{'o' if is_program else 'rlib'}"),
+        *(*how, "-o", f"{libraries}/{name}.{made}"),
     ]
 
 
@@ -82,12 +86,18 @@ def rules(root, kit):
     lines = read_lines(root)
     uses = uses_of(lines)
     wanted = [PROGRAM, *below(uses, PROGRAM)]
-    length = chains(root, uses, wanted)
-    order = sorted(wanted, key=lambda it: (-length[it], it))
+    of_library = [STATIC_LIBRARY, *below(uses, STATIC_LIBRARY)] if STATIC_LIBRARY in lines else []
+    # how long the program's chains are doesn't go by the library
+    length = {**chains(root, uses, of_library), **chains(root, uses, wanted)}
+    every = sorted(length, key=lambda it: (-length[it], it))
+    order = [it for it in every if it in wanted]
     marks = " ".join(f"{LIBRARIES}/{it}.proved" for it in order)
     link = " ".join(link_words(kit))
     text = HEAD.replace(f": {LIBRARIES}/{PROGRAM}.proved", f": {marks}") + f"\t@{link}\n"
-    return text + "".join(rule_of(root, kit, lines, it, order, length[it]) for it in order), order
+    if of_library:
+        made = f"{LIBRARIES}/{STATIC_LIBRARY}"
+        text += f"\nbuild/lib{STATIC_LIBRARY}.a: {made}.proved\n\t@cp {made}.a $@\n"
+    return text + "".join(rule_of(root, kit, lines, it, every, length[it]) for it in every), order
 
 
 def main():

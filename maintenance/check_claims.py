@@ -28,10 +28,12 @@ sys.path.insert(0, f"{ROOT}/tools")
 import command
 
 OWNER = re.compile(r"^(?:pub )?(?:impl|trait)\b")
-FUNCTION = re.compile(r"^(\s*)(?:pub(?:\([^)]*\))? )?(?:const )?fn (\w+)")
+FUNCTION = re.compile(r'^(\s*)(?:pub(?:\([^)]*\))? )?(?:const )?(?:extern "C" )?fn (\w+)')
 CONTRACT = re.compile(r"^\s*(?:requires|ensures)\*? ")
 CLAUSE = re.compile(r"^\s*ensures\*?(?: (\w+))? \{")
 PUBLIC = re.compile(r"^\s*pub (?:const )?fn ")
+# what a static library exports, from whichever file
+FOR_C = re.compile(r'^pub extern "C" fn ')
 CHANGED = re.compile(r"&(?:'\w+ )?mut ")
 EXPORT = re.compile(r"^pub use [\w:]+::(\{[^}]*\}|\w+);", re.M)
 
@@ -99,7 +101,7 @@ def changing_calls(lines, exports):
     """The public calls of a file with a clause that take a value by `&mut`."""
     for owner, name, number, indent in functions_of(lines):
         takes = head_of(lines, number).split("->")[0]
-        is_public = PUBLIC.match(lines[number]) and (owner or name) in exports
+        is_public = FOR_C.match(lines[number]) or PUBLIC.match(lines[number]) and (owner or name) in exports
         if is_public and CHANGED.search(takes) and clauses_of(lines, number, indent):
             yield f"{owner}::{name}" if owner else name
 

@@ -135,7 +135,7 @@ def public_clauses(text, exports):
     lines = text.split("\n")
     for owner, name, number, indent in check_claims.functions_of(lines):
         is_public = lines[number].lstrip().startswith("pub fn") or (owner and "trait " + owner in text)
-        if is_public and (owner or name) in exports:
+        if is_public and (owner or name) in exports or check_claims.FOR_C.match(lines[number]):
             yield name, clauses_of(lines, number, indent)
 
 

@@ -20,6 +20,7 @@ middle backend=rattle: low
 top: middle low wide
 dmixlab: top
 beside: top
+dmix_c staticlib: middle low
 """
 
 # it says which kit this is; the prover notes its words and makes what -o names, and the crate that FAILS names isn't proved
@@ -49,7 +50,7 @@ class BuildRules(unittest.TestCase):
         self.room = tempfile.TemporaryDirectory()
         self.addCleanup(self.room.cleanup)
         self.at = os.path.realpath(self.room.name)
-        for name in ("low", "wide", "middle", "top", "beside"):
+        for name in ("low", "wide", "middle", "top", "beside", "dmix_c"):
             self.write(f"repo/crates/{name}/src/lib.rt", "fn f() {}\n")
         self.write("repo/crates/dmixlab/src/main.rt", "fn main() {}\n")
         self.write("repo/crates.txt", CRATES)
@@ -107,6 +108,15 @@ class BuildRules(unittest.TestCase):
         self.assertIn(f"src/lib.rt --extern std={kit}/rlibs/std.rlib --extern low={libraries}/low.rlib -L", calls["middle"])
         self.assertRegex(calls["middle"], f"--statements -o {libraries}/middle.rlib --jobs [0-9]$")
         self.assertIn("--backend llvm", calls["dmixlab"])
+
+    def test_the_static_library_is_built_over_what_the_program_uses_too(self):
+        ran, calls = self.run_it("library")
+        self.assertEqual((ran.returncode, list(calls), self.read("repo/build/libdmix_c.a")), (0, ["low", "middle", "dmix_c"], "dmix_c\n"))
+        self.assertIn(f"--crate-type staticlib --toolchain {self.at}/kit/toolchain -o ", calls["dmix_c"])
+        self.assertEqual(ran.out.splitlines()[-2:], ["[3/3] proving dmix_c", f"{self.at}/repo/build/libdmix_c.a is proved and built"])
+        self.assertFalse(os.path.exists(f"{self.at}/repo/build/built"))
+        self.assertEqual(sorted(self.run_it()[1]), ["dmixlab", "top", "wide"])
+        self.assertEqual(list(self.run_it("library")[1]), [])
 
     def test_a_proof_has_the_lanes_that_no_other_one_has_and_two_on_the_longest_chain(self):
         repo = f"{self.at}/repo"

@@ -120,15 +120,28 @@ pub fn inner(ring: &mut Ring)
     ensures { ring.new ≡ [] }
 {
 }
+
+#[unsafe(no_mangle)]
+pub extern "C" fn ring_free(
+    alloc: Global,
+    ring: &mut Handle,
+) -> i64
+    ensures { Closes ring.old ring.new result }
+{
+    0
+}
 """.split("\n")
 
 
 class Calls(unittest.TestCase):
     def test_a_public_call_changes_a_value_that_it_takes_by_a_mutable_reference(self):
-        self.assertEqual(list(check_claims.changing_calls(CALLS, {"Ring"})), ["Ring::put", "Ring::fill"])
+        self.assertEqual(list(check_claims.changing_calls(CALLS, {"Ring"})), ["Ring::put", "Ring::fill", "ring_free"])
 
     def test_a_function_that_the_root_file_doesn_t_hand_on_isn_t_public(self):
-        self.assertEqual(list(check_claims.changing_calls(CALLS, {"inner"})), ["inner"])
+        self.assertEqual(list(check_claims.changing_calls(CALLS, {"inner"})), ["inner", "ring_free"])
+
+    def test_a_function_that_c_calls_is_public(self):
+        self.assertEqual(list(check_claims.changing_calls(CALLS, set())), ["ring_free"])
 
 
 class Whole(unittest.TestCase):

@@ -119,6 +119,26 @@ class Install(unittest.TestCase):
         for name in ("man/man1/dmixlab.1", "bash-completion/completions/dmixlab", "doc/dmixlab/SCRIPTS.md", "doc/dmixlab/demo/it.wav"):
             self.assertTrue(os.path.exists(f"{self.at}/to/share/{name}"), name)
 
+    def test_the_library_for_c_is_installed_where_it_is_built(self):
+        self.build()
+        ended(f"{self.at}/maintenance/install.sh", self.at, "/to")
+        self.assertFalse(os.path.exists(f"{self.at}/to/include"))
+        built = ("include/dmixlab.h", "lib/libdmixlab.a", "lib/libdmixlab.so.0", "lib/libdmixlab.so")
+        for name in ("include/dmixlab.h", "c/dmixlab.pc.in", "docs/version.txt"):
+            os.makedirs(os.path.dirname(f"{self.at}/{name}"), exist_ok=True)
+            shutil.copy(f"{ROOT}/{name}", f"{self.at}/{name}")
+        os.mkdir(f"{self.at}/build/c")
+        for name in ("libdmixlab.a", "libdmixlab.so.0"):
+            open(f"{self.at}/build/c/{name}", "w").close()
+        ran = ended(f"{self.at}/maintenance/install.sh", self.at, "/to")
+        self.assertEqual((ran.returncode, ran.stderr), (0, ""))
+        for name in built:
+            self.assertTrue(os.path.exists(f"{self.at}/to/{name}"), name)
+        with open(f"{self.at}/to/lib/pkgconfig/dmixlab.pc") as file:
+            text = file.read()
+        self.assertIn("prefix=/to\n", text)
+        self.assertNotIn("@", text)
+
     def test_the_installed_command_explains_on_a_terminal(self):
         self.build()
         ended(f"{self.at}/maintenance/install.sh", self.at, "/to")
