@@ -105,10 +105,10 @@ hear_echo() {
 
 hear_player() {
   $cc c/player.c "$built/libdmixlab.a" -lasound -o "$built/player"
-  "$built/player" -D "file:$built/player.wav,wav" -s 1 demo/high.wav demo/low.wav demo/gap.wav >"$built/player.txt"
+  "$built/player" -D "file:$built/player.wav,wav" -s 1 demo/high.wav demo/low.wav demo/question.wav >"$built/player.txt"
   cat "$built/player.txt"
   if [ "$(grep -c ' 0 underruns$' "$built/player.txt")" -eq 3 ]; then
-    maintenance/check_heard.py "$built/player.wav" demo/high.wav demo/low.wav demo/gap.wav
+    maintenance/check_heard.py "$built/player.wav" demo/high.wav demo/low.wav demo/question.wav
   fi
 }
 
