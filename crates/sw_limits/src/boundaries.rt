@@ -19,9 +19,11 @@ pub fn boundary(buffer_size: u32) -> u64
     ensures below { result < 2 ^ 63 }
 {
     let size = buffer_size as u64;
-    let mut boundary = size;
-    while 2 * boundary <= POSITION_MAX - size {
-        boundary *= 2;
+    // So many doubles stay below 2 to the power 63, and one more doesn't.
+    let doubled = size << (31 + buffer_size.leading_zeros());
+    if doubled <= POSITION_MAX - size {
+        doubled
+    } else {
+        doubled / 2
     }
-    boundary
 }
