@@ -70,7 +70,10 @@ pub(crate) fn slot_of(from: u64, frame: u64, buffer_size: u32) -> u64
     ensures within { result < buffer_size }
 {
     let size = buffer_size as u64;
-    (from % size + frame % size) % size
+    match from.checked_add(frame) {
+        Some(number) => number % size,
+        None => (from % size + frame % size) % size,
+    }
 }
 
 /// Where the samples of a client's frame begin in its local ring.

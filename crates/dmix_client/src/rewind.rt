@@ -48,9 +48,7 @@ fn check<P: MixPort, G: Gate>(
         (stream.new, result) }
 {
     let found = load(port, gate);
-    let (after, answer) = after_sync(*stream, Call::Transfer, found, Commit::NOTHING);
-    *stream = after;
-    answer
+    after_sync(stream, Call::Transfer, found, Commit::NOTHING)
 }
 
 /// Takes back `frames` frames of a client that runs, pending ones first, and then the last committed ones.

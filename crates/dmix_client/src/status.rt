@@ -31,6 +31,7 @@ pub(crate) enum Asked {
 }
 
 /// The sync of a client that moves frames.
+#[inline(always)]
 pub(crate) fn sync_call<P: MixPort, G: Gate>(
     stream: &mut PlaybackStream,
     ring: &[i16],
@@ -57,9 +58,7 @@ pub(crate) fn sync_call<P: MixPort, G: Gate>(
         (sync_count stream.old) (after_sync stream.old call) (stream.new, result) }
 {
     let found = look_and_commit(stream, ring, port, gate);
-    let (after, answer) = after_sync(*stream, call, found.load, found.commit);
-    *stream = after;
-    answer
+    after_sync(stream, call, found.load, found.commit)
 }
 
 impl Client {

@@ -13,7 +13,7 @@ use bindings::Bindings;
 use hw_space::Config;
 use mix_core::{Ended, Position};
 use pcm_states::{Call, Facts, Outcome, State, next};
-use pcm_stream::{Setup, Status};
+use pcm_stream::{Setup, Status, wrap_count};
 use ring_pointers::Pointers;
 use snd_base::{Cursor, Geometry, PcmError, Segment, XrunWhy};
 use sw_limits::boundary;
@@ -67,14 +67,9 @@ impl PlaybackStream {
     {
         let size = self.setup.config.buffer_size;
         let boundary = boundary(size);
-        let hw = self.hw();
-        Pointers::at(
-            size,
-            boundary,
-            hw % boundary,
-            self.stretch.written % boundary,
-        )
-        .avail_playback()
+        let hw = wrap_count(self.hw(), boundary);
+        let appl = wrap_count(self.stretch.written, boundary);
+        Pointers::at(size, boundary, hw, appl).avail_playback()
     }
 
     /// The frames that are written and not played.
@@ -218,35 +213,90 @@ pub(crate) fn with_outcome(stream: PlaybackStream, outcome: Outcome) -> Answered
     (stream.in_state(outcome.state), outcome.answer)
 }
 
+impl PlaybackStream {
+    /// The gate stops the call.
+    fn stop_call<T>(&mut self) -> Result<T, PcmError>
+        ensures { (self.new, result) ≡ stopped_in self.old }
+    {
+        self.status = self.status.stop();
+        Err(PcmError::Stopped)
+    }
+
+    /// The call ends with an outcome of the state table.
+    fn end_with(&mut self, outcome: Outcome) -> Result<(), PcmError>
+        ensures { (self.new, result) ≡ with_outcome self.old outcome }
+    {
+        self.status = self.status.in_state(outcome.state);
+        outcome.answer
+    }
+
+    /// A position is loaded.
+    fn see(&mut self, position: Position)
+        ensures { self.new ≡ seen_at self.old position }
+    {
+        self.seen = Some(position.frame);
+    }
+
+    /// A commit places frames.
+    fn commit_by(&mut self, commit: Commit)
+        requires { self.old.stretch.committed + commit.frames < 2 ^ 64 }
+        ensures { self.new ≡ committed_by self.old commit }
+    {
+        self.stretch.committed += commit.frames;
+        self.stretch.part = commit.part;
+    }
+
+    /// Frames that were taken are accepted where the call went well.
+    fn accept_if(&mut self, frames: u64, answer: Result<(), PcmError>) -> Result<u64, PcmError>
+        requires written { self.old.stretch.written + frames < 2 ^ 64 }
+        requires fed { self.old.fed + frames < 2 ^ 64 }
+        ensures { (self.new, result) ≡ accepted_if frames (self.old, answer) }
+    {
+        match answer {
+            Ok(()) => {
+                self.stretch.written += frames;
+                self.fed += frames;
+                Ok(frames)
+            }
+            Err(error) => Err(error),
+        }
+    }
+}
+
 /// The sync of a client that moves frames, by what its load and its commit found.
+#[inline(always)]
 pub(crate) fn after_sync(
-    stream: PlaybackStream,
+    stream: &mut PlaybackStream,
     call: Call,
     load: Option<Position>,
     commit: Commit,
-) -> Answered<()>
-    requires ready { IsReadyAt stream load }
-    requires fits { stream.stretch.card + (stream.stretch.committed + commit.frames) < 2 ^ 64 }
-    requires part { OnLate commit.ended (λ _. commit.part < length stream.setup.bindings) }
-    ensures { result ≡ after_sync stream call load commit }
+) -> Result<(), PcmError>
+    requires ready { IsReadyAt stream.old load }
+    requires fits { stream.old.stretch.card + (stream.old.stretch.committed + commit.frames)
+        < 2 ^ 64 }
+    requires part { OnLate commit.ended (λ _. commit.part < length stream.old.setup.bindings) }
+    ensures { (stream.new, result) ≡ after_sync stream.old call load commit }
 {
     let Some(position) = load else {
-        return stopped_in(stream);
+        return stream.stop_call();
     };
-    let loaded = stream.seen_at(position);
-    let done = loaded.committed_by(commit);
+    stream.see(position);
+    let over = stream.over(position);
+    let late = stream.late(commit);
+    stream.commit_by(commit);
     if is_stop(commit.ended) {
-        return stopped_in(done);
+        return stream.stop_call();
     }
     let facts = Facts {
         capture: false,
-        queued: done.queued(),
+        queued: stream.queued(),
         starts: true,
         gone: position.gone,
-        over: loaded.over(position),
-        late: loaded.late(commit),
+        over,
+        late,
     };
-    with_outcome(done, next(stream.status.state, call, facts))
+    let outcome = next(stream.status.state, call, facts);
+    stream.end_with(outcome)
 }
 
 /// The call goes on in `state`, unless the table refuses it.
@@ -324,7 +374,15 @@ impl PlaybackStream {
         requires { IsReady self.now }
         ensures { result ≡ taken_of self.now frames }
     {
-        frames.min(self.avail().min(self.setup.config.buffer_size as u64))
+        self.taken_within(frames, self.avail())
+    }
+
+    /// How many frames a write of `frames` takes where `avail` are available.
+    pub(crate) fn taken_within(&self, frames: u64, avail: u64) -> u64
+        requires { avail ≡ avail_of self.now }
+        ensures { result ≡ taken_of self.now frames }
+    {
+        frames.min(avail.min(self.setup.config.buffer_size as u64))
     }
 
     /// Frames were accepted.
@@ -467,31 +525,39 @@ pub(crate) fn accepted_if(frames: u64, answered: Answered<()>) -> Answered<u64>
     }
 }
 
-/// A write of `frames` into a stream that runs, after its sync.
-pub(crate) fn written_after(stream: PlaybackStream, frames: u64, commit: Commit) -> Answered<u64>
-    requires ready { IsReady stream }
-    requires fits { stream.stretch.card + (stream.stretch.committed + commit.frames) < 2 ^ 64 }
-    requires part { OnLate commit.ended (λ _. commit.part < length stream.setup.bindings) }
-    requires written { stream.stretch.written + frames < 2 ^ 64 }
-    requires fed { stream.fed + frames < 2 ^ 64 }
-    ensures { result ≡ written_after stream frames commit }
+/// A write of `frames` into a stream that runs and in which `avail` frames are available, after its sync.
+#[inline(always)]
+pub(crate) fn written_after(
+    stream: &mut PlaybackStream,
+    frames: u64,
+    avail: u64,
+    commit: Commit,
+) -> Result<u64, PcmError>
+    requires ready { IsReady stream.old }
+    requires avail { avail ≡ avail_of stream.old }
+    requires fits { stream.old.stretch.card + (stream.old.stretch.committed + commit.frames)
+        < 2 ^ 64 }
+    requires part { OnLate commit.ended (λ _. commit.part < length stream.old.setup.bindings) }
+    requires written { stream.old.stretch.written + frames < 2 ^ 64 }
+    requires fed { stream.old.fed + frames < 2 ^ 64 }
+    ensures { (stream.new, result) ≡ written_after stream.old frames commit }
 {
-    if frames > 0 && stream.avail() == 0 {
-        return (stream, Err(PcmError::Again));
+    if frames > 0 && avail == 0 {
+        return Err(PcmError::Again);
     }
-    let done = stream.committed_by(commit);
+    let taken = stream.taken_within(frames, avail);
+    let late = stream.late(commit);
+    stream.commit_by(commit);
     if is_stop(commit.ended) {
-        return stopped_in(done);
+        return stream.stop_call();
     }
     let here = Position {
         frame: 0,
         gone: false,
     };
-    let facts = found_at(here, stream.late(commit));
-    accepted_if(
-        stream.taken(frames),
-        with_outcome(done, next(State::Running, Call::Transfer, facts)),
-    )
+    let outcome = next(State::Running, Call::Transfer, found_at(here, late));
+    let answer = stream.end_with(outcome);
+    stream.accept_if(taken, answer)
 }
 
 impl PlaybackStream {

@@ -70,12 +70,11 @@ fn write_taken<P: MixPort, G: Gate>(
     ensures ring { ring.new
         ≡ ring_with stream.old ring.old samples.now (taken_of stream.old frames) }
 {
-    let taken = stream.taken(frames);
+    let avail = stream.avail();
+    let taken = stream.taken_within(frames, avail);
     store_taken(stream, ring, samples, taken);
     let last = commit_taken(stream, ring, port, gate, taken);
-    let (after, answer) = written_after(*stream, frames, last);
-    *stream = after;
-    answer
+    written_after(stream, frames, avail, last)
 }
 
 /// Stores the first `taken` frames of some samples after what is written.

@@ -8,7 +8,7 @@ use bindings::Bindings;
 use hw_space::Config;
 use mix_core::Position;
 use pcm_states::{Call, Facts, Outcome, State, next};
-use pcm_stream::{Setup, Status};
+use pcm_stream::{Setup, Status, wrap_count};
 use ring_pointers::Pointers;
 use snd_base::{Geometry, PcmError, XrunWhy};
 use snoop_core::Got;
@@ -78,8 +78,9 @@ impl CaptureStream {
     {
         let size = self.setup.config.buffer_size;
         let boundary = boundary(size);
-        let seen = self.seen.unwrap_or(0);
-        Pointers::at(size, boundary, seen % boundary, self.next % boundary).avail_capture()
+        let hw = wrap_count(self.seen.unwrap_or(0), boundary);
+        let appl = wrap_count(self.next, boundary);
+        Pointers::at(size, boundary, hw, appl).avail_capture()
     }
 
     /// The frames available and the position seen, where the stop threshold was reached.

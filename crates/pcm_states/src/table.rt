@@ -27,6 +27,9 @@ use snd_base::{PcmError, XrunWhy};
 /// - `Pause` leads from RUNNING to PAUSED. `Resume` leads from PAUSED to RUNNING, as a start does,
 ///   or to PREPARED where nothing is queued.
 /// - SUSPENDED is never entered, and refuses every call.
+///
+/// It stands in its callers, which know the call and most of what it found.
+#[inline(always)]
 pub fn next(state: State, call: Call, facts: Facts) -> Outcome
     ensures table { result ≡ next_of state call facts }
     ensures never_suspended { result.state ≡ State.Suspended → state ≡ State.Suspended }
@@ -101,6 +104,7 @@ fn fill(facts: Facts) -> Outcome
 }
 
 /// The outcome of a transfer or a sync in RUNNING.
+#[inline(always)]
 fn move_frames(facts: Facts) -> Outcome
     ensures { result ≡ cell_outcome moving Running Transfer facts }
 {

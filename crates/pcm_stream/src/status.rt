@@ -32,6 +32,7 @@ impl Status {
     /// `Stopped` comes exactly where the stream was stopped. Otherwise the state table (`pcm_states::next`) decides, by
     /// what holds whatever the call finds: `NoDevice` once the card is gone, `BadState` for a call that the state doesn't
     /// allow, `NotSupported`, and `Xrun(Already)` for a call that moves frames or loads the position in XRUN.
+    #[inline(always)]
     pub fn admit(&self, direction: Direction, call: Call) -> Result<(), PcmError>
         ensures answer { result ≡ refused_by (refusal_of direction self.now call) }
         ensures unstopped { OnOk result (self.now.stopped ≡ false) }

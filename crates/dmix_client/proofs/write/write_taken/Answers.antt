@@ -8,14 +8,14 @@ use Rattle.dmix_client.proofs.write.write_taken.Goals as goal
 pub returns-clause-takes : goal.returns-clause-takes
 returns-clause-takes g c =
     takes_more-by g.P.MixPort g.G.Gate (c.args.port.now, c.args.gate.now) (c.commit_taken-last.new.port, c.commit_taken-last.new.gate)
-    c.args.stream.now c.args.ring.now c.args.samples.now c.store_taken.new.ring c.args.frames c.taken-taken.result c.commit_taken-last.result c.written_after-after.result c.taken-taken.ensures c.store_taken.ensures.ring
-    c.commit_taken-last.ensures.takes (sym c.written_after-after.ensures)
+    c.args.stream.now c.args.ring.now c.args.samples.now c.store_taken.new.ring c.args.frames c.taken_within-taken.result c.commit_taken-last.result (c.written_after.new.stream, c.written_after.result) c.taken_within-taken.ensures c.store_taken.ensures.ring
+    c.commit_taken-last.ensures.takes (sym c.written_after.ensures)
 
 pub returns-clause-ring : goal.returns-clause-ring
-returns-clause-ring g c = c.store_taken.ensures.ring ∙ ap (λ (m : ℕ). ring_with c.args.stream.now c.args.ring.now c.args.samples.now m) c.taken-taken.ensures
+returns-clause-ring g c = c.store_taken.ensures.ring ∙ ap (λ (m : ℕ). ring_with c.args.stream.now c.args.ring.now c.args.samples.now m) c.taken_within-taken.ensures
 
-pub taken-taken-requires : goal.taken-taken-requires
-taken-taken-requires g c = IsReady-moving c.args.stream.now c.args.ring.now c.requires.sound c.requires.moving c.requires.unstopped
+pub avail-avail-requires : goal.avail-avail-requires
+avail-avail-requires g c = IsReady-moving c.args.stream.now c.args.ring.now c.requires.sound c.requires.moving c.requires.unstopped
 
 pub store_taken-requires-clause-sound : goal.store_taken-requires-clause-sound
 store_taken-requires-clause-sound g c = c.requires.sound
@@ -26,8 +26,8 @@ commit_taken-last-requires-clause-sound g c = c.store_taken.ensures.sound
 pub commit_taken-last-requires-clause-port : goal.commit_taken-last-requires-clause-port
 commit_taken-last-requires-clause-port g c = c.requires.port
 
-pub written_after-after-requires-clause-ready : goal.written_after-after-requires-clause-ready
-written_after-after-requires-clause-ready g c = IsReady-moving c.args.stream.now c.args.ring.now c.requires.sound c.requires.moving c.requires.unstopped
+pub written_after-requires-clause-ready : goal.written_after-requires-clause-ready
+written_after-requires-clause-ready g c = IsReady-moving c.args.stream.now c.args.ring.now c.requires.sound c.requires.moving c.requires.unstopped
 
 pub store_taken-requires-clause-configured : goal.store_taken-requires-clause-configured
 store_taken-requires-clause-configured g c = c.requires.sound.set_up (set_up-moving c.args.stream.now.status.state c.requires.moving)
