@@ -13,8 +13,8 @@ use plug_chain::{Plug, Table, Wide};
 use ring_pointers::Pointers;
 use snd_base::{Geometry, PcmError, Why};
 use snoop_core::{Loaded, SnoopCore, SnoopPort, can_load};
-use std::alloc::Global;
-use std::test::Fail;
+use std::alloc::{AllocError, Global};
+use std::process::Abort;
 use sw_limits::{SwParams, boundary};
 
 // The numbers of Linux's errno.h, beside those that the rows of the state table have.
@@ -94,28 +94,31 @@ fn thresholds_reach_to_the_boundary(rt: HostRuntime) {
     assert!(rt; params.check(&config) == Err(Why::AvailMinZero));
 }
 
+// The samples of bytes that a plug takes in two pieces.
+fn converted(alloc: Global, mut plug: Plug, pieces: [&[u8]; 2]) -> Result<Vec<i16>, PcmError> {
+    let mut out = Vec::new(alloc);
+    plug.feed(pieces[0], &mut out)?;
+    plug.feed(pieces[1], &mut out)?;
+    plug.finish(&mut out)?;
+    Ok(out)
+}
+
 // Two frames of three channels: 127 * 256 * (1 + 1 - 1) is 32512, and 127 * 256 * 2 - 256 is past 32767.
 #[test]
-fn a_sum_of_channels_is_saturated_once(rt: HostRuntime) -> Result<(), Fail> {
+fn a_sum_of_channels_is_saturated_once(rt: HostRuntime) -> Result<(), PcmError> {
     let table = Table::new(rt.alloc(), 3, 1, &[65536, 65536, -65536])?;
-    let mut plug = Plug::new(Wide::S8, table, 8000, 8000);
-    let mut out = Vec::new(rt.alloc());
-    plug.feed(&[127, 127, 127, 127], &mut out)?;
-    plug.feed(&[127, 1], &mut out)?;
-    plug.finish(&mut out)?;
+    let plug = Plug::new(Wide::S8, table, 8000, 8000);
+    let out = converted(rt.alloc(), plug, [&[127, 127, 127, 127], &[127, 1]])?;
     assert!(rt; out.as_slice() == [32512, 32767].as_slice());
     Ok(())
 }
 
 // Two big-endian frames of two channels, 3 and -4, 0 and 2: half of -1 is rounded down to -1.
 #[test]
-fn the_high_byte_comes_first(rt: HostRuntime) -> Result<(), Fail> {
+fn the_high_byte_comes_first(rt: HostRuntime) -> Result<(), PcmError> {
     let table = Table::usual(rt.alloc(), 2, 1)?;
-    let mut plug = Plug::new(Wide::S16Be, table, 8000, 8000);
-    let mut out = Vec::new(rt.alloc());
-    plug.feed(&[0, 3, 255], &mut out)?;
-    plug.feed(&[252, 0, 0, 0, 2], &mut out)?;
-    plug.finish(&mut out)?;
+    let plug = Plug::new(Wide::S16Be, table, 8000, 8000);
+    let out = converted(rt.alloc(), plug, [&[0, 3, 255], &[252, 0, 0, 0, 2]])?;
     assert!(rt; out.as_slice() == [-1, 1].as_slice());
     Ok(())
 }
@@ -140,29 +143,28 @@ fn frames_are_copied_between_layouts(rt: HostRuntime) {
     assert!(rt; samples == [1, 0, 2, 0]);
 }
 
-// Stores a frame of a core with one channel.
-fn store(core: &mut SnoopCore, sample: i16) -> Result<(), Fail> {
-    if core.geometry().channels != 1 {
-        return Err("a core with one channel".into());
-    }
-    Ok(core.store(&[sample])?)
+// Stores a frame of a core with one channel, and says whether that was done.
+fn store(core: &mut SnoopCore, sample: i16) -> bool {
+    core.geometry().channels == 1 && core.store(&[sample]).is_ok()
 }
 
-// Loads a frame of such a core where a reader may.
-fn load(core: &mut SnoopCore, frame: u64) -> Result<(Loaded, i16), Fail> {
+// Loads a frame of such a core where a reader may, and gives nothing elsewhere.
+fn load(core: &mut SnoopCore, frame: u64) -> Option<(Loaded, i16)> {
     let mut out = [0i16];
     let mut turn = core.turn();
     if !can_load(&turn, frame, &out) {
-        return Err("a frame that is published".into());
+        return None;
     }
-    let loaded = turn.load_frame(&mut NeverStops, frame, &mut out)?;
-    Ok((loaded, out[0]))
+    match turn.load_frame(&mut NeverStops, frame, &mut out) {
+        Ok(loaded) => Some((loaded, out[0])),
+        Err(_) => None,
+    }
 }
 
 // A frame is stored over frame 0, whose slot it has, before it is published, and leaves frame 1. Its word has lap 2, one more
 // than its own, and the sample 7: 2 * 4294967296 + 32768 + 7.
 #[test]
-fn a_frame_is_overtaken_by_the_one_a_lap_later(rt: HostRuntime) -> Result<(), Fail> {
+fn a_frame_is_overtaken_by_the_one_a_lap_later(rt: HostRuntime) -> Result<(), PcmError> {
     let geometry = Geometry {
         frames: 64,
         channels: 1,
@@ -170,54 +172,71 @@ fn a_frame_is_overtaken_by_the_one_a_lap_later(rt: HostRuntime) -> Result<(), Fa
     };
     let mut core = SnoopCore::new(rt.alloc(), geometry)?;
     for number in 0..64_u8 {
-        store(&mut core, number as i16)?;
+        assert!(rt; store(&mut core, number as i16));
     }
     core.publish();
-    store(&mut core, 7)?;
+    assert!(rt; store(&mut core, 7));
     let overtaken = Loaded::Overtaken {
         channel: 0,
         seen: 8589967367,
     };
-    assert!(rt; load(&mut core, 0)? == (overtaken, 0));
-    assert!(rt; load(&mut core, 1)? == (Loaded::Got, 1));
+    assert!(rt; load(&mut core, 0) == Some((overtaken, 0)));
+    assert!(rt; load(&mut core, 1) == Some((Loaded::Got, 1)));
     Ok(())
 }
 
-// The nodes in a group: each name, and its text or `{}`.
-fn items_of(alloc: Global, group: Group<'_>) -> Result<Vec<u8>, Fail> {
+// Appends a node in a group: its name, and its text or `{}`.
+fn append_node(line: &mut Vec<u8>, name: ConfText<'_>, node: Node<'_>) -> Result<(), AllocError> {
+    match name {
+        ConfText::Bytes(bytes) => line.extend_from_slice(bytes)?,
+        ConfText::Number(number) => line.push(b'0' + (number % 10) as u8)?,
+    }
+    line.push(b' ')?;
+    let text = match node {
+        Node::Text(text) => text,
+        Node::Group(_) => b"{}".as_slice(),
+    };
+    line.extend_from_slice(text)?;
+    line.extend_from_slice(b";")
+}
+
+// The nodes in a group.
+fn nodes_of(alloc: Global, group: Group<'_>) -> Result<Vec<u8>, AllocError> {
     let mut line = Vec::new(alloc);
     for (name, node) in group.items() {
-        match name {
-            ConfText::Bytes(bytes) => line.extend_from_slice(bytes)?,
-            ConfText::Number(number) => line.push(b'0' + (number % 10) as u8)?,
-        }
-        line.push(b' ')?;
-        match node {
-            Node::Text(text) => line.extend_from_slice(text)?,
-            Node::Group(_) => line.extend_from_slice(b"{}")?,
-        }
-        line.push(b';')?;
+        append_node(&mut line, name, node)?;
     }
     Ok(line)
 }
 
-// The values of `[ ]` are named by their numbers, and a text that is put again stays in its place.
-#[test]
-fn a_configuration_is_walked(rt: HostRuntime) -> Result<(), Fail> {
-    let Ok(conf) = read_conf(rt.alloc(), b"a { b c e 1 b d } f [ x y ]") else {
-        return Err("not read".into());
-    };
-    let root = conf.root();
-    assert!(rt; items_of(rt.alloc(), root)?.as_slice() == b"a {};f {};".as_slice());
+// Whether the nodes in a group are these: not where memory runs out.
+fn has_nodes(alloc: Global, group: Group<'_>, nodes: &[u8]) -> bool {
+    match nodes_of(alloc, group) {
+        Ok(line) => line.as_slice() == nodes,
+        Err(_) => false,
+    }
+}
+
+// Goes through the groups of a configuration.
+fn walk(rt: &impl Abort, alloc: Global, root: Group<'_>) {
+    assert!(rt; has_nodes(alloc, root, b"a {};f {};"));
     let Some(Node::Group(first)) = root.get(b"a") else {
-        return Err("no group a".into());
+        panic!(rt; "no group a")
     };
     let Some(Node::Group(list)) = root.get(b"f") else {
-        return Err("no group f".into());
+        panic!(rt; "no group f")
     };
-    assert!(rt; items_of(rt.alloc(), first)?.as_slice() == b"b d;e 1;".as_slice());
-    assert!(rt; items_of(rt.alloc(), list)?.as_slice() == b"0 x;1 y;".as_slice());
+    assert!(rt; has_nodes(alloc, first, b"b d;e 1;"));
+    assert!(rt; has_nodes(alloc, list, b"0 x;1 y;"));
     assert!(rt; list.len() == 2);
     assert!(rt; root.get(b"b").is_none());
-    Ok(())
+}
+
+// The values of `[ ]` are named by their numbers, and a text that is put again stays in its place.
+#[test]
+fn a_configuration_is_walked(rt: HostRuntime) {
+    match read_conf(rt.alloc(), b"a { b c e 1 b d } f [ x y ]") {
+        Ok(conf) => walk(&rt, rt.alloc(), conf.root()),
+        Err(_) => panic!(rt; "it isn't read"),
+    }
 }
