@@ -14,7 +14,6 @@ pub mod ReaderMaking
 pub mod ReaderSettingUp
 pub mod ReaderUnstopped
 pub mod Reading
-pub mod Refused
 pub mod Ringed
 pub mod Running
 pub mod Seated

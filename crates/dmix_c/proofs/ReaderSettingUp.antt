@@ -21,7 +21,7 @@ use Rattle.dmix_c.specs.Params.{CanConfigure, config_with}
 use Rattle.dmix_c.specs.ReaderCalls.{ReaderHasSetUp}
 use Rattle.dmix_c.specs.ClientCalls.{CanSetUp}
 use Rattle.dmix_c.proofs.ReaderMaking.{CanUse-seen}
-use Rattle.dmix_c.proofs.Refused.{not-both, same-refusal}
+use Rattle.pcm_stream.specs.RefusalLaws.{not-both, same-refusal}
 use Rattle.dmix_c.proofs.SettingUp.{failed, not-read, same-list}
 
 -- why a reader's state refuses hardware parameters

@@ -11,7 +11,7 @@ use Rattle.dsnoop_client.specs.View.{CanRead}
 use Rattle.dmix_c.specs.declared.recording.Recording.{Recording}
 use Rattle.dmix_c.specs.ReaderCalls.{ReadsAt}
 use Rattle.dmix_c.specs.Readers.{WasRead}
-use Rattle.dmix_c.proofs.Refused.{not-both, same-refusal}
+use Rattle.pcm_stream.specs.RefusalLaws.{not-both, same-refusal}
 use Rattle.dmix_c.proofs.Sourced.{KeepsSource-later, KeepsSource-same}
 
 -- why a reader's state refuses a read

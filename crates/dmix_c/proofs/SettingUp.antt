@@ -21,7 +21,7 @@ use Rattle.dmix_c.specs.Params.{CanConfigure}
 use Rattle.dmix_c.specs.ClientCalls.{CanSetUp, HasSetUp, set_up_with}
 use Rattle.dmix_c.proofs.Backing.{backed-new}
 use Rattle.dmix_c.proofs.Making.{CanUse-resting}
-use Rattle.dmix_c.proofs.Refused.{not-both, same-refusal}
+use Rattle.pcm_stream.specs.RefusalLaws.{not-both, same-refusal}
 
 -- why a client's state refuses hardware parameters
 abbrev pub refusal : ClientView → Option PcmError

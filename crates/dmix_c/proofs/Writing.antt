@@ -11,7 +11,7 @@ use Rattle.dmix_client.specs.Writes.{IsOffer}
 use Rattle.dmix_c.specs.declared.playback.Playback.{Playback}
 use Rattle.dmix_c.specs.Clients.{Written}
 use Rattle.dmix_c.specs.ClientCalls.{Writes}
-use Rattle.dmix_c.proofs.Refused.{not-both, same-refusal}
+use Rattle.pcm_stream.specs.RefusalLaws.{not-both, same-refusal}
 use Rattle.dmix_c.proofs.Seated.{KeepsPlace-later, KeepsPlace-same}
 
 -- why a client's state refuses a write

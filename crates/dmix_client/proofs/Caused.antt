@@ -28,7 +28,8 @@ use Rattle.dmix_client.proofs.Ends.{by-test, next-ends, after_start-ends, writte
 use Rattle.dmix_client.proofs.Sound.{none-of}
 
 -- two errors are the same whatever else their calls would answer
-pub same-error : {X : Type 0} {Y : Type 0} (e f : PcmError) → (let r : Result X PcmError = Err e in r) ≡ Err f → (let r : Result Y PcmError = Err e in r) ≡ Err f
+pub same-error : {X : Type 0} {Y : Type 0} (e f : PcmError) → (let r : Result X PcmError = Err e in r) ≡ Err f
+    → (let r : Result Y PcmError = Err e in r) ≡ Err f
 same-error {X = X} {Y = Y} e f h = let is : e ≡ f = error-of X e f h in ap (λ (x : PcmError). let r : Result Y PcmError = Err x in r) is
   where
     error-of : (T : Type 0) (e f : PcmError) → (let r : Result T PcmError = Err e in r) ≡ Err f → e ≡ f
@@ -63,7 +64,8 @@ pub record IsFree (c : PlaybackStream) (load : Option Position) : Type 0 where
   pub below : (a f : ℕ) → Reaches c load a f → ⊥
 
 -- how a late commit ended
-late-found : (e : Ended) (frame channel : ℕ) (w : XrunWhy) (P : ℕ → Type 0) → late_at e frame channel ≡ Some w → OnLate e P → (word : ℕ) × (w ≡ Late frame channel word) × P word
+late-found : (e : Ended) (frame channel : ℕ) (w : XrunWhy) (P : ℕ → Type 0) → late_at e frame channel ≡ Some w → OnLate e P
+    → (word : ℕ) × (w ≡ Late frame channel word) × P word
 late-found ended.Whole frame channel w P is late = absurd (cc)
 late-found (ended.Late word) frame channel w P is late = (word, cc, late)
 late-found ended.Stopped frame channel w P is late = absurd (cc)
@@ -92,13 +94,15 @@ module _ {S : Type 0} (view : S → PortView) (shows : S → ℕ → ℕ → Opt
   }
 
   -- the stop threshold is reached
-  caused-over : (c d : PlaybackStream) (position : Position) (x y : ℕ) → Reaches c (Some position) x y → IsCaused {X = Unit {0}} view shows q c d (Some position) (Err (Xrun (Avail x y)))
+  caused-over : (c d : PlaybackStream) (position : Position) (x y : ℕ) → Reaches c (Some position) x y
+      → IsCaused {X = Unit {0}} view shows q c d (Some position) (Err (Xrun (Avail x y)))
   caused-over c d position x y reaches = record {
     unless_stopped = tt;
     of_steps = tt;
     no_device = (λ h. cc, λ h. absurd (let here = reaches.0 in cc));
     reached = λ a f. (
-      λ h. (let is_avail : x ≡ a = cc in let is_frame : y ≡ f = cc in subst (λ (k : ℕ). Reaches c (Some position) a k) is_frame (subst (λ (k : ℕ). Reaches c (Some position) k y) is_avail reaches)),
+      λ h. (let is_avail : x ≡ a = cc in let is_frame : y ≡ f = cc in subst (λ (k : ℕ). Reaches c (Some position) a k) is_frame
+          (subst (λ (k : ℕ). Reaches c (Some position) k y) is_avail reaches)),
       λ h. (let one = reaches.3 in let two = reaches.4 in let is_avail = h.3 in let is_frame = h.4 in cc),
     );
     late = λ frame channel word h. cc;
@@ -106,7 +110,8 @@ module _ {S : Type 0} (view : S → PortView) (shows : S → ℕ → ℕ → Opt
   }
 
   -- any other answer
-  pub caused-other : {X : Type 0} (c d : PlaybackStream) (load : Option Position) (answer : Result X PcmError) → IsFree c load → IsOther answer → IsCaused view shows q c d load answer
+  pub caused-other : {X : Type 0} (c d : PlaybackStream) (load : Option Position) (answer : Result X PcmError) → IsFree c load → IsOther answer
+      → IsCaused view shows q c d load answer
   caused-other c d load answer free other = record {
     unless_stopped = if-none load (λ h. absurd h) free.loaded;
     of_steps = other.of_steps;
@@ -117,11 +122,13 @@ module _ {S : Type 0} (view : S → PortView) (shows : S → ℕ → ℕ → Opt
   }
 
   -- a late one, where the commit ended in the client that it left
-  caused-late : {X : Type 0} (c at d : PlaybackStream) (load : Option Position) (x : Commit) (w : XrunWhy) → IsFree c load → end_of_commit at x ≡ d.stretch.card + d.stretch.committed
+  caused-late : {X : Type 0} (c at d : PlaybackStream) (load : Option Position) (x : Commit) (w : XrunWhy) → IsFree c load
+      → end_of_commit at x ≡ d.stretch.card + d.stretch.committed
       → end_channel at x ≡ slice_index d.setup.bindings (slice_index (rising d.setup.bindings) d.stretch.part) → late_of at x ≡ Some w
       → OnLate x.ended (λ word. IsPast view shows q (end_of_commit at x) (end_channel at x) word) → IsCaused {X = X} view shows q c d load (Err (Xrun w))
   caused-late {X = X} c at d load x w free is_frame is_channel is shown =
-      let found = late-found x.ended (end_of_commit at x) (end_channel at x) w (λ word. IsPast view shows q (end_of_commit at x) (end_channel at x) word) is shown in
+      let found = late-found x.ended (end_of_commit at x) (end_channel at x) w (λ word. IsPast view shows q (end_of_commit at x)
+      (end_channel at x) word) is shown in
       subst (λ (v : XrunWhy). IsCaused {X = X} view shows q c d load (Err (Xrun v))) (sym found.1) (record {
         unless_stopped = if-none load (λ h. absurd h) free.loaded;
         of_steps = tt;
@@ -134,7 +141,8 @@ module _ {S : Type 0} (view : S → PortView) (shows : S → ℕ → ℕ → Opt
             record {
               frame_is = sym frame_is ∙ is_frame;
               channel_is = sym channel_is ∙ is_channel;
-              past = subst (λ (k : ℕ). IsPast view shows q frame channel k) word_is (subst (λ (k : ℕ). IsPast view shows q frame k found.0) channel_is (subst (λ (k : ℕ). IsPast view shows q k (end_channel at x) found.0) frame_is found.2));
+              past = subst (λ (k : ℕ). IsPast view shows q frame channel k) word_is (subst (λ (k : ℕ). IsPast view shows q frame k found.0) channel_is
+                  (subst (λ (k : ℕ). IsPast view shows q k (end_channel at x) found.0) frame_is found.2));
             };
         never_lap_end = λ h. cc;
       })
@@ -148,18 +156,24 @@ module _ {S : Type 0} (view : S → PortView) (shows : S → ℕ → ℕ → Opt
   }
 
   -- an error has the same causes whatever the call would answer
-  caused-error : {Y : Type 0} (load : Option Position) (c d : PlaybackStream) (e : PcmError) → IsCaused {X = Unit {0}} view shows q c d load (Err e) → IsCaused {X = Y} view shows q c d load (Err e)
+  caused-error : {Y : Type 0} (load : Option Position) (c d : PlaybackStream) (e : PcmError) → IsCaused {X = Unit {0}} view shows q c d load (Err e)
+      → IsCaused {X = Y} view shows q c d load (Err e)
   caused-error {Y = Y} load c d e why = record {
     unless_stopped = if-none load (same-error {X = Unit {0}} {Y = Y} e Stopped) why.unless_stopped;
     of_steps = why.of_steps;
     no_device = (λ h. why.no_device.0 (same-error {X = Y} e NoDevice h), λ h. same-error {X = Unit {0}} {Y = Y} e NoDevice (why.no_device.1 h));
-    reached = λ a f. (λ h. (why.reached a f).0 (same-error {X = Y} e (Xrun (Avail a f)) h), λ h. same-error {X = Unit {0}} {Y = Y} e (Xrun (Avail a f)) ((why.reached a f).1 h));
+    reached = λ a f. (
+      λ h. (why.reached a f).0 (same-error {X = Y} e (Xrun (Avail a f)) h),
+      λ h. same-error {X = Unit {0}} {Y = Y} e (Xrun (Avail a f))
+          ((why.reached a f).1 h),
+    );
     late = λ frame channel word h. why.late frame channel word (same-error {X = Y} e (Xrun (Late frame channel word)) h);
     never_lap_end = λ h. why.never_lap_end (same-error {X = Y} e LapEnd h);
   }
 
   -- so has an answer with a number, and that of a write that starts a stream
-  pub caused-number : (load : Option Position) (c : PlaybackStream) (number : PlaybackStream → ℕ) (a : Answered (Unit {0})) → IsCaused {X = Unit {0}} view shows q c a.0 load a.1
+  pub caused-number : (load : Option Position) (c : PlaybackStream) (number : PlaybackStream → ℕ) (a : Answered (Unit {0}))
+      → IsCaused {X = Unit {0}} view shows q c a.0 load a.1
       → IsCaused {X = ℕ} view shows q c (with_number number a).0 load (with_number number a).1
   caused-number load c number (d, Ok done) why = caused-other c d load (Ok (number d)) (free-by c d load why) (other-ok (number d))
   caused-number load c number (d, Err e) why = caused-error load c d e why
@@ -181,13 +195,15 @@ last-true true b n is = refl
 last-true false true n is = refl
 last-true false false n is = absurd (cc)
 
-IsPlain-after_sync : (c : PlaybackStream) (position : Position) (x : Commit) → IsCommit x.ended x.frames x.part (sync_count c position) (length c.setup.bindings)
+IsPlain-after_sync : (c : PlaybackStream) (position : Position) (x : Commit)
+    → IsCommit x.ended x.frames x.part (sync_count c position) (length c.setup.bindings)
     → IsPlain position.gone (over_of (seen_at c position) position) x.ended
 IsPlain-after_sync c position x is =
     let over = over_of (seen_at c position) position in
     let count = commit_count c position.frame c.stretch.written in
     let whole : sync_count c position ≡ 0 → x.ended ≡ ended.Whole =
-    λ none. (none-of x.ended x.frames x.part (length c.setup.bindings) (subst (λ (n : ℕ). IsCommit x.ended x.frames x.part n (length c.setup.bindings)) none is)).2 in
+    λ none. (none-of x.ended x.frames x.part (length c.setup.bindings) (subst (λ (n : ℕ). IsCommit x.ended x.frames x.part n
+    (length c.setup.bindings)) none is)).2 in
     record {
       here = λ h. whole (rw h refl);
       below = λ a f h. whole (last-true position.gone (is_some over) count (ap (λ (o : Option (ℕ × ℕ)). is_some o) h));
@@ -198,7 +214,8 @@ running-is Running is = refl
 running-is s is = absurd (cc)
 
 if-some : (b : Bool) (x y a f : ℕ) → (let o : Option (ℕ × ℕ) = (if b then Some (x, y) else None) in o) ≡ Some (a, f) → (b ≡ true) × (a ≡ x) × (f ≡ y)
-if-some true x y a f is = let same : (let p : ℕ × ℕ = (x, y) in p) ≡ (a, f) = cc in (refl, sym (ap (λ (p : ℕ × ℕ). p.0) same), sym (ap (λ (p : ℕ × ℕ). p.1) same))
+if-some true x y a f is =
+    let same : (let p : ℕ × ℕ = (x, y) in p) ≡ (a, f) = cc in (refl, sym (ap (λ (p : ℕ × ℕ). p.0) same), sym (ap (λ (p : ℕ × ℕ). p.1) same))
 if-some false x y a f is = absurd (cc)
 
 both-true : (s : State) (t n : ℕ) → (is_running s && nat_le t n) ≡ true → (is_running s ≡ true) × (t ≤ n)
@@ -208,11 +225,13 @@ both-true s t n is = by_test (is_running s) is
     by_test true e = (refl, grind (arith, nat_tests))
     by_test false e = absurd (cc)
 
-some-of : (c : PlaybackStream) (position : Position) (a f : ℕ) → c.status.state ≡ Running → c.setup.params.stop_threshold ≤ a → a ≡ avail_of (seen_at c position) → f ≡ position.frame
+some-of : (c : PlaybackStream) (position : Position) (a f : ℕ) → c.status.state ≡ Running → c.setup.params.stop_threshold ≤ a
+    → a ≡ avail_of (seen_at c position) → f ≡ position.frame
     → over_of (seen_at c position) position ≡ Some (a, f)
 some-of c position a f running low is_avail is_frame =
     let reached : (is_running c.status.state && nat_le c.setup.params.stop_threshold (avail_of (seen_at c position))) ≡ true =
-    ap (λ (s : State). is_running s && nat_le c.setup.params.stop_threshold (avail_of (seen_at c position))) running ∙ at_threshold c.setup.params.stop_threshold a (avail_of (seen_at c position)) low is_avail in
+    ap (λ (s : State). is_running s && nat_le c.setup.params.stop_threshold (avail_of (seen_at c position))) running ∙ at_threshold
+    c.setup.params.stop_threshold a (avail_of (seen_at c position)) low is_avail in
     ap (λ (b : Bool). let o : Option (ℕ × ℕ) = (if b then Some (avail_of (seen_at c position), position.frame) else None) in o) reached
     ∙ ap (λ (n : ℕ). let o : Option (ℕ × ℕ) = Some (n, position.frame) in o) (sym is_avail)
     ∙ ap (λ (n : ℕ). let o : Option (ℕ × ℕ) = Some (a, n) in o) (sym is_frame)
@@ -221,13 +240,16 @@ some-of c position a f running low is_avail is_frame =
     at_threshold t a n low is = grind (arith, nat_tests)
 
 -- what the threshold reached says
-reaches-of : (c : PlaybackStream) (position : Position) (a f : ℕ) → position.gone ≡ false → over_of (seen_at c position) position ≡ Some (a, f) → Reaches c (Some position) a f
+reaches-of : (c : PlaybackStream) (position : Position) (a f : ℕ) → position.gone ≡ false → over_of (seen_at c position) position ≡ Some (a, f)
+    → Reaches c (Some position) a f
 reaches-of c position a f here is =
-    let found = if-some (is_running c.status.state && nat_le c.setup.params.stop_threshold (avail_of (seen_at c position))) (avail_of (seen_at c position)) position.frame a f is in
+    let found = if-some (is_running c.status.state && nat_le c.setup.params.stop_threshold (avail_of (seen_at c position))) (avail_of (seen_at c position))
+    position.frame a f is in
     let both = both-true c.status.state c.setup.params.stop_threshold (avail_of (seen_at c position)) found.0 in
     (here, running-is c.status.state both.0, omega (arith, both.1, found.1), found.1, found.2)
 
-free-at : (c : PlaybackStream) (position : Position) → position.gone ≡ false → (c.status.state ≡ Running → over_of (seen_at c position) position ≡ None) → IsFree c (Some position)
+free-at : (c : PlaybackStream) (position : Position) → position.gone ≡ false → (c.status.state ≡ Running → over_of (seen_at c position) position ≡ None)
+    → IsFree c (Some position)
 free-at c position here none = record {
   loaded = tt;
   here = λ gone. let is : position.gone ≡ true = gone in cc;
@@ -235,7 +257,8 @@ free-at c position here none = record {
 }
 
 module _ {S : Type 0} (view : S → PortView) (shows : S → ℕ → ℕ → Option ℕ) (q : S) where
-  pub IsCaused-plain : (c : PlaybackStream) (call : Call) (load : Option Position) (x : Commit) → IsFrameStep c.status.state call → IfSome load (λ position. IsPlain position.gone (over_of (seen_at c position) position) x.ended)
+  pub IsCaused-plain : (c : PlaybackStream) (call : Call) (load : Option Position) (x : Commit) → IsFrameStep c.status.state call
+      → IfSome load (λ position. IsPlain position.gone (over_of (seen_at c position) position) x.ended)
       → IfSome load (λ position. OnLate x.ended (λ word. IsPast view shows q (end_of_commit c x) (end_channel c x) word))
       → IsCaused {X = Unit {0}} view shows q c (after_sync c call load x).0 load (after_sync c call load x).1
   IsCaused-plain c call None x step plain shown = caused-none view shows q c (record c { status = record c.status { stopped = true } })
@@ -245,9 +268,11 @@ module _ {S : Type 0} (view : S → PortView) (shows : S → ℕ → ℕ → Opt
       (λ stop. caused-other view shows q c _ (Some position) (Err Stopped) (record {
         loaded = tt;
         here = λ gone. let no : is_stop ended.Whole ≡ true = subst (λ (e : Ended). is_stop e ≡ true) (plain.here gone) stop in cc;
-        below = λ a f h. let no : is_stop ended.Whole ≡ true = subst (λ (e : Ended). is_stop e ≡ true) (plain.below a f (some-of c position a f h.1 h.2 h.3 h.4)) stop in cc;
+        below = λ a f h. let no : is_stop ended.Whole ≡ true = subst (λ (e : Ended). is_stop e ≡ true)
+            (plain.below a f (some-of c position a f h.1 h.2 h.3 h.4)) stop in cc;
       }) other-stopped)
-      (λ going. next-ends (λ (o : Outcome). IsCaused {X = Unit {0}} view shows q c (with_outcome done o).0 (Some position) o.answer) c.status.state call (queued_of done) position.gone (over_of (seen_at c position) position) (late_of (seen_at c position) x) step
+      (λ going. next-ends (λ (o : Outcome). IsCaused {X = Unit {0}} view shows q c (with_outcome done o).0 (Some position) o.answer) c.status.state call
+      (queued_of done) position.gone (over_of (seen_at c position) position) (late_of (seen_at c position) x) step
       (λ gone. caused-gone view shows q c _ position gone)
       (λ a f here runs is. caused-over view shows q c _ position a f (reaches-of c position a f here is))
       (λ w here none is. caused-late view shows q c c _ (Some position) x w (free-at c position here none) refl refl is shown)
@@ -256,12 +281,14 @@ module _ {S : Type 0} (view : S → PortView) (shows : S → ℕ → ℕ → Opt
       (λ here drains in_time same. caused-other view shows q c _ (Some position) _ (free-at c position here (λ runs. absurd (cc))) (other-ok tt))
       (λ here drains in_time same. caused-other view shows q c _ (Some position) _ (free-at c position here (λ runs. absurd (cc))) other-again))
 
-  pub IsCaused-after_sync : (c : PlaybackStream) (call : Call) (load : Option Position) (x : Commit) → IsFrameStep c.status.state call → IsFound load x (λ position. c) (sync_count c) (length c.setup.bindings)
+  pub IsCaused-after_sync : (c : PlaybackStream) (call : Call) (load : Option Position) (x : Commit) → IsFrameStep c.status.state call
+      → IsFound load x (λ position. c) (sync_count c) (length c.setup.bindings)
       → IfSome load (λ position. OnLate x.ended (λ word. IsPast view shows q (end_of_commit c x) (end_channel c x) word))
       → IsCaused {X = Unit {0}} view shows q c (after_sync c call load x).0 load (after_sync c call load x).1
   IsCaused-after_sync c call load x step found shown = IsCaused-plain c call load x step (plain-found load found.commit_is) shown
     where
-      plain-found : (at : Option Position) → IfSome at (λ (position : Position). IsCommit x.ended x.frames x.part (sync_count c position) (length c.setup.bindings))
+      plain-found : (at : Option Position)
+          → IfSome at (λ (position : Position). IsCommit x.ended x.frames x.part (sync_count c position) (length c.setup.bindings))
           → IfSome at (λ position. IsPlain position.gone (over_of (seen_at c position) position) x.ended)
       plain-found None commit_is = tt
       plain-found (Some position) commit_is = IsPlain-after_sync c position x commit_is
@@ -269,19 +296,22 @@ module _ {S : Type 0} (view : S → PortView) (shows : S → ℕ → ℕ → Opt
   -- ---- a start
 
   pub IsCaused-after_start : (c : PlaybackStream) (state : State) (cursor : Cursor) (load : Option Position) (x : Commit) → c.status.state ≡ Prepared
-      → IfSome load (λ (position : Position). OnLate x.ended (λ word. IsPast view shows q (end_of_commit (started_in c Running position cursor) x) (end_channel (started_in c Running position cursor) x) word))
+      → IfSome load (λ (position : Position). OnLate x.ended (λ word. IsPast view shows q (end_of_commit (started_in c Running position cursor) x)
+      (end_channel (started_in c Running position cursor) x) word))
       → IsCaused {X = Unit {0}} view shows q c (after_start c state cursor load x).0 load (after_start c state cursor load x).1
   IsCaused-after_start c state cursor None x waits shown = caused-none view shows q c (record c { status = record c.status { stopped = true } })
   IsCaused-after_start c state cursor (Some position) x waits shown =
       after_start-ends (λ (a : Answered (Unit {0})). IsCaused {X = Unit {0}} view shows q c a.0 (Some position) a.1) c state cursor position x
       (λ gone. caused-gone view shows q c _ position gone)
       (λ here stop. caused-other view shows q c _ (Some position) (Err Stopped) (free-at c position here (λ runs. absurd (cc))) other-stopped)
-      (λ w here going is. caused-late view shows q c (started_in c Running position cursor) _ (Some position) x w (free-at c position here (λ runs. absurd (cc))) refl refl is shown)
+      (λ w here going is. caused-late view shows q c (started_in c Running position cursor) _ (Some position) x w
+      (free-at c position here (λ runs. absurd (cc))) refl refl is shown)
       (λ here going in_time. caused-other view shows q c _ (Some position) _ (free-at c position here (λ runs. absurd (cc))) (other-ok tt))
 
   -- ---- a write after its sync
 
-  pub caused-on : (load : Option Position) (c : PlaybackStream) (a : Answered (Unit {0})) (n : ℕ) (last : Commit) → IsCaused {X = Unit {0}} view shows q c a.0 load a.1
+  pub caused-on : (load : Option Position) (c : PlaybackStream) (a : Answered (Unit {0})) (n : ℕ) (last : Commit)
+      → IsCaused {X = Unit {0}} view shows q c a.0 load a.1
       → OnLate last.ended (λ word. IsPast view shows q (end_of_commit a.0 last) (end_channel a.0 last) word)
       → IsCaused {X = ℕ} view shows q c (written_on a n last).0 load (written_on a n last).1
   caused-on load c (u, Ok done) n last first shown =
@@ -294,7 +324,8 @@ module _ {S : Type 0} (view : S → PortView) (shows : S → ℕ → ℕ → Opt
   caused-on load c (u, Err e) n last first shown = caused-error view shows q load c u e first
 
 -- what was found of a sync that went well holds at later states of the port too
-pub caused-moved : {S : Type 0} (view : S → PortView) (shows : S → ℕ → ℕ → Option ℕ) (q r : S) (load : Option Position) (c : PlaybackStream) (a : Answered (Unit {0}))
+pub caused-moved : {S : Type 0} (view : S → PortView) (shows : S → ℕ → ℕ → Option ℕ) (q r : S) (load : Option Position) (c : PlaybackStream)
+    (a : Answered (Unit {0}))
     → IsCaused {X = Unit {0}} view shows q c a.0 load a.1 → ((e : PcmError) → a.1 ≡ Err e → r ≡ q) → IsCaused {X = Unit {0}} view shows r c a.0 load a.1
 caused-moved view shows q r load c (d, Err e) first same = subst (λ s. IsCaused {X = Unit {0}} view shows s c d load (Err e)) (sym (same e refl)) first
 caused-moved view shows q r load c (d, Ok done) first same = record {
@@ -308,15 +339,19 @@ caused-moved view shows q r load c (d, Ok done) first same = record {
 
 -- ---- when a write is to be made again
 
-pub after_sync-not_again : (c : PlaybackStream) (load : Option Position) (x : Commit) → c.status.state ≡ Running → (after_sync c call.Transfer load x).1 ≡ Err Again → ⊥
+pub after_sync-not_again : (c : PlaybackStream) (load : Option Position) (x : Commit) → c.status.state ≡ Running
+    → (after_sync c call.Transfer load x).1 ≡ Err Again → ⊥
 after_sync-not_again c None x running = λ is. cc
 after_sync-not_again c (Some position) x running =
     by-test (λ (a : Answered (Unit {0})). a.1 ≡ Err Again → ⊥) (is_stop x.ended) _ _ (λ stop is. cc)
-    (λ going. next-ends (λ (o : Outcome). o.answer ≡ Err Again → ⊥) c.status.state call.Transfer (queued_of (committed_by (seen_at c position) x)) position.gone (over_of (seen_at c position) position) (late_of (seen_at c position) x)
-    (subst (λ (s : State). IsFrameStep s call.Transfer) (sym running) tt) (λ gone is. cc) (λ a f here runs over is. cc) (λ w here none late is. cc) (λ here runs none in_time is. cc) (λ here drains in_time is. cc) (λ here drains in_time same is. cc) (λ here drains in_time same. absurd (cc)))
+    (λ going. next-ends (λ (o : Outcome). o.answer ≡ Err Again → ⊥) c.status.state call.Transfer (queued_of (committed_by (seen_at c position) x)) position.gone
+    (over_of (seen_at c position) position) (late_of (seen_at c position) x)
+    (subst (λ (s : State). IsFrameStep s call.Transfer) (sym running) tt) (λ gone is. cc) (λ a f here runs over is. cc) (λ w here none late is. cc)
+    (λ here runs none in_time is. cc) (λ here drains in_time is. cc) (λ here drains in_time same is. cc) (λ here drains in_time same. absurd (cc)))
 
 -- a write says so exactly where its sync went well, frames were offered and none can be taken
-pub written_on-again : (a : Answered (Unit {0})) (n : ℕ) (last : Commit) → (a.1 ≡ Err Again → ⊥) → ((written_on a n last).1 ≡ Err Again) ↔ ((a.1 ≡ Ok tt) × (0 < n) × (avail_of a.0 ≡ 0))
+pub written_on-again : (a : Answered (Unit {0})) (n : ℕ) (last : Commit) → (a.1 ≡ Err Again → ⊥)
+    → ((written_on a n last).1 ≡ Err Again) ↔ ((a.1 ≡ Ok tt) × (0 < n) × (avail_of a.0 ≡ 0))
 written_on-again (c, Ok done) n last other =
     written-ends (λ (a : Answered ℕ). (a.1 ≡ Err Again) ↔ (((let r : Result (Unit {0}) PcmError = Ok done in r) ≡ Ok tt) × (0 < n) × (avail_of c ≡ 0))) c n last
     (λ some none. (λ h. (refl, some, none), λ h. refl)) (λ full stop. (λ h. cc, λ h. absurd (full h.1 h.2)))

@@ -56,7 +56,8 @@ pub rising-single : (bindings : List ℕ) → AreBindings bindings → length bi
 rising-single bindings are single = omega (arith, rising-within bindings 0 are (omega (arith, single)), single)
 
 -- the entry of a sample that a client holds, by where its frame begins in the local ring
-pub entry-ring_sample : (E : ℕ → ℕ → ℤ → Entry) (stream : PlaybackStream) (ring : List ℤ) (number slot q member channel : ℕ) (x : ℤ) → member ≡ stream.identity.member → channel ≡ slice_index stream.setup.bindings q
+pub entry-ring_sample : (E : ℕ → ℕ → ℤ → Entry) (stream : PlaybackStream) (ring : List ℤ) (number slot q member channel : ℕ) (x : ℤ)
+    → member ≡ stream.identity.member → channel ≡ slice_index stream.setup.bindings q
     → slot ≡ (stream.stretch.source + number) % stream.setup.config.buffer_size * length stream.setup.bindings → x ≡ slice_index_or ring (slot + q) (pos 0)
     → E member channel x ≡ E stream.identity.member (slice_index stream.setup.bindings q) (ring_sample stream ring number q)
 entry-ring_sample E stream ring number slot q member channel x is_member is_channel is_slot is =
@@ -64,7 +65,8 @@ entry-ring_sample E stream ring number slot q member channel x is_member is_chan
     ∙ ap (E stream.identity.member (slice_index stream.setup.bindings q)) (is ∙ ap (λ (i : ℕ). slice_index_or ring (i + q) (pos 0)) is_slot)
 
 -- the entry of a sample in a frame of the local ring, by the slot where the frame begins
-pub entry-bound : (E : ℕ → ℕ → ℤ → Entry) (bindings : List ℕ) (ring : List ℤ) (slot q m member channel : ℕ) (x : ℤ) → m ≡ member → channel ≡ slice_index bindings q
+pub entry-bound : (E : ℕ → ℕ → ℤ → Entry) (bindings : List ℕ) (ring : List ℤ) (slot q m member channel : ℕ) (x : ℤ) → m ≡ member
+    → channel ≡ slice_index bindings q
     → x ≡ slice_index_or ring (slot + q) (pos 0) → E m channel x ≡ E member (slice_index bindings q) (slot_sample ring slot q)
 entry-bound E bindings ring slot q m member channel x is_member is_channel is =
     ap (λ (n : ℕ). E n channel x) is_member ∙ ap (λ (k : ℕ). E member k x) is_channel ∙ ap (E member (slice_index bindings q)) is

@@ -1,6 +1,6 @@
 -- What an answer says: that the client goes on, that the gate stopped it, or that a drain is to be made again.
-use Rattle.std.proofs.Common.{ap, refl, subst, sym, ℕ, ◌+◌, ◌≡◌, ◌∙◌}
-use Rattle.std.specs.Prelude.{Bool, Err, IsErrAnd, None, Ok, OnOk, Option, Result, Some, false, if◌then◌else◌, true, ◌↔◌}
+use Rattle.std.proofs.Common.{refl, subst, sym, ℕ, ◌+◌, ◌≡◌}
+use Rattle.std.specs.Prelude.{Bool, Err, None, Ok, OnOk, Option, Result, Some, false, if◌then◌else◌, true, ◌↔◌}
 use Rattle.course.specs.Stops.{CountsStop, pass_by}
 use Rattle.mix_core.specs.declared.gate.Pass.TheVariants.{Go}
 use Rattle.mix_core.specs.declared.port.Ended.TheVariants as ended
@@ -52,7 +52,8 @@ go-in (error.Xrun why.Already) = refl
 go-in (error.Xrun w) = refl
 go-in e = refl
 
-go-by : (stopped : Bool) (r : Result (Unit {0}) PcmError) → stopped ≡ false → pass_by (refused_by (let o : Option PcmError = (if stopped then Some error.Stopped else refusal_in r) in o)) ≡ Go
+go-by : (stopped : Bool) (r : Result (Unit {0}) PcmError) → stopped ≡ false
+    → pass_by (refused_by (let o : Option PcmError = (if stopped then Some error.Stopped else refusal_in r) in o)) ≡ Go
 go-by true r is = absurd (cc)
 go-by false (Ok done) is = refl
 go-by false (Err e) is = go-in e
@@ -61,12 +62,15 @@ pub refused-go : (c : PlaybackStream) (call : Call) → c.status.stopped ≡ fal
 refused-go c call unstopped = go-by c.status.stopped (next_of c.status.state call (nothing_found Playback)).answer unstopped
 
 -- a stream that runs still runs after a sync for a write that went well
-pub after_sync-runs : (c : PlaybackStream) (load : Option Position) (x : Commit) → c.status.state ≡ Running → OnOk (after_sync c call.Transfer load x).1 ((after_sync c call.Transfer load x).0.status.state ≡ Running)
+pub after_sync-runs : (c : PlaybackStream) (load : Option Position) (x : Commit) → c.status.state ≡ Running
+    → OnOk (after_sync c call.Transfer load x).1 ((after_sync c call.Transfer load x).0.status.state ≡ Running)
 after_sync-runs c None x runs = tt
 after_sync-runs c (Some position) x runs =
     by-test (λ (a : Answered (Unit {0})). OnOk a.1 (a.0.status.state ≡ Running)) (is_stop x.ended) _ _ (λ stop. tt)
-    (λ going. next-ends (λ (o : Outcome). OnOk o.answer (o.state ≡ Running)) c.status.state call.Transfer (queued_of (committed_by (seen_at c position) x)) position.gone (over_of (seen_at c position) position) (late_of (seen_at c position) x)
-    (subst (λ (s : State). IsFrameStep s call.Transfer) (sym runs) tt) (λ gone. tt) (λ a f here same is. tt) (λ w here none is. tt) (λ here same none in_time. refl) (λ here drains in_time. absurd (cc)) (λ here drains in_time same. absurd (cc)) (λ here drains in_time same. tt))
+    (λ going. next-ends (λ (o : Outcome). OnOk o.answer (o.state ≡ Running)) c.status.state call.Transfer (queued_of (committed_by (seen_at c position) x))
+    position.gone (over_of (seen_at c position) position) (late_of (seen_at c position) x)
+    (subst (λ (s : State). IsFrameStep s call.Transfer) (sym runs) tt) (λ gone. tt) (λ a f here same is. tt) (λ w here none is. tt)
+    (λ here same none in_time. refl) (λ here drains in_time. absurd (cc)) (λ here drains in_time same. absurd (cc)) (λ here drains in_time same. tt))
 
 pub OnOk-of : (r : Result (Unit {0}) PcmError) (Y : Type 0) → r ≡ Ok tt → OnOk r Y → Y
 OnOk-of (Ok done) Y is y = y
@@ -82,20 +86,26 @@ stopped-still : (c : PlaybackStream) → IsStill (stopped_in c)
 stopped-still c = (λ h. cc, λ h. let x = h.1 in cc)
 
 -- the sync of a stream that drains
-pub after_sync-still : (c : PlaybackStream) (load : Option Position) (x : Commit) → c.status.state ≡ Draining → c.status.stopped ≡ false → IsStill (after_sync c call.Drain load x)
+pub after_sync-still : (c : PlaybackStream) (load : Option Position) (x : Commit) → c.status.state ≡ Draining → c.status.stopped ≡ false
+    → IsStill (after_sync c call.Drain load x)
 after_sync-still c None x drains going = stopped-still c
 after_sync-still c (Some position) x drains going =
     let done : PlaybackStream = committed_by (seen_at c position) x in
     by-test IsStill (is_stop x.ended) _ _ (λ stop. stopped-still done)
-    (λ goes. next-ends (λ (o : Outcome). IsStill (with_outcome done o)) c.status.state call.Drain (queued_of done) position.gone (over_of (seen_at c position) position) (late_of (seen_at c position) x)
-    (subst (λ (s : State). IsFrameStep s call.Drain) (sym drains) tt) (λ gone. (λ h. cc, λ h. let y = h.0 in cc)) (λ a f here runs is. absurd (cc)) (λ w here none is. (λ h. cc, λ h. let y = h.0 in cc))
-    (λ here runs none in_time. absurd (cc)) (λ here same in_time. (λ h. cc, λ h. let y = h.0 in cc)) (λ here same in_time is. absurd (cc)) (λ here same in_time is. (λ h. (refl, going), λ h. refl)))
+    (λ goes. next-ends (λ (o : Outcome). IsStill (with_outcome done o)) c.status.state call.Drain (queued_of done) position.gone
+    (over_of (seen_at c position) position) (late_of (seen_at c position) x)
+    (subst (λ (s : State). IsFrameStep s call.Drain) (sym drains) tt) (λ gone. (λ h. cc, λ h. let y = h.0 in cc)) (λ a f here runs is. absurd (cc))
+    (λ w here none is. (λ h. cc, λ h. let y = h.0 in cc))
+    (λ here runs none in_time. absurd (cc)) (λ here same in_time. (λ h. cc, λ h. let y = h.0 in cc)) (λ here same in_time is. absurd (cc))
+    (λ here same in_time is. (λ h. (refl, going), λ h. refl)))
 
 -- a start that leads to draining, and is refused
-pub after_start-still : (c : PlaybackStream) (cursor : Cursor) (load : Option Position) (x : Commit) (e : PcmError) → (after_start c Draining cursor load x).1 ≡ Err e → IsStill (after_start c Draining cursor load x)
+pub after_start-still : (c : PlaybackStream) (cursor : Cursor) (load : Option Position) (x : Commit) (e : PcmError)
+    → (after_start c Draining cursor load x).1 ≡ Err e → IsStill (after_start c Draining cursor load x)
 after_start-still c cursor None x e = λ is. stopped-still c
 after_start-still c cursor (Some position) x e =
-    after_start-ends (λ (a : Answered (Unit {0})). a.1 ≡ Err e → IsStill a) c Draining cursor position x (λ gone is. (λ h. cc, λ h. let y = h.0 in cc)) (λ here stop is. stopped-still (committed_by (started_in c Draining position cursor) x))
+    after_start-ends (λ (a : Answered (Unit {0})). a.1 ≡ Err e → IsStill a) c Draining cursor position x (λ gone is. (λ h. cc, λ h. let y = h.0 in cc))
+    (λ here stop is. stopped-still (committed_by (started_in c Draining position cursor) x))
     (λ w here going late is. (λ h. cc, λ h. let y = h.0 in cc)) (λ here going in_time is. absurd (cc))
 
 -- a client whose call is admitted isn't stopped
@@ -106,33 +116,6 @@ unstopped-by false o is = refl
 pub refusal_of-unstopped : (c : PlaybackStream) → refusal_of Playback c.status call.Drain ≡ None → c.status.stopped ≡ false
 refusal_of-unstopped c admitted = unstopped-by c.status.stopped (refusal_in (next_of c.status.state call.Drain (nothing_found Playback)).answer) admitted
 
--- the test of a call answers its refusal, and an admission where there is none
-tested-err : (o : Option PcmError) (e f : PcmError) → refused_by o ≡ Err e → o ≡ Some f → f ≡ e
-tested-err None e f is some = absurd (cc)
-tested-err (Some x) e f is some = cc
-
-untested : (o : Option PcmError) (e : PcmError) → refused_by o ≡ Err e → o ≡ None → ⊥
-untested None e is none = cc
-untested (Some f) e is none = cc
-
-tested-ok : (o : Option PcmError) (e : PcmError) → refused_by o ≡ Ok tt → o ≡ Some e → ⊥
-tested-ok None e is some = cc
-tested-ok (Some f) e is some = cc
-
-pub not-admitted : (c : PlaybackStream) (call : Call) (r : Result (Unit {0}) PcmError) (e : PcmError) → r ≡ refused_by (refusal_of Playback c.status call) → r ≡ Err e → refusal_of Playback c.status call ≡ None → ⊥
-not-admitted c call r e is err none = untested (refusal_of Playback c.status call) e (sym is ∙ err) none
-
-pub not-refused : (c : PlaybackStream) (call : Call) (r : Result (Unit {0}) PcmError) (e : PcmError) → r ≡ refused_by (refusal_of Playback c.status call) → r ≡ Ok tt → refusal_of Playback c.status call ≡ Some e → ⊥
-not-refused c call r e is ok some = tested-ok (refusal_of Playback c.status call) e (sym is ∙ ok) some
-
-none-of : (o : Option PcmError) → refused_by o ≡ Ok tt → o ≡ None
-none-of None is = refl
-none-of (Some e) is = absurd (cc)
-
--- a call whose test was passed isn't refused
-pub none-refused : (c : PlaybackStream) (call : Call) (r : Result (Unit {0}) PcmError) → r ≡ refused_by (refusal_of Playback c.status call) → r ≡ Ok tt → refusal_of Playback c.status call ≡ None
-none-refused c call r is ok = none-of (refusal_of Playback c.status call) (sym is ∙ ok)
-
 -- a stream that moves frames takes a step of them at a sync
 pub IsFrameStep-moving : (s : State) → is_moving s ≡ true → IsFrameStep s call.Sync
 IsFrameStep-moving Running moves = tt
@@ -142,24 +125,6 @@ IsFrameStep-moving other moves = absurd (cc)
 -- it doesn't move frames and rest
 pub not-resting : (s : State) → is_moving s ≡ true → is_moving s ≡ false → ⊥
 not-resting s moves rests = cc
-
-err-of : {X : Type 0} (r : Result X PcmError) (e f : PcmError) → IsErrAnd r (λ x. x ≡ e) → f ≡ e → r ≡ Err f
-err-of (Ok n) e f is same = absurd is
-err-of (Err x) e f is same = ap Err (is ∙ sym same)
-
--- the refusal is the call's answer
-pub refused-answer : {X : Type 0} (c : PlaybackStream) (call : Call) (r : Result (Unit {0}) PcmError) (e f : PcmError) (answer : Result X PcmError) → r ≡ refused_by (refusal_of Playback c.status call) → r ≡ Err e
-    → IsErrAnd answer (λ x. x ≡ e) → refusal_of Playback c.status call ≡ Some f → answer ≡ Err f
-refused-answer c call r e f answer is err answered some = err-of answer e f answered (tested-err (refusal_of Playback c.status call) e f (sym is ∙ err) some)
-
-err-pass : {X : Type 0} (answer : Result X PcmError) (e : PcmError) → pass_by (let r : Result (Unit {0}) PcmError = Err e in r) ≡ Go → IsErrAnd answer (λ x. x ≡ e) → pass_by answer ≡ Go
-err-pass (Ok n) e went is = absurd is
-err-pass (Err x) e went is = subst (λ (y : PcmError). pass_by (let r : Result (Unit {0}) PcmError = Err y in r) ≡ Go) (sym is) went
-
--- the refusal of a call is no stop of the gate
-pub refused-pass : {X : Type 0} (c : PlaybackStream) (call : Call) (r : Result (Unit {0}) PcmError) (e : PcmError) (answer : Result X PcmError) → r ≡ refused_by (refusal_of Playback c.status call) → r ≡ Err e
-    → IsErrAnd answer (λ x. x ≡ e) → c.status.stopped ≡ false → pass_by answer ≡ Go
-refused-pass c call r e answer is err answered unstopped = err-pass answer e (subst (λ (x : Result (Unit {0}) PcmError). pass_by x ≡ Go) (sym is ∙ err) (refused-go c call unstopped)) answered
 
 -- a stream isn't in two states
 pub not-both : (s : State) → s ≡ Running → s ≡ Prepared → ⊥

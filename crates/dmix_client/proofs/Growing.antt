@@ -19,7 +19,8 @@ use Rattle.dmix_client.specs.declared.commit.Commit.{Commit}
 use Rattle.dmix_client.specs.declared.stream.PlaybackStream.{PlaybackStream}
 
 -- the client after a commit represents the same samples
-pub StandsFor-after : (c b : PlaybackStream) (ring samples : List ℤ) (x : Commit) (count upto : ℕ) (s : Status) (written fed : ℕ) → CommitsAs c b ring x count upto → written ≤ upto → StandsUpTo c ring samples upto
+pub StandsFor-after : (c b : PlaybackStream) (ring samples : List ℤ) (x : Commit) (count upto : ℕ) (s : Status) (written fed : ℕ)
+    → CommitsAs c b ring x count upto → written ≤ upto → StandsUpTo c ring samples upto
     → StandsFor (after c b x s written fed) ring samples
 StandsFor-after c b ring samples x count upto s written fed y few stands j q low high in_range =
     stands j q (omega (arith, low, min-later c.stretch.committed (hw_of c) x.frames (hw_of b) y.later)) (omega (arith, high, few)) in_range
@@ -42,7 +43,8 @@ abbrev pub laid_at : PlaybackStream → PlaybackStream → List ℤ → Commit �
 laid_at c b ring x = run_entries c.identity.member c.setup.bindings (ring_sample c ring) b.stretch.card c.stretch.committed x.frames x.part
 
 -- the entries of the segment grow by that
-pub segment_entries-after : (c b : PlaybackStream) (ring samples : List ℤ) (x : Commit) (count upto : ℕ) (s : Status) (written fed : ℕ) → CommitsAs c b ring x count upto → AreBindings c.setup.bindings → StandsUpTo c ring samples upto
+pub segment_entries-after : (c b : PlaybackStream) (ring samples : List ℤ) (x : Commit) (count upto : ℕ) (s : Status) (written fed : ℕ)
+    → CommitsAs c b ring x count upto → AreBindings c.setup.bindings → StandsUpTo c ring samples upto
     → segment_entries (after c b x s written fed) samples ≡ segment_entries c samples ++ laid_at c b ring x
 segment_entries-after c b ring samples x count upto s written fed y bound stands =
     let sample : ℕ → ℕ → ℤ = λ j. sample_at samples (length c.setup.bindings) (c.stretch.source + j) in
@@ -60,13 +62,17 @@ segment_entries-after c b ring samples x count upto s written fed y bound stands
     low-at : (k h j : ℕ) → k ≤ j → min k h ≤ j
     low-at k h j least = grind (arith, nat_tests)
 
-pub laid_at-none : (c b : PlaybackStream) (ring : List ℤ) (x : Commit) → x.frames ≡ 0 → x.part ≡ 0 → laid_at c b ring x ≡ laid_at c b ring (record { frames = 0; part = 0; ended = x.ended })
+pub laid_at-none : (c b : PlaybackStream) (ring : List ℤ) (x : Commit) → x.frames ≡ 0 → x.part ≡ 0
+    → laid_at c b ring x ≡ laid_at c b ring (record { frames = 0; part = 0; ended = x.ended })
 laid_at-none c b ring x no_frame no_part =
-    ap (λ (n : ℕ). laid_at c b ring (record x { frames = n })) no_frame ∙ ap (λ (n : ℕ). laid_at c b ring (record { frames = 0; part = n; ended = x.ended })) no_part
+    ap (λ (n : ℕ). laid_at c b ring (record x { frames = n })) no_frame ∙ ap (λ (n : ℕ). laid_at c b ring
+    (record { frames = 0; part = n; ended = x.ended })) no_part
 
 -- no frame more is accepted
 pub accepted-none : (a : Answered (Unit {0})) → (accepted_if 0 a).0 ≡ a.0
-accepted-none (d, Ok done) = ap (λ (w : ℕ). record d { stretch = record d.stretch { written = w }; fed = d.fed + 0 }) (add-zero d.stretch.written) ∙ ap (λ (f : ℕ). record d { fed = f }) (add-zero d.fed)
+accepted-none (d, Ok done) =
+    ap (λ (w : ℕ). record d { stretch = record d.stretch { written = w }; fed = d.fed + 0 }) (add-zero d.stretch.written)
+    ∙ ap (λ (f : ℕ). record d { fed = f }) (add-zero d.fed)
 accepted-none (d, Err e) = refl
 
 -- ---- a client that stored the frames of a write represents its samples up to these
@@ -74,7 +80,8 @@ accepted-none (d, Err e) = refl
 prepared_fits : (w b h k : ℕ) → w ≤ b → h ≡ 0 → (w ≤ h + b) × (min w h ≤ k)
 prepared_fits w b h k fits none = (omega (arith, fits, none), grind (arith, nat_tests))
 
-pub StandsUpTo-filled : (c : PlaybackStream) (ring samples offered : List ℤ) (n : ℕ) → IsSoundClient c ring → c.status.state ≡ Prepared → n * length c.setup.bindings ≤ length offered
+pub StandsUpTo-filled : (c : PlaybackStream) (ring samples offered : List ℤ) (n : ℕ) → IsSoundClient c ring → c.status.state ≡ Prepared
+    → n * length c.setup.bindings ≤ length offered
     → StandsFor c ring samples → Follows c samples offered n → StandsUpTo c (ring_with c ring offered (taken_of c n)) samples (c.stretch.written + taken_of c n)
 StandsUpTo-filled c ring samples offered n sound waits held_all stands follows =
     let p = sound.prepared waits in

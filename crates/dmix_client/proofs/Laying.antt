@@ -37,20 +37,25 @@ module _ {S T : Type 0} (P : mixport.Ghosts S) (G : gates.Ghosts T) where
   Rest-none member frame bindings sample_of qs s t done ended takes =
       subst (λ n. TakesAt P G s (lay_each member frame bindings sample_of qs) t (n, ended)) (let same : done ≡ 0 + done = omega arith in same) takes
 
-  pub Rest-next : (member frame : ℕ) (bindings : List ℕ) (sample_of : ℕ → ℤ) (qs : List ℕ) (start now next : S × T) (i : ℕ) (e : Entry) → i < length qs → e ≡ channel_entry member frame bindings sample_of (slice_index qs i)
+  pub Rest-next : (member frame : ℕ) (bindings : List ℕ) (sample_of : ℕ → ℤ) (qs : List ℕ) (start now next : S × T) (i : ℕ) (e : Entry) → i < length qs
+      → e ≡ channel_entry member frame bindings sample_of (slice_index qs i)
       → Rest P G member frame bindings sample_of qs start now i → LaysAt P G now e Whole next → Rest P G member frame bindings sample_of qs start next (i + 1)
   unfolding lay_each
   Rest-next member frame bindings sample_of qs start now next i e low is so_far step t done ended takes =
-      subst (λ n. TakesAt P G start (lay_each member frame bindings sample_of qs) t (n, ended)) (let counted : i + (done + 1) ≡ i + 1 + done = omega arith in counted)
+      subst (λ n. TakesAt P G start (lay_each member frame bindings sample_of qs) t (n, ended))
+      (let counted : i + (done + 1) ≡ i + 1 + done = omega arith in counted)
       (so_far t (done + 1) ended (rw (drop_more qs i 0 low) (
         Whole,
         next,
         subst (λ (x : Entry). LaysAt P G now x Whole next) is step,
-        Takes-map (LoadsAt P G) (LaysAt P G) NoGet next t (lay_each member frame bindings sample_of (drop (i + 1) qs)) one_more (done, ended) (done + 1, ended) takes refl,
+        Takes-map (LoadsAt P G) (LaysAt P G) NoGet next t (lay_each member frame bindings sample_of (drop (i + 1) qs)) one_more (done, ended)
+            (done + 1, ended) takes refl,
       )))
 
-  pub Rest-ended : (member frame : ℕ) (bindings : List ℕ) (sample_of : ℕ → ℤ) (qs : List ℕ) (start now next : S × T) (i : ℕ) (e : Entry) (end : Ended) → i < length qs → e ≡ channel_entry member frame bindings sample_of (slice_index qs i) → (end ≡ Whole → ⊥)
-      → Rest P G member frame bindings sample_of qs start now i → LaysAt P G now e end next → TakesAt P G start (lay_each member frame bindings sample_of qs) next (i, end)
+  pub Rest-ended : (member frame : ℕ) (bindings : List ℕ) (sample_of : ℕ → ℤ) (qs : List ℕ) (start now next : S × T) (i : ℕ) (e : Entry) (end : Ended)
+      → i < length qs → e ≡ channel_entry member frame bindings sample_of (slice_index qs i) → (end ≡ Whole → ⊥)
+      → Rest P G member frame bindings sample_of qs start now i → LaysAt P G now e end next
+      → TakesAt P G start (lay_each member frame bindings sample_of qs) next (i, end)
   unfolding lay_each
   Rest-ended member frame bindings sample_of qs start now next i e end low is not_whole so_far step =
       subst (λ n. TakesAt P G start (lay_each member frame bindings sample_of qs) next (n, end)) (let counted : i + 0 ≡ i = omega arith in counted)
@@ -58,7 +63,8 @@ module _ {S T : Type 0} (P : mixport.Ghosts S) (G : gates.Ghosts T) where
         end,
         next,
         subst (λ (x : Entry). LaysAt P G now x end next) is step,
-        not-whole (λ (x : Ended). TakesAt P G next (lay_on x (lay_each member frame bindings sample_of (drop (i + 1) qs))) next (0, x)) end not_whole (λ word. record { there = refl; result = refl }) (record { there = refl; result = refl }),
+        not-whole (λ (x : Ended). TakesAt P G next (lay_on x (lay_each member frame bindings sample_of (drop (i + 1) qs))) next (0, x)) end not_whole
+            (λ word. record { there = refl; result = refl }) (record { there = refl; result = refl }),
       )))
 
   pub Rest-all : (member frame : ℕ) (bindings : List ℕ) (sample_of : ℕ → ℤ) (qs : List ℕ) (start now : S × T) (i : ℕ) → length qs ≤ i
@@ -69,7 +75,8 @@ module _ {S T : Type 0} (P : mixport.Ghosts S) (G : gates.Ghosts T) where
       (so_far now 0 Whole (rw (drop_all i qs is) (record { there = refl; result = refl })))
 
   -- a frame that was placed from a slot, as a frame of the client
-  pub TakesAt-ring_sample : (stream : PlaybackStream) (ring : List ℤ) (member frame slot number : ℕ) (s t : S × T) (done : ℕ × Ended) → member ≡ stream.identity.member → frame ≡ stream.stretch.card + number
+  pub TakesAt-ring_sample : (stream : PlaybackStream) (ring : List ℤ) (member frame slot number : ℕ) (s t : S × T) (done : ℕ × Ended)
+      → member ≡ stream.identity.member → frame ≡ stream.stretch.card + number
       → slot ≡ (stream.stretch.source + number) % stream.setup.config.buffer_size * length stream.setup.bindings
       → TakesAt P G s (lay_frame member frame stream.setup.bindings (slot_sample ring slot)) t done
       → TakesAt P G s (lay_frame stream.identity.member (stream.stretch.card + number) stream.setup.bindings (ring_sample stream ring number)) t done
@@ -78,47 +85,65 @@ module _ {S T : Type 0} (P : mixport.Ghosts S) (G : gates.Ghosts T) where
       (subst (λ (f : ℕ). TakesAt P G s (lay_frame member f stream.setup.bindings (ring_sample stream ring number)) t done) is_frame
       (subst (λ (n : ℕ). TakesAt P G s (lay_frame member frame stream.setup.bindings (slot_sample ring n)) t done) is_slot takes))
 
-  pub RestFrames-none : (member card : ℕ) (bindings : List ℕ) (samples : ℕ → ℕ → ℤ) (count first : ℕ) (s : S × T) → RestFrames P G member card bindings samples count first s s 0
+  pub RestFrames-none : (member card : ℕ) (bindings : List ℕ) (samples : ℕ → ℕ → ℤ) (count first : ℕ) (s : S × T)
+      → RestFrames P G member card bindings samples count first s s 0
   RestFrames-none member card bindings samples count first s t x takes =
-      subst (λ n. TakesAt P G s (lay_frames member card bindings samples count first) t (record { frames = n; part = x.part; ended = x.ended })) (let same : x.frames ≡ 0 + x.frames = omega arith in same)
+      subst (λ n. TakesAt P G s (lay_frames member card bindings samples count first) t (record { frames = n; part = x.part; ended = x.ended }))
+      (let same : x.frames ≡ 0 + x.frames = omega arith in same)
       (subst (λ n. TakesAt P G s (lay_frames member card bindings samples count n) t x) (let here : first + 0 ≡ first = omega arith in here)
       (subst (λ n. TakesAt P G s (lay_frames member card bindings samples n (first + 0)) t x) (let counted : count - 0 ≡ count = omega arith in counted) takes))
 
-  pub RestFrames-next : (member card : ℕ) (bindings : List ℕ) (samples : ℕ → ℕ → ℤ) (count first : ℕ) (start now next : S × T) (i placed : ℕ) → i < count → RestFrames P G member card bindings samples count first start now i
-      → TakesAt P G now (lay_frame member (card + (first + i)) bindings (samples (first + i))) next (placed, Whole) → RestFrames P G member card bindings samples count first start next (i + 1)
+  pub RestFrames-next : (member card : ℕ) (bindings : List ℕ) (samples : ℕ → ℕ → ℤ) (count first : ℕ) (start now next : S × T) (i placed : ℕ) → i < count
+      → RestFrames P G member card bindings samples count first start now i
+      → TakesAt P G now (lay_frame member (card + (first + i)) bindings (samples (first + i))) next (placed, Whole)
+      → RestFrames P G member card bindings samples count first start next (i + 1)
   unfolding lay_frames ◌>>=◌
   RestFrames-next member card bindings samples count first start now next i placed low so_far step t x takes =
       let one_less : count - i ≡ suc (count - (i + 1)) = omega (arith, low) in
-      subst (λ n. TakesAt P G start (lay_frames member card bindings samples count first) t (record { frames = n; part = x.part; ended = x.ended })) (let counted : i + (x.frames + 1) ≡ i + 1 + x.frames = omega arith in counted)
+      subst (λ n. TakesAt P G start (lay_frames member card bindings samples count first) t (record { frames = n; part = x.part; ended = x.ended }))
+      (let counted : i + (x.frames + 1) ≡ i + 1 + x.frames = omega arith in counted)
       (so_far t (one_frame_more x) (subst (λ n. TakesAt P G now (lay_frames member card bindings samples n (first + i)) t (one_frame_more x)) (sym one_less)
-      (Takes-then (LoadsAt P G) (LaysAt P G) NoGet now next t (lay_frame member (card + (first + i)) bindings (samples (first + i))) (λ end. go_on end (lay_frames member card bindings samples (count - (i + 1)) (first + i + 1))) (placed, Whole) (one_frame_more x) step
-      (Takes-map (LoadsAt P G) (LaysAt P G) NoGet next t (lay_frames member card bindings samples (count - (i + 1)) (first + i + 1)) one_frame_more x (one_frame_more x)
-      (subst (λ n. TakesAt P G next (lay_frames member card bindings samples (count - (i + 1)) n) t x) (let at : first + (i + 1) ≡ first + i + 1 = omega arith in at) takes) refl))))
+      (Takes-then (LoadsAt P G) (LaysAt P G) NoGet now next t (lay_frame member (card + (first + i)) bindings (samples (first + i)))
+      (λ end. go_on end (lay_frames member card bindings samples (count - (i + 1)) (first + i + 1))) (placed, Whole) (one_frame_more x) step
+      (Takes-map (LoadsAt P G) (LaysAt P G) NoGet next t (lay_frames member card bindings samples (count - (i + 1)) (first + i + 1))
+      one_frame_more x (one_frame_more x)
+      (subst (λ n. TakesAt P G next (lay_frames member card bindings samples (count - (i + 1)) n) t x)
+      (let at : first + (i + 1) ≡ first + i + 1 = omega arith in at) takes) refl))))
 
-  pub RestFrames-ended : (member card : ℕ) (bindings : List ℕ) (samples : ℕ → ℕ → ℤ) (count first : ℕ) (start now next : S × T) (i placed : ℕ) (end : Ended) → i < count → (end ≡ Whole → ⊥) → RestFrames P G member card bindings samples count first start now i
-      → TakesAt P G now (lay_frame member (card + (first + i)) bindings (samples (first + i))) next (placed, end) → TakesAt P G start (lay_frames member card bindings samples count first) next (record { frames = i; part = placed; ended = end })
+  pub RestFrames-ended : (member card : ℕ) (bindings : List ℕ) (samples : ℕ → ℕ → ℤ) (count first : ℕ) (start now next : S × T) (i placed : ℕ) (end : Ended)
+      → i < count → (end ≡ Whole → ⊥) → RestFrames P G member card bindings samples count first start now i
+      → TakesAt P G now (lay_frame member (card + (first + i)) bindings (samples (first + i))) next (placed, end)
+      → TakesAt P G start (lay_frames member card bindings samples count first) next (record { frames = i; part = placed; ended = end })
   unfolding lay_frames ◌>>=◌
   RestFrames-ended member card bindings samples count first start now next i placed end low not_whole so_far step =
       let one_less : count - i ≡ suc (count - (i + 1)) = omega (arith, low) in
       let rest = lay_frames member card bindings samples (count - (i + 1)) (first + i + 1) in
-      subst (λ n. TakesAt P G start (lay_frames member card bindings samples count first) next (record { frames = n; part = placed; ended = end })) (let counted : i + 0 ≡ i = omega arith in counted)
-      (so_far next (record { frames = 0; part = placed; ended = end }) (subst (λ n. TakesAt P G now (lay_frames member card bindings samples n (first + i)) next (record { frames = 0; part = placed; ended = end })) (sym one_less)
-      (Takes-then (LoadsAt P G) (LaysAt P G) NoGet now next next (lay_frame member (card + (first + i)) bindings (samples (first + i))) (λ e. go_on e rest) (placed, end) (record { frames = 0; part = placed; ended = end }) step
-      (not-whole (λ (x : Ended). TakesAt P G next (go_on (placed, x) rest) next (record { frames = 0; part = placed; ended = x })) end not_whole (λ word. record { there = refl; result = refl }) (record { there = refl; result = refl })))))
+      subst (λ n. TakesAt P G start (lay_frames member card bindings samples count first) next (record { frames = n; part = placed; ended = end }))
+      (let counted : i + 0 ≡ i = omega arith in counted)
+      (so_far next (record { frames = 0; part = placed; ended = end }) (subst (λ n. TakesAt P G now (lay_frames member card bindings samples n (first + i)) next
+      (record { frames = 0; part = placed; ended = end })) (sym one_less)
+      (Takes-then (LoadsAt P G) (LaysAt P G) NoGet now next next (lay_frame member (card + (first + i)) bindings (samples (first + i))) (λ e. go_on e rest)
+      (placed, end) (record { frames = 0; part = placed; ended = end }) step
+      (not-whole (λ (x : Ended). TakesAt P G next (go_on (placed, x) rest) next (record { frames = 0; part = placed; ended = x })) end not_whole
+      (λ word. record { there = refl; result = refl }) (record { there = refl; result = refl })))))
 
   pub RestFrames-all : (member card : ℕ) (bindings : List ℕ) (samples : ℕ → ℕ → ℤ) (count first : ℕ) (start now : S × T) (i : ℕ) → count ≡ i
       → RestFrames P G member card bindings samples count first start now i
       → TakesAt P G start (lay_frames member card bindings samples count first) now (record { frames = count; part = 0; ended = Whole })
   unfolding lay_frames
   RestFrames-all member card bindings samples count first start now i is so_far =
-      subst (λ n. TakesAt P G start (lay_frames member card bindings samples count first) now (record { frames = n; part = 0; ended = Whole })) (let counted : i + 0 ≡ count = omega (arith, is) in counted)
-      (so_far now nothing (subst (λ n. TakesAt P G now (lay_frames member card bindings samples n (first + i)) now nothing) (sym (let none : count - i ≡ 0 = omega (arith, is) in none)) (record { there = refl; result = refl })))
+      subst (λ n. TakesAt P G start (lay_frames member card bindings samples count first) now (record { frames = n; part = 0; ended = Whole }))
+      (let counted : i + 0 ≡ count = omega (arith, is) in counted)
+      (so_far now nothing (subst (λ n. TakesAt P G now (lay_frames member card bindings samples n (first + i)) now nothing)
+      (sym (let none : count - i ≡ 0 = omega (arith, is) in none)) (record { there = refl; result = refl })))
 
   -- a run of frames, and those after it, by the first frame of the run
-  frames-joined-by : (member card : ℕ) (bindings : List ℕ) (samples : ℕ → ℕ → ℤ) (all first : ℕ) (s m n t : S × T) (k done : ℕ) (end : Ended) (x y : Commit) → x.ended ≡ Whole
+  frames-joined-by : (member card : ℕ) (bindings : List ℕ) (samples : ℕ → ℕ → ℤ) (all first : ℕ) (s m n t : S × T) (k done : ℕ) (end : Ended)
+      (x y : Commit) → x.ended ≡ Whole
       → TakesAt P G s (lay_frame member (card + first) bindings (samples first)) m (done, end)
       → TakesAt P G m (go_on (done, end) (lay_frames member card bindings samples k (first + 1))) n x
-      → ((x' : Commit) → x'.ended ≡ Whole → TakesAt P G m (lay_frames member card bindings samples k (first + 1)) n x' → TakesAt P G m (lay_frames member card bindings samples all (first + 1)) t (more_frames k y))
+      → ((x' : Commit) → x'.ended ≡ Whole → TakesAt P G m (lay_frames member card bindings samples k (first + 1)) n x' → TakesAt P G m
+      (lay_frames member card bindings samples all (first + 1)) t (more_frames k y))
       → TakesAt P G s (lay_frames member card bindings samples (suc all) first) t (more_frames (suc k) y)
   unfolding lay_frames
   frames-joined-by member card bindings samples all first s m n t k done (Late word) x y whole frame run behind =
@@ -126,47 +151,62 @@ module _ {S T : Type 0} (P : mixport.Ghosts S) (G : gates.Ghosts T) where
   frames-joined-by member card bindings samples all first s m n t k done Stopped x y whole frame run behind =
       absurd (let same : Stopped ≡ Whole = sym (ap (λ (c : Commit). c.ended) run.result) ∙ whole in cc)
   frames-joined-by member card bindings samples all first s m n t k done Whole x y whole frame run behind =
-      let parts = Takes-parts (LoadsAt P G) (LaysAt P G) NoGet m n (lay_frames member card bindings samples k (first + 1)) (λ commit. ends (one_frame_more commit)) x run in
+      let parts = Takes-parts (LoadsAt P G) (LaysAt P G) NoGet m n (lay_frames member card bindings samples k (first + 1))
+      (λ commit. ends (one_frame_more commit)) x run in
       let ran = subst (λ (u : S × T). TakesAt P G m (lay_frames member card bindings samples k (first + 1)) u parts.1) (sym parts.3.there) parts.2 in
       let rest = behind parts.1 (sym (ap (λ (c : Commit). c.ended) parts.3.result) ∙ whole) ran in
-      subst (λ j. TakesAt P G s (lay_frames member card bindings samples (suc all) first) t (record { frames = j; part = y.part; ended = y.ended })) (let counted : k + y.frames + 1 ≡ suc k + y.frames = omega arith in counted)
-      (Takes-then (LoadsAt P G) (LaysAt P G) NoGet s m t (lay_frame member (card + first) bindings (samples first)) (λ end. go_on end (lay_frames member card bindings samples all (first + 1))) (done, Whole) (one_frame_more (more_frames k y)) frame
-      (Takes-map (LoadsAt P G) (LaysAt P G) NoGet m t (lay_frames member card bindings samples all (first + 1)) one_frame_more (more_frames k y) (one_frame_more (more_frames k y)) rest refl))
+      subst (λ j. TakesAt P G s (lay_frames member card bindings samples (suc all) first) t (record { frames = j; part = y.part; ended = y.ended }))
+      (let counted : k + y.frames + 1 ≡ suc k + y.frames = omega arith in counted)
+      (Takes-then (LoadsAt P G) (LaysAt P G) NoGet s m t (lay_frame member (card + first) bindings (samples first))
+      (λ end. go_on end (lay_frames member card bindings samples all (first + 1))) (done, Whole) (one_frame_more (more_frames k y)) frame
+      (Takes-map (LoadsAt P G) (LaysAt P G) NoGet m t (lay_frames member card bindings samples all (first + 1)) one_frame_more (more_frames k y)
+      (one_frame_more (more_frames k y)) rest refl))
 
   frames-joined : (member card : ℕ) (bindings : List ℕ) (samples : ℕ → ℕ → ℤ) (k all first : ℕ) (s m t : S × T) (x y : Commit) → k ≤ all → x.ended ≡ Whole
       → TakesAt P G s (lay_frames member card bindings samples k first) m x → TakesAt P G m (lay_frames member card bindings samples (all - k) (first + k)) t y
       → TakesAt P G s (lay_frames member card bindings samples all first) t (more_frames k y)
   unfolding lay_frames
   frames-joined member card bindings samples zero all first s m t x y few whole run behind =
-      subst (λ n. TakesAt P G s (lay_frames member card bindings samples all first) t (record { frames = n; part = y.part; ended = y.ended })) (let same : y.frames ≡ 0 + y.frames = omega arith in same)
+      subst (λ n. TakesAt P G s (lay_frames member card bindings samples all first) t (record { frames = n; part = y.part; ended = y.ended }))
+      (let same : y.frames ≡ 0 + y.frames = omega arith in same)
       (subst (λ n. TakesAt P G s (lay_frames member card bindings samples all n) t y) (let here : first + 0 ≡ first = omega arith in here)
       (subst (λ n. TakesAt P G s (lay_frames member card bindings samples n (first + 0)) t y) (let counted : all - 0 ≡ all = omega arith in counted)
       (subst (λ (u : S × T). TakesAt P G u (lay_frames member card bindings samples (all - 0) (first + 0)) t y) run.there behind)))
   frames-joined member card bindings samples (suc k) zero first s m t x y few whole run behind = absurd (omega (arith, few))
   frames-joined member card bindings samples (suc k) (suc all) first s m t x y few whole run behind =
-      let parts = Takes-parts (LoadsAt P G) (LaysAt P G) NoGet s m (lay_frame member (card + first) bindings (samples first)) (λ end. go_on end (lay_frames member card bindings samples k (first + 1))) x run in
-      let later = subst (λ n. TakesAt P G m (lay_frames member card bindings samples n (first + 1 + k)) t y) (let left : suc all - suc k ≡ all - k = omega arith in left)
-      (subst (λ n. TakesAt P G m (lay_frames member card bindings samples (suc all - suc k) n) t y) (let at : first + suc k ≡ first + 1 + k = omega arith in at) behind) in
+      let parts = Takes-parts (LoadsAt P G) (LaysAt P G) NoGet s m (lay_frame member (card + first) bindings (samples first))
+      (λ end. go_on end (lay_frames member card bindings samples k (first + 1))) x run in
+      let later = subst (λ n. TakesAt P G m (lay_frames member card bindings samples n (first + 1 + k)) t y)
+      (let left : suc all - suc k ≡ all - k = omega arith in left)
+      (subst (λ n. TakesAt P G m (lay_frames member card bindings samples (suc all - suc k) n) t y)
+      (let at : first + suc k ≡ first + 1 + k = omega arith in at) behind) in
       frames-joined-by member card bindings samples all first s parts.0 m t k parts.1.0 parts.1.1 x y whole parts.2 parts.3
       (λ x' whole' ran. frames-joined member card bindings samples k all (first + 1) parts.0 m t x' y (omega (arith, few)) whole' ran later)
 
   -- a run of frames up to one that is late or stopped, by the first frame of the run
-  frames-ended-by : (member card : ℕ) (bindings : List ℕ) (samples : ℕ → ℕ → ℤ) (all first : ℕ) (s m t : S × T) (k done : ℕ) (end : Ended) (x : Commit) → (x.ended ≡ Whole → ⊥)
+  frames-ended-by : (member card : ℕ) (bindings : List ℕ) (samples : ℕ → ℕ → ℤ) (all first : ℕ) (s m t : S × T) (k done : ℕ) (end : Ended)
+      (x : Commit) → (x.ended ≡ Whole → ⊥)
       → TakesAt P G s (lay_frame member (card + first) bindings (samples first)) m (done, end)
       → TakesAt P G m (go_on (done, end) (lay_frames member card bindings samples k (first + 1))) t x
-      → ((x' : Commit) → (x'.ended ≡ Whole → ⊥) → TakesAt P G m (lay_frames member card bindings samples k (first + 1)) t x' → TakesAt P G m (lay_frames member card bindings samples all (first + 1)) t x')
+      → ((x' : Commit) → (x'.ended ≡ Whole → ⊥) → TakesAt P G m (lay_frames member card bindings samples k (first + 1)) t x' → TakesAt P G m
+      (lay_frames member card bindings samples all (first + 1)) t x')
       → TakesAt P G s (lay_frames member card bindings samples (suc all) first) t x
   unfolding lay_frames
   frames-ended-by member card bindings samples all first s m t k done (Late word) x not_whole frame run more =
-      Takes-then (LoadsAt P G) (LaysAt P G) NoGet s m t (lay_frame member (card + first) bindings (samples first)) (λ end. go_on end (lay_frames member card bindings samples all (first + 1))) (done, Late word) x frame run
+      Takes-then (LoadsAt P G) (LaysAt P G) NoGet s m t (lay_frame member (card + first) bindings (samples first))
+      (λ end. go_on end (lay_frames member card bindings samples all (first + 1))) (done, Late word) x frame run
   frames-ended-by member card bindings samples all first s m t k done Stopped x not_whole frame run more =
-      Takes-then (LoadsAt P G) (LaysAt P G) NoGet s m t (lay_frame member (card + first) bindings (samples first)) (λ end. go_on end (lay_frames member card bindings samples all (first + 1))) (done, Stopped) x frame run
+      Takes-then (LoadsAt P G) (LaysAt P G) NoGet s m t (lay_frame member (card + first) bindings (samples first))
+      (λ end. go_on end (lay_frames member card bindings samples all (first + 1))) (done, Stopped) x frame run
   frames-ended-by member card bindings samples all first s m t k done Whole x not_whole frame run more =
-      let parts = Takes-parts (LoadsAt P G) (LaysAt P G) NoGet m t (lay_frames member card bindings samples k (first + 1)) (λ commit. ends (one_frame_more commit)) x run in
+      let parts = Takes-parts (LoadsAt P G) (LaysAt P G) NoGet m t (lay_frames member card bindings samples k (first + 1))
+      (λ commit. ends (one_frame_more commit)) x run in
       let ran = subst (λ (u : S × T). TakesAt P G m (lay_frames member card bindings samples k (first + 1)) u parts.1) (sym parts.3.there) parts.2 in
       let rest = more parts.1 (λ is. not_whole (ap (λ (c : Commit). c.ended) parts.3.result ∙ is)) ran in
-      Takes-then (LoadsAt P G) (LaysAt P G) NoGet s m t (lay_frame member (card + first) bindings (samples first)) (λ end. go_on end (lay_frames member card bindings samples all (first + 1))) (done, Whole) x frame
-      (Takes-map (LoadsAt P G) (LaysAt P G) NoGet m t (lay_frames member card bindings samples all (first + 1)) one_frame_more parts.1 x rest (sym parts.3.result))
+      Takes-then (LoadsAt P G) (LaysAt P G) NoGet s m t (lay_frame member (card + first) bindings (samples first))
+      (λ end. go_on end (lay_frames member card bindings samples all (first + 1))) (done, Whole) x frame
+      (Takes-map (LoadsAt P G) (LaysAt P G) NoGet m t (lay_frames member card bindings samples all (first + 1)) one_frame_more parts.1 x
+      rest (sym parts.3.result))
 
   frames-ended : (member card : ℕ) (bindings : List ℕ) (samples : ℕ → ℕ → ℤ) (k all first : ℕ) (s t : S × T) (x : Commit) → k ≤ all → (x.ended ≡ Whole → ⊥)
       → TakesAt P G s (lay_frames member card bindings samples k first) t x → TakesAt P G s (lay_frames member card bindings samples all first) t x
@@ -174,20 +214,27 @@ module _ {S T : Type 0} (P : mixport.Ghosts S) (G : gates.Ghosts T) where
   frames-ended member card bindings samples zero all first s t x few not_whole run = absurd (not_whole (ap (λ (c : Commit). c.ended) run.result))
   frames-ended member card bindings samples (suc k) zero first s t x few not_whole run = absurd (omega (arith, few))
   frames-ended member card bindings samples (suc k) (suc all) first s t x few not_whole run =
-      let parts = Takes-parts (LoadsAt P G) (LaysAt P G) NoGet s t (lay_frame member (card + first) bindings (samples first)) (λ end. go_on end (lay_frames member card bindings samples k (first + 1))) x run in
+      let parts = Takes-parts (LoadsAt P G) (LaysAt P G) NoGet s t (lay_frame member (card + first) bindings (samples first))
+      (λ end. go_on end (lay_frames member card bindings samples k (first + 1))) x run in
       frames-ended-by member card bindings samples all first s parts.0 t k parts.1.0 parts.1.1 x not_whole parts.2 parts.3
       (λ x' not_whole' ran. frames-ended member card bindings samples k all (first + 1) parts.0 t x' (omega (arith, few)) not_whole' ran)
 
-  pub RestFrames-run : (member card : ℕ) (bindings : List ℕ) (samples : ℕ → ℕ → ℤ) (count first : ℕ) (start now next : S × T) (i run : ℕ) (x : Commit) → i + run ≤ count → x.ended ≡ Whole
+  pub RestFrames-run : (member card : ℕ) (bindings : List ℕ) (samples : ℕ → ℕ → ℤ) (count first : ℕ) (start now next : S × T) (i run : ℕ) (x : Commit)
+      → i + run ≤ count → x.ended ≡ Whole
       → RestFrames P G member card bindings samples count first start now i → TakesAt P G now (lay_frames member card bindings samples run (first + i)) next x
       → RestFrames P G member card bindings samples count first start next (i + run)
   RestFrames-run member card bindings samples count first start now next i run x few whole so_far ran t y takes =
-      let later = subst (λ n. TakesAt P G next (lay_frames member card bindings samples n (first + i + run)) t y) (let left : count - (i + run) ≡ count - i - run = omega arith in left)
-      (subst (λ n. TakesAt P G next (lay_frames member card bindings samples (count - (i + run)) n) t y) (let at : first + (i + run) ≡ first + i + run = omega arith in at) takes) in
-      subst (λ n. TakesAt P G start (lay_frames member card bindings samples count first) t (record { frames = n; part = y.part; ended = y.ended })) (let counted : i + (run + y.frames) ≡ i + run + y.frames = omega arith in counted)
-      (so_far t (more_frames run y) (frames-joined member card bindings samples run (count - i) (first + i) now next t x y (omega (arith, few)) whole ran later))
+      let later = subst (λ n. TakesAt P G next (lay_frames member card bindings samples n (first + i + run)) t y)
+      (let left : count - (i + run) ≡ count - i - run = omega arith in left)
+      (subst (λ n. TakesAt P G next (lay_frames member card bindings samples (count - (i + run)) n) t y)
+      (let at : first + (i + run) ≡ first + i + run = omega arith in at) takes) in
+      subst (λ n. TakesAt P G start (lay_frames member card bindings samples count first) t (record { frames = n; part = y.part; ended = y.ended }))
+      (let counted : i + (run + y.frames) ≡ i + run + y.frames = omega arith in counted)
+      (so_far t (more_frames run y) (frames-joined member card bindings samples run (count - i) (first + i) now next t x y
+      (omega (arith, few)) whole ran later))
 
-  pub RestFrames-run_ended : (member card : ℕ) (bindings : List ℕ) (samples : ℕ → ℕ → ℤ) (count first : ℕ) (start now next : S × T) (i run : ℕ) (x : Commit) → i + run ≤ count → (x.ended ≡ Whole → ⊥)
+  pub RestFrames-run_ended : (member card : ℕ) (bindings : List ℕ) (samples : ℕ → ℕ → ℤ) (count first : ℕ) (start now next : S × T) (i run : ℕ) (x : Commit)
+      → i + run ≤ count → (x.ended ≡ Whole → ⊥)
       → RestFrames P G member card bindings samples count first start now i → TakesAt P G now (lay_frames member card bindings samples run (first + i)) next x
       → TakesAt P G start (lay_frames member card bindings samples count first) next (more_frames i x)
   RestFrames-run_ended member card bindings samples count first start now next i run x few not_whole so_far ran =

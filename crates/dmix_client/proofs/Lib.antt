@@ -1,3 +1,4 @@
+mod CallLaws
 mod Caused
 mod Ends
 mod Frames

@@ -21,17 +21,20 @@ IsReady-moving c ring sound moves going =
       near = omega (arith, hw-started c m.started, sound.seen, c.identity.geometry.frames_most);
     }
 
-written-fits : (c : PlaybackStream) (ring : List ℤ) → IsSoundClient c ring → is_moving c.status.state ≡ true → c.status.stopped ≡ false → c.stretch.card + c.stretch.written < 2 ^ 64
+written-fits : (c : PlaybackStream) (ring : List ℤ) → IsSoundClient c ring → is_moving c.status.state ≡ true → c.status.stopped ≡ false
+    → c.stretch.card + c.stretch.written < 2 ^ 64
 written-fits c ring sound moves going =
     let ready = IsReady-moving c ring sound moves going in
     omega (arith, ready.fits, ready.near, ready.buffer_most, sound.card, c.identity.geometry.frames_most)
 
 -- the same of a client that goes on, unless it is at its end
-pub IsReady-going : (r : Result (Unit {0}) PcmError) (c : PlaybackStream) (ring : List ℤ) → IsSoundClient c ring → OnOk r (IsGoing c) → OnOk r ((c.status.state ≡ Setup → ⊥) → IsReady c)
+pub IsReady-going : (r : Result (Unit {0}) PcmError) (c : PlaybackStream) (ring : List ℤ) → IsSoundClient c ring → OnOk r (IsGoing c)
+    → OnOk r ((c.status.state ≡ Setup → ⊥) → IsReady c)
 IsReady-going (Ok done) c ring sound goes = λ on. IsReady-moving c ring sound (goes.moves on) goes.unstopped
 IsReady-going (Err e) c ring sound goes = tt
 
-pub written-fits-going : (r : Result (Unit {0}) PcmError) (c : PlaybackStream) (ring : List ℤ) → IsSoundClient c ring → OnOk r (IsGoing c) → OnOk r ((c.status.state ≡ Setup → ⊥) → c.stretch.card + c.stretch.written < 2 ^ 64)
+pub written-fits-going : (r : Result (Unit {0}) PcmError) (c : PlaybackStream) (ring : List ℤ) → IsSoundClient c ring → OnOk r (IsGoing c)
+    → OnOk r ((c.status.state ≡ Setup → ⊥) → c.stretch.card + c.stretch.written < 2 ^ 64)
 written-fits-going (Ok done) c ring sound goes = λ on. written-fits c ring sound (goes.moves on) goes.unstopped
 written-fits-going (Err e) c ring sound goes = tt
 

@@ -49,7 +49,8 @@ use Rattle.dmix_client.specs.declared.commit.Commit.{Commit}
 use Rattle.dmix_client.specs.declared.stream.PlaybackStream.{PlaybackStream}
 
 -- what it leaves: the client but for its status and the position that it saw
-pub record Checked {S T : Type 0} (P : mixport.Ghosts S) (G : gates.Ghosts T) (s t : S × T) (c : PlaybackStream) (ring : List ℤ) (a : Answered (Unit {0})) : Type 0 where
+pub record Checked {S T : Type 0} (P : mixport.Ghosts S) (G : gates.Ghosts T) (s t : S × T) (c : PlaybackStream) (ring : List ℤ)
+    (a : Answered (Unit {0})) : Type 0 where
   pub keeps : Keeps P G s t (client c ring) (client a.0 ring) a.1 AnySamples
   pub goes : OnOk a.1 (IsGoing a.0)
   pub runs : OnOk a.1 (a.0.status.state ≡ Running)
@@ -63,26 +64,36 @@ any-of : (load : Option Position) (X : Position → Type 0) → ((position : Pos
 any-of None X is = tt
 any-of (Some position) X is = is position
 
-same-of : (c : PlaybackStream) (load : Option Position) → c.stretch.part ≡ 0 → (let a = after_sync c call.Transfer load nothing in a.0 ≡ record c { status = a.0.status; seen = a.0.seen })
+same-of : (c : PlaybackStream) (load : Option Position) → c.stretch.part ≡ 0
+    → (let a = after_sync c call.Transfer load nothing in a.0 ≡ record c { status = a.0.status; seen = a.0.seen })
 same-of c None whole = refl
 same-of c (Some position) whole =
     after_sync-leaves (λ (d : PlaybackStream). d ≡ record c { status = d.status; seen = d.seen }) c call.Transfer position nothing
-    (λ s. ap (λ (k : ℕ). record c { status = s; seen = Some position.frame; stretch = record c.stretch { committed = k; part = 0 } }) (add-zero c.stretch.committed)
+    (λ s. ap (λ (k : ℕ). record c { status = s; seen = Some position.frame; stretch = record c.stretch { committed = k; part = 0 } })
+    (add-zero c.stretch.committed)
     ∙ ap (λ (k : ℕ). record c { status = s; seen = Some position.frame; stretch = record c.stretch { part = k } }) (sym whole))
 
 -- nothing that it answers is late
-after_sync-timely : (c : PlaybackStream) (load : Option Position) (frame channel word : ℕ) → c.status.state ≡ Running → (after_sync c call.Transfer load nothing).1 ≡ Err (error.Xrun (why.Late frame channel word)) → ⊥
+after_sync-timely : (c : PlaybackStream) (load : Option Position) (frame channel word : ℕ) → c.status.state ≡ Running
+    → (after_sync c call.Transfer load nothing).1 ≡ Err (error.Xrun (why.Late frame channel word)) → ⊥
 after_sync-timely c None frame channel word runs = λ is. cc
 after_sync-timely c (Some position) frame channel word runs =
-    next-ends (λ (o : Outcome). o.answer ≡ Err (error.Xrun (why.Late frame channel word)) → ⊥) c.status.state call.Transfer (queued_of (committed_by (seen_at c position) nothing)) position.gone (over_of (seen_at c position) position) None
-    (subst (λ (s : State). IsFrameStep s call.Transfer) (sym runs) tt) (λ gone is. cc) (λ a f here same over is. cc) (λ w here none late. absurd (cc)) (λ here same none in_time is. cc) (λ here drains in_time is. cc) (λ here drains in_time same is. cc) (λ here drains in_time same is. cc)
+    next-ends (λ (o : Outcome). o.answer ≡ Err (error.Xrun (why.Late frame channel word)) → ⊥) c.status.state call.Transfer
+    (queued_of (committed_by (seen_at c position) nothing)) position.gone (over_of (seen_at c position) position) None
+    (subst (λ (s : State). IsFrameStep s call.Transfer) (sym runs) tt) (λ gone is. cc) (λ a f here same over is. cc) (λ w here none late. absurd (cc))
+    (λ here same none in_time is. cc) (λ here drains in_time is. cc) (λ here drains in_time same is. cc) (λ here drains in_time same is. cc)
 
 module _ {S T : Type 0} (P : mixport.Ghosts S) (G : gates.Ghosts T) (laid_composes : Composes P.laid) (loaded_composes : Composes P.loaded) where
   -- by what was loaded: what is kept, and that the frames played don't fall
-  checked-by : (s t : S × T) (c : PlaybackStream) (ring : List ℤ) (load : Option Position) → IsSoundClient c ring → c.status.state ≡ Running → c.status.stopped ≡ false → CanUse c (P.view s.0) → IsSamePort (P.view s.0) (P.view t.0) → LoadsAt P G s load t
-      → Synced P G laid_composes loaded_composes s t c ring (λ d. Unit {0}) (after_sync c call.Transfer load nothing) × (min c.stretch.committed (hw_of c) ≤ hw_of (after_sync c call.Transfer load nothing).0)
-  checked-by s t c ring None sound runs going port same step =
-      (unloaded-kept P G laid_composes loaded_composes s t c ring (λ d. Unit {0}) sound port same step.laid_nothing step.stopped, min-newer c.stretch.committed (hw_of c) (hw_of c) (omega arith))
+  checked-by : (s t : S × T) (c : PlaybackStream) (ring : List ℤ) (load : Option Position) → IsSoundClient c ring → c.status.state ≡ Running
+      → c.status.stopped ≡ false → CanUse c (P.view s.0) → IsSamePort (P.view s.0) (P.view t.0) → LoadsAt P G s load t
+      → Synced P G laid_composes loaded_composes s t c ring (λ d. Unit {0}) (after_sync c call.Transfer load nothing)
+      × (min c.stretch.committed (hw_of c) ≤ hw_of (after_sync c call.Transfer load nothing).0)
+  checked-by s t c ring None sound runs going port same step = (
+    unloaded-kept P G laid_composes loaded_composes s t c ring (λ d. Unit {0}) sound port same step.laid_nothing step.stopped,
+    min-newer c.stretch.committed
+        (hw_of c) (hw_of c) (omega arith),
+  )
   checked-by s t c ring (Some position) sound runs going port same step =
       let moves : is_moving c.status.state ≡ true = ap is_moving runs in
       let callable : IsFrameStep c.status.state call.Transfer = subst (λ (st : State). IsFrameStep st call.Transfer) (sym runs) tt in
@@ -90,19 +101,34 @@ module _ {S T : Type 0} (P : mixport.Ghosts S) (G : gates.Ghosts T) (laid_compos
       let m = IsMoving-seen c position (sound.moving moves going) loaded in
       let y = CommitsAs-seen c ring position nothing 0 sound moves going loaded (omega arith) (refl, refl) in
       let here : IsFrom (P.view t.0).marks.cursor (c.stretch.card + (c.stretch.committed + 0)) (least_channel c.setup.bindings) =
-      subst (λ (v : PortView). IsFrom v.marks.cursor (c.stretch.card + (c.stretch.committed + 0)) (least_channel c.setup.bindings)) (sym step.view_is) (omega (arith, port.behind moves going)) in (
-        loaded-kept P G laid_composes loaded_composes s t c ring call.Transfer position nothing 0 (λ d. Unit {0}) moves going callable y port same (ap (λ (v : PortView). v.seen) step.view_is) step.laid_nothing step.stopped
-            (λ st on gone in_time none. (record { started = m.started; whole = refl; laid_most = omega (arith, m.laid_most); fits = m.fits; pending = omega (arith, m.pending) }, here, tt)),
+      subst (λ (v : PortView). IsFrom v.marks.cursor (c.stretch.card + (c.stretch.committed + 0)) (least_channel c.setup.bindings)) (sym step.view_is)
+      (omega (arith, port.behind moves going)) in (
+        loaded-kept P G laid_composes loaded_composes s t c ring call.Transfer position nothing 0 (λ d. Unit {0}) moves going callable y port same
+            (ap (λ (v : PortView). v.seen) step.view_is) step.laid_nothing step.stopped
+            (λ st on gone in_time none. (
+              record {
+                started = m.started;
+                whole = refl;
+                laid_most = omega (arith, m.laid_most);
+                fits = m.fits;
+                pending = omega (arith, m.pending);
+              },
+              here,
+              tt,
+            )),
         after_sync-leaves (λ (d : PlaybackStream). min c.stretch.committed (hw_of c) ≤ hw_of d) c call.Transfer position nothing (λ st. y.later),
       )
 
-  pub checks-kept : (s t : S × T) (c : PlaybackStream) (ring : List ℤ) (a : Answered (Unit {0})) → IsSoundClient c ring → c.status.state ≡ Running → c.status.stopped ≡ false → CanUse c (P.view s.0)
+  pub checks-kept : (s t : S × T) (c : PlaybackStream) (ring : List ℤ) (a : Answered (Unit {0})) → IsSoundClient c ring → c.status.state ≡ Running
+      → c.status.stopped ≡ false → CanUse c (P.view s.0)
       → TakesAt P G s (checks c) t a → Checked P G s t c ring a
   unfolding checks
   checks-kept s t c ring a sound runs going port (load, m, step, rest) =
-      let kept = checked-by s m c ring load sound runs going port (TakesAt-same P G s m (checks c) (after_sync c call.Transfer load nothing) (load, m, step, record { there = refl; result = refl })) step in
+      let kept = checked-by s m c ring load sound runs going port (TakesAt-same P G s m (checks c) (after_sync c call.Transfer load nothing)
+      (load, m, step, record { there = refl; result = refl })) step in
       let callable : IsFrameStep c.status.state call.Transfer = subst (λ (st : State). IsFrameStep st call.Transfer) (sym runs) tt in
-      subst (λ (u : S × T). Checked P G s u c ring a) (sym rest.there) (subst (λ (b : Answered (Unit {0})). Checked P G s m c ring b) (sym rest.result) (record {
+      subst (λ (u : S × T). Checked P G s u c ring a) (sym rest.there) (subst (λ (b : Answered (Unit {0})). Checked P G s m c ring b)
+      (sym rest.result) (record {
         keeps = kept.0.keeps;
         goes = kept.0.goes;
         runs = after_sync-runs c load nothing runs;
@@ -114,12 +140,14 @@ module _ {S T : Type 0} (P : mixport.Ghosts S) (G : gates.Ghosts T) (laid_compos
           loaded_it = step.loaded_it;
           laid_nothing = step.laid_nothing;
           outcome = refl;
-          why = IsCaused-plain P.view P.shows m.0 c call.Transfer load nothing callable (any-of load _ (λ position. record { here = λ gone. refl; below = λ x f over. refl })) (any-of load _ (λ position. tt));
+          why = IsCaused-plain P.view P.shows m.0 c call.Transfer load nothing callable (any-of load _
+              (λ position. record { here = λ gone. refl; below = λ x f over. refl })) (any-of load _ (λ position. tt));
         };
         timely = λ frame channel word is. after_sync-timely c load frame channel word runs is;
       }))
 
-  pub checks-by : (s t : S × T) (c : PlaybackStream) (load : Option Position) (done : Answered (Unit {0})) → LoadsAt P G s load t → after_sync c call.Transfer load nothing ≡ done → TakesAt P G s (checks c) t done
+  pub checks-by : (s t : S × T) (c : PlaybackStream) (load : Option Position) (done : Answered (Unit {0})) → LoadsAt P G s load t
+      → after_sync c call.Transfer load nothing ≡ done → TakesAt P G s (checks c) t done
   unfolding checks
   checks-by s t c load done step is = (load, t, step, record { there = refl; result = sym is })
 
@@ -145,8 +173,10 @@ IsBack-of d floor n m few =
 unplayed : (k b seen top card h : ℕ) → h ≡ seen - card → b ≤ k → (0 < b → max seen top ≤ card + (k - b)) → min k h ≤ k - b
 unplayed k b seen top card h is most from = grind (arith, nat_tests, from)
 
-pub first-unplayed : (d : PlaybackStream) (floor : Cursor) (n : ℕ) → IsMoving d → IsBack d floor n → min d.stretch.committed (hw_of d) ≤ d.stretch.committed - back_of d n
-first-unplayed d floor n m is = unplayed d.stretch.committed (back_of d n) (unwrap_or d.seen 0) (first_free floor 0) d.stretch.card (hw_of d) (hw-started d m.started) is.back is.from
+pub first-unplayed : (d : PlaybackStream) (floor : Cursor) (n : ℕ) → IsMoving d → IsBack d floor n
+    → min d.stretch.committed (hw_of d) ≤ d.stretch.committed - back_of d n
+first-unplayed d floor n m is =
+    unplayed d.stretch.committed (back_of d n) (unwrap_or d.seen 0) (first_free floor 0) d.stretch.card (hw_of d) (hw-started d m.started) is.back is.from
 
 -- the frames of a run up to one, and those from it on
 run_entries-split : (member : ℕ) (bindings : List ℕ) (s : ℕ → ℕ → ℤ) (card from at k m n part : ℕ) → from + k ≡ at → m ≡ k + n
@@ -157,12 +187,14 @@ run_entries-split member bindings s card from at k m n part is sum =
 
 -- the frames that are withdrawn are the last of those that the local ring has
 pub held-last : (d : PlaybackStream) (ring : List ℤ) (floor : Cursor) (n : ℕ) → IsMoving d → IsBack d floor n
-    → held_entries d ring ≡ run_entries d.identity.member d.setup.bindings (ring_sample d ring) d.stretch.card (min d.stretch.committed (hw_of d)) (d.stretch.committed - back_of d n - min d.stretch.committed (hw_of d)) 0
+    → held_entries d ring ≡ run_entries d.identity.member d.setup.bindings (ring_sample d ring) d.stretch.card (min d.stretch.committed (hw_of d))
+    (d.stretch.committed - back_of d n - min d.stretch.committed (hw_of d)) 0
     ++ run_entries d.identity.member d.setup.bindings (ring_sample d ring) d.stretch.card (d.stretch.committed - back_of d n) (back_of d n) 0
 held-last d ring floor n m is =
     let low = first-unplayed d floor n m is in
     let from : ℕ = min d.stretch.committed (hw_of d) in
-    run_entries-split d.identity.member d.setup.bindings (ring_sample d ring) d.stretch.card from (d.stretch.committed - back_of d n) (d.stretch.committed - back_of d n - from) (d.stretch.committed - from) (back_of d n) 0 (omega (arith, low)) (omega (arith, low, is.back))
+    run_entries-split d.identity.member d.setup.bindings (ring_sample d ring) d.stretch.card from (d.stretch.committed - back_of d n)
+    (d.stretch.committed - back_of d n - from) (d.stretch.committed - from) (back_of d n) 0 (omega (arith, low)) (omega (arith, low, is.back))
 
 -- the client after it
 abbrev pub back_in : PlaybackStream → ℕ → Commit → State → Bool → PlaybackStream
@@ -190,7 +222,8 @@ here-from at f c is = subst (λ (x : Cursor). first_free x c ≤ f) (sym is) (gr
 -- the answers of a rewind
 module _ {S : Type 0} (view : S → PortView) (shows : S → ℕ → ℕ → Option ℕ) (q : S) where
   -- one that isn't late has the causes of any other call's
-  kept-of : {X : Type 0} (load : Option Position) (c d : PlaybackStream) (answer : Result X PcmError) → IsCaused view shows q c d load answer → ((frame channel word : ℕ) → answer ≡ Err (error.Xrun (why.Late frame channel word)) → ⊥)
+  kept-of : {X : Type 0} (load : Option Position) (c d : PlaybackStream) (answer : Result X PcmError) → IsCaused view shows q c d load answer
+      → ((frame channel word : ℕ) → answer ≡ Err (error.Xrun (why.Late frame channel word)) → ⊥)
       → IsKeptCause view shows q c d load answer
   kept-of load c d answer why timely = record {
     unless_stopped = why.unless_stopped;
@@ -202,10 +235,13 @@ module _ {S : Type 0} (view : S → PortView) (shows : S → ℕ → ℕ → Opt
   }
 
   -- after a load that went well
-  kept-other : (load : Option Position) (c u d : PlaybackStream) (answer : Result ℕ PcmError) → IsCaused {X = Unit {0}} view shows q c u load (Ok tt) → IsOther answer → IsKeptCause view shows q c d load answer
-  kept-other load c u d answer first other = kept-of load c d answer (caused-other view shows q c d load answer (free-by view shows q c u load first) other) other.in_time
+  kept-other : (load : Option Position) (c u d : PlaybackStream) (answer : Result ℕ PcmError) → IsCaused {X = Unit {0}} view shows q c u load (Ok tt)
+      → IsOther answer → IsKeptCause view shows q c d load answer
+  kept-other load c u d answer first other =
+      kept-of load c d answer (caused-other view shows q c d load answer (free-by view shows q c u load first) other) other.in_time
 
-  kept-late : (load : Option Position) (c u d : PlaybackStream) (word : ℕ) → IsCaused {X = Unit {0}} view shows q c u load (Ok tt) → IsPast view shows q (last_laid d) (last_channel d) word
+  kept-late : (load : Option Position) (c u d : PlaybackStream) (word : ℕ) → IsCaused {X = Unit {0}} view shows q c u load (Ok tt)
+      → IsPast view shows q (last_laid d) (last_channel d) word
       → IsKeptCause {X = ℕ} view shows q c d load (Err (error.Xrun (why.Late (last_laid d) (last_channel d) word)))
   kept-late load c u d word first past =
       let free = free-by view shows q c u load first in
@@ -221,26 +257,31 @@ module _ {S : Type 0} (view : S → PortView) (shows : S → ℕ → ℕ → Opt
             record {
               frame_is = sym is_frame;
               channel_is = sym is_channel;
-              past = subst (λ (k : ℕ). IsPast view shows q frame channel k) is_word (subst (λ (k : ℕ). IsPast view shows q frame k word) is_channel (subst (λ (k : ℕ). IsPast view shows q k (last_channel d) word) is_frame past));
+              past = subst (λ (k : ℕ). IsPast view shows q frame channel k) is_word (subst (λ (k : ℕ). IsPast view shows q frame k word) is_channel
+                  (subst (λ (k : ℕ). IsPast view shows q k (last_channel d) word) is_frame past));
             };
         never_lap_end = λ h. cc;
       }
 
   -- an answer of the load itself
   pub kept-err : (load : Option Position) (c d : PlaybackStream) (e : PcmError) → IsCaused {X = Unit {0}} view shows q c d load (Err e)
-      → ((frame channel word : ℕ) → (let r : Result (Unit {0}) PcmError = Err e in r) ≡ Err (error.Xrun (why.Late frame channel word)) → ⊥) → IsKeptCause {X = ℕ} view shows q c d load (Err e)
+      → ((frame channel word : ℕ) → (let r : Result (Unit {0}) PcmError = Err e in r) ≡ Err (error.Xrun (why.Late frame channel word)) → ⊥)
+      → IsKeptCause {X = ℕ} view shows q c d load (Err e)
   kept-err load c d e first timely =
       kept-of load c d (Err e) (caused-number view shows q load c (λ x. 0) (d, Err e) first)
-      (λ frame channel word h. timely frame channel word (let is : e ≡ error.Xrun (why.Late frame channel word) = cc in ap (λ (x : PcmError). let r : Result (Unit {0}) PcmError = Err x in r) is))
+      (λ frame channel word h. timely frame channel word (let is : e ≡ error.Xrun (why.Late frame channel word) = cc in
+      ap (λ (x : PcmError). let r : Result (Unit {0}) PcmError = Err x in r) is))
 
-module _ (d : PlaybackStream) (ring : List ℤ) (floor : Cursor) (n : ℕ) (sound : IsSoundClient d ring) (runs : d.status.state ≡ Running) (going : d.status.stopped ≡ false) (is : IsBack d floor n) where
+module _ (d : PlaybackStream) (ring : List ℤ) (floor : Cursor) (n : ℕ) (sound : IsSoundClient d ring) (runs : d.status.state ≡ Running)
+    (going : d.status.stopped ≡ false) (is : IsBack d floor n) where
   m : IsMoving d
   m = sound.moving (ap is_moving runs) going
 
   bound : AreBindings d.setup.bindings
   bound = (configured-moving d ring sound (ap is_moving runs)).bound
 
-  IsSoundClient-back : (x : Commit) (s : State) (stopped : Bool) → x.frames ≤ back_of d n → (s ≡ Prepared → ⊥) → (s ≡ Paused → ⊥) → (is_moving s ≡ true → stopped ≡ false → IsMoving (back_in d n x s stopped))
+  IsSoundClient-back : (x : Commit) (s : State) (stopped : Bool) → x.frames ≤ back_of d n → (s ≡ Prepared → ⊥) → (s ≡ Paused → ⊥)
+      → (is_moving s ≡ true → stopped ≡ false → IsMoving (back_in d n x s stopped))
       → IsSoundClient (back_in d n x s stopped) ring
   IsSoundClient-back x s stopped few not_prepared not_paused moves = record {
     lead = sound.lead;
@@ -264,37 +305,46 @@ module _ (d : PlaybackStream) (ring : List ℤ) (floor : Cursor) (n : ℕ) (soun
     pending = omega (arith, none, m.laid_most, m.pending);
   }
 
-  StandsFor-back : (x : Commit) (s : State) (stopped : Bool) (samples : List ℤ) → x.frames ≤ back_of d n → StandsFor d ring samples → StandsFor (back_in d n x s stopped) ring samples
+  StandsFor-back : (x : Commit) (s : State) (stopped : Bool) (samples : List ℤ) → x.frames ≤ back_of d n → StandsFor d ring samples
+      → StandsFor (back_in d n x s stopped) ring samples
   StandsFor-back x s stopped samples few stands j q low high in_range =
-      stands j q (still-low d.stretch.committed (hw_of d) (back_of d n) x.frames j (first-unplayed d floor n m is) low) (omega (arith, high, few, is.few)) in_range
+      stands j q (still-low d.stretch.committed (hw_of d) (back_of d n) x.frames j (first-unplayed d floor n m is) low)
+      (omega (arith, high, few, is.few)) in_range
 
   -- the frames of the ring are those of the samples
   ring-samples : (samples : List ℤ) (frames part : ℕ) → frames_used frames part ≤ back_of d n → StandsFor d ring samples
       → run_entries d.identity.member d.setup.bindings (ring_sample d ring) d.stretch.card (d.stretch.committed - back_of d n) frames part
-      ≡ run_entries d.identity.member d.setup.bindings (λ j. sample_at samples (length d.setup.bindings) (d.stretch.source + j)) d.stretch.card (d.stretch.committed - back_of d n) frames part
+      ≡ run_entries d.identity.member d.setup.bindings (λ j. sample_at samples (length d.setup.bindings) (d.stretch.source + j)) d.stretch.card
+      (d.stretch.committed - back_of d n) frames part
   ring-samples samples frames part used stands =
-      run_entries-same d.identity.member d.setup.bindings (ring_sample d ring) (λ j. sample_at samples (length d.setup.bindings) (d.stretch.source + j)) d.stretch.card (d.stretch.committed - back_of d n) frames part bound
+      run_entries-same d.identity.member d.setup.bindings (ring_sample d ring) (λ j. sample_at samples (length d.setup.bindings) (d.stretch.source + j))
+      d.stretch.card (d.stretch.committed - back_of d n) frames part bound
       (λ j q least most h. stands j q (omega (arith, least, first-unplayed d floor n m is)) (omega (arith, most, used, is.back, m.laid_most)) h)
 
   -- the segment, before and after, by what is before the frames that are withdrawn
   segment-before : (samples : List ℤ) → StandsFor d ring samples
-      → segment_entries d samples ≡ run_entries d.identity.member d.setup.bindings (λ j. sample_at samples (length d.setup.bindings) (d.stretch.source + j)) d.stretch.card 0 (d.stretch.committed - back_of d n) 0
+      → segment_entries d samples ≡ run_entries d.identity.member d.setup.bindings (λ j. sample_at samples (length d.setup.bindings) (d.stretch.source + j))
+      d.stretch.card 0 (d.stretch.committed - back_of d n) 0
       ++ run_entries d.identity.member d.setup.bindings (ring_sample d ring) d.stretch.card (d.stretch.committed - back_of d n) (back_of d n) 0
   segment-before samples stands =
       let s : ℕ → ℕ → ℤ = λ j. sample_at samples (length d.setup.bindings) (d.stretch.source + j) in
       let first : ℕ = d.stretch.committed - back_of d n in
       ap (λ (p : ℕ). run_entries d.identity.member d.setup.bindings s d.stretch.card 0 d.stretch.committed p) m.whole
-      ∙ run_entries-split d.identity.member d.setup.bindings s d.stretch.card 0 first first d.stretch.committed (back_of d n) 0 (omega arith) (omega (arith, is.back))
-      ∙ ap (λ (es : List Entry). run_entries d.identity.member d.setup.bindings s d.stretch.card 0 first 0 ++ es) (sym (ring-samples samples (back_of d n) 0 (omega arith) stands))
+      ∙ run_entries-split d.identity.member d.setup.bindings s d.stretch.card 0 first first d.stretch.committed (back_of d n) 0 (omega arith)
+      (omega (arith, is.back))
+      ∙ ap (λ (es : List Entry). run_entries d.identity.member d.setup.bindings s d.stretch.card 0 first 0 ++ es)
+      (sym (ring-samples samples (back_of d n) 0 (omega arith) stands))
 
   segment-after : (x : Commit) (t : State) (stopped : Bool) (samples : List ℤ) → frames_used x.frames x.part ≤ back_of d n → StandsFor d ring samples
-      → segment_entries (back_in d n x t stopped) samples ≡ run_entries d.identity.member d.setup.bindings (λ j. sample_at samples (length d.setup.bindings) (d.stretch.source + j)) d.stretch.card 0 (d.stretch.committed - back_of d n) 0
+      → segment_entries (back_in d n x t stopped) samples ≡ run_entries d.identity.member d.setup.bindings
+      (λ j. sample_at samples (length d.setup.bindings) (d.stretch.source + j)) d.stretch.card 0 (d.stretch.committed - back_of d n) 0
       ++ run_entries d.identity.member d.setup.bindings (ring_sample d ring) d.stretch.card (d.stretch.committed - back_of d n) x.frames x.part
   segment-after x t stopped samples used stands =
       let s : ℕ → ℕ → ℤ = λ j. sample_at samples (length d.setup.bindings) (d.stretch.source + j) in
       let first : ℕ = d.stretch.committed - back_of d n in
       run_entries-split d.identity.member d.setup.bindings s d.stretch.card 0 first first (first + x.frames) x.frames x.part (omega arith) refl
-      ∙ ap (λ (es : List Entry). run_entries d.identity.member d.setup.bindings s d.stretch.card 0 first 0 ++ es) (sym (ring-samples samples x.frames x.part used stands))
+      ∙ ap (λ (es : List Entry). run_entries d.identity.member d.setup.bindings s d.stretch.card 0 first 0 ++ es)
+      (sym (ring-samples samples x.frames x.part used stands))
 
   -- what a rewind leaves at a port, by how its withdrawals ended
   module _ {S T : Type 0} (P : mixport.Ghosts S) (G : gates.Ghosts T) (holds : HoldsBy P) where
@@ -304,16 +354,22 @@ module _ (d : PlaybackStream) (ring : List ℤ) (floor : Cursor) (n : ℕ) (soun
 
     -- what is known of the withdrawals
     abbrev Took : S × T → S × T → Commit → Type 0
-    Took s t x = TookFrames P G holds s t d.identity.member d.stretch.card d.setup.bindings (ring_sample d ring) (d.stretch.committed - back_of d n) (back_of d n) x
+    Took s t x =
+        TookFrames P G holds s t d.identity.member d.stretch.card d.setup.bindings (ring_sample d ring) (d.stretch.committed - back_of d n) (back_of d n) x
 
     loses-back : (s t : S × T) (x : Commit) (st : State) (stopped : Bool) (samples : List ℤ) → frames_used x.frames x.part ≤ back_of d n
-        → TakesAway P.laid P.ends_in s.0 t.0 (run_entries d.identity.member d.setup.bindings (ring_sample d ring) d.stretch.card (d.stretch.committed - back_of d n) (back_of d n) 0) (run_entries d.identity.member d.setup.bindings (ring_sample d ring) d.stretch.card (d.stretch.committed - back_of d n) x.frames x.part)
+        → TakesAway P.laid P.ends_in s.0 t.0 (run_entries d.identity.member d.setup.bindings (ring_sample d ring) d.stretch.card
+        (d.stretch.committed - back_of d n) (back_of d n) 0) (run_entries d.identity.member d.setup.bindings (ring_sample d ring) d.stretch.card
+        (d.stretch.committed - back_of d n) x.frames x.part)
         → StandsFor d ring samples → Loses P.laid P.ends_in s.0 t.0 d (back_in d n x st stopped) samples
     loses-back s t x st stopped samples used away stands =
-        let early = run_entries d.identity.member d.setup.bindings (λ j. sample_at samples (length d.setup.bindings) (d.stretch.source + j)) d.stretch.card 0 (d.stretch.committed - back_of d n) 0 in
+        let early = run_entries d.identity.member d.setup.bindings (λ j. sample_at samples (length d.setup.bindings) (d.stretch.source + j)) d.stretch.card 0
+        (d.stretch.committed - back_of d n) 0 in
         record {
-          away = subst (λ (es : List Entry). TakesAway P.laid P.ends_in s.0 t.0 es (segment_entries (back_in d n x st stopped) samples)) (sym (segment-before samples stands))
-              (subst (λ (es : List Entry). TakesAway P.laid P.ends_in s.0 t.0 (early ++ run_entries d.identity.member d.setup.bindings (ring_sample d ring) d.stretch.card (d.stretch.committed - back_of d n) (back_of d n) 0) es) (sym (segment-after x st stopped samples used stands))
+          away = subst (λ (es : List Entry). TakesAway P.laid P.ends_in s.0 t.0 es (segment_entries (back_in d n x st stopped) samples))
+              (sym (segment-before samples stands))
+              (subst (λ (es : List Entry). TakesAway P.laid P.ends_in s.0 t.0 (early ++ run_entries d.identity.member d.setup.bindings (ring_sample d ring)
+              d.stretch.card (d.stretch.committed - back_of d n) (back_of d n) 0) es) (sym (segment-after x st stopped samples used stands))
               (TakesAway-behind P G holds s.0 t.0 early _ _ away));
           same_member = refl;
           same_bindings = refl;
@@ -321,24 +377,36 @@ module _ (d : PlaybackStream) (ring : List ℤ) (floor : Cursor) (n : ℕ) (soun
 
     -- where all were withdrawn, the port's cursor is where the client goes on
     cursor-back : (s t : S × T) (x : Commit) → CanUse d (P.view s.0) → x.frames ≡ 0 → (back_of d n ≡ 0 → P.view t.0 ≡ P.view s.0)
-        → (0 < back_of d n → (P.view t.0).marks.cursor ≡ record { frame = d.stretch.card + (d.stretch.committed - back_of d n); channel = least_channel d.setup.bindings })
+        → (0 < back_of d n → (P.view t.0).marks.cursor ≡ record {
+          frame = d.stretch.card + (d.stretch.committed - back_of d n);
+          channel = least_channel d.setup.bindings;
+        })
         → IsFrom (P.view t.0).marks.cursor (d.stretch.card + (d.stretch.committed - back_of d n + x.frames)) (least_channel d.setup.bindings)
     cursor-back s t x port none still moved = elim (cases_eq (back_of d n) 0) [
       | inl nothing_back ↦
-          subst (λ (v : PortView). IsFrom v.marks.cursor (d.stretch.card + (d.stretch.committed - back_of d n + x.frames)) (least_channel d.setup.bindings)) (sym (still nothing_back))
+          subst (λ (v : PortView). IsFrom v.marks.cursor (d.stretch.card + (d.stretch.committed - back_of d n + x.frames)) (least_channel d.setup.bindings))
+          (sym (still nothing_back))
           (omega (arith, port.behind (ap is_moving runs) going, nothing_back, none))
-      | inr some ↦ omega (arith, here-from (P.view t.0).marks.cursor (d.stretch.card + (d.stretch.committed - back_of d n)) (least_channel d.setup.bindings) (moved (omega arith)), none)
+      | inr some ↦ omega (
+        arith,
+        here-from (P.view t.0).marks.cursor (d.stretch.card + (d.stretch.committed - back_of d n)) (least_channel d.setup.bindings)
+            (moved (omega arith)),
+        none,
+      )
     ]
 
     -- what it leaves in a state, where the client is neither prepared nor paused then
-    left-back : (s t : S × T) (x : Commit) (st : State) (stopped : Bool) (answer : Result ℕ PcmError) → CanUse d (P.view s.0) → Took s t x → (st ≡ Prepared → ⊥) → (st ≡ Paused → ⊥) → CountsStop answer (G.stops s.1) (G.stops t.1)
-        → (is_moving st ≡ true → stopped ≡ false → (x.frames ≡ 0) × (x.part ≡ 0) × IsFrom (P.view t.0).marks.cursor (d.stretch.card + (d.stretch.committed - back_of d n + x.frames)) (least_channel d.setup.bindings))
+    left-back : (s t : S × T) (x : Commit) (st : State) (stopped : Bool) (answer : Result ℕ PcmError) → CanUse d (P.view s.0) → Took s t x → (st ≡ Prepared → ⊥)
+        → (st ≡ Paused → ⊥) → CountsStop answer (G.stops s.1) (G.stops t.1)
+        → (is_moving st ≡ true → stopped ≡ false → (x.frames ≡ 0) × (x.part ≡ 0) × IsFrom (P.view t.0).marks.cursor
+        (d.stretch.card + (d.stretch.committed - back_of d n + x.frames)) (least_channel d.setup.bindings))
         → TakenBack s t (back_in d n x st stopped, answer)
     left-back s t x st stopped answer port took not_prepared not_paused told moves =
         let few = left-few x.ended x.frames x.part (back_of d n) (length d.setup.bindings) took.are_left in
         record {
           keeps = record {
-            sound = IsSoundClient-back x st stopped few.0 not_prepared not_paused (λ moving unstopped. let all = moves moving unstopped in IsMoving-back x st stopped all.0 all.1);
+            sound = IsSoundClient-back x st stopped few.0 not_prepared not_paused (λ moving unstopped. let all = moves moving unstopped in IsMoving-back x
+                st stopped all.0 all.1);
             port = record {
               same_geometry = ap (λ (v : PortView). v.geometry) took.view_is ∙ port.same_geometry;
               same_member = ap (λ (v : PortView). v.member) took.view_is ∙ port.same_member;
@@ -353,66 +421,89 @@ module _ (d : PlaybackStream) (ring : List ℤ) (floor : Cursor) (n : ℕ) (soun
           loaded_nothing = took.loaded_nothing;
         }
 
-    by_end : (s t : S × T) (frames part : ℕ) (e : Ended) → CanUse d (P.view s.0) → Took s t (record { frames = frames; part = part; ended = e }) → TakenBack s t (after_rewind d n (record { frames = frames; part = part; ended = e }))
+    by_end : (s t : S × T) (frames part : ℕ) (e : Ended) → CanUse d (P.view s.0) → Took s t (record { frames = frames; part = part; ended = e })
+        → TakenBack s t (after_rewind d n (record { frames = frames; part = part; ended = e }))
     by_end s t frames part Whole port took =
         let x : Commit = record { frames = frames; part = part; ended = Whole } in
-        left-back s t x Running d.status.stopped _ port took (λ waits. cc) (λ still. cc) took.stopped (λ moves unstopped. (took.are_left.0, took.are_left.1, cursor-back s t x port took.are_left.0 took.still took.cursor))
+        left-back s t x Running d.status.stopped _ port took (λ waits. cc) (λ still. cc) took.stopped
+        (λ moves unstopped. (took.are_left.0, took.are_left.1, cursor-back s t x port took.are_left.0 took.still took.cursor))
     by_end s t frames part (Late word) port took =
-        let x : Commit = record { frames = frames; part = part; ended = Late word } in left-back s t x Xrun d.status.stopped _ port took (λ waits. cc) (λ still. cc) took.stopped (λ moves unstopped. absurd (cc))
+        let x : Commit = record { frames = frames; part = part; ended = Late word } in left-back s t x Xrun d.status.stopped _ port took (λ waits. cc)
+        (λ still. cc) took.stopped (λ moves unstopped. absurd (cc))
     by_end s t frames part Stopped port took =
-        let x : Commit = record { frames = frames; part = part; ended = Stopped } in left-back s t x d.status.state true _ port took (λ waits. cc) (λ still. cc) took.stopped (λ moves unstopped. absurd (cc))
+        let x : Commit = record { frames = frames; part = part; ended = Stopped } in left-back s t x d.status.state true _ port took (λ waits. cc) (λ still. cc)
+        took.stopped (λ moves unstopped. absurd (cc))
 
     -- the withdrawals of a client's rewind
     took-of : (s t : S × T) (x : Commit) → (P.view s.0).marks.floor ≡ floor → CanUse d (P.view s.0)
-        → TakesAt P G s (take_frames d.identity.member d.stretch.card d.setup.bindings (ring_sample d ring) (d.stretch.committed - back_of d n) (back_of d n)) t x → Took s t x
+        → TakesAt P G s (take_frames d.identity.member d.stretch.card d.setup.bindings (ring_sample d ring) (d.stretch.committed - back_of d n)
+        (back_of d n)) t x → Took s t x
     took-of s t x is_floor port takes =
-        TakesAt-back P G holds d.identity.member d.stretch.card d.setup.bindings (ring_sample d ring) (d.stretch.committed - back_of d n) (back_of d n) s t x bound port.same_member
+        TakesAt-back P G holds d.identity.member d.stretch.card d.setup.bindings (ring_sample d ring) (d.stretch.committed - back_of d n) (back_of d n) s t
+        x bound port.same_member
         (λ some. subst (λ (c : Cursor). IsFrom c (d.stretch.card + (d.stretch.committed - back_of d n)) (least_channel d.setup.bindings)) (sym is_floor)
-        (IsFrom-later floor (d.stretch.card + (d.stretch.committed - back_of d n)) 0 (least_channel d.setup.bindings) (omega arith) (omega (arith, is.from some)))) takes
+        (IsFrom-later floor (d.stretch.card + (d.stretch.committed - back_of d n)) 0 (least_channel d.setup.bindings) (omega arith)
+        (omega (arith, is.from some)))) takes
 
-    pub takes_back-kept : (s t : S × T) (a : Answered ℕ) → (P.view s.0).marks.floor ≡ floor → CanUse d (P.view s.0) → TakesAt P G s (takes_back d ring n) t a → TakenBack s t a
+    pub takes_back-kept : (s t : S × T) (a : Answered ℕ) → (P.view s.0).marks.floor ≡ floor → CanUse d (P.view s.0)
+        → TakesAt P G s (takes_back d ring n) t a → TakenBack s t a
     unfolding takes_back
     takes_back-kept s t a is_floor port takes =
-        let parts = Takes-parts (LoadsAt P G) (LaysAt P G) NoGet s t (take_frames d.identity.member d.stretch.card d.setup.bindings (ring_sample d ring) (d.stretch.committed - back_of d n) (back_of d n)) (λ left. ends (after_rewind d n left)) a takes in
+        let parts = Takes-parts (LoadsAt P G) (LaysAt P G) NoGet s t (take_frames d.identity.member d.stretch.card d.setup.bindings (ring_sample d ring)
+        (d.stretch.committed - back_of d n) (back_of d n)) (λ left. ends (after_rewind d n left)) a takes in
         let x = parts.1 in
         subst (λ (u : S × T). TakenBack s u a) (sym parts.3.there) (subst (λ (b : Answered ℕ). TakenBack s parts.0 b) (sym parts.3.result)
         (by_end s parts.0 x.frames x.part x.ended port (took-of s parts.0 x is_floor port parts.2)))
 
     -- why it answered so, after a load that went well
-    why_end : (t : S × T) (c u : PlaybackStream) (load : Option Position) (frames part : ℕ) (e : Ended) → AreLeft e frames part (back_of d n) (length d.setup.bindings)
-        → OnLate e (λ word. IsPast P.view P.shows t.0 (d.stretch.card + (d.stretch.committed - back_of d n + last_frame frames part)) (slice_index d.setup.bindings (slice_index (rising d.setup.bindings) (last_place part (length d.setup.bindings)))) word)
+    why_end : (t : S × T) (c u : PlaybackStream) (load : Option Position) (frames part : ℕ) (e : Ended)
+        → AreLeft e frames part (back_of d n) (length d.setup.bindings)
+        → OnLate e (λ word. IsPast P.view P.shows t.0 (d.stretch.card + (d.stretch.committed - back_of d n + last_frame frames part))
+        (slice_index d.setup.bindings (slice_index (rising d.setup.bindings) (last_place part (length d.setup.bindings)))) word)
         → IsCaused {X = Unit {0}} P.view P.shows t.0 c u load (Ok tt)
         → (let a : Answered ℕ = after_rewind d n (record { frames = frames; part = part; ended = e }) in IsKeptCause {X = ℕ} P.view P.shows t.0 c a.0 load a.1)
     why_end t c u load frames part Whole are late why_ok = kept-other P.view P.shows t.0 load c u _ (Ok n) why_ok (other-ok n)
     why_end t c u load frames part Stopped are late why_ok = kept-other P.view P.shows t.0 load c u _ (Err error.Stopped) why_ok other-stopped
     why_end t c u load frames part (Late word) are late why_ok =
-        let there : d.stretch.card + (d.stretch.committed - back_of d n + last_frame frames part) ≡ last_laid (back_in d n (record { frames = frames; part = part; ended = Late word }) Xrun d.status.stopped) =
+        let there : d.stretch.card + (d.stretch.committed - back_of d n + last_frame frames part) ≡ last_laid
+        (back_in d n (record { frames = frames; part = part; ended = Late word }) Xrun d.status.stopped) =
         ap (λ (k : ℕ). d.stretch.card + k) (frame-same (d.stretch.committed - back_of d n) frames part are.0) in
         kept-late P.view P.shows t.0 load c u (back_in d n (record { frames = frames; part = part; ended = Late word }) Xrun d.status.stopped) word why_ok
-        (subst (λ (k : ℕ). IsPast P.view P.shows t.0 k (slice_index d.setup.bindings (slice_index (rising d.setup.bindings) (last_place part (length d.setup.bindings)))) word) there late)
+        (subst (λ (k : ℕ). IsPast P.view P.shows t.0 k (slice_index d.setup.bindings (slice_index (rising d.setup.bindings)
+        (last_place part (length d.setup.bindings)))) word) there late)
 
-    pub takes_back-why : (s t : S × T) (c u : PlaybackStream) (load : Option Position) (a : Answered ℕ) → (P.view s.0).marks.floor ≡ floor → CanUse d (P.view s.0) → TakesAt P G s (takes_back d ring n) t a
+    pub takes_back-why : (s t : S × T) (c u : PlaybackStream) (load : Option Position) (a : Answered ℕ) → (P.view s.0).marks.floor ≡ floor
+        → CanUse d (P.view s.0) → TakesAt P G s (takes_back d ring n) t a
         → IsCaused {X = Unit {0}} P.view P.shows t.0 c u load (Ok tt) → IsKeptCause {X = ℕ} P.view P.shows t.0 c a.0 load a.1
     unfolding takes_back
     takes_back-why s t c u load a is_floor port takes why_ok =
-        let parts = Takes-parts (LoadsAt P G) (LaysAt P G) NoGet s t (take_frames d.identity.member d.stretch.card d.setup.bindings (ring_sample d ring) (d.stretch.committed - back_of d n) (back_of d n)) (λ left. ends (after_rewind d n left)) a takes in
+        let parts = Takes-parts (LoadsAt P G) (LaysAt P G) NoGet s t (take_frames d.identity.member d.stretch.card d.setup.bindings (ring_sample d ring)
+        (d.stretch.committed - back_of d n) (back_of d n)) (λ left. ends (after_rewind d n left)) a takes in
         let x = parts.1 in
         let took = took-of s parts.0 x is_floor port parts.2 in
         subst (λ (b : Answered ℕ). IsKeptCause {X = ℕ} P.view P.shows t.0 c b.0 load b.1) (sym parts.3.result)
         (why_end t c u load x.frames x.part x.ended took.are_left
-        (subst (λ (v : S × T). OnLate x.ended (λ word. IsPast P.view P.shows v.0 (d.stretch.card + (d.stretch.committed - back_of d n + last_frame x.frames x.part)) (slice_index d.setup.bindings (slice_index (rising d.setup.bindings) (last_place x.part (length d.setup.bindings)))) word)) (sym parts.3.there) took.late) why_ok)
+        (subst (λ (v : S × T). OnLate x.ended (λ word. IsPast P.view P.shows v.0 (d.stretch.card + (d.stretch.committed - back_of d n + last_frame x.frames
+        x.part)) (slice_index d.setup.bindings (slice_index (rising d.setup.bindings) (last_place x.part (length d.setup.bindings)))) word))
+        (sym parts.3.there) took.late) why_ok)
 
-    pub takes_back-by : (s t : S × T) (b : ℕ) (x : Commit) (done : Answered ℕ) → b ≡ back_of d n → TakesAt P G s (take_frames d.identity.member d.stretch.card d.setup.bindings (ring_sample d ring) (d.stretch.committed - b) b) t x → after_rewind d n x ≡ done
+    pub takes_back-by : (s t : S × T) (b : ℕ) (x : Commit) (done : Answered ℕ) → b ≡ back_of d n
+        → TakesAt P G s (take_frames d.identity.member d.stretch.card d.setup.bindings (ring_sample d ring) (d.stretch.committed - b) b) t x
+        → after_rewind d n x ≡ done
         → TakesAt P G s (takes_back d ring n) t done
     unfolding takes_back
     takes_back-by s t b x done is_back takes is_done =
-        Takes-map (LoadsAt P G) (LaysAt P G) NoGet s t (take_frames d.identity.member d.stretch.card d.setup.bindings (ring_sample d ring) (d.stretch.committed - back_of d n) (back_of d n)) (λ left. after_rewind d n left) x done
-        (subst (λ (k : ℕ). TakesAt P G s (take_frames d.identity.member d.stretch.card d.setup.bindings (ring_sample d ring) (d.stretch.committed - k) k) t x) is_back takes) is_done
+        Takes-map (LoadsAt P G) (LaysAt P G) NoGet s t (take_frames d.identity.member d.stretch.card d.setup.bindings (ring_sample d ring)
+        (d.stretch.committed - back_of d n) (back_of d n)) (λ left. after_rewind d n left) x done
+        (subst (λ (k : ℕ). TakesAt P G s (take_frames d.identity.member d.stretch.card d.setup.bindings (ring_sample d ring) (d.stretch.committed - k) k) t
+        x) is_back takes) is_done
 
     pub take_frames-took : (s t : S × T) (b : ℕ) (x : Commit) → b ≡ back_of d n → (P.view s.0).marks.floor ≡ floor → CanUse d (P.view s.0)
-        → TakesAt P G s (take_frames d.identity.member d.stretch.card d.setup.bindings (ring_sample d ring) (d.stretch.committed - b) b) t x → AreLeft x.ended x.frames x.part (back_of d n) (length d.setup.bindings)
+        → TakesAt P G s (take_frames d.identity.member d.stretch.card d.setup.bindings (ring_sample d ring) (d.stretch.committed - b) b) t x
+        → AreLeft x.ended x.frames x.part (back_of d n) (length d.setup.bindings)
     take_frames-took s t b x is_back is_floor port takes =
-        (took-of s t x is_floor port (subst (λ (k : ℕ). TakesAt P G s (take_frames d.identity.member d.stretch.card d.setup.bindings (ring_sample d ring) (d.stretch.committed - k) k) t x) is_back takes)).are_left
+        (took-of s t x is_floor port (subst (λ (k : ℕ). TakesAt P G s (take_frames d.identity.member d.stretch.card d.setup.bindings (ring_sample d ring)
+        (d.stretch.committed - k) k) t x) is_back takes)).are_left
 
 -- ---- what a rewind keeps, and why it answered so, by its load and what followed it
 
@@ -423,7 +514,8 @@ pub few-of : (n r : ℕ) → min n r ≤ r
 few-of n r = grind (arith, nat_tests)
 
 -- why a call went well is the same later
-caused-later : {S : Type 0} (view : S → PortView) (shows : S → ℕ → ℕ → Option ℕ) (q r : S) (load : Option Position) (c d : PlaybackStream) → IsCaused {X = Unit {0}} view shows q c d load (Ok tt) → IsCaused {X = Unit {0}} view shows r c d load (Ok tt)
+caused-later : {S : Type 0} (view : S → PortView) (shows : S → ℕ → ℕ → Option ℕ) (q r : S) (load : Option Position) (c d : PlaybackStream)
+    → IsCaused {X = Unit {0}} view shows q c d load (Ok tt) → IsCaused {X = Unit {0}} view shows r c d load (Ok tt)
 caused-later view shows q r load c d first = record {
   unless_stopped = first.unless_stopped;
   of_steps = tt;
@@ -443,9 +535,11 @@ module _ {S T : Type 0} (P : mixport.Ghosts S) (G : gates.Ghosts T) (holds : Hol
   loses-checked : (s t : S × T) (c : PlaybackStream) (ring : List ℤ) (a : Answered (Unit {0})) (samples : List ℤ) → Checked P G s t c ring a
       → TakesAway P.laid P.ends_in s.0 t.0 (segment_entries c samples) (segment_entries a.0 samples)
   loses-checked s t c ring a samples checked =
-      subst (λ (d : PlaybackStream). TakesAway P.laid P.ends_in s.0 t.0 (segment_entries c samples) (segment_entries d samples)) (sym checked.same) (TakesAway-none P G holds s.0 t.0 (segment_entries c samples) checked.explains.laid_nothing)
+      subst (λ (d : PlaybackStream). TakesAway P.laid P.ends_in s.0 t.0 (segment_entries c samples) (segment_entries d samples)) (sym checked.same)
+      (TakesAway-none P G holds s.0 t.0 (segment_entries c samples) checked.explains.laid_nothing)
 
-  rewound-ill : (s m t : S × T) (c d : PlaybackStream) (ring : List ℤ) (n : ℕ) (e : PcmError) (a : Answered ℕ) → Checked P G s m c ring (d, Err e) → TakesAt P G m (rewind_on (P.view s.0).marks.floor ring n (d, Err e)) t a
+  rewound-ill : (s m t : S × T) (c d : PlaybackStream) (ring : List ℤ) (n : ℕ) (e : PcmError) (a : Answered ℕ) → Checked P G s m c ring (d, Err e)
+      → TakesAt P G m (rewind_on (P.view s.0).marks.floor ring n (d, Err e)) t a
       → Rewound s t c ring n a
   rewound-ill s m t c d ring n e a checked takes =
       subst (λ (u : S × T). Rewound s u c ring n a) (sym takes.there) (subst (λ (b : Answered ℕ). Rewound s m c ring n b) (sym takes.result) (record {
@@ -453,7 +547,12 @@ module _ {S T : Type 0} (P : mixport.Ghosts S) (G : gates.Ghosts T) (holds : Hol
           sound = checked.keeps.sound;
           port = checked.keeps.port;
           told = checked.keeps.told;
-          loses = λ samples stands. record { away = loses-checked s m c ring (d, Err e) samples checked; same_member = ap (λ (x : PlaybackStream). x.identity.member) checked.same; same_bindings = ap (λ (x : PlaybackStream). x.setup.bindings) checked.same };
+          loses = λ samples stands. record {
+            away = loses-checked s m c ring (d, Err e) samples checked;
+            same_member = ap (λ (x : PlaybackStream). x.identity.member) checked.same;
+            same_bindings = ap (λ (x : PlaybackStream).
+                x.setup.bindings) checked.same;
+          };
           stands = λ samples stands. checked.keeps.stands samples stands tt;
         };
         explains = record {
@@ -466,7 +565,8 @@ module _ {S T : Type 0} (P : mixport.Ghosts S) (G : gates.Ghosts T) (holds : Hol
         };
       }))
 
-  rewound-well : (s m t : S × T) (c d : PlaybackStream) (ring : List ℤ) (n : ℕ) (a : Answered ℕ) → Checked P G s m c ring (d, Ok tt) → TakesAt P G m (rewind_on (P.view s.0).marks.floor ring n (d, Ok tt)) t a
+  rewound-well : (s m t : S × T) (c d : PlaybackStream) (ring : List ℤ) (n : ℕ) (a : Answered ℕ) → Checked P G s m c ring (d, Ok tt)
+      → TakesAt P G m (rewind_on (P.view s.0).marks.floor ring n (d, Ok tt)) t a
       → Rewound s t c ring n a
   rewound-well s m t c d ring n a checked takes =
       let floor = (P.view s.0).marks.floor in
@@ -474,7 +574,8 @@ module _ {S T : Type 0} (P : mixport.Ghosts S) (G : gates.Ghosts T) (holds : Hol
       let moving : IsMoving d = checked.keeps.sound.moving (ap is_moving checked.runs) going in
       let is = IsBack-of d floor (min n (rewindable_of floor d)) moving (few-of n (rewindable_of floor d)) in
       let is_floor : (P.view m.0).marks.floor ≡ floor = ap (λ (x : Marks). x.floor) checked.marks in
-      let back = takes_back-kept d ring floor (min n (rewindable_of floor d)) checked.keeps.sound checked.runs going is P G holds m t a is_floor checked.keeps.port takes in
+      let back = takes_back-kept d ring floor (min n (rewindable_of floor d)) checked.keeps.sound checked.runs going is P G holds m t a is_floor
+      checked.keeps.port takes in
       record {
         keeps = record {
           sound = back.keeps.sound;
@@ -495,41 +596,50 @@ module _ {S T : Type 0} (P : mixport.Ghosts S) (G : gates.Ghosts T) (holds : Hol
           first = checked.explains;
           rest = takes;
           loaded_nothing = back.loaded_nothing;
-          why = takes_back-why d ring floor (min n (rewindable_of floor d)) checked.keeps.sound checked.runs going is P G holds m t c d checked.explains.load a is_floor checked.keeps.port takes
+          why = takes_back-why d ring floor (min n (rewindable_of floor d)) checked.keeps.sound checked.runs going is P G holds m t c d checked.explains.load a
+              is_floor checked.keeps.port takes
               (caused-later P.view P.shows m.0 t.0 checked.explains.load c d checked.explains.why);
         };
       }
 
-  rewound-by : (s m t : S × T) (c : PlaybackStream) (ring : List ℤ) (n : ℕ) (middle : Answered (Unit {0})) (a : Answered ℕ) → Checked P G s m c ring middle → TakesAt P G m (rewind_on (P.view s.0).marks.floor ring n middle) t a
+  rewound-by : (s m t : S × T) (c : PlaybackStream) (ring : List ℤ) (n : ℕ) (middle : Answered (Unit {0})) (a : Answered ℕ) → Checked P G s m c ring middle
+      → TakesAt P G m (rewind_on (P.view s.0).marks.floor ring n middle) t a
       → Rewound s t c ring n a
   rewound-by s m t c ring n (d, Ok done) a checked takes = rewound-well s m t c d ring n a checked takes
   rewound-by s m t c ring n (d, Err e) a checked takes = rewound-ill s m t c d ring n e a checked takes
 
-  pub rewinds-kept : (s t : S × T) (c : PlaybackStream) (ring : List ℤ) (n : ℕ) (a : Answered ℕ) → IsSoundClient c ring → c.status.state ≡ Running → c.status.stopped ≡ false → CanUse c (P.view s.0)
+  pub rewinds-kept : (s t : S × T) (c : PlaybackStream) (ring : List ℤ) (n : ℕ) (a : Answered ℕ) → IsSoundClient c ring → c.status.state ≡ Running
+      → c.status.stopped ≡ false → CanUse c (P.view s.0)
       → TakesAt P G s (rewinds c ring (P.view s.0).marks.floor n) t a → Rewound s t c ring n a
   unfolding rewinds
   rewinds-kept s t c ring n a sound runs going port takes =
       let parts = Takes-parts (LoadsAt P G) (LaysAt P G) NoGet s t (checks c) (rewind_on (P.view s.0).marks.floor ring n) a takes in
-      rewound-by s parts.0 t c ring n parts.1 a (checks-kept P G holds.laid_composes holds.loaded_composes s parts.0 c ring parts.1 sound runs going port parts.2) parts.3
+      rewound-by s parts.0 t c ring n parts.1 a (checks-kept P G holds.laid_composes holds.loaded_composes s parts.0 c ring parts.1 sound runs
+      going port parts.2) parts.3
 
   -- a port whose standing adds ended in the frames that the client's ring has still ends in those that it has after the load
-  pub standing-checked : (s t : S × T) (c : PlaybackStream) (ring : List ℤ) (a : Answered (Unit {0})) → Checked P G s t c ring a → P.ends_in s.0 (held_entries c ring) → P.ends_in t.0 (held_entries a.0 ring)
+  pub standing-checked : (s t : S × T) (c : PlaybackStream) (ring : List ℤ) (a : Answered (Unit {0})) → Checked P G s t c ring a
+      → P.ends_in s.0 (held_entries c ring) → P.ends_in t.0 (held_entries a.0 ring)
   standing-checked s t c ring a checked stand =
       let d : PlaybackStream = record c { status = a.0.status; seen = a.0.seen } in
       let k : ℕ = c.stretch.committed in
       let from : ℕ = min k (hw_of c) in
       let at : ℕ = min k (hw_of d) in
       let both = min-both k (hw_of c) (hw_of d) (subst (λ (e : PlaybackStream). from ≤ hw_of e) checked.same checked.later) in
-      let split = run_entries-split c.identity.member c.setup.bindings (ring_sample c ring) c.stretch.card from at (at - from) (k - from) (k - at) 0 (omega (arith, both.0)) (omega (arith, both.0, both.1)) in
+      let split = run_entries-split c.identity.member c.setup.bindings (ring_sample c ring) c.stretch.card from at (at - from) (k - from) (k - at) 0
+      (omega (arith, both.0)) (omega (arith, both.0, both.1)) in
       subst (λ (e : PlaybackStream). P.ends_in t.0 (held_entries e ring)) (sym checked.same)
-      (holds.nothing s.0 t.0 (held_entries d ring) checked.explains.laid_nothing (holds.part s.0 (run_entries c.identity.member c.setup.bindings (ring_sample c ring) c.stretch.card from (at - from) 0) _ (subst (P.ends_in s.0) split stand)))
+      (holds.nothing s.0 t.0 (held_entries d ring) checked.explains.laid_nothing (holds.part s.0
+      (run_entries c.identity.member c.setup.bindings (ring_sample c ring) c.stretch.card from (at - from) 0) _ (subst (P.ends_in s.0) split stand)))
 
-  pub rewinds-by : (s m t : S × T) (c : PlaybackStream) (ring : List ℤ) (floor : Cursor) (n : ℕ) (middle : Answered (Unit {0})) (a : Answered ℕ) → TakesAt P G s (checks c) m middle
+  pub rewinds-by : (s m t : S × T) (c : PlaybackStream) (ring : List ℤ) (floor : Cursor) (n : ℕ) (middle : Answered (Unit {0})) (a : Answered ℕ)
+      → TakesAt P G s (checks c) m middle
       → TakesAt P G m (rewind_on floor ring n middle) t a → TakesAt P G s (rewinds c ring floor n) t a
   unfolding rewinds
   rewinds-by s m t c ring floor n middle a one two = Takes-then (LoadsAt P G) (LaysAt P G) NoGet s m t (checks c) (rewind_on floor ring n) middle a one two
 
-  pub numbered-by : (s t : S × T) (c : PlaybackStream) (number : PlaybackStream → ℕ) (a : Answered (Unit {0})) (b : Answered ℕ) → TakesAt P G s (checks c) t a → with_number number a ≡ b → TakesAt P G s (course_with_number number (checks c)) t b
+  pub numbered-by : (s t : S × T) (c : PlaybackStream) (number : PlaybackStream → ℕ) (a : Answered (Unit {0})) (b : Answered ℕ) → TakesAt P G s (checks c) t a
+      → with_number number a ≡ b → TakesAt P G s (course_with_number number (checks c)) t b
   unfolding course_with_number
   numbered-by s t c number a b takes is = Takes-map (LoadsAt P G) (LaysAt P G) NoGet s t (checks c) (λ done. with_number number done) a b takes is
 
@@ -538,14 +648,16 @@ module _ {S T : Type 0} (P : mixport.Ghosts S) (G : gates.Ghosts T) (holds : Hol
     pub keeps : Keeps P G s t (client c ring) (client b.0 ring) b.1 AnySamples
     pub explains : ExplainsCheck P G s t c (λ load. with_number number (after_sync c call.Transfer load nothing)) b
 
-  pub numbered-kept : (s t : S × T) (c : PlaybackStream) (ring : List ℤ) (number : PlaybackStream → ℕ) (b : Answered ℕ) → IsSoundClient c ring → c.status.state ≡ Running → c.status.stopped ≡ false → CanUse c (P.view s.0)
+  pub numbered-kept : (s t : S × T) (c : PlaybackStream) (ring : List ℤ) (number : PlaybackStream → ℕ) (b : Answered ℕ) → IsSoundClient c ring
+      → c.status.state ≡ Running → c.status.stopped ≡ false → CanUse c (P.view s.0)
       → TakesAt P G s (course_with_number number (checks c)) t b → Numbered s t c ring number b
   unfolding course_with_number
   numbered-kept s t c ring number b sound runs going port takes =
       let parts = Takes-parts (LoadsAt P G) (LaysAt P G) NoGet s t (checks c) (λ done. ends (with_number number done)) b takes in
       let a = parts.1 in
       let checked = checks-kept P G holds.laid_composes holds.loaded_composes s parts.0 c ring a sound runs going port parts.2 in
-      subst (λ (u : S × T). Numbered s u c ring number b) (sym parts.3.there) (subst (λ (x : Answered ℕ). Numbered s parts.0 c ring number x) (sym parts.3.result) (record {
+      subst (λ (u : S × T). Numbered s u c ring number b) (sym parts.3.there) (subst (λ (x : Answered ℕ). Numbered s parts.0 c ring number x)
+      (sym parts.3.result) (record {
         keeps = Keeps-numbered P G holds.laid_composes holds.loaded_composes s parts.0 (client c ring) number a ring checked.keeps;
         explains = record {
           load = checked.explains.load;
@@ -558,16 +670,22 @@ module _ {S T : Type 0} (P : mixport.Ghosts S) (G : gates.Ghosts T) (holds : Hol
 
   -- a rewind of a stream that is prepared
   -- where nothing is done, all is kept
-  pub KeepsBack-none : {X : Type 0} (s : S × T) (c : ClientView) (answer : Result X PcmError) → Keeps P G s s c c answer AnySamples → KeepsBack P G s s c c answer
+  pub KeepsBack-none : {X : Type 0} (s : S × T) (c : ClientView) (answer : Result X PcmError) → Keeps P G s s c c answer AnySamples
+      → KeepsBack P G s s c c answer
   KeepsBack-none s c answer keeps = record {
     sound = keeps.sound;
     port = keeps.port;
     told = keeps.told;
-    loses = λ samples stands. record { away = TakesAway-none P G holds s.0 s.0 (segment_entries c.stream samples) (holds.laid_composes.none s.0); same_member = refl; same_bindings = refl };
+    loses = λ samples stands. record {
+      away = TakesAway-none P G holds s.0 s.0 (segment_entries c.stream samples) (holds.laid_composes.none s.0);
+      same_member = refl;
+      same_bindings = refl;
+    };
     stands = λ samples stands. stands;
   }
 
-  pub without-kept : (s : S × T) (c : PlaybackStream) (ring : List ℤ) (n : ℕ) → IsSoundClient c ring → c.status.state ≡ Prepared → n ≤ c.stretch.written → CanUse c (P.view s.0)
+  pub without-kept : (s : S × T) (c : PlaybackStream) (ring : List ℤ) (n : ℕ) → IsSoundClient c ring → c.status.state ≡ Prepared
+      → n ≤ c.stretch.written → CanUse c (P.view s.0)
       → KeepsBack P G s s (client c ring) (client (without_frames c n) ring) (let r : Result ℕ PcmError = Ok n in r)
   without-kept s c ring n sound waits few port =
       let p = sound.prepared waits in
@@ -584,8 +702,13 @@ module _ {S T : Type 0} (P : mixport.Ghosts S) (G : gates.Ghosts T) (holds : Hol
           moving = λ moves going. absurd (not_prepared-moving c.status.state moves waits);
           paused = λ is. absurd (cc);
         };
-        port = CanUse-still c (without_frames c n) (P.view s.0) (P.view s.0) port (IsSamePort-refl (P.view s.0)) refl (λ moves going. not_prepared-moving c.status.state moves waits);
+        port = CanUse-still c (without_frames c n) (P.view s.0) (P.view s.0) port (IsSamePort-refl (P.view s.0)) refl
+            (λ moves going. not_prepared-moving c.status.state moves waits);
         told = λ unstopped. refl;
-        loses = λ samples stands. record { away = TakesAway-none P G holds s.0 s.0 (segment_entries c samples) (holds.laid_composes.none s.0); same_member = refl; same_bindings = refl };
+        loses = λ samples stands. record {
+          away = TakesAway-none P G holds s.0 s.0 (segment_entries c samples) (holds.laid_composes.none s.0);
+          same_member = refl;
+          same_bindings = refl;
+        };
         stands = λ samples stands j q low high in_range. stands j q low (omega (arith, high)) in_range;
       }

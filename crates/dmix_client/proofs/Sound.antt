@@ -42,10 +42,37 @@ next-GoesOn state call queued gone over late step =
     (λ is. record { not_prepared = λ e. cc; not_paused = λ e. cc; found = λ e. absurd (cc); goes = tt; told = λ b a e. e })
     (λ a f here runs is. record { not_prepared = λ e. cc; not_paused = λ e. cc; found = λ e. absurd (cc); goes = tt; told = λ b a e. e })
     (λ w here none is. record { not_prepared = λ e. cc; not_paused = λ e. cc; found = λ e. absurd (cc); goes = tt; told = λ b a e. e })
-    (λ here runs none in_time. record { not_prepared = λ e. cc; not_paused = λ e. cc; found = λ e. (here, in_time, λ r. none); goes = λ other. refl; told = λ b a e. e })
-    (λ here drains in_time. record { not_prepared = λ e. cc; not_paused = λ e. cc; found = λ e. absurd (cc); goes = λ other. absurd (other refl); told = λ b a e. e })
-    (λ here drains in_time same. record { not_prepared = λ e. cc; not_paused = λ e. cc; found = λ e. (here, in_time, λ r. absurd (cc)); goes = λ other. refl; told = λ b a e. e })
-    (λ here drains in_time same. record { not_prepared = λ e. cc; not_paused = λ e. cc; found = λ e. (here, in_time, λ r. absurd (cc)); goes = tt; told = λ b a e. e })
+    (λ here runs none in_time. record {
+      not_prepared = λ e. cc;
+      not_paused = λ e. cc;
+      found = λ e. (here, in_time, λ r. none);
+      goes = λ other.
+          refl;
+      told = λ b a e. e;
+    })
+    (λ here drains in_time. record {
+      not_prepared = λ e. cc;
+      not_paused = λ e. cc;
+      found = λ e. absurd (cc);
+      goes = λ other.
+          absurd (other refl);
+      told = λ b a e. e;
+    })
+    (λ here drains in_time same. record {
+      not_prepared = λ e. cc;
+      not_paused = λ e. cc;
+      found = λ e. (here, in_time, λ r. absurd (cc));
+      goes = λ other.
+          refl;
+      told = λ b a e. e;
+    })
+    (λ here drains in_time same. record {
+      not_prepared = λ e. cc;
+      not_paused = λ e. cc;
+      found = λ e. (here, in_time, λ r. absurd (cc));
+      goes = tt;
+      told = λ b a e. e;
+    })
 
 -- a stream that moves frames isn't prepared nor paused, and is set up
 pub not_prepared-moving : (s : State) → is_moving s ≡ true → (s ≡ Prepared → ⊥)
@@ -71,8 +98,10 @@ hw-started c is = ap (λ (b : Bool). if b then unwrap_or c.seen 0 - c.stretch.ca
 -- ---- of a client whose counts stay
 
 -- a client in another status that has seen another position, where its counts are as that status asks
-pub IsSoundClient-status : (c : PlaybackStream) (s : Status) (seen : Option ℕ) (ring : List ℤ) → IsSoundClient c ring → unwrap_or seen 0 ≤ end_frame c.identity.geometry → (is_set_up s.state ≡ true → c.setup.configured ≡ true) → (s.state ≡ Prepared → IsPrepared c)
-    → (is_moving s.state ≡ true → s.stopped ≡ false → IsMoving (record c { seen = seen })) → (s.state ≡ Paused → IsMoving (record c { seen = seen })) → IsSoundClient (record c { status = s; seen = seen }) ring
+pub IsSoundClient-status : (c : PlaybackStream) (s : Status) (seen : Option ℕ) (ring : List ℤ) → IsSoundClient c ring
+    → unwrap_or seen 0 ≤ end_frame c.identity.geometry → (is_set_up s.state ≡ true → c.setup.configured ≡ true) → (s.state ≡ Prepared → IsPrepared c)
+    → (is_moving s.state ≡ true → s.stopped ≡ false → IsMoving (record c { seen = seen })) → (s.state ≡ Paused → IsMoving (record c { seen = seen }))
+    → IsSoundClient (record c { status = s; seen = seen }) ring
 IsSoundClient-status c s seen ring sound near is_set waits moves rests = record {
   lead = sound.lead;
   seen = near;
@@ -87,11 +116,15 @@ IsSoundClient-status c s seen ring sound near is_set waits moves rests = record 
 }
 
 -- a client that was stopped before it took a step
-pub IsSoundClient-stopped : (c : PlaybackStream) (ring : List ℤ) → IsSoundClient c ring → IsSoundClient (record c { status = record c.status { stopped = true } }) ring
-IsSoundClient-stopped c ring sound = IsSoundClient-status c (record c.status { stopped = true }) c.seen ring sound sound.seen sound.set_up sound.prepared (λ moves going. absurd (cc)) sound.paused
+pub IsSoundClient-stopped : (c : PlaybackStream) (ring : List ℤ) → IsSoundClient c ring
+    → IsSoundClient (record c { status = record c.status { stopped = true } }) ring
+IsSoundClient-stopped c ring sound =
+    IsSoundClient-status c (record c.status { stopped = true }) c.seen ring sound sound.seen sound.set_up sound.prepared
+    (λ moves going. absurd (cc)) sound.paused
 
 -- a port can be used by a client that doesn't move frames, or is stopped
-pub CanUse-still : (c d : PlaybackStream) (v w : PortView) → CanUse c v → IsSamePort v w → d.identity ≡ c.identity → (is_moving d.status.state ≡ true → d.status.stopped ≡ false → ⊥) → CanUse d w
+pub CanUse-still : (c d : PlaybackStream) (v w : PortView) → CanUse c v → IsSamePort v w → d.identity ≡ c.identity
+    → (is_moving d.status.state ≡ true → d.status.stopped ≡ false → ⊥) → CanUse d w
 CanUse-still c d v w port same is still = record {
   same_geometry = same.same_geometry ∙ port.same_geometry ∙ sym (ap (λ i. i.geometry) is);
   same_member = same.same_member ∙ port.same_member ∙ sym (ap (λ i. i.member) is);
@@ -136,7 +169,8 @@ frames-le (ended.Late word) frames part count channels is = omega (arith, is.0)
 frames-le ended.Stopped frames part count channels is = omega (arith, is.0)
 
 -- the frames of a commit are below the frame that it was to place up to
-pub used-below : (e : Ended) (k frames part count channels upto : ℕ) → IsCommit e frames part count channels → count ≤ upto - k → k ≤ upto → k + frames_used frames part ≤ upto
+pub used-below : (e : Ended) (k frames part count channels upto : ℕ) → IsCommit e frames part count channels → count ≤ upto - k → k ≤ upto
+    → k + frames_used frames part ≤ upto
 used-below ended.Whole k frames part count channels upto is few low = let all = is.0 in let none = is.1 in grind (arith, nat_tests)
 used-below (ended.Late word) k frames part count channels upto is few low = let less = is.0 in grind (arith, nat_tests)
 used-below ended.Stopped k frames part count channels upto is few low = let less = is.0 in grind (arith, nat_tests)
@@ -147,7 +181,8 @@ none-of ended.Whole frames part channels is = (is.0, is.1, refl)
 none-of (ended.Late word) frames part channels is = absurd (omega (arith, is.0))
 none-of ended.Stopped frames part channels is = absurd (omega (arith, is.0))
 
-pub whole-of : (e : Ended) (frames part count channels frame channel : ℕ) (X : Type 0) → IsCommit e frames part count channels → is_stop e ≡ false → late_at e frame channel ≡ None → OnWhole e X → (frames ≡ count) × (part ≡ 0) × X
+pub whole-of : (e : Ended) (frames part count channels frame channel : ℕ) (X : Type 0) → IsCommit e frames part count channels → is_stop e ≡ false
+    → late_at e frame channel ≡ None → OnWhole e X → (frames ≡ count) × (part ≡ 0) × X
 whole-of ended.Whole frames part count channels frame channel X is going in_time at = (is.0, is.1, at)
 whole-of (ended.Late word) frames part count channels frame channel X is going in_time at = absurd (cc)
 whole-of ended.Stopped frames part count channels frame channel X is going in_time at = absurd (cc)
@@ -157,7 +192,13 @@ abbrev pub after : PlaybackStream → PlaybackStream → Commit → Status → �
 after c b x s written fed =
     record c {
       status = s;
-      stretch = record c.stretch { written = written; committed = c.stretch.committed + x.frames; part = x.part; card = b.stretch.card; started = b.stretch.started };
+      stretch = record c.stretch {
+        written = written;
+        committed = c.stretch.committed + x.frames;
+        part = x.part;
+        card = b.stretch.card;
+        started = b.stretch.started;
+      };
       seen = b.seen;
       fed = fed;
     }
@@ -182,7 +223,8 @@ pub record CommitsAs (c b : PlaybackStream) (ring : List ℤ) (x : Commit) (coun
   pub commit_is : IsCommit x.ended x.frames x.part count (length c.setup.bindings)
 
 -- it moves on, where all was placed
-pub IsMoving-after : (c b : PlaybackStream) (ring : List ℤ) (x : Commit) (count upto : ℕ) (s : Status) (fed : ℕ) → CommitsAs c b ring x count upto → upto ≤ hw_of b + c.setup.config.buffer_size → x.frames ≡ count_at c b upto → x.part ≡ 0
+pub IsMoving-after : (c b : PlaybackStream) (ring : List ℤ) (x : Commit) (count upto : ℕ) (s : Status) (fed : ℕ) → CommitsAs c b ring x count upto
+    → upto ≤ hw_of b + c.setup.config.buffer_size → x.frames ≡ count_at c b upto → x.part ≡ 0
     → IsMoving (after c b x s upto fed)
 IsMoving-after c b ring x count upto s fed y fits all none =
     let h : ℕ = unwrap_or b.seen 0 in
@@ -194,11 +236,13 @@ IsMoving-after c b ring x count upto s fed y fits all none =
       laid_most = whole_most upto c.stretch.committed b.stretch.card x.frames stop y.low all;
       fits = fits;
       pending = near-pending upto (h - b.stretch.card) (c.stretch.committed + x.frames) c.setup.config.buffer_size (omega (arith, hw, fits))
-          (whole_least upto c.stretch.committed b.stretch.card x.frames h stop (window_end-above h c.identity.geometry.frames (end_frame c.identity.geometry) y.near) all);
+          (whole_least upto c.stretch.committed b.stretch.card x.frames h stop (window_end-above h c.identity.geometry.frames
+          (end_frame c.identity.geometry) y.near) all);
     }
 
 -- its counts are in order, in a status in which it isn't prepared nor paused
-pub IsSoundClient-after : (c b : PlaybackStream) (ring : List ℤ) (x : Commit) (count upto : ℕ) (s : Status) (written fed : ℕ) → CommitsAs c b ring x count upto → written + c.stretch.source ≡ fed → (s.state ≡ Prepared → ⊥) → (s.state ≡ Paused → ⊥)
+pub IsSoundClient-after : (c b : PlaybackStream) (ring : List ℤ) (x : Commit) (count upto : ℕ) (s : Status) (written fed : ℕ) → CommitsAs c b ring x count upto
+    → written + c.stretch.source ≡ fed → (s.state ≡ Prepared → ⊥) → (s.state ≡ Paused → ⊥)
     → (is_moving s.state ≡ true → s.stopped ≡ false → IsMoving (after c b x s written fed)) → IsSoundClient (after c b x s written fed) ring
 IsSoundClient-after c b ring x count upto s written fed y sums not_prepared not_paused moves = record {
   lead = y.sound.lead;
@@ -227,8 +271,10 @@ IsMoving-seen c position m loaded =
     record { started = m.started; whole = m.whole; laid_most = m.laid_most; fits = omega (arith, later, hw, m.fits, loaded.newer); pending = m.pending }
 
 -- a client that moves frames makes a commit at a position that it loaded
-pub CommitsAs-seen : (c : PlaybackStream) (ring : List ℤ) (position : Position) (x : Commit) (count : ℕ) → IsSoundClient c ring → is_moving c.status.state ≡ true → c.status.stopped ≡ false → IsLoaded c position
-    → count ≤ commit_count c position.frame c.stretch.written → IsCommit x.ended x.frames x.part count (length c.setup.bindings) → CommitsAs c (seen_at c position) ring x count c.stretch.written
+pub CommitsAs-seen : (c : PlaybackStream) (ring : List ℤ) (position : Position) (x : Commit) (count : ℕ) → IsSoundClient c ring
+    → is_moving c.status.state ≡ true → c.status.stopped ≡ false → IsLoaded c position
+    → count ≤ commit_count c position.frame c.stretch.written → IsCommit x.ended x.frames x.part count (length c.setup.bindings)
+    → CommitsAs c (seen_at c position) ring x count c.stretch.written
 CommitsAs-seen c ring position x count sound moves going loaded few commit_is =
     let m = sound.moving moves going in
     let hw : hw_of c ≡ unwrap_or c.seen 0 - c.stretch.card = hw-started c m.started in
@@ -248,7 +294,8 @@ CommitsAs-seen c ring position x count sound moves going loaded few commit_is =
       commit_is = commit_is;
     }
 
-over-None : (state : State) (b : Bool) (o : ℕ × ℕ) → is_moving state ≡ true → (state ≡ Running → (if is_running state && b then Some o else None) ≡ None) → (if is_running state && b then Some o else None) ≡ None
+over-None : (state : State) (b : Bool) (o : ℕ × ℕ) → is_moving state ≡ true → (state ≡ Running → (if is_running state && b then Some o else None) ≡ None)
+    → (if is_running state && b then Some o else None) ≡ None
 over-None Running b o is none = none refl
 over-None Draining b o is none = refl
 over-None state b o is none = absurd (cc)
@@ -259,10 +306,12 @@ both-false true b n x y = absurd (cc)
 both-false false true n x y = absurd (cc)
 
 -- a sync that found nothing against it is to commit all
-pub count-whole : (c : PlaybackStream) (position : Position) → is_moving c.status.state ≡ true → position.gone ≡ false → (c.status.state ≡ Running → over_of (seen_at c position) position ≡ None)
+pub count-whole : (c : PlaybackStream) (position : Position) → is_moving c.status.state ≡ true → position.gone ≡ false
+    → (c.status.state ≡ Running → over_of (seen_at c position) position ≡ None)
     → sync_count c position ≡ commit_count c position.frame c.stretch.written
 count-whole c position moves here none =
-    both-false position.gone (is_some (over_of (seen_at c position) position)) _ here (ap (λ (o : Option (ℕ × ℕ)). is_some o) (over-None c.status.state _ _ moves none))
+    both-false position.gone (is_some (over_of (seen_at c position) position)) _ here (ap (λ (o : Option (ℕ × ℕ)). is_some o)
+    (over-None c.status.state _ _ moves none))
 
 -- ---- a start
 
@@ -275,11 +324,14 @@ first_free-near cursor stop low = grind (arith, nat_tests)
 pub min-none : (k h n : ℕ) → k ≡ 0 → min k h ≤ n
 min-none k h n none = grind (arith, nat_tests)
 
-pub CommitsAs-started : (c : PlaybackStream) (ring : List ℤ) (state : State) (position : Position) (cursor : Cursor) (x : Commit) (upto : ℕ) → IsSoundClient c ring → c.status.state ≡ Prepared → cursor.frame ≤ end_frame c.identity.geometry
-    → position.frame ≤ end_frame c.identity.geometry → IsCommit x.ended x.frames x.part (start_count c cursor position upto) (length c.setup.bindings) → CommitsAs c (started_in c state position cursor) ring x (start_count c cursor position upto) upto
+pub CommitsAs-started : (c : PlaybackStream) (ring : List ℤ) (state : State) (position : Position) (cursor : Cursor) (x : Commit) (upto : ℕ)
+    → IsSoundClient c ring → c.status.state ≡ Prepared → cursor.frame ≤ end_frame c.identity.geometry
+    → position.frame ≤ end_frame c.identity.geometry → IsCommit x.ended x.frames x.part (start_count c cursor position upto) (length c.setup.bindings)
+    → CommitsAs c (started_in c state position cursor) ring x (start_count c cursor position upto) upto
 CommitsAs-started c ring state position cursor x upto sound waits low near commit_is =
     let p = sound.prepared waits in
-    let most = start_most position.frame c.identity.lead (first_free cursor 0) (end_frame c.identity.geometry) c.identity.geometry.frames near sound.lead (first_free-near cursor (end_frame c.identity.geometry) low) in
+    let most = start_most position.frame c.identity.lead (first_free cursor 0) (end_frame c.identity.geometry) c.identity.geometry.frames near sound.lead
+    (first_free-near cursor (end_frame c.identity.geometry) low) in
     record {
       sound = sound;
       set = sound.set_up (ap is_set_up waits);
@@ -297,7 +349,8 @@ CommitsAs-started c ring state position cursor x upto sound waits low near commi
 
 -- ---- a write
 
-pub CommitsAs-written : (c : PlaybackStream) (ring : List ℤ) (x : Commit) (m : ℕ) → IsSoundClient c ring → is_moving c.status.state ≡ true → c.status.stopped ≡ false
+pub CommitsAs-written : (c : PlaybackStream) (ring : List ℤ) (x : Commit) (m : ℕ) → IsSoundClient c ring → is_moving c.status.state ≡ true
+    → c.status.stopped ≡ false
     → IsCommit x.ended x.frames x.part (count_with c m) (length c.setup.bindings) → CommitsAs c c ring x (count_with c m) (c.stretch.written + m)
 CommitsAs-written c ring x m sound moves going commit_is =
     let was = sound.moving moves going in
@@ -323,12 +376,20 @@ count-some : (m n k : ℕ) → 0 < m → n ≡ (if nat_eq m 0 then 0 else k) →
 count-some m n k some is = grind (arith, nat_tests)
 
 -- it moves on, where all was placed
-pub IsMoving-written : (c : PlaybackStream) (ring : List ℤ) (x : Commit) (n m : ℕ) (s : Status) (fed : ℕ) → m ≡ taken_of c n → IsMoving c → CommitsAs c c ring x (count_with c m) (c.stretch.written + m) → x.frames ≡ count_with c m → x.part ≡ 0
+pub IsMoving-written : (c : PlaybackStream) (ring : List ℤ) (x : Commit) (n m : ℕ) (s : Status) (fed : ℕ) → m ≡ taken_of c n → IsMoving c
+    → CommitsAs c c ring x (count_with c m) (c.stretch.written + m) → x.frames ≡ count_with c m → x.part ≡ 0
     → IsMoving (after c c x s (c.stretch.written + m) fed)
 IsMoving-written c ring x n zero s fed is was y all none =
-    record { started = was.started; whole = none; laid_most = omega (arith, was.laid_most, all); fits = omega (arith, was.fits); pending = omega (arith, was.pending) }
+    record {
+      started = was.started;
+      whole = none;
+      laid_most = omega (arith, was.laid_most, all);
+      fits = omega (arith, was.fits);
+      pending = omega (arith, was.pending);
+    }
 IsMoving-written c ring x n (suc m) s fed is was y all none =
-    IsMoving-after c c ring x (count_with c (suc m)) (c.stretch.written + suc m) s fed y (taken_fits c.stretch.written (hw_of c) c.setup.config.buffer_size n (suc m) was.fits is).0
+    IsMoving-after c c ring x (count_with c (suc m)) (c.stretch.written + suc m) s fed y (taken_fits c.stretch.written (hw_of c) c.setup.config.buffer_size
+    n (suc m) was.fits is).0
     (count-some (suc m) x.frames (commit_count c (unwrap_or c.seen 0) (c.stretch.written + suc m)) (omega arith) all) none
 
 pub taken-none : (n b hw w : ℕ) → b + hw - w ≡ 0 → min n (min (b + hw - w) b) ≡ 0

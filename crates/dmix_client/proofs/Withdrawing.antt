@@ -36,7 +36,8 @@ use Rattle.dmix_client.proofs.Frames.{IsFrom-later, marks-joined, not-whole, ris
 -- what the first n channels end in is what all end in
 abbrev pub Back : {S T : Type 0} → mixport.Ghosts S → gates.Ghosts T → ℕ → ℕ → List ℕ → (ℕ → ℤ) → ℕ → S × T → S × T → ℕ → Type 0
 Back {S = S} {T = T} P G member frame bindings sample_of all start now n = (t : S × T) (left : ℕ) (ended : Ended)
-    → TakesAt P G now (take_each member frame bindings sample_of n) t (left, ended) → TakesAt P G start (take_each member frame bindings sample_of all) t (left, ended)
+    → TakesAt P G now (take_each member frame bindings sample_of n) t (left, ended)
+    → TakesAt P G start (take_each member frame bindings sample_of all) t (left, ended)
 
 -- what the first n frames end in is what all end in
 abbrev pub BackFrames : {S T : Type 0} → mixport.Ghosts S → gates.Ghosts T → ℕ → ℕ → List ℕ → (ℕ → ℕ → ℤ) → ℕ → ℕ → S × T → S × T → ℕ → Type 0
@@ -45,50 +46,67 @@ BackFrames {S = S} {T = T} P G member card bindings samples first all start now 
 
 -- the withdrawal of a place of a frame
 abbrev pub withdrawal_of : ℕ → ℕ → List ℕ → (ℕ → ℤ) → ℕ → Entry
-withdrawal_of member frame bindings sample_of n = a_withdrawal member frame (slice_index bindings (slice_index (rising bindings) n)) (sample_of (slice_index (rising bindings) n))
+withdrawal_of member frame bindings sample_of n =
+    a_withdrawal member frame (slice_index bindings (slice_index (rising bindings) n)) (sample_of (slice_index (rising bindings) n))
 
 module _ {S T : Type 0} (P : mixport.Ghosts S) (G : gates.Ghosts T) where
   -- the channel after n was withdrawn, or it wasn't
-  pub Back-next : (member frame : ℕ) (bindings : List ℕ) (sample_of : ℕ → ℤ) (all : ℕ) (start now next : S × T) (n m : ℕ) (e : Entry) → m ≡ n + 1 → e ≡ withdrawal_of member frame bindings sample_of n
+  pub Back-next : (member frame : ℕ) (bindings : List ℕ) (sample_of : ℕ → ℤ) (all : ℕ) (start now next : S × T) (n m : ℕ) (e : Entry) → m ≡ n + 1
+      → e ≡ withdrawal_of member frame bindings sample_of n
       → Back P G member frame bindings sample_of all start now m → LaysAt P G now e Whole next → Back P G member frame bindings sample_of all start next n
   unfolding take_each
   Back-next member frame bindings sample_of all start now next n m e is is_entry so_far step t left ended takes =
-      so_far t left ended (subst (λ (k : ℕ). TakesAt P G now (take_each member frame bindings sample_of k) t (left, ended)) (sym (let one : m ≡ suc n = omega (arith, is) in one))
+      so_far t left ended (subst (λ (k : ℕ). TakesAt P G now (take_each member frame bindings sample_of k) t (left, ended))
+      (sym (let one : m ≡ suc n = omega (arith, is) in one))
       (Whole, next, subst (λ (x : Entry). LaysAt P G now x Whole next) is_entry step, takes))
 
-  pub Back-ended : (member frame : ℕ) (bindings : List ℕ) (sample_of : ℕ → ℤ) (all : ℕ) (start now next : S × T) (n m : ℕ) (e : Entry) (end : Ended) → m ≡ n + 1 → e ≡ withdrawal_of member frame bindings sample_of n → (end ≡ Whole → ⊥)
-      → Back P G member frame bindings sample_of all start now m → LaysAt P G now e end next → TakesAt P G start (take_each member frame bindings sample_of all) next (m, end)
+  pub Back-ended : (member frame : ℕ) (bindings : List ℕ) (sample_of : ℕ → ℤ) (all : ℕ) (start now next : S × T) (n m : ℕ) (e : Entry) (end : Ended) → m ≡ n + 1
+      → e ≡ withdrawal_of member frame bindings sample_of n → (end ≡ Whole → ⊥)
+      → Back P G member frame bindings sample_of all start now m → LaysAt P G now e end next
+      → TakesAt P G start (take_each member frame bindings sample_of all) next (m, end)
   unfolding take_each
   Back-ended member frame bindings sample_of all start now next n m e end is is_entry not_so so_far step =
-      so_far next m end (subst (λ (k : ℕ). TakesAt P G now (take_each member frame bindings sample_of k) next (k, end)) (sym (let one : m ≡ suc n = omega (arith, is) in one)) (
+      so_far next m end (subst (λ (k : ℕ). TakesAt P G now (take_each member frame bindings sample_of k) next (k, end))
+      (sym (let one : m ≡ suc n = omega (arith, is) in one)) (
         end,
         next,
         subst (λ (x : Entry). LaysAt P G now x end next) is_entry step,
-        not-whole (λ (x : Ended). TakesAt P G next (take_on x (suc n) (take_each member frame bindings sample_of n)) next (suc n, x)) end not_so (λ word. record { there = refl; result = refl }) (record { there = refl; result = refl }),
+        not-whole (λ (x : Ended). TakesAt P G next (take_on x (suc n) (take_each member frame bindings sample_of n)) next (suc n, x)) end not_so
+            (λ word. record { there = refl; result = refl }) (record { there = refl; result = refl }),
       ))
 
-  pub Back-all : (member frame : ℕ) (bindings : List ℕ) (sample_of : ℕ → ℤ) (all : ℕ) (start now : S × T) (n : ℕ) → n ≡ 0 → Back P G member frame bindings sample_of all start now n
+  pub Back-all : (member frame : ℕ) (bindings : List ℕ) (sample_of : ℕ → ℤ) (all : ℕ) (start now : S × T) (n : ℕ) → n ≡ 0
+      → Back P G member frame bindings sample_of all start now n
       → TakesAt P G start (take_each member frame bindings sample_of all) now (0, Whole)
   unfolding take_each
   Back-all member frame bindings sample_of all start now n none so_far = so_far now 0 Whole (rw none (record { there = refl; result = refl }))
 
-  pub BackFrames-next : (member card : ℕ) (bindings : List ℕ) (samples : ℕ → ℕ → ℤ) (first all : ℕ) (start now next : S × T) (n m left : ℕ) → m ≡ n + 1 → BackFrames P G member card bindings samples first all start now m
-      → TakesAt P G now (take_each member (card + (first + n)) bindings (samples (first + n)) (length bindings)) next (left, Whole) → BackFrames P G member card bindings samples first all start next n
+  pub BackFrames-next : (member card : ℕ) (bindings : List ℕ) (samples : ℕ → ℕ → ℤ) (first all : ℕ) (start now next : S × T) (n m left : ℕ) → m ≡ n + 1
+      → BackFrames P G member card bindings samples first all start now m
+      → TakesAt P G now (take_each member (card + (first + n)) bindings (samples (first + n)) (length bindings)) next (left, Whole)
+      → BackFrames P G member card bindings samples first all start next n
   unfolding take_frames
   BackFrames-next member card bindings samples first all start now next n m left is so_far step t x takes =
       so_far t x (subst (λ (k : ℕ). TakesAt P G now (take_frames member card bindings samples first k) t x) (sym (let e : m ≡ suc n = omega (arith, is) in e))
-      (Takes-then (LoadsAt P G) (LaysAt P G) NoGet now next t (take_each member (card + (first + n)) bindings (samples (first + n)) (length bindings)) (λ end. back_on end n (length bindings) (take_frames member card bindings samples first n)) (left, Whole) x step takes))
+      (Takes-then (LoadsAt P G) (LaysAt P G) NoGet now next t (take_each member (card + (first + n)) bindings (samples (first + n)) (length bindings))
+      (λ end. back_on end n (length bindings) (take_frames member card bindings samples first n)) (left, Whole) x step takes))
 
-  pub BackFrames-ended : (member card : ℕ) (bindings : List ℕ) (samples : ℕ → ℕ → ℤ) (first all : ℕ) (start now next : S × T) (n m left : ℕ) (end : Ended) → m ≡ n + 1 → (end ≡ Whole → ⊥) → BackFrames P G member card bindings samples first all start now m
-      → TakesAt P G now (take_each member (card + (first + n)) bindings (samples (first + n)) (length bindings)) next (left, end) → TakesAt P G start (take_frames member card bindings samples first all) next (rewind_left n left (length bindings) end)
+  pub BackFrames-ended : (member card : ℕ) (bindings : List ℕ) (samples : ℕ → ℕ → ℤ) (first all : ℕ) (start now next : S × T) (n m left : ℕ) (end : Ended)
+      → m ≡ n + 1 → (end ≡ Whole → ⊥) → BackFrames P G member card bindings samples first all start now m
+      → TakesAt P G now (take_each member (card + (first + n)) bindings (samples (first + n)) (length bindings)) next (left, end)
+      → TakesAt P G start (take_frames member card bindings samples first all) next (rewind_left n left (length bindings) end)
   unfolding take_frames
   BackFrames-ended member card bindings samples first all start now next n m left end is not_so so_far step =
       let rest = take_frames member card bindings samples first n in
-      so_far next (rewind_left n left (length bindings) end) (subst (λ (k : ℕ). TakesAt P G now (take_frames member card bindings samples first k) next (rewind_left n left (length bindings) end)) (sym (let e : m ≡ suc n = omega (arith, is) in e))
-      (Takes-then (LoadsAt P G) (LaysAt P G) NoGet now next next (take_each member (card + (first + n)) bindings (samples (first + n)) (length bindings)) (λ e. back_on e n (length bindings) rest) (left, end) (rewind_left n left (length bindings) end) step
-      (not-whole (λ (x : Ended). TakesAt P G next (back_on (left, x) n (length bindings) rest) next (rewind_left n left (length bindings) x)) end not_so (λ word. record { there = refl; result = refl }) (record { there = refl; result = refl }))))
+      so_far next (rewind_left n left (length bindings) end) (subst (λ (k : ℕ). TakesAt P G now (take_frames member card bindings samples first k) next
+      (rewind_left n left (length bindings) end)) (sym (let e : m ≡ suc n = omega (arith, is) in e))
+      (Takes-then (LoadsAt P G) (LaysAt P G) NoGet now next next (take_each member (card + (first + n)) bindings (samples (first + n)) (length bindings))
+      (λ e. back_on e n (length bindings) rest) (left, end) (rewind_left n left (length bindings) end) step
+      (not-whole (λ (x : Ended). TakesAt P G next (back_on (left, x) n (length bindings) rest) next (rewind_left n left (length bindings) x)) end not_so
+      (λ word. record { there = refl; result = refl }) (record { there = refl; result = refl }))))
 
-  pub BackFrames-all : (member card : ℕ) (bindings : List ℕ) (samples : ℕ → ℕ → ℤ) (first all : ℕ) (start now : S × T) (n : ℕ) → n ≡ 0 → BackFrames P G member card bindings samples first all start now n
+  pub BackFrames-all : (member card : ℕ) (bindings : List ℕ) (samples : ℕ → ℕ → ℤ) (first all : ℕ) (start now : S × T) (n : ℕ) → n ≡ 0
+      → BackFrames P G member card bindings samples first all start now n
       → TakesAt P G start (take_frames member card bindings samples first all) now nothing
   unfolding take_frames
   BackFrames-all member card bindings samples first all start now n none so_far = so_far now nothing (rw none (record { there = refl; result = refl }))
@@ -106,29 +124,37 @@ pub record HoldsBy {S : Type 0} (P : mixport.Ghosts S) : Type 0 where
 
 -- a frame's first n + 1 entries, and a run's first n + 1 frames
 pub frame_entries-last : (member : ℕ) (bindings : List ℕ) (s : ℕ → ℤ) (n frame : ℕ) → AreBindings bindings → n < length bindings
-    → frame_entries member bindings s (suc n) frame ≡ frame_entries member bindings s n frame ++ an_add member frame (slice_index bindings (slice_index (rising bindings) n)) (s (slice_index (rising bindings) n)) ∷ []
+    → frame_entries member bindings s (suc n) frame ≡ frame_entries member bindings s n frame ++ an_add member frame
+    (slice_index bindings (slice_index (rising bindings) n)) (s (slice_index (rising bindings) n)) ∷ []
 frame_entries-last member bindings s n frame are low =
     let entry : ℕ → Entry = λ q. an_add member frame (slice_index bindings q) (s q) in
     ap (map entry) (take-suc (rising bindings) n 0 (omega (arith, length-rising bindings are, low)))
     ∙ map-append entry (take n (rising bindings)) (get_or (rising bindings) n 0 ∷ [])
 
 -- standing adds that end in a frame's first n + 1 entries end in n of them and the last one
-pub stands-last : {S : Type 0} (ends_in : S → List Entry → Type 0) (p : S) (member frame : ℕ) (bindings : List ℕ) (s : ℕ → ℤ) (n m : ℕ) (e : Entry) → AreBindings bindings → m ≡ n + 1 → m ≤ length bindings
-    → e ≡ an_add member frame (slice_index bindings (slice_index (rising bindings) n)) (s (slice_index (rising bindings) n)) → ends_in p (frame_entries member bindings s m frame) → ends_in p (frame_entries member bindings s n frame ++ e ∷ [])
+pub stands-last : {S : Type 0} (ends_in : S → List Entry → Type 0) (p : S) (member frame : ℕ) (bindings : List ℕ) (s : ℕ → ℤ) (n m : ℕ) (e : Entry)
+    → AreBindings bindings → m ≡ n + 1 → m ≤ length bindings
+    → e ≡ an_add member frame (slice_index bindings (slice_index (rising bindings) n)) (s (slice_index (rising bindings) n))
+    → ends_in p (frame_entries member bindings s m frame) → ends_in p (frame_entries member bindings s n frame ++ e ∷ [])
 stands-last ends_in p member frame bindings s n m e are is few is_entry ends =
-    subst (ends_in p) (ap (λ (k : ℕ). frame_entries member bindings s k frame) (let one : m ≡ suc n = omega (arith, is) in one) ∙ frame_entries-last member bindings s n frame are (omega (arith, is, few)) ∙ ap (λ (x : Entry). frame_entries member bindings s n frame ++ x ∷ []) (sym is_entry)) ends
+    subst (ends_in p) (ap (λ (k : ℕ). frame_entries member bindings s k frame) (let one : m ≡ suc n = omega (arith, is) in one) ∙ frame_entries-last member
+    bindings s n frame are (omega (arith, is, few)) ∙ ap (λ (x : Entry). frame_entries member bindings s n frame ++ x ∷ []) (sym is_entry)) ends
 
 pub run_entries-last : (member : ℕ) (bindings : List ℕ) (s : ℕ → ℕ → ℤ) (card first n : ℕ)
-    → run_entries member bindings s card first (n + 1) 0 ≡ run_entries member bindings s card first n 0 ++ frame_entries member bindings (s (first + n)) (length bindings) (card + (first + n))
+    → run_entries member bindings s card first (n + 1) 0 ≡ run_entries member bindings s card first n 0 ++ frame_entries member bindings (s (first + n))
+    (length bindings) (card + (first + n))
 run_entries-last member bindings s card first n =
     run_entries-append member bindings s card first n 1 0
     ∙ ap (λ (es : List Entry). run_entries member bindings s card first n 0 ++ es)
-    (append-nil (frame_entries member bindings (s (first + n)) (length bindings) (card + (first + n)) ++ []) ∙ append-nil (frame_entries member bindings (s (first + n)) (length bindings) (card + (first + n))))
+    (append-nil (frame_entries member bindings (s (first + n)) (length bindings) (card + (first + n)) ++ []) ∙ append-nil
+    (frame_entries member bindings (s (first + n)) (length bindings) (card + (first + n))))
 
 -- standing adds that end in n + 1 frames of a run end in n of them and the last one
-pub stands-run : {S : Type 0} (ends_in : S → List Entry → Type 0) (p : S) (member : ℕ) (bindings : List ℕ) (s : ℕ → ℕ → ℤ) (card first n m : ℕ) → m ≡ n + 1 → ends_in p (run_entries member bindings s card first m 0)
+pub stands-run : {S : Type 0} (ends_in : S → List Entry → Type 0) (p : S) (member : ℕ) (bindings : List ℕ) (s : ℕ → ℕ → ℤ) (card first n m : ℕ) → m ≡ n + 1
+    → ends_in p (run_entries member bindings s card first m 0)
     → ends_in p (run_entries member bindings s card first n 0 ++ frame_entries member bindings (s (first + n)) (length bindings) (card + (first + n)))
-stands-run ends_in p member bindings s card first n m is ends = subst (ends_in p) (ap (λ (k : ℕ). run_entries member bindings s card first k 0) is ∙ run_entries-last member bindings s card first n) ends
+stands-run ends_in p member bindings s card first n m is ends =
+    subst (ends_in p) (ap (λ (k : ℕ). run_entries member bindings s card first k 0) is ∙ run_entries-last member bindings s card first n) ends
 
 -- how many channels of n are left, by how it ended, and what is left of some frames
 abbrev pub IsLeft : Ended → ℕ → ℕ → Type 0
@@ -186,13 +212,22 @@ total-back member f c s g k = elim (cases_Bool ((f == g) && (c == k))) [
 
 module _ {S T : Type 0} (P : mixport.Ghosts S) (G : gates.Ghosts T) (holds : HoldsBy P) where
   pub TakesAway-none : (p q : S) (es : List Entry) → P.laid p q [] → TakesAway P.laid P.ends_in p q es es
-  TakesAway-none p q es laid = record { entries = []; laid_them = laid; lost = λ xs. refl; held = λ xs ends. holds.nothing p q (xs ++ es) laid ends; totals = λ f k. omega (arith, ints) }
+  TakesAway-none p q es laid =
+      record {
+        entries = [];
+        laid_them = laid;
+        lost = λ xs. refl;
+        held = λ xs ends. holds.nothing p q (xs ++ es) laid ends;
+        totals = λ f k. omega (arith, ints);
+      }
 
-  pub TakesAway-joined : (p q r : S) (a b c : List Entry) → TakesAway P.laid P.ends_in p q a b → TakesAway P.laid P.ends_in q r b c → TakesAway P.laid P.ends_in p r a c
+  pub TakesAway-joined : (p q r : S) (a b c : List Entry) → TakesAway P.laid P.ends_in p q a b → TakesAway P.laid P.ends_in q r b c
+      → TakesAway P.laid P.ends_in p r a c
   TakesAway-joined p q r a b c one two = record {
     entries = one.entries ++ two.entries;
     laid_them = holds.laid_composes.joined p q r one.entries two.entries one.laid_them two.laid_them;
-    lost = λ xs. fold-append stand_after (xs ++ a) one.entries two.entries ∙ ap (λ (es : List Entry). fold stand_after es two.entries) (one.lost xs) ∙ two.lost xs;
+    lost = λ xs. fold-append stand_after (xs ++ a) one.entries two.entries ∙ ap (λ (es : List Entry). fold stand_after es two.entries)
+        (one.lost xs) ∙ two.lost xs;
     held = λ xs ends. two.held xs (one.held xs ends);
     totals = λ f k. omega (arith, ints, total-append one.entries two.entries f k, one.totals f k, two.totals f k);
   }
@@ -206,14 +241,16 @@ module _ {S T : Type 0} (P : mixport.Ghosts S) (G : gates.Ghosts T) (holds : Hol
     totals = λ f k. omega (arith, ints, total-append ys a f k, total-append ys b f k, one.totals f k);
   }
 
-  TakesAway-last : (p q : S) (member : ℕ) (es : List Entry) (f c : ℕ) (s : ℤ) → (P.view p).member ≡ member → IsFrom (P.view p).marks.floor f c → P.laid p q (a_withdrawal member f c s ∷ [])
+  TakesAway-last : (p q : S) (member : ℕ) (es : List Entry) (f c : ℕ) (s : ℤ) → (P.view p).member ≡ member → IsFrom (P.view p).marks.floor f c
+      → P.laid p q (a_withdrawal member f c s ∷ [])
       → TakesAway P.laid P.ends_in p q (es ++ an_add member f c s ∷ []) es
   TakesAway-last p q member es f c s own floor laid = record {
     entries = a_withdrawal member f c s ∷ [];
     laid_them = laid;
     lost = λ xs. ap without_last (sym (append_assoc xs es (an_add member f c s ∷ []))) ∙ without_last-more (xs ++ es) (an_add member f c s);
     held = λ xs ends. holds.back p q (xs ++ es) f c s floor (subst (λ (m : ℕ). P.laid p q (a_withdrawal m f c s ∷ [])) (sym own) laid)
-        (subst (λ (m : ℕ). P.ends_in p (xs ++ es ++ an_add m f c s ∷ [])) (sym own) (subst (P.ends_in p) (sym (append_assoc xs es (an_add member f c s ∷ []))) ends));
+        (subst (λ (m : ℕ). P.ends_in p (xs ++ es ++ an_add m f c s ∷ [])) (sym own) (subst (P.ends_in p)
+        (sym (append_assoc xs es (an_add member f c s ∷ []))) ends));
     totals = λ g k. omega (arith, ints, total-append es (an_add member f c s ∷ []) g k, total-back member f c s g k);
   }
 
@@ -230,7 +267,8 @@ module _ {S T : Type 0} (P : mixport.Ghosts S) (G : gates.Ghosts T) (holds : Hol
 
   -- a withdrawal leaves the cursor where it was made, so the last one leaves it at the least channel
   cursor-by : (member frame : ℕ) (bindings : List ℕ) (sample_of : ℕ → ℤ) (n : ℕ) (m t : S × T) (left : ℕ) (ended : Ended)
-      → (P.view m.0).marks.cursor ≡ record { frame = frame; channel = slice_index bindings (slice_index (rising bindings) n) } → TakesAt P G m (take_each member frame bindings sample_of n) t (left, ended)
+      → (P.view m.0).marks.cursor ≡ record { frame = frame; channel = slice_index bindings (slice_index (rising bindings) n) }
+      → TakesAt P G m (take_each member frame bindings sample_of n) t (left, ended)
       → OnWhole ended (0 < n → (P.view t.0).marks.cursor ≡ record { frame = frame; channel = least_channel bindings })
       → OnWhole ended (0 < suc n → (P.view t.0).marks.cursor ≡ record { frame = frame; channel = least_channel bindings })
   unfolding take_each
@@ -238,7 +276,8 @@ module _ {S T : Type 0} (P : mixport.Ghosts S) (G : gates.Ghosts T) (holds : Hol
       OnWhole-all ended _ (λ some. ap (λ (u : S × T). (P.view u.0).marks.cursor) takes.there ∙ here)
   cursor-by member frame bindings sample_of (suc n) m t left ended here takes later = OnWhole-map ended _ _ (λ is some. is (omega arith)) later
 
-  pub TakesAt-took : (member frame : ℕ) (bindings : List ℕ) (sample_of : ℕ → ℤ) (n : ℕ) (s t : S × T) (left : ℕ) (ended : Ended) → AreBindings bindings → n ≤ length bindings
+  pub TakesAt-took : (member frame : ℕ) (bindings : List ℕ) (sample_of : ℕ → ℤ) (n : ℕ) (s t : S × T) (left : ℕ) (ended : Ended)
+      → AreBindings bindings → n ≤ length bindings
       → (P.view s.0).member ≡ member → IsFrom (P.view s.0).marks.floor frame (least_channel bindings)
       → TakesAt P G s (take_each member frame bindings sample_of n) t (left, ended) → TookFrame s t member frame bindings sample_of n left ended
   unfolding take_each
@@ -263,7 +302,8 @@ module _ {S T : Type 0} (P : mixport.Ghosts S) (G : gates.Ghosts T) (holds : Hol
         away = TakesAway-none s.0 m.0 (frame_entries member bindings sample_of (suc n) frame) step.laid_it;
         loaded_nothing = step.loaded_nothing;
         cursor = tt;
-        late = subst (λ (k : ℕ). IsPast P.view P.shows m.0 frame (slice_index bindings (slice_index (rising bindings) k)) word) (let e : n ≡ suc n - 1 = omega arith in e) step.shown;
+        late = subst (λ (k : ℕ). IsPast P.view P.shows m.0 frame (slice_index bindings (slice_index (rising bindings) k)) word)
+            (let e : n ≡ suc n - 1 = omega arith in e) step.shown;
         stopped = step.stopped;
       }))
   TakesAt-took member frame bindings sample_of (suc n) s t left ended are few own floor (Stopped, m, step, rest) =
@@ -283,13 +323,17 @@ module _ {S T : Type 0} (P : mixport.Ghosts S) (G : gates.Ghosts T) (holds : Hol
       let same_floor : (P.view m.0).marks.floor ≡ (P.view s.0).marks.floor = ap (λ (v : PortView). v.marks.floor) step.view_is in
       let later = TakesAt-took member frame bindings sample_of n m t left ended are (omega (arith, few)) (ap (λ (v : PortView). v.member) step.view_is ∙ own)
       (subst (λ (c : Cursor). IsFrom c frame (least_channel bindings)) (sym same_floor) floor) rest in
-      let here : IsFrom (P.view s.0).marks.floor frame (slice_index bindings q) = IsFrom-later (P.view s.0).marks.floor frame _ _ (rising-least bindings n are (omega (arith, few))) floor in
+      let here : IsFrom (P.view s.0).marks.floor frame (slice_index bindings q) = IsFrom-later (P.view s.0).marks.floor frame _ _
+      (rising-least bindings n are (omega (arith, few))) floor in
       record {
-        view_is = marks-joined (P.view s.0) (P.view m.0) (P.view t.0) _ (step.view_is ∙ ap (λ (v : PortView). record (P.view s.0) { marks = v.marks }) (sym step.view_is)) later.view_is;
+        view_is = marks-joined (P.view s.0) (P.view m.0) (P.view t.0) _ (step.view_is ∙ ap (λ (v : PortView). record (P.view s.0) { marks = v.marks })
+            (sym step.view_is)) later.view_is;
         same_floor = later.same_floor ∙ same_floor;
         is_left = left-more ended left n later.is_left;
-        away = subst (λ (es : List Entry). TakesAway P.laid P.ends_in s.0 t.0 es (frame_entries member bindings sample_of left frame)) (sym (frame_entries-last member bindings sample_of n frame are (omega (arith, few))))
-            (TakesAway-joined s.0 m.0 t.0 _ _ _ (TakesAway-last s.0 m.0 member (frame_entries member bindings sample_of n frame) frame (slice_index bindings q) (sample_of q) own here step.laid_it) later.away);
+        away = subst (λ (es : List Entry). TakesAway P.laid P.ends_in s.0 t.0 es (frame_entries member bindings sample_of left frame))
+            (sym (frame_entries-last member bindings sample_of n frame are (omega (arith, few))))
+            (TakesAway-joined s.0 m.0 t.0 _ _ _ (TakesAway-last s.0 m.0 member (frame_entries member bindings sample_of n frame) frame (slice_index bindings q)
+            (sample_of q) own here step.laid_it) later.away);
         loaded_nothing = holds.loaded_composes.joined s.0 m.0 t.0 [] [] step.loaded_nothing later.loaded_nothing;
         cursor = cursor-by member frame bindings sample_of n m t left ended (ap (λ (v : PortView). v.marks.cursor) step.view_is) rest later.cursor;
         late = later.late;
@@ -298,12 +342,14 @@ module _ {S T : Type 0} (P : mixport.Ghosts S) (G : gates.Ghosts T) (holds : Hol
 
   -- the first of the frames is withdrawn last
   cursor-back : (member card : ℕ) (bindings : List ℕ) (samples : ℕ → ℕ → ℤ) (first n : ℕ) (m t : S × T) (x : Commit)
-      → (P.view m.0).marks.cursor ≡ record { frame = card + (first + n); channel = least_channel bindings } → TakesAt P G m (take_frames member card bindings samples first n) t x
+      → (P.view m.0).marks.cursor ≡ record { frame = card + (first + n); channel = least_channel bindings }
+      → TakesAt P G m (take_frames member card bindings samples first n) t x
       → OnWhole x.ended (0 < n → (P.view t.0).marks.cursor ≡ record { frame = card + first; channel = least_channel bindings })
       → OnWhole x.ended (0 < suc n → (P.view t.0).marks.cursor ≡ record { frame = card + first; channel = least_channel bindings })
   unfolding take_frames
   cursor-back member card bindings samples first zero m t x here takes later =
-      OnWhole-all x.ended _ (λ some. ap (λ (u : S × T). (P.view u.0).marks.cursor) takes.there ∙ here ∙ ap (λ (k : ℕ). let c : Cursor = record { frame = card + k; channel = least_channel bindings } in c) (let e : first + 0 ≡ first = omega arith in e))
+      OnWhole-all x.ended _ (λ some. ap (λ (u : S × T). (P.view u.0).marks.cursor) takes.there ∙ here
+      ∙ ap (λ (k : ℕ). let c : Cursor = record { frame = card + k; channel = least_channel bindings } in c) (let e : first + 0 ≡ first = omega arith in e))
   cursor-back member card bindings samples first (suc n) m t x here takes later = OnWhole-map x.ended _ _ (λ is some. is (omega arith)) later
 
   -- what the withdrawals of some frames ended in
@@ -312,73 +358,106 @@ module _ {S T : Type 0} (P : mixport.Ghosts S) (G : gates.Ghosts T) (holds : Hol
     pub same_floor : (P.view t.0).marks.floor ≡ (P.view s.0).marks.floor
     pub are_left : AreLeft x.ended x.frames x.part count (length bindings)
     pub still : count ≡ 0 → P.view t.0 ≡ P.view s.0
-    pub away : TakesAway P.laid P.ends_in s.0 t.0 (run_entries member bindings samples card first count 0) (run_entries member bindings samples card first x.frames x.part)
+    pub away : TakesAway P.laid P.ends_in s.0 t.0 (run_entries member bindings samples card first count 0)
+        (run_entries member bindings samples card first x.frames x.part)
     pub loaded_nothing : P.loaded s.0 t.0 []
     pub cursor : OnWhole x.ended (0 < count → (P.view t.0).marks.cursor ≡ record { frame = card + first; channel = least_channel bindings })
-    pub late : OnLate x.ended (λ word. IsPast P.view P.shows t.0 (card + (first + last_frame x.frames x.part)) (slice_index bindings (slice_index (rising bindings) (last_place x.part (length bindings)))) word)
+    pub late : OnLate x.ended (λ word. IsPast P.view P.shows t.0 (card + (first + last_frame x.frames x.part))
+        (slice_index bindings (slice_index (rising bindings) (last_place x.part (length bindings)))) word)
     pub stopped : G.stops t.1 ≡ stops_after (pass_of_end x.ended) (G.stops s.1)
 
   -- one frame more, of which some channels are left
-  frames-left : (member card : ℕ) (bindings : List ℕ) (samples : ℕ → ℕ → ℤ) (first n left : ℕ) (ended : Ended) (s t : S × T) (all : Bool) → nat_eq left (length bindings) ≡ all → 0 < left → left ≤ length bindings → (ended ≡ Whole → ⊥)
+  frames-left : (member card : ℕ) (bindings : List ℕ) (samples : ℕ → ℕ → ℤ) (first n left : ℕ) (ended : Ended) (s t : S × T) (all : Bool)
+      → nat_eq left (length bindings) ≡ all → 0 < left → left ≤ length bindings → (ended ≡ Whole → ⊥)
       → TookFrame s t member (card + (first + n)) bindings (samples (first + n)) (length bindings) left ended
       → TookFrames s t member card bindings samples first (suc n)
       (if all then record { frames = n + 1; part = 0; ended = ended } else record { frames = n; part = left; ended = ended })
   frames-left member card bindings samples first n left ended s t true is some few not_so one =
       let whole : left ≡ length bindings = grind (arith, nat_tests) in
-      let before : run_entries member bindings samples card first (suc n) 0 ≡ run_entries member bindings samples card first n 0 ++ frame_entries member bindings (samples (first + n)) (length bindings) (card + (first + n)) =
-      ap (λ (k : ℕ). run_entries member bindings samples card first k 0) (let e : suc n ≡ n + 1 = omega arith in e) ∙ run_entries-last member bindings samples card first n in
+      let before : run_entries member bindings samples card first (suc n) 0 ≡ run_entries member bindings samples card first n 0 ++ frame_entries member
+      bindings (samples (first + n)) (length bindings) (card + (first + n)) =
+      ap (λ (k : ℕ). run_entries member bindings samples card first k 0) (let e : suc n ≡ n + 1 = omega arith in e) ∙ run_entries-last member
+      bindings samples card first n in
       record {
         view_is = one.view_is;
         same_floor = one.same_floor;
         still = λ none. absurd (omega (arith, none));
-        are_left = let are : (0 < n + 1 + 0) × (frames_used (n + 1) 0 ≤ suc n) × (0 < length bindings) = (omega arith, omega arith, omega (arith, some, few)) in not-whole (λ (e : Ended). AreLeft e (n + 1) 0 (suc n) (length bindings)) ended not_so (λ word. are) are;
+        are_left = let are : (0 < n + 1 + 0) × (frames_used (n + 1) 0 ≤ suc n) × (0 < length bindings) = (omega arith, omega arith, omega (arith, some, few)) in
+            not-whole (λ (e : Ended). AreLeft e (n + 1) 0 (suc n) (length bindings)) ended not_so (λ word. are) are;
         away = subst (λ (es : List Entry). TakesAway P.laid P.ends_in s.0 t.0 es (run_entries member bindings samples card first (n + 1) 0)) (sym before)
-            (subst (λ (es : List Entry). TakesAway P.laid P.ends_in s.0 t.0 (run_entries member bindings samples card first n 0 ++ frame_entries member bindings (samples (first + n)) (length bindings) (card + (first + n))) es) (sym (run_entries-last member bindings samples card first n))
+            (subst (λ (es : List Entry). TakesAway P.laid P.ends_in s.0 t.0 (run_entries member bindings samples card first n 0 ++ frame_entries member bindings
+            (samples (first + n)) (length bindings) (card + (first + n))) es) (sym (run_entries-last member bindings samples card first n))
             (TakesAway-behind s.0 t.0 (run_entries member bindings samples card first n 0) _ _
-            (subst (λ (k : ℕ). TakesAway P.laid P.ends_in s.0 t.0 (frame_entries member bindings (samples (first + n)) (length bindings) (card + (first + n))) (frame_entries member bindings (samples (first + n)) k (card + (first + n)))) whole one.away)));
+            (subst (λ (k : ℕ). TakesAway P.laid P.ends_in s.0 t.0 (frame_entries member bindings (samples (first + n)) (length bindings) (card + (first + n)))
+            (frame_entries member bindings (samples (first + n)) k (card + (first + n)))) whole one.away)));
         loaded_nothing = one.loaded_nothing;
-        cursor = not-whole (λ (e : Ended). OnWhole e (0 < suc n → (P.view t.0).marks.cursor ≡ record { frame = card + first; channel = least_channel bindings })) ended not_so (λ word. tt) tt;
-        late = subst (λ (k : ℕ). OnLate ended (λ word. IsPast P.view P.shows t.0 (card + k) (slice_index bindings (slice_index (rising bindings) (length bindings - 1))) word)) (let e : first + n ≡ first + (n + 1 - 1) = omega arith in e)
-            (subst (λ (k : ℕ). OnLate ended (λ word. IsPast P.view P.shows t.0 (card + (first + n)) (slice_index bindings (slice_index (rising bindings) (k - 1))) word)) whole one.late);
+        cursor = not-whole (λ (e : Ended). OnWhole e (0 < suc n → (P.view t.0).marks.cursor ≡ record {
+          frame = card + first;
+          channel = least_channel
+              bindings;
+        })) ended not_so (λ word. tt) tt;
+        late = subst (λ (k : ℕ). OnLate ended (λ word. IsPast P.view P.shows t.0 (card + k)
+            (slice_index bindings (slice_index (rising bindings) (length bindings - 1))) word)) (let e : first + n ≡ first + (n + 1 - 1) = omega arith in e)
+            (subst (λ (k : ℕ). OnLate ended (λ word. IsPast P.view P.shows t.0 (card + (first + n))
+            (slice_index bindings (slice_index (rising bindings) (k - 1))) word)) whole one.late);
         stopped = one.stopped;
       }
   frames-left member card bindings samples first n left ended s t false is some few not_so one =
       let part : left < length bindings = grind (arith, nat_tests) in
-      let before : run_entries member bindings samples card first (suc n) 0 ≡ run_entries member bindings samples card first n 0 ++ frame_entries member bindings (samples (first + n)) (length bindings) (card + (first + n)) =
-      ap (λ (k : ℕ). run_entries member bindings samples card first k 0) (let e : suc n ≡ n + 1 = omega arith in e) ∙ run_entries-last member bindings samples card first n in
+      let before : run_entries member bindings samples card first (suc n) 0 ≡ run_entries member bindings samples card first n 0 ++ frame_entries member
+      bindings (samples (first + n)) (length bindings) (card + (first + n)) =
+      ap (λ (k : ℕ). run_entries member bindings samples card first k 0) (let e : suc n ≡ n + 1 = omega arith in e) ∙ run_entries-last member
+      bindings samples card first n in
       let not_none : nat_eq left 0 ≡ false = grind (arith, nat_tests) in
       record {
         view_is = one.view_is;
         same_floor = one.same_floor;
         still = λ none. absurd (omega (arith, none));
-        are_left = let are : (0 < n + left) × (frames_used n left ≤ suc n) × (left < length bindings) = (omega (arith, some), used-some n left, part) in not-whole (λ (e : Ended). AreLeft e n left (suc n) (length bindings)) ended not_so (λ word. are) are;
+        are_left = let are : (0 < n + left) × (frames_used n left ≤ suc n) × (left < length bindings) = (omega (arith, some), used-some n left, part) in
+            not-whole (λ (e : Ended). AreLeft e n left (suc n) (length bindings)) ended not_so (λ word. are) are;
         away = subst (λ (es : List Entry). TakesAway P.laid P.ends_in s.0 t.0 es (run_entries member bindings samples card first n left)) (sym before)
-            (subst (λ (es : List Entry). TakesAway P.laid P.ends_in s.0 t.0 (run_entries member bindings samples card first n 0 ++ frame_entries member bindings (samples (first + n)) (length bindings) (card + (first + n))) es) (ap (λ (es : List Entry). es ++ frame_entries member bindings (samples (first + n)) left (card + (first + n))) (append-nil _))
+            (subst (λ (es : List Entry). TakesAway P.laid P.ends_in s.0 t.0 (run_entries member bindings samples card first n 0 ++ frame_entries member bindings
+            (samples (first + n)) (length bindings) (card + (first + n))) es) (ap (λ (es : List Entry). es ++ frame_entries member bindings
+            (samples (first + n)) left (card + (first + n))) (append-nil _))
             (TakesAway-behind s.0 t.0 (run_entries member bindings samples card first n 0) _ _ one.away));
         loaded_nothing = one.loaded_nothing;
-        cursor = not-whole (λ (e : Ended). OnWhole e (0 < suc n → (P.view t.0).marks.cursor ≡ record { frame = card + first; channel = least_channel bindings })) ended not_so (λ word. tt) tt;
-        late = subst (λ (b : Bool). OnLate ended (λ word. IsPast P.view P.shows t.0 (card + (first + (if b then n - 1 else n))) (slice_index bindings (slice_index (rising bindings) ((if b then length bindings else left) - 1))) word)) (sym not_none) one.late;
+        cursor = not-whole (λ (e : Ended). OnWhole e (0 < suc n → (P.view t.0).marks.cursor ≡ record {
+          frame = card + first;
+          channel = least_channel
+              bindings;
+        })) ended not_so (λ word. tt) tt;
+        late = subst (λ (b : Bool). OnLate ended (λ word. IsPast P.view P.shows t.0 (card + (first + (if b then n - 1 else n)))
+            (slice_index bindings (slice_index (rising bindings) ((if b then length bindings else left) - 1))) word)) (sym not_none) one.late;
         stopped = one.stopped;
       }
 
   -- the last frame, and what those before it ended in
   back-by : (member card : ℕ) (bindings : List ℕ) (samples : ℕ → ℕ → ℤ) (first n left : ℕ) (ended : Ended) (s m t : S × T) (x : Commit) → AreBindings bindings
       → TookFrame s m member (card + (first + n)) bindings (samples (first + n)) (length bindings) left ended
-      → ((u : S × T) (y : Commit) → TakesAt P G m (take_frames member card bindings samples first n) u y → TookFrames m u member card bindings samples first n y)
-      → TakesAt P G m (back_on (left, ended) n (length bindings) (take_frames member card bindings samples first n)) t x → TookFrames s t member card bindings samples first (suc n) x
+      → ((u : S × T) (y : Commit) → TakesAt P G m (take_frames member card bindings samples first n) u y → TookFrames m u member card
+      bindings samples first n y)
+      → TakesAt P G m (back_on (left, ended) n (length bindings) (take_frames member card bindings samples first n)) t x
+      → TookFrames s t member card bindings samples first (suc n) x
   back-by member card bindings samples first n left (Late word) s m t x are one behind takes =
-      rw (takes.there, takes.result) (frames-left member card bindings samples first n left (Late word) s m (nat_eq left (length bindings)) refl one.is_left.0 one.is_left.1 (λ is. cc) one)
+      rw (takes.there, takes.result) (frames-left member card bindings samples first n left (Late word) s m (nat_eq left (length bindings)) refl one.is_left.0
+      one.is_left.1 (λ is. cc) one)
   back-by member card bindings samples first n left Stopped s m t x are one behind takes =
-      rw (takes.there, takes.result) (frames-left member card bindings samples first n left Stopped s m (nat_eq left (length bindings)) refl one.is_left.0 one.is_left.1 (λ is. cc) one)
+      rw (takes.there, takes.result) (frames-left member card bindings samples first n left Stopped s m (nat_eq left (length bindings)) refl one.is_left.0
+      one.is_left.1 (λ is. cc) one)
   back-by member card bindings samples first n left Whole s m t x are one behind takes =
       let later = behind t x takes in
-      let before : run_entries member bindings samples card first (suc n) 0 ≡ run_entries member bindings samples card first n 0 ++ frame_entries member bindings (samples (first + n)) (length bindings) (card + (first + n)) =
-      ap (λ (k : ℕ). run_entries member bindings samples card first k 0) (let e : suc n ≡ n + 1 = omega arith in e) ∙ run_entries-last member bindings samples card first n in
-      let gone : TakesAway P.laid P.ends_in s.0 m.0 (run_entries member bindings samples card first (suc n) 0) (run_entries member bindings samples card first n 0) =
+      let before : run_entries member bindings samples card first (suc n) 0 ≡ run_entries member bindings samples card first n 0 ++ frame_entries member
+      bindings (samples (first + n)) (length bindings) (card + (first + n)) =
+      ap (λ (k : ℕ). run_entries member bindings samples card first k 0) (let e : suc n ≡ n + 1 = omega arith in e) ∙ run_entries-last member
+      bindings samples card first n in
+      let gone : TakesAway P.laid P.ends_in s.0 m.0 (run_entries member bindings samples card first (suc n) 0)
+      (run_entries member bindings samples card first n 0) =
       subst (λ (es : List Entry). TakesAway P.laid P.ends_in s.0 m.0 es (run_entries member bindings samples card first n 0)) (sym before)
-      (subst (λ (es : List Entry). TakesAway P.laid P.ends_in s.0 m.0 (run_entries member bindings samples card first n 0 ++ frame_entries member bindings (samples (first + n)) (length bindings) (card + (first + n))) es) (append-nil (run_entries member bindings samples card first n 0))
+      (subst (λ (es : List Entry). TakesAway P.laid P.ends_in s.0 m.0 (run_entries member bindings samples card first n 0 ++ frame_entries member bindings
+      (samples (first + n)) (length bindings) (card + (first + n))) es) (append-nil (run_entries member bindings samples card first n 0))
       (TakesAway-behind s.0 m.0 (run_entries member bindings samples card first n 0) _ _
-      (subst (λ (k : ℕ). TakesAway P.laid P.ends_in s.0 m.0 (frame_entries member bindings (samples (first + n)) (length bindings) (card + (first + n))) (frame_entries member bindings (samples (first + n)) k (card + (first + n)))) one.is_left one.away))) in
+      (subst (λ (k : ℕ). TakesAway P.laid P.ends_in s.0 m.0 (frame_entries member bindings (samples (first + n)) (length bindings) (card + (first + n)))
+      (frame_entries member bindings (samples (first + n)) k (card + (first + n)))) one.is_left one.away))) in
       record {
         view_is = later.view_is ∙ ap (λ (v : PortView). record v { marks = (P.view t.0).marks }) one.view_is;
         same_floor = later.same_floor ∙ one.same_floor;
@@ -409,8 +488,11 @@ module _ {S T : Type 0} (P : mixport.Ghosts S) (G : gates.Ghosts T) (holds : Hol
         stopped = refl;
       }))
   TakesAt-back member card bindings samples first (suc n) s t x are own floor takes =
-      let parts = Takes-parts (LoadsAt P G) (LaysAt P G) NoGet s t (take_each member (card + (first + n)) bindings (samples (first + n)) (length bindings)) (λ end. back_on end n (length bindings) (take_frames member card bindings samples first n)) x takes in
+      let parts = Takes-parts (LoadsAt P G) (LaysAt P G) NoGet s t (take_each member (card + (first + n)) bindings (samples (first + n)) (length bindings))
+      (λ end. back_on end n (length bindings) (take_frames member card bindings samples first n)) x takes in
       let here : IsFrom (P.view s.0).marks.floor (card + (first + n)) (least_channel bindings) = omega (arith, floor (omega arith)) in
-      let one = TakesAt-took member (card + (first + n)) bindings (samples (first + n)) (length bindings) s parts.0 parts.1.0 parts.1.1 are (omega arith) own here parts.2 in
+      let one = TakesAt-took member (card + (first + n)) bindings (samples (first + n)) (length bindings) s parts.0 parts.1.0 parts.1.1 are
+      (omega arith) own here parts.2 in
       back-by member card bindings samples first n parts.1.0 parts.1.1 s parts.0 t x are one
-      (λ u y rest. TakesAt-back member card bindings samples first n parts.0 u y are (ap (λ (v : PortView). v.member) one.view_is ∙ own) (λ some. subst (λ (c : Cursor). IsFrom c (card + first) (least_channel bindings)) (sym one.same_floor) (floor (omega arith))) rest) parts.3
+      (λ u y rest. TakesAt-back member card bindings samples first n parts.0 u y are (ap (λ (v : PortView). v.member) one.view_is ∙ own)
+      (λ some. subst (λ (c : Cursor). IsFrom c (card + first) (least_channel bindings)) (sym one.same_floor) (floor (omega arith))) rest) parts.3

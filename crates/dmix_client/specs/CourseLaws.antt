@@ -138,19 +138,23 @@ module _ {S T : Type 0} (P : mixport.Ghosts S) (G : gates.Ghosts T) (laid_compos
         free = λ c is. subst (λ (v : PortView). first_free v.marks.cursor c ≤ frame + 1) (sym step.view_is) is;
       }))
   TakesAt-frame member frame bindings sample_of (q ∷ qs) s t done ended (Whole, m, step, rest) =
-      let parts = Takes-parts (LoadsAt P G) (LaysAt P G) NoGet m t (lay_each member frame bindings sample_of qs) (λ end. ends (one_more end)) (done, ended) rest in
+      let parts = Takes-parts (LoadsAt P G) (LaysAt P G) NoGet m t (lay_each member frame bindings sample_of qs)
+      (λ end. ends (one_more end)) (done, ended) rest in
       let later = TakesAt-frame member frame bindings sample_of qs m parts.0 parts.1.0 parts.1.1 parts.2 in
-      let result : (let r : ℕ × Ended = (done, ended) in r) ≡ (suc parts.1.0, parts.1.1) = parts.3.result ∙ ap (λ (n : ℕ). let r : ℕ × Ended = (n, parts.1.1) in r) (add-one parts.1.0) in
+      let result : (let r : ℕ × Ended = (done, ended) in r) ≡ (suc parts.1.0, parts.1.1) = parts.3.result
+      ∙ ap (λ (n : ℕ). let r : ℕ × Ended = (n, parts.1.1) in r) (add-one parts.1.0) in
       subst (λ (u : S × T). LaysFrame P G s u member frame bindings sample_of (q ∷ qs) done ended) (sym parts.3.there)
       (subst (λ (r : ℕ × Ended). LaysFrame P G s parts.0 member frame bindings sample_of (q ∷ qs) r.0 r.1) (sym result) (record {
         view_is = later.view_is ∙ ap (λ (v : PortView). record v { marks = (P.view parts.0.0).marks }) step.view_is;
         up_to = up_to-more parts.1.1 parts.1.0 (length qs) later.up_to;
-        laid_them = laid_composes.joined s.0 m.0 parts.0.0 (channel_entry member frame bindings sample_of q ∷ []) (map (channel_entry member frame bindings sample_of) (take parts.1.0 qs)) step.laid_it later.laid_them;
+        laid_them = laid_composes.joined s.0 m.0 parts.0.0 (channel_entry member frame bindings sample_of q ∷ [])
+            (map (channel_entry member frame bindings sample_of) (take parts.1.0 qs)) step.laid_it later.laid_them;
         loaded_nothing = loaded_composes.joined s.0 m.0 parts.0.0 [] [] step.loaded_nothing later.loaded_nothing;
         not_before_seen = λ some. step.not_before_seen;
         late = later.late;
         stopped = later.stopped ∙ ap (stops_after (pass_of_end parts.1.1)) step.stopped;
-        free = λ c is. later.free c (subst (λ (v : PortView). first_free v.marks.cursor c ≤ frame + 1) (sym step.view_is) (behind-next (P.view s.0).geometry frame (slice_index bindings q) c));
+        free = λ c is. later.free c (subst (λ (v : PortView). first_free v.marks.cursor c ≤ frame + 1) (sym step.view_is)
+            (behind-next (P.view s.0).geometry frame (slice_index bindings q) c));
       }))
 
   frames-ended : (member card : ℕ) (bindings : List ℕ) (samples : ℕ → ℕ → ℤ) (count first : ℕ)
@@ -165,7 +169,8 @@ module _ {S T : Type 0} (P : mixport.Ghosts S) (G : gates.Ghosts T) (laid_compos
     laid_them = subst (λ (n : ℕ). P.laid s.0 t.0 (frame_entries member bindings (samples n) done (card + n))) (sym (add-zero first)) frame.laid_them;
     loaded_nothing = frame.loaded_nothing;
     not_before_seen = λ some. frame.not_before_seen (omega (arith, some));
-    late = subst (λ (n : ℕ). OnLate ended (λ word. IsPast P.view P.shows t.0 (card + n) (slice_index bindings (slice_index (rising bindings) done)) word)) (sym (add-zero first)) frame.late;
+    late = subst (λ (n : ℕ). OnLate ended (λ word. IsPast P.view P.shows t.0 (card + n) (slice_index bindings (slice_index (rising bindings) done)) word))
+        (sym (add-zero first)) frame.late;
     stopped = frame.stopped;
     free = λ c is. OnWhole-not ended _ not_whole;
   }
@@ -182,7 +187,8 @@ module _ {S T : Type 0} (P : mixport.Ghosts S) (G : gates.Ghosts T) (laid_compos
       let all : done ≡ length bindings = frame.up_to ∙ length-rising bindings are in
       let whole : ℕ → List Entry = λ j. frame_entries member bindings (samples j) (length bindings) (card + j) in
       let rest : List Entry = flat_map whole (range_with_len (first + 1) x.frames) in
-      let one : P.laid s.0 m.0 (whole first) = subst (λ (n : ℕ). P.laid s.0 m.0 (frame_entries member bindings (samples first) n (card + first))) all frame.laid_them in
+      let one : P.laid s.0 m.0 (whole first) = subst (λ (n : ℕ). P.laid s.0 m.0 (frame_entries member bindings (samples first) n
+      (card + first))) all frame.laid_them in
       record {
         view_is = later.view_is ∙ ap (λ (v : PortView). record v { marks = (P.view t.0).marks }) frame.view_is;
         commit_is = commit-more x.ended x.frames x.part count (length bindings) later.commit_is;
@@ -192,7 +198,8 @@ module _ {S T : Type 0} (P : mixport.Ghosts S) (G : gates.Ghosts T) (laid_compos
             (laid_composes.joined s.0 m.0 t.0 (whole first) (run_entries member bindings samples card (first + 1) x.frames x.part) one later.laid_them);
         loaded_nothing = loaded_composes.joined s.0 m.0 t.0 [] [] frame.loaded_nothing later.loaded_nothing;
         not_before_seen = λ some. frame.not_before_seen (omega (arith, all, are.some));
-        late = subst (λ (n : ℕ). OnLate x.ended (λ word. IsPast P.view P.shows t.0 (card + n) (slice_index bindings (slice_index (rising bindings) x.part)) word)) at later.late;
+        late = subst (λ (n : ℕ). OnLate x.ended (λ word. IsPast P.view P.shows t.0 (card + n)
+            (slice_index bindings (slice_index (rising bindings) x.part)) word)) at later.late;
         stopped = later.stopped ∙ ap (stops_after (pass_of_end x.ended)) frame.stopped;
         free = λ c is. OnWhole-map x.ended _ _ (λ low. omega (arith, low, at)) (later.free c (omega (arith, frame.free c (omega (arith, is)))));
       }
@@ -217,7 +224,8 @@ module _ {S T : Type 0} (P : mixport.Ghosts S) (G : gates.Ghosts T) (laid_compos
       (subst (λ (y : Commit). LaysFrames P G s m member card bindings samples (suc count) first y) (sym takes.result)
       (frames-ended member card bindings samples count first s m done Stopped are (λ is. cc) frame))
   frames-by member card bindings samples count first s m t done Whole x are frame behind takes =
-      let parts = Takes-parts (LoadsAt P G) (LaysAt P G) NoGet m t (lay_frames member card bindings samples count (first + 1)) (λ commit. ends (one_frame_more commit)) x takes in
+      let parts = Takes-parts (LoadsAt P G) (LaysAt P G) NoGet m t (lay_frames member card bindings samples count (first + 1))
+      (λ commit. ends (one_frame_more commit)) x takes in
       let result : x ≡ record { frames = suc parts.1.frames; part = parts.1.part; ended = parts.1.ended } =
       parts.3.result ∙ ap (λ (n : ℕ). let y : Commit = record { frames = n; part = parts.1.part; ended = parts.1.ended } in y) (add-one parts.1.frames) in
       subst (λ (u : S × T). LaysFrames P G s u member card bindings samples (suc count) first x) (sym parts.3.there)
@@ -242,7 +250,8 @@ module _ {S T : Type 0} (P : mixport.Ghosts S) (G : gates.Ghosts T) (laid_compos
         free = λ c is. omega (arith, is);
       }))
   TakesAt-frames member card bindings samples (suc count) first s t x are takes =
-      let parts = Takes-parts (LoadsAt P G) (LaysAt P G) NoGet s t (lay_frame member (card + first) bindings (samples first)) (λ end. go_on end (lay_frames member card bindings samples count (first + 1))) x takes in
+      let parts = Takes-parts (LoadsAt P G) (LaysAt P G) NoGet s t (lay_frame member (card + first) bindings (samples first))
+      (λ end. go_on end (lay_frames member card bindings samples count (first + 1))) x takes in
       frames-by member card bindings samples count first s parts.0 t parts.1.0 parts.1.1 x are
       (TakesAt-frame member (card + first) bindings (samples first) (rising bindings) s parts.0 parts.1.0 parts.1.1 parts.2)
       (λ u y more. TakesAt-frames member card bindings samples count (first + 1) parts.0 u y are more) parts.3
@@ -266,10 +275,12 @@ module _ {S T : Type 0} (P : mixport.Ghosts S) (G : gates.Ghosts T) (laid_compos
         stayed = tt;
       }))
   TakesAt-looks at count ring bindings s t load commit are same (Some position, m, step, rest) =
-      let parts = Takes-parts (LoadsAt P G) (LaysAt P G) NoGet m t (commits (at position) ring (count position)) (λ x. ends (let found : Option Position × Commit = (Some position, x) in found)) (load, commit) rest in
+      let parts = Takes-parts (LoadsAt P G) (LaysAt P G) NoGet m t (commits (at position) ring (count position))
+      (λ x. ends (let found : Option Position × Commit = (Some position, x) in found)) (load, commit) rest in
       let c = at position in
       let x = parts.1 in
-      let laid = TakesAt-frames c.identity.member c.stretch.card c.setup.bindings (ring_sample c ring) (count position) c.stretch.committed m parts.0 x (subst AreBindings (sym (same position)) are) parts.2 in
+      let laid = TakesAt-frames c.identity.member c.stretch.card c.setup.bindings (ring_sample c ring) (count position) c.stretch.committed m parts.0 x
+      (subst AreBindings (sym (same position)) are) parts.2 in
       subst (λ (u : S × T). LoadsAndCommits P G s u ring at count (length bindings) load commit) (sym parts.3.there)
       (subst (λ (r : Option Position × Commit). LoadsAndCommits P G s parts.0 ring at count (length bindings) r.0 r.1) (sym parts.3.result) (record {
         found = record {
@@ -282,7 +293,8 @@ module _ {S T : Type 0} (P : mixport.Ghosts S) (G : gates.Ghosts T) (laid_compos
         shown = laid.late;
         stopped = laid.stopped ∙ ap (stops_after (pass_of_end x.ended)) step.stopped;
         near = (step.newer, step.within, ap (λ (v : PortView). v.seen) laid.view_is ∙ ap (λ (v : PortView). v.seen) step.view_is);
-        stayed = λ from. laid.free (least_channel c.setup.bindings) (subst (λ (v : PortView). first_free v.marks.cursor (least_channel c.setup.bindings) ≤ c.stretch.card + c.stretch.committed) (sym step.view_is) from);
+        stayed = λ from. laid.free (least_channel c.setup.bindings) (subst (λ (v : PortView). first_free v.marks.cursor
+            (least_channel c.setup.bindings) ≤ c.stretch.card + c.stretch.committed) (sym step.view_is) from);
       }))
 
   -- and the call by what they found

@@ -38,11 +38,13 @@ run_entries-append member bindings sample_of card first n k part =
     ap (λ (es : List Entry). es ++ rest (first + (n + k))) whole
     ∙ append_assoc (flat_map frame (range_with_len first n)) (flat_map frame (range_with_len (first + n) k)) (rest (first + (n + k)))
     ∙ ap (λ (j : ℕ). flat_map frame (range_with_len first n) ++ (flat_map frame (range_with_len (first + n) k) ++ rest j)) at
-    ∙ ap (λ (es : List Entry). es ++ (flat_map frame (range_with_len (first + n) k) ++ rest (first + n + k))) (sym (append-nil (flat_map frame (range_with_len first n))))
+    ∙ ap (λ (es : List Entry). es ++ (flat_map frame (range_with_len (first + n) k) ++ rest (first + n + k)))
+    (sym (append-nil (flat_map frame (range_with_len first n))))
 
 -- a list of accepted frames, of which those from one to before another are in the local ring
 abbrev pub HoldsFrames : PlaybackStream → List ℤ → List ℤ → ℕ → ℕ → Type 0
-HoldsFrames c ring samples from to = (j q : ℕ) → from ≤ j → j < to → q < length c.setup.bindings → ring_sample c ring j q ≡ sample_at samples (length c.setup.bindings) j q
+HoldsFrames c ring samples from to =
+    (j q : ℕ) → from ≤ j → j < to → q < length c.setup.bindings → ring_sample c ring j q ≡ sample_at samples (length c.setup.bindings) j q
 
 -- two functions that agree on a list's elements give one list
 pub map-same : {X : Type 0} (f g : ℕ → X) (xs : List ℕ)
@@ -61,8 +63,10 @@ frame_entries-same member bindings s t channels card are same =
     let low : k < channels = omega (arith, length-take channels (rising bindings)) in
     let in_range : k < length bindings = omega (arith, length-take channels (rising bindings), length-rising bindings are) in
     let is : get_or (take channels (rising bindings)) k 0 ≡ get_or (rising bindings) k 0 = get_or-take channels (rising bindings) k 0 low in
-    let here : s (get_or (rising bindings) k 0) ≡ t (get_or (rising bindings) k 0) = same (get_or (rising bindings) k 0) (rising-within bindings k are in_range) in
-    let one : entry s (get_or (rising bindings) k 0) ≡ entry t (get_or (rising bindings) k 0) = ap (λ (x : ℤ). let e : Entry = record { member = member; frame = card; channel = slice_index bindings (get_or (rising bindings) k 0); sample = x; kind = Added } in e) here in
+    let here : s (get_or (rising bindings) k 0) ≡ t (get_or (rising bindings) k 0) = same (get_or (rising bindings) k 0)
+    (rising-within bindings k are in_range) in
+    let one : entry s (get_or (rising bindings) k 0) ≡ entry t (get_or (rising bindings) k 0) = ap (λ (x : ℤ). let e :
+    Entry = record { member = member; frame = card; channel = slice_index bindings (get_or (rising bindings) k 0); sample = x; kind = Added } in e) here in
     subst (λ q. entry s q ≡ entry t q) (sym is) one)
 
 flat_map-same : (f g : ℕ → List Entry) (a n : ℕ) → ((j : ℕ) → a ≤ j → j < a + n → f j ≡ g j)
@@ -92,9 +96,11 @@ pub run_entries-same : (member : ℕ) (bindings : List ℕ) (s t : ℕ → ℕ �
 run_entries-same member bindings s t card first whole part are same =
     let frames : flat_map (λ j. frame_entries member bindings (s j) (length bindings) (card + j)) (range_with_len first whole)
     ≡ flat_map (λ j. frame_entries member bindings (t j) (length bindings) (card + j)) (range_with_len first whole) =
-    flat_map-same (λ j. frame_entries member bindings (s j) (length bindings) (card + j)) (λ j. frame_entries member bindings (t j) (length bindings) (card + j)) first whole
+    flat_map-same (λ j. frame_entries member bindings (s j) (length bindings) (card + j)) (λ j. frame_entries member bindings (t j)
+    (length bindings) (card + j)) first whole
     (λ j least most. frame_entries-same member bindings (s j) (t j) (length bindings) (card + j) are (λ q h. same j q least (grind (arith, nat_tests)) h)) in
-    let last : frame_entries member bindings (s (first + whole)) part (card + (first + whole)) ≡ frame_entries member bindings (t (first + whole)) part (card + (first + whole)) =
+    let last : frame_entries member bindings (s (first + whole)) part (card + (first + whole)) ≡ frame_entries member bindings (t (first + whole)) part
+    (card + (first + whole)) =
     part-same member bindings (s (first + whole)) (t (first + whole)) part (card + (first + whole)) are
     (λ some q h. same (first + whole) q (omega arith) (grind (arith, nat_tests)) h) in
     ap (λ (es : List Entry). es ++ frame_entries member bindings (s (first + whole)) part (card + (first + whole))) frames
@@ -108,7 +114,8 @@ pub commit_entries-accepted : (c : PlaybackStream) (ring samples : List ℤ) (co
     (sample_at samples (length c.setup.bindings)) c.stretch.card c.stretch.committed commit.frames
     commit.part
 commit_entries-accepted c ring samples commit to are holds within =
-    run_entries-same c.identity.member c.setup.bindings (ring_sample c ring) (sample_at samples (length c.setup.bindings)) c.stretch.card c.stretch.committed commit.frames commit.part are
+    run_entries-same c.identity.member c.setup.bindings (ring_sample c ring) (sample_at samples (length c.setup.bindings)) c.stretch.card c.stretch.committed
+    commit.frames commit.part are
     (λ j q least most h. holds j q least (omega (arith, most, within)) h)
 
 -- the entries of a segment grow by exactly what a commit placed
@@ -122,6 +129,8 @@ pub expand-grows : (c : PlaybackStream) (ring samples : List ℤ) (commit : Comm
 expand-grows c ring samples commit to are holds within whole =
     let s : ℕ → ℕ → ℤ = sample_at samples (length c.setup.bindings) in
     run_entries-append c.identity.member c.setup.bindings s c.stretch.card 0 c.stretch.committed commit.frames commit.part
-    ∙ ap (λ (n : ℕ). run_entries c.identity.member c.setup.bindings s c.stretch.card 0 c.stretch.committed 0 ++ run_entries c.identity.member c.setup.bindings s c.stretch.card n commit.frames commit.part) (zero-add c.stretch.committed)
-    ∙ ap (λ (es : List Entry). run_entries c.identity.member c.setup.bindings s c.stretch.card 0 c.stretch.committed 0 ++ es) (sym (commit_entries-accepted c ring samples commit to are holds within))
+    ∙ ap (λ (n : ℕ). run_entries c.identity.member c.setup.bindings s c.stretch.card 0 c.stretch.committed 0 ++ run_entries c.identity.member c.setup.bindings s
+    c.stretch.card n commit.frames commit.part) (zero-add c.stretch.committed)
+    ∙ ap (λ (es : List Entry). run_entries c.identity.member c.setup.bindings s c.stretch.card 0 c.stretch.committed 0 ++ es)
+    (sym (commit_entries-accepted c ring samples commit to are holds within))
     ∙ ap (λ (p : ℕ). run_entries c.identity.member c.setup.bindings s c.stretch.card 0 c.stretch.committed p ++ commit_entries c ring commit) (sym whole)

@@ -1,4 +1,5 @@
 pub mod Asked
+pub mod CallRelations
 pub mod Calls
 pub mod Causes
 pub mod Course

@@ -20,7 +20,14 @@ length-written_over ring part place room =
     let first : length (take place ring) ≡ place = omega (arith, length-take place ring) in
     let last : length (drop (place + length part) ring) ≡ length ring - (place + length part) = length-drop (place + length part) ring in
     ap length (in_parts ring part place)
-    ∙ omega (arith, length-append (take place ring) (part ++ drop (place + length part) ring), length-append part (drop (place + length part) ring), first, last)
+    ∙ omega (
+      arith,
+      length-append (take place ring) (part ++ drop (place + length part) ring),
+      length-append part
+          (drop (place + length part) ring),
+      first,
+      last,
+    )
 
 -- it has the part there
 written_over-here : (ring part : List ℤ) (place k : ℕ) → place + length part ≤ length ring
@@ -92,7 +99,8 @@ stored-HasRoom buffer channels ring from samples (suc n) has room =
     let fits = slot-within buffer channels (from + n) has.some in
     record {
       some = has.some;
-      room = length-written_over (with_frames buffer channels ring from samples n) part ((from + n) % buffer * channels) (omega (arith, one, fits, before.room)) ∙ before.room;
+      room = length-written_over (with_frames buffer channels ring from samples n) part ((from + n) % buffer * channels)
+          (omega (arith, one, fits, before.room)) ∙ before.room;
     }
 
 -- a frame written over leaves the other slots
@@ -108,7 +116,8 @@ elsewhere ring part channels a b q room one in_range apart = elim (cases_lt a b)
 ]
   where
     slots_follow : (channels b a : ℕ) → b < a → b * channels + channels ≤ a * channels
-    slots_follow channels b a less = let scaled : (b + 1) * channels ≤ a * channels = mul-le-mul_right channels (let h : b + 1 ≤ a = omega arith in h) in omega (arith, scaled)
+    slots_follow channels b a less =
+        let scaled : (b + 1) * channels ≤ a * channels = mul-le-mul_right channels (let h : b + 1 ≤ a = omega arith in h) in omega (arith, scaled)
 
 -- a frame that was stored is in its slot
 pub stored-new : (buffer channels : ℕ) (ring : List ℤ) (from : ℕ) (samples : List ℤ) (n k q : ℕ)
@@ -122,7 +131,12 @@ stored-new buffer channels ring from samples (suc n) k q has room few within in_
     let part : List ℤ = take channels (drop (n * channels) samples) in
     let one : length part ≡ channels = frame-length samples channels n (omega arith) in
     let fits = slot-within buffer channels (from + n) has.some in
-    let room_here : (from + n) % buffer * channels + length part ≤ length (with_frames buffer channels ring from samples n) = omega (arith, one, fits, before.room) in
+    let room_here : (from + n) % buffer * channels + length part ≤ length (with_frames buffer channels ring from samples n) = omega (
+      arith,
+      one,
+      fits,
+      before.room,
+    ) in
     elim (cases_eq k n) [
       | inl same ↦
           ap (λ (i : ℕ). get_or (with_frames buffer channels ring from samples (suc n)) ((from + i) % buffer * channels + q) (pos 0)) same
@@ -150,7 +164,8 @@ stored-old buffer channels ring from samples (suc n) j q has room before near in
     let fits = slot-within buffer channels (from + n) has.some in
     let apart : j % buffer ≡ (from + n) % buffer → ⊥ =
     λ same. absurd (omega (arith, mod-same buffer j j (from + n) (omega arith) (omega arith) (omega arith) (omega arith) same)) in
-    elsewhere (with_frames buffer channels ring from samples n) part channels (j % buffer) ((from + n) % buffer) q (omega (arith, one, fits, earlier.room)) one in_range apart
+    elsewhere (with_frames buffer channels ring from samples n) part channels (j % buffer) ((from + n) % buffer) q
+    (omega (arith, one, fits, earlier.room)) one in_range apart
     ∙ stored-old buffer channels ring from samples n j q has (omega arith) before (omega arith) in_range
 
 -- a list with nothing written over is as it was
@@ -207,7 +222,8 @@ stored-run buffer channels ring from samples n (suc k) has held fits =
     let at : (from + (n + k)) % buffer * channels ≡ place + length run = ap (λ (m : ℕ). m * channels) slot ∙ omega (arith, long) in
     let whole : run ++ last ≡ take (suc k * channels) behind =
     ap (λ (xs : List ℤ). run ++ take channels xs)
-    (ap (λ (m : ℕ). drop m samples) (let sum : (n + k) * channels ≡ n * channels + k * channels = omega arith in sum) ∙ sym (drop-drop (k * channels) (n * channels) samples))
+    (ap (λ (m : ℕ). drop m samples) (let sum : (n + k) * channels ≡ n * channels + k * channels = omega arith in sum)
+    ∙ sym (drop-drop (k * channels) (n * channels) samples))
     ∙ sym (take-add (k * channels) channels behind)
     ∙ ap (λ (m : ℕ). take m behind) (let more : k * channels + channels ≡ suc k * channels = omega arith in more) in
     let before = stored-HasRoom buffer channels ring from samples n has (omega (arith, shorter)) in

@@ -48,8 +48,10 @@ AreAdds-frames frame adds a (suc n) = AreAdds-append (frame a) (flat_map frame (
 AreAdds-segment : (c : PlaybackStream) (samples : List ℤ) → AreAdds (segment_entries c samples)
 AreAdds-segment c samples =
     AreAdds-append _ _
-    (AreAdds-frames _ (λ j. AreAdds-frame c.identity.member c.setup.bindings (λ q. sample_at samples (length c.setup.bindings) (c.stretch.source + j) q) (length c.setup.bindings) (c.stretch.card + j)) 0 c.stretch.committed)
-    (AreAdds-frame c.identity.member c.setup.bindings (λ q. sample_at samples (length c.setup.bindings) (c.stretch.source + (0 + c.stretch.committed)) q) c.stretch.part (c.stretch.card + (0 + c.stretch.committed)))
+    (AreAdds-frames _ (λ j. AreAdds-frame c.identity.member c.setup.bindings (λ q. sample_at samples (length c.setup.bindings) (c.stretch.source + j) q)
+    (length c.setup.bindings) (c.stretch.card + j)) 0 c.stretch.committed)
+    (AreAdds-frame c.identity.member c.setup.bindings (λ q. sample_at samples (length c.setup.bindings) (c.stretch.source + (0 + c.stretch.committed)) q)
+    c.stretch.part (c.stretch.card + (0 + c.stretch.committed)))
 
 module _ {S T : Type 0} (P : mixport.Ghosts S) (G : gates.Ghosts T) where
   -- a client that placed nothing and has nothing written, at a port whose standing adds end in nothing
@@ -59,8 +61,10 @@ module _ {S T : Type 0} (P : mixport.Ghosts S) (G : gates.Ghosts T) where
   IsBacked-new p c samples none no_frame no_part stand = record {
     stands = λ j q low high in_range. absurd (omega (arith, high, none));
     segment = subst (P.ends_in p) (sym (
-        ap (λ (k : ℕ). run_entries c.stream.identity.member c.stream.setup.bindings (λ j. sample_at samples (length c.stream.setup.bindings) (c.stream.stretch.source + j)) c.stream.stretch.card 0 k c.stream.stretch.part) no_frame
-        ∙ ap (λ (k : ℕ). run_entries c.stream.identity.member c.stream.setup.bindings (λ j. sample_at samples (length c.stream.setup.bindings) (c.stream.stretch.source + j)) c.stream.stretch.card 0 0 k) no_part
+        ap (λ (k : ℕ). run_entries c.stream.identity.member c.stream.setup.bindings (λ j. sample_at samples (length c.stream.setup.bindings)
+        (c.stream.stretch.source + j)) c.stream.stretch.card 0 k c.stream.stretch.part) no_frame
+        ∙ ap (λ (k : ℕ). run_entries c.stream.identity.member c.stream.setup.bindings (λ j. sample_at samples (length c.stream.setup.bindings)
+        (c.stream.stretch.source + j)) c.stream.stretch.card 0 0 k) no_part
         )) stand;
   }
 
@@ -114,11 +118,16 @@ module _ {S T : Type 0} (P : mixport.Ghosts S) (G : gates.Ghosts T) where
       let s : ℕ → ℕ → ℤ = λ j. sample_at samples (length d.setup.bindings) (d.stretch.source + j) in
       let from : ℕ = min d.stretch.committed (hw_of d) in
       let most : from ≤ d.stretch.committed = low-most d.stretch.committed (hw_of d) in
-      let split : segment_entries d samples ≡ run_entries d.identity.member d.setup.bindings s d.stretch.card 0 from 0 ++ run_entries d.identity.member d.setup.bindings s d.stretch.card from (d.stretch.committed - from) 0 =
+      let split : segment_entries d samples ≡ run_entries d.identity.member d.setup.bindings s d.stretch.card 0 from 0 ++ run_entries d.identity.member
+      d.setup.bindings s d.stretch.card from (d.stretch.committed - from) 0 =
       ap (λ (k : ℕ). run_entries d.identity.member d.setup.bindings s d.stretch.card 0 d.stretch.committed k) m.whole
-      ∙ ap (λ (k : ℕ). run_entries d.identity.member d.setup.bindings s d.stretch.card 0 k 0) (let e : d.stretch.committed ≡ from + (d.stretch.committed - from) = omega (arith, most) in e)
+      ∙ ap (λ (k : ℕ). run_entries d.identity.member d.setup.bindings s d.stretch.card 0 k 0)
+      (let e : d.stretch.committed ≡ from + (d.stretch.committed - from) = omega (arith, most) in e)
       ∙ run_entries-append d.identity.member d.setup.bindings s d.stretch.card 0 from (d.stretch.committed - from) 0
-      ∙ ap (λ (k : ℕ). run_entries d.identity.member d.setup.bindings s d.stretch.card 0 from 0 ++ run_entries d.identity.member d.setup.bindings s d.stretch.card k (d.stretch.committed - from) 0) (let e : 0 + from ≡ from = omega arith in e) in
+      ∙ ap (λ (k : ℕ). run_entries d.identity.member d.setup.bindings s d.stretch.card 0 from 0 ++ run_entries d.identity.member d.setup.bindings s
+      d.stretch.card k (d.stretch.committed - from) 0) (let e : 0 + from ≡ from = omega arith in e) in
       let same : held_entries d c.ring ≡ run_entries d.identity.member d.setup.bindings s d.stretch.card from (d.stretch.committed - from) 0 =
-      run_entries-same d.identity.member d.setup.bindings (ring_sample d c.ring) s d.stretch.card from (d.stretch.committed - from) 0 bound (λ j q least below h. is.stands j q least (omega (arith, below, most, m.laid_most)) h) in
-      subst (P.ends_in p) (sym same) (part p (run_entries d.identity.member d.setup.bindings s d.stretch.card 0 from 0) _ (subst (P.ends_in p) split is.segment))
+      run_entries-same d.identity.member d.setup.bindings (ring_sample d c.ring) s d.stretch.card from (d.stretch.committed - from) 0 bound
+      (λ j q least below h. is.stands j q least (omega (arith, below, most, m.laid_most)) h) in
+      subst (P.ends_in p) (sym same) (part p (run_entries d.identity.member d.setup.bindings s d.stretch.card 0 from 0) _
+      (subst (P.ends_in p) split is.segment))

@@ -1,13 +1,12 @@
 //! The calls that start a stream and end it, as alsa-lib groups them.
 ghost use Rattle.std.specs.Prelude.{◌≡◌, ◌↔◌, ℕ, ◌<◌, ◌≤◌, true, false, OnOk, Option};
-ghost use Rattle.pcm_states.specs.declared.calls.Call.TheVariants as call;
 ghost use Rattle.snd_base.specs.Places.{end_frame};
 ghost use Rattle.course.specs.AtPort.{TakesAt};
-ghost use Rattle.pcm_stream.specs.Status.{is_moving, refusal_of};
-ghost use Rattle.pcm_stream.specs.declared.direction.Direction.{Direction};
-ghost use Rattle.dmix_client.specs.Calls.{has_frames, in_draining, start_count, after_start, started_in, sync_count, after_sync};
+ghost use Rattle.pcm_stream.specs.Status.{is_moving};
+ghost use Rattle.dmix_client.specs.CallRelations.{Drains, Starts};
+ghost use Rattle.dmix_client.specs.Calls.{start_count, after_start, started_in};
 ghost use Rattle.dmix_client.specs.Causes.{Explains, ExplainsDrain};
-ghost use Rattle.dmix_client.specs.Course.{if_admitted, drain_course, drains, start_course, starts};
+ghost use Rattle.dmix_client.specs.Course.{drains, starts};
 ghost use Rattle.dmix_client.specs.Growth.{AnySamples, Keeps, KeepsAccepted};
 ghost use Rattle.dmix_client.specs.Port.{CanUse};
 ghost use Rattle.dmix_client.specs.View.{IsSoundClient};
@@ -120,26 +119,8 @@ impl Client {
     /// comes as there. In every other state it is refused with `BadState`, in DISCONNECTED with `NoDevice`.
     pub fn start<P: MixPort, G: Gate>(&mut self, port: &mut P, gate: &mut G) -> Result<(), PcmError>
         requires { CanUse self.old.stream (P.view port.old) }
-        ensures takes { TakesAt P.MixPort G.Gate (port.old, gate.old)
-            (if_admitted self.old.stream call.Start
-            (start_course self.old.stream self.old.ring (P.view port.old).marks.cursor))
-            (port.new, gate.new) (self.new.stream, result) }
-        ensures refused { (e : PcmError) →
-            refusal_of Direction.Playback self.old.stream.status call.Start ≡ Some e →
-            (result ≡ Err e) × (self.new ≡ self.old) × (port.new ≡ port.old)
-            × (gate.new ≡ gate.old) }
-        ensures ring { self.new.ring ≡ self.old.ring }
-        ensures keeps { Keeps P.MixPort G.Gate (port.old, gate.old) (port.new, gate.new) self.old
-            self.new result AnySamples }
-        ensures causes { refusal_of Direction.Playback self.old.stream.status call.Start ≡ None →
-            0 < self.old.stream.stretch.written →
-            Explains P.MixPort G.Gate (port.old, gate.old) (port.new, gate.new) self.old
-            (λ position. started_in self.old.stream State.Running position
-            (P.view port.old).marks.cursor)
-            (λ position. start_count self.old.stream (P.view port.old).marks.cursor position
-            self.old.stream.stretch.written)
-            (after_start self.old.stream State.Running (P.view port.old).marks.cursor)
-            (self.new.stream, result) }
+        ensures { Starts P.MixPort G.Gate (port.old, gate.old) (port.new, gate.new) self.old
+            self.new result }
     {
         self.stream.status.admit(Direction::Playback, Call::Start)?;
         if self.stream.stretch.written == 0 {
@@ -157,31 +138,8 @@ impl Client {
     /// `Ok` and leads to SETUP without a load. In OPEN it is refused with `BadState`, in DISCONNECTED with `NoDevice`.
     pub fn drain<P: MixPort, G: Gate>(&mut self, port: &mut P, gate: &mut G) -> Result<(), PcmError>
         requires { CanUse self.old.stream (P.view port.old) }
-        ensures takes { TakesAt P.MixPort G.Gate (port.old, gate.old)
-            (if_admitted self.old.stream call.Drain
-            (drain_course self.old.stream self.old.ring (P.view port.old).marks.cursor))
-            (port.new, gate.new) (self.new.stream, result) }
-        ensures refused { (e : PcmError) →
-            refusal_of Direction.Playback self.old.stream.status call.Drain ≡ Some e →
-            (result ≡ Err e) × (self.new ≡ self.old) × (port.new ≡ port.old)
-            × (gate.new ≡ gate.old) }
-        ensures ring { self.new.ring ≡ self.old.ring }
-        ensures keeps { Keeps P.MixPort G.Gate (port.old, gate.old) (port.new, gate.new) self.old
-            self.new result AnySamples }
-        ensures again { refusal_of Direction.Playback self.old.stream.status call.Drain ≡ None →
-            (result ≡ Err PcmError.Again)
-            ↔ ((self.new.stream.status.state ≡ State.Draining)
-            × (self.new.stream.status.stopped ≡ false)) }
-        ensures causes { refusal_of Direction.Playback self.old.stream.status call.Drain ≡ None →
-            is_moving self.old.stream.status.state ≡ true →
-            Explains P.MixPort G.Gate (port.old, gate.old) (port.new, gate.new)
-            (record { stream = in_draining self.old.stream; ring = self.old.ring })
-            (λ position. in_draining self.old.stream) (sync_count (in_draining self.old.stream))
-            (after_sync (in_draining self.old.stream) call.Drain) (self.new.stream, result) }
-        ensures starts { refusal_of Direction.Playback self.old.stream.status call.Drain ≡ None →
-            has_frames self.old.stream ≡ true →
-            ExplainsDrain P.MixPort G.Gate (port.old, gate.old) (port.new, gate.new) self.old
-            (P.view port.old).marks.cursor (self.new.stream, result) }
+        ensures { Drains P.MixPort G.Gate (port.old, gate.old) (port.new, gate.new) self.old
+            self.new result }
     {
         self.stream.status.admit(Direction::Playback, Call::Drain)?;
         let ring = self.ring.as_slice();

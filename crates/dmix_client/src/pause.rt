@@ -1,12 +1,10 @@
 //! The call that pauses a stream and resumes it.
 ghost use Rattle.std.specs.Prelude.{◌≡◌, ℕ, ◌<◌, ◌≤◌, true, false, Option};
-ghost use Rattle.pcm_states.specs.declared.calls.Call.TheVariants as call;
 ghost use Rattle.course.specs.AtPort.{TakesAt};
-ghost use Rattle.pcm_stream.specs.Status.{refusal_of};
-ghost use Rattle.pcm_stream.specs.declared.direction.Direction.{Direction};
-ghost use Rattle.dmix_client.specs.Calls.{base_of, after_pause, pending_of, with_new_base, after_resume, start_count, started_in};
+ghost use Rattle.dmix_client.specs.CallRelations.{Pauses};
+ghost use Rattle.dmix_client.specs.Calls.{base_of, pending_of, with_new_base, after_resume, start_count, started_in};
 ghost use Rattle.dmix_client.specs.Causes.{Explains};
-ghost use Rattle.dmix_client.specs.Course.{if_admitted, pause_call, pause_course, resumes};
+ghost use Rattle.dmix_client.specs.Course.{resumes};
 ghost use Rattle.dmix_client.specs.Growth.{AnySamples, Keeps};
 ghost use Rattle.dmix_client.specs.Port.{CanUse};
 ghost use Rattle.dmix_client.specs.View.{IsSoundClient};
@@ -75,33 +73,8 @@ impl Client {
         on: bool,
     ) -> Result<(), PcmError>
         requires { on ≡ false → CanUse self.old.stream (P.view port.old) }
-        ensures takes { TakesAt P.MixPort G.Gate (port.old, gate.old)
-            (if_admitted self.old.stream (pause_call on)
-            (pause_course on self.old.stream self.old.ring (P.view port.old).marks.cursor))
-            (port.new, gate.new) (self.new.stream, result) }
-        ensures refused { (e : PcmError) →
-            refusal_of Direction.Playback self.old.stream.status (pause_call on) ≡ Some e →
-            (result ≡ Err e) × (self.new ≡ self.old) × (port.new ≡ port.old)
-            × (gate.new ≡ gate.old) }
-        ensures pauses { on ≡ true → refusal_of Direction.Playback self.old.stream.status call.Pause
-            ≡ None → (result ≡ Ok tt)
-            × (self.new ≡ record { stream = after_pause self.old.stream; ring = self.old.ring })
-            × (port.new ≡ port.old) × (gate.new ≡ gate.old) }
-        ensures ring { self.new.ring ≡ self.old.ring }
-        ensures keeps { CanUse self.old.stream (P.view port.old) →
-            Keeps P.MixPort G.Gate (port.old, gate.old) (port.new, gate.new)
-            (record { stream = base_of self.old.stream self.new.stream; ring = self.old.ring })
-            self.new result AnySamples }
-        ensures causes { refusal_of Direction.Playback self.old.stream.status (pause_call on)
-            ≡ None → on ≡ false → 0 < pending_of self.old.stream →
-            Explains P.MixPort G.Gate (port.old, gate.old) (port.new, gate.new)
-            (record { stream = with_new_base self.old.stream; ring = self.old.ring })
-            (λ position. started_in (with_new_base self.old.stream) State.Running position
-            (P.view port.old).marks.cursor)
-            (λ position. start_count (with_new_base self.old.stream) (P.view port.old).marks.cursor
-            position (pending_of self.old.stream))
-            (after_resume self.old.stream (P.view port.old).marks.cursor)
-            (self.new.stream, result) }
+        ensures { Pauses P.MixPort G.Gate (port.old, gate.old) (port.new, gate.new) on self.old
+            self.new result }
     {
         if on {
             self.stream.status.admit(Direction::Playback, Call::Pause)?;

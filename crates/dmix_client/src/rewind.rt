@@ -1,15 +1,13 @@
 //! The calls that take frames back.
 ghost use Rattle.std.specs.Prelude.{◌≡◌, ℕ, ◌+◌, ◌-◌, ◌^◌, ◌<◌, ◌≤◌, true, false, ℤ, List, Option};
-ghost use Rattle.snd_base.specs.Places.{end_frame};
 ghost use Rattle.pcm_states.specs.declared.calls.Call.TheVariants as call;
 ghost use Rattle.course.specs.AtPort.{LoadsAt, TakesAt};
-ghost use Rattle.pcm_stream.specs.Status.{refusal_of};
-ghost use Rattle.pcm_stream.specs.declared.direction.Direction.{Direction};
+ghost use Rattle.dmix_client.specs.CallRelations.{CountsRewindable, Rewinds};
 ghost use Rattle.dmix_client.specs.Calls.{after_sync, with_number};
-ghost use Rattle.dmix_client.specs.Course.{if_admitted, nothing, course_with_number};
+ghost use Rattle.dmix_client.specs.Course.{nothing, course_with_number};
 ghost use Rattle.dmix_client.specs.Growth.{AnySamples, Keeps, KeepsBack};
 ghost use Rattle.dmix_client.specs.Port.{CanUse};
-ghost use Rattle.dmix_client.specs.Rewind.{checks, held_entries, rewindable_course, rewindable_of, rewind_course, rewinds, takes_back};
+ghost use Rattle.dmix_client.specs.Rewind.{checks, held_entries, rewindable_of, rewinds, takes_back};
 ghost use Rattle.dmix_client.specs.RewindCauses.{ExplainsCheck, ExplainsRewind};
 ghost use Rattle.dmix_client.specs.View.{IsSoundClient};
 
@@ -146,22 +144,8 @@ impl Client {
         gate: &mut G,
     ) -> Result<u64, PcmError>
         requires { CanUse self.old.stream (P.view port.old) }
-        ensures takes { TakesAt P.MixPort G.Gate (port.old, gate.old)
-            (if_admitted self.old.stream call.Transfer
-            (rewindable_course self.old.stream (P.view port.old).marks.floor)) (port.new, gate.new)
-            (self.new.stream, result) }
-        ensures refused { (e : PcmError) →
-            refusal_of Direction.Playback self.old.stream.status call.Transfer ≡ Some e →
-            (result ≡ Err e) × (self.new ≡ self.old) × (port.new ≡ port.old)
-            × (gate.new ≡ gate.old) }
-        ensures ring { self.new.ring ≡ self.old.ring }
-        ensures keeps { Keeps P.MixPort G.Gate (port.old, gate.old) (port.new, gate.new) self.old
-            self.new result AnySamples }
-        ensures causes { refusal_of Direction.Playback self.old.stream.status call.Transfer ≡ None →
-            self.old.stream.status.state ≡ State.Running →
-            ExplainsCheck P.MixPort G.Gate (port.old, gate.old) (port.new, gate.new) self.old.stream
-            (λ load. with_number (rewindable_of (P.view port.old).marks.floor)
-            (after_sync self.old.stream call.Transfer load nothing)) (self.new.stream, result) }
+        ensures { CountsRewindable P.MixPort G.Gate (port.old, gate.old) (port.new, gate.new)
+            self.old self.new result }
     {
         self.stream
             .status
@@ -195,22 +179,8 @@ impl Client {
         requires standing { self.old.stream.status.state ≡ State.Running →
             self.old.stream.status.stopped ≡ false →
             P.ends_in port.old (held_entries self.old.stream self.old.ring) }
-        ensures takes { TakesAt P.MixPort G.Gate (port.old, gate.old)
-            (if_admitted self.old.stream call.Transfer
-            (rewind_course self.old.stream self.old.ring (P.view port.old).marks.floor frames))
-            (port.new, gate.new) (self.new.stream, result) }
-        ensures refused { (e : PcmError) →
-            refusal_of Direction.Playback self.old.stream.status call.Transfer ≡ Some e →
-            (result ≡ Err e) × (self.new ≡ self.old) × (port.new ≡ port.old)
-            × (gate.new ≡ gate.old) }
-        ensures ring { self.new.ring ≡ self.old.ring }
-        ensures keeps { KeepsBack P.MixPort G.Gate (port.old, gate.old) (port.new, gate.new)
+        ensures { Rewinds P.MixPort G.Gate (port.old, gate.old) (port.new, gate.new) frames
             self.old self.new result }
-        ensures causes { refusal_of Direction.Playback self.old.stream.status call.Transfer ≡ None →
-            self.old.stream.status.state ≡ State.Running →
-            ExplainsRewind P.MixPort G.Gate (port.old, gate.old) (port.new, gate.new)
-            self.old.stream
-            self.old.ring (P.view port.old).marks.floor frames (self.new.stream, result) }
     {
         self.stream
             .status

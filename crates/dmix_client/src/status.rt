@@ -1,13 +1,12 @@
 //! The calls that ask for a stream's status, as alsa-lib groups them: each loads the position and commits what is pending.
 ghost use Rattle.std.specs.Prelude.{◌≡◌, ℕ, true, false, OnOk, Option};
-ghost use Rattle.pcm_states.specs.declared.calls.Call.TheVariants as call;
 ghost use Rattle.course.specs.AtPort.{TakesAt};
-ghost use Rattle.pcm_stream.specs.Status.{is_moving, refusal_of};
-ghost use Rattle.pcm_stream.specs.declared.direction.Direction.{Direction};
+ghost use Rattle.pcm_stream.specs.Status.{is_moving};
 ghost use Rattle.dmix_client.specs.Asked.{asked_number};
-ghost use Rattle.dmix_client.specs.Calls.{avail_answer, delay_answer, sync_count, after_sync, with_number};
+ghost use Rattle.dmix_client.specs.CallRelations.{AnswersNumber, Syncs};
+ghost use Rattle.dmix_client.specs.Calls.{avail_answer, delay_answer, sync_count, after_sync};
 ghost use Rattle.dmix_client.specs.Causes.{Explains};
-ghost use Rattle.dmix_client.specs.Course.{if_admitted, number_course, sync_course, syncs};
+ghost use Rattle.dmix_client.specs.Course.{syncs};
 ghost use Rattle.dmix_client.specs.Growth.{AnySamples, Keeps, KeepsAccepted};
 ghost use Rattle.dmix_client.specs.Port.{CanUse, IsFrameStep};
 ghost use Rattle.dmix_client.specs.View.{IsGoing, IsSoundClient};
@@ -74,21 +73,8 @@ impl Client {
     /// rose in this call; what was placed stays.
     pub fn sync<P: MixPort, G: Gate>(&mut self, port: &mut P, gate: &mut G) -> Result<(), PcmError>
         requires { CanUse self.old.stream (P.view port.old) }
-        ensures takes { TakesAt P.MixPort G.Gate (port.old, gate.old)
-            (if_admitted self.old.stream call.Sync (sync_course self.old.stream self.old.ring))
-            (port.new, gate.new) (self.new.stream, result) }
-        ensures refused { (e : PcmError) →
-            refusal_of Direction.Playback self.old.stream.status call.Sync ≡ Some e →
-            (result ≡ Err e) × (self.new ≡ self.old) × (port.new ≡ port.old)
-            × (gate.new ≡ gate.old) }
-        ensures ring { self.new.ring ≡ self.old.ring }
-        ensures keeps { Keeps P.MixPort G.Gate (port.old, gate.old) (port.new, gate.new) self.old
-            self.new result AnySamples }
-        ensures causes { refusal_of Direction.Playback self.old.stream.status call.Sync ≡ None →
-            is_moving self.old.stream.status.state ≡ true →
-            Explains P.MixPort G.Gate (port.old, gate.old) (port.new, gate.new) self.old
-            (λ position. self.old.stream) (sync_count self.old.stream)
-            (after_sync self.old.stream call.Sync) (self.new.stream, result) }
+        ensures { Syncs P.MixPort G.Gate (port.old, gate.old) (port.new, gate.new) self.old
+            self.new result }
     {
         self.stream.status.admit(Direction::Playback, Call::Sync)?;
         if !self.stream.status.is_moving() {
@@ -106,24 +92,8 @@ impl Client {
         asked: Asked,
     ) -> Result<u64, PcmError>
         requires { CanUse self.old.stream (P.view port.old) }
-        ensures takes { TakesAt P.MixPort G.Gate (port.old, gate.old)
-            (if_admitted self.old.stream call.Sync
-            (number_course (asked_number asked) self.old.stream self.old.ring)) (port.new, gate.new)
-            (self.new.stream, result) }
-        ensures refused { (e : PcmError) →
-            refusal_of Direction.Playback self.old.stream.status call.Sync ≡ Some e →
-            (result ≡ Err e) × (self.new ≡ self.old) × (port.new ≡ port.old)
-            × (gate.new ≡ gate.old) }
-        ensures ring { self.new.ring ≡ self.old.ring }
-        ensures keeps { Keeps P.MixPort G.Gate (port.old, gate.old) (port.new, gate.new) self.old
-            self.new result AnySamples }
-        ensures causes { refusal_of Direction.Playback self.old.stream.status call.Sync ≡ None →
-            is_moving self.old.stream.status.state ≡ true →
-            Explains P.MixPort G.Gate (port.old, gate.old) (port.new, gate.new) self.old
-            (λ position. self.old.stream) (sync_count self.old.stream)
-            (λ load commit.
-            with_number (asked_number asked) (after_sync self.old.stream call.Sync load commit))
-            (self.new.stream, result) }
+        ensures { AnswersNumber P.MixPort G.Gate (port.old, gate.old) (port.new, gate.new)
+            (asked_number asked) self.old self.new result }
     {
         self.stream.status.admit(Direction::Playback, Call::Sync)?;
         if !self.stream.status.is_moving() {
@@ -143,24 +113,8 @@ impl Client {
         gate: &mut G,
     ) -> Result<u64, PcmError>
         requires { CanUse self.old.stream (P.view port.old) }
-        ensures takes { TakesAt P.MixPort G.Gate (port.old, gate.old)
-            (if_admitted self.old.stream call.Sync
-            (number_course avail_answer self.old.stream self.old.ring)) (port.new, gate.new)
-            (self.new.stream, result) }
-        ensures refused { (e : PcmError) →
-            refusal_of Direction.Playback self.old.stream.status call.Sync ≡ Some e →
-            (result ≡ Err e) × (self.new ≡ self.old) × (port.new ≡ port.old)
-            × (gate.new ≡ gate.old) }
-        ensures ring { self.new.ring ≡ self.old.ring }
-        ensures keeps { Keeps P.MixPort G.Gate (port.old, gate.old) (port.new, gate.new) self.old
-            self.new result AnySamples }
-        ensures causes { refusal_of Direction.Playback self.old.stream.status call.Sync ≡ None →
-            is_moving self.old.stream.status.state ≡ true →
-            Explains P.MixPort G.Gate (port.old, gate.old) (port.new, gate.new) self.old
-            (λ position. self.old.stream) (sync_count self.old.stream)
-            (λ load commit.
-            with_number avail_answer (after_sync self.old.stream call.Sync load commit))
-            (self.new.stream, result) }
+        ensures { AnswersNumber P.MixPort G.Gate (port.old, gate.old) (port.new, gate.new)
+            avail_answer self.old self.new result }
     {
         self.ask(port, gate, Asked::Avail)
     }
@@ -174,24 +128,8 @@ impl Client {
         gate: &mut G,
     ) -> Result<u64, PcmError>
         requires { CanUse self.old.stream (P.view port.old) }
-        ensures takes { TakesAt P.MixPort G.Gate (port.old, gate.old)
-            (if_admitted self.old.stream call.Sync
-            (number_course delay_answer self.old.stream self.old.ring)) (port.new, gate.new)
-            (self.new.stream, result) }
-        ensures refused { (e : PcmError) →
-            refusal_of Direction.Playback self.old.stream.status call.Sync ≡ Some e →
-            (result ≡ Err e) × (self.new ≡ self.old) × (port.new ≡ port.old)
-            × (gate.new ≡ gate.old) }
-        ensures ring { self.new.ring ≡ self.old.ring }
-        ensures keeps { Keeps P.MixPort G.Gate (port.old, gate.old) (port.new, gate.new) self.old
-            self.new result AnySamples }
-        ensures causes { refusal_of Direction.Playback self.old.stream.status call.Sync ≡ None →
-            is_moving self.old.stream.status.state ≡ true →
-            Explains P.MixPort G.Gate (port.old, gate.old) (port.new, gate.new) self.old
-            (λ position. self.old.stream) (sync_count self.old.stream)
-            (λ load commit.
-            with_number delay_answer (after_sync self.old.stream call.Sync load commit))
-            (self.new.stream, result) }
+        ensures { AnswersNumber P.MixPort G.Gate (port.old, gate.old) (port.new, gate.new)
+            delay_answer self.old self.new result }
     {
         self.ask(port, gate, Asked::Delay)
     }

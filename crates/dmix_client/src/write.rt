@@ -1,13 +1,12 @@
 //! The call that moves frames.
 ghost use Rattle.std.specs.Prelude.{◌≡◌, ℕ, ◌+◌, ◌*◌, ◌/◌, ◌^◌, ◌<◌, ◌≤◌, true, false, IfOk, ℤ, List, length, Option};
 ghost use Rattle.snd_base.specs.Places.{end_frame};
-ghost use Rattle.pcm_states.specs.declared.calls.Call.TheVariants as call;
 ghost use Rattle.course.specs.AtPort.{TakesAt};
-ghost use Rattle.pcm_stream.specs.Status.{is_moving, refusal_of};
-ghost use Rattle.pcm_stream.specs.declared.direction.Direction.{Direction};
+ghost use Rattle.pcm_stream.specs.Status.{is_moving};
+ghost use Rattle.dmix_client.specs.CallRelations.{WritesFrames};
 ghost use Rattle.dmix_client.specs.Calls.{accepted_if, start_count, after_start, started_in, taken_of};
 ghost use Rattle.dmix_client.specs.Causes.{Explains, ExplainsWrite};
-ghost use Rattle.dmix_client.specs.Course.{if_admitted, commits, fills, starts_taking, takes_more, write_course, writes_on};
+ghost use Rattle.dmix_client.specs.Course.{commits, fills, starts_taking, takes_more, writes_on};
 ghost use Rattle.dmix_client.specs.Growth.{Follows, Keeps};
 ghost use Rattle.dmix_client.specs.Port.{CanUse, IsCommit};
 ghost use Rattle.dmix_client.specs.View.{IsSoundClient};
@@ -244,40 +243,8 @@ impl Client {
         requires offer { self.old.stream.setup.configured ≡ true →
             IsOffer self.old.stream samples.now }
         requires port { CanUse self.old.stream (P.view port.old) }
-        ensures takes { TakesAt P.MixPort G.Gate (port.old, gate.old)
-            (if_admitted self.old.stream call.Transfer
-            (write_course self.old.stream self.old.ring samples.now (P.view port.old).marks.cursor))
-            (port.new, gate.new) (self.new.stream, result) }
-        ensures refused { (e : PcmError) →
-            refusal_of Direction.Playback self.old.stream.status call.Transfer ≡ Some e →
-            (result ≡ Err e) × (self.new ≡ self.old) × (port.new ≡ port.old)
-            × (gate.new ≡ gate.old) }
-        ensures keeps { Keeps P.MixPort G.Gate (port.old, gate.old) (port.new, gate.new) self.old
-            self.new result (λ all. Follows self.old.stream all samples.now
-            (frames_in self.old.stream samples.now)) }
-        ensures stores { refusal_of Direction.Playback self.old.stream.status call.Transfer ≡ None →
-            self.old.stream.status.state ≡ State.Prepared →
-            self.new.ring ≡ ring_with self.old.stream self.old.ring samples.now
-            (taken_of self.old.stream (frames_in self.old.stream samples.now)) }
-        ensures starts { refusal_of Direction.Playback self.old.stream.status call.Transfer ≡ None →
-            self.old.stream.status.state ≡ State.Prepared →
-            starts_with self.old.stream (frames_in self.old.stream samples.now) ≡ true →
-            Explains P.MixPort G.Gate (port.old, gate.old) (port.new, gate.new)
-            (record { stream = self.old.stream; ring = self.new.ring })
-            (λ position. started_in self.old.stream State.Running position
-            (P.view port.old).marks.cursor)
-            (λ position. start_count self.old.stream (P.view port.old).marks.cursor position
-            (self.old.stream.stretch.written + taken_of self.old.stream
-            (frames_in self.old.stream samples.now)))
-            (λ load commit. accepted_if
-            (taken_of self.old.stream (frames_in self.old.stream samples.now))
-            (after_start self.old.stream State.Running (P.view port.old).marks.cursor load commit))
-            (self.new.stream, result) }
-        ensures again { refusal_of Direction.Playback self.old.stream.status call.Transfer ≡ None →
-            self.old.stream.status.state ≡ State.Running →
-            ExplainsWrite P.MixPort G.Gate (port.old, gate.old) (port.new, gate.new) self.old.stream
-            self.old.ring self.new.ring samples.now (frames_in self.old.stream samples.now)
-            (self.new.stream, result) }
+        ensures { WritesFrames P.MixPort G.Gate (port.old, gate.old) (port.new, gate.new) samples.now
+            self.old self.new result }
     {
         self.stream
             .status

@@ -52,7 +52,8 @@ past-at : {S : Type 0} (view : S → SnoopView) (shows : S → ℕ → ℕ → O
 past-at view shows p e a b same past = subst (λ (n : ℕ). OnOvertaken e (λ channel word. IsPast view shows p n channel word)) same past
 
 module _ {S T : Type 0} (P : snoopport.Ghosts S) (G : gates.Ghosts T) (composes : Composes P.loaded) (asks : AsksCompose G.asked) where
-  pub gets_frames-come : (count first : ℕ) (s t : S × T) (done : ℕ) (ended : Got) → TakesAtSnoop P G s (gets_frames count first) t (done, ended) → CameTo P G s t count first done ended
+  pub gets_frames-come : (count first : ℕ) (s t : S × T) (done : ℕ) (ended : Got) → TakesAtSnoop P G s (gets_frames count first) t (done, ended)
+      → CameTo P G s t count first done ended
   unfolding gets_frames
   gets_frames-come zero first s t done ended takes =
       subst (λ (u : S × T). CameTo P G s u zero first done ended) (sym takes.there)
@@ -101,7 +102,9 @@ module _ {S T : Type 0} (P : snoopport.Ghosts S) (G : gates.Ghosts T) (composes 
         overtaken = past-at P.view P.shows parts.0.0 parts.1.1 (first + 1 + parts.1.0) (first + (parts.1.0 + 1)) (omega arith) later.overtaken;
         stops = later.stops ∙ ap (stops_after (pass_of_got parts.1.1)) step.1.stopped;
         looks = step.1.asks + later.looks;
-        looks_number = looks-more parts.1.1 parts.1.0 (P.view s.0).geometry.channels step.1.asks later.looks step.1.asks_number (subst (λ (v : SnoopView). IsLooks parts.1.1 parts.1.0 v.geometry.channels later.looks) step.1.view_is later.looks_number);
+        looks_number = looks-more parts.1.1 parts.1.0 (P.view s.0).geometry.channels step.1.asks later.looks step.1.asks_number
+            (subst (λ (v : SnoopView). IsLooks parts.1.1 parts.1.0 v.geometry.channels later.looks) step.1.view_is later.looks_number);
         asked_them = subst (λ xs. G.asked s.1 parts.0.1 xs (pass_of_got parts.1.1)) (replicate-append-replicate step.1.asks later.looks kind.Look)
-            (asks.joined s.1 m.1 parts.0.1 (replicate step.1.asks kind.Look) (replicate later.looks kind.Look) (pass_of_got parts.1.1) step.1.asked_them later.asked_them);
+            (asks.joined s.1 m.1 parts.0.1 (replicate step.1.asks kind.Look) (replicate later.looks kind.Look) (pass_of_got parts.1.1)
+            step.1.asked_them later.asked_them);
       }))

@@ -25,7 +25,8 @@ OnGot-not Stopped X not_whole = tt
 range_with_len-more : (a n : ℕ) → range_with_len a (suc n) ≡ range_with_len a n ++ (a + n) ∷ []
 range_with_len-more a zero = ap (λ (x : ℕ). x ∷ []) (let same : a ≡ a + 0 = omega arith in same)
 range_with_len-more a (suc n) =
-    ap (λ xs. a ∷ xs) (range_with_len-more (a + 1) n ∙ ap (λ (x : ℕ). range_with_len (a + 1) n ++ x ∷ []) (let same : a + 1 + n ≡ a + suc n = omega arith in same))
+    ap (λ xs. a ∷ xs) (range_with_len-more (a + 1) n ∙ ap (λ (x : ℕ). range_with_len (a + 1) n ++ x ∷ [])
+    (let same : a + 1 + n ≡ a + suc n = omega arith in same))
 
 length-more : (frames : List Frame) (frame : Frame) → length (frames ++ frame ∷ []) ≡ suc (length frames)
 length-more frames frame = length-append frames (frame ∷ []) ∙ add-one (length frames)
@@ -63,8 +64,10 @@ put_mid-next head before part at k n at_end size room is =
     let now = head ++ drop at before in
     let room_now : at ≤ length now = omega (arith, length-append head (drop at before), at_end) in
     sym (take-append-drop n (put_mid at k now part))
-    ∙ ap (λ xs. xs ++ drop n (put_mid at k now part)) (take-put_mid at k now part n (omega (arith, is, size)) room_now ∙ ap (λ xs. xs ++ part) (subst (λ m. take m now ≡ head) (sym at_end) (take-append_seam head (drop at before))))
-    ∙ ap (λ xs. (head ++ part) ++ xs) (drop-put_mid at k now part n (omega (arith, is)) room_now size ∙ drop-append-drop at before head n (omega (arith, is)) (sym at_end))
+    ∙ ap (λ xs. xs ++ drop n (put_mid at k now part)) (take-put_mid at k now part n (omega (arith, is, size)) room_now ∙ ap (λ xs. xs ++ part)
+    (subst (λ m. take m now ≡ head) (sym at_end) (take-append_seam head (drop at before))))
+    ∙ ap (λ xs. (head ++ part) ++ xs) (drop-put_mid at k now part n (omega (arith, is)) room_now size ∙ drop-append-drop at before head n
+    (omega (arith, is)) (sym at_end))
 
 module _ {S : Type 0} (P : snoopport.Ghosts S) (composes : Composes P.got) where
   pub Fills-none : (p : S) (bindings : List ℕ) (first : ℕ) (before : List ℤ) → Fills P p p bindings first 0 Whole before before
@@ -77,21 +80,26 @@ module _ {S : Type 0} (P : snoopport.Ghosts S) (composes : Composes P.got) where
   }
 
   -- one frame more
-  pub Fills-next : (p q r : S) (bindings : List ℕ) (first done k m : ℕ) (before now part : List ℤ) (frame : Frame) → P.view q ≡ P.view p → k ≡ length bindings → m ≡ k
-      → frame.number ≡ first + done → length frame.samples ≡ (P.view q).geometry.channels → part ≡ bound_samples bindings frame.samples → (done + 1) * length bindings ≤ length before
+  pub Fills-next : (p q r : S) (bindings : List ℕ) (first done k m : ℕ) (before now part : List ℤ) (frame : Frame) → P.view q ≡ P.view p
+      → k ≡ length bindings → m ≡ k
+      → frame.number ≡ first + done → length frame.samples ≡ (P.view q).geometry.channels → part ≡ bound_samples bindings frame.samples
+      → (done + 1) * length bindings ≤ length before
       → Fills P p q bindings first done Whole before now → P.got q r (frame ∷ [])
       → Fills P p r bindings first (done + 1) Whole before (put_mid (done * k) m now part)
   Fills-next p q r bindings first done k m before now part frame same_view is_k is_m is_number size is_part room so_far got_it = record {
     frames = so_far.frames ++ frame ∷ [];
     got_them = composes.joined p q r so_far.frames (frame ∷ []) so_far.got_them got_it;
-    are = AreFrames-more so_far.frames frame first (P.view p).geometry.channels so_far.are (is_number ∙ ap (λ n. first + n) (sym so_far.count)) (size ∙ ap (λ (v : SnoopView). v.geometry.channels) same_view);
+    are = AreFrames-more so_far.frames frame first (P.view p).geometry.channels so_far.are (is_number ∙ ap (λ n. first + n) (sym so_far.count))
+        (size ∙ ap (λ (v : SnoopView). v.geometry.channels) same_view);
     count = length-more so_far.frames frame ∙ ap suc so_far.count ∙ sym (add-one done);
     samples =
         ap (λ (n : ℕ). put_mid (done * k) n now part) is_m
-        ∙ subst (λ (n : ℕ). put_mid (done * n) n now part ≡ through_all bindings (so_far.frames ++ frame ∷ []) ++ drop ((done + 1) * length bindings) before) (sym is_k)
+        ∙ subst (λ (n : ℕ). put_mid (done * n) n now part ≡ through_all bindings (so_far.frames ++ frame ∷ []) ++ drop
+        ((done + 1) * length bindings) before) (sym is_k)
         (ap (λ xs. put_mid (done * length bindings) (length bindings) xs part) so_far.samples
         ∙ put_mid-next (through_all bindings so_far.frames) before part (done * length bindings) (length bindings) ((done + 1) * length bindings)
-        (sym (length-through_all bindings so_far.frames ∙ ap (λ (m : ℕ). m * length bindings) so_far.count)) (ap length is_part ∙ length-through bindings frame.samples) (omega (arith, room)) (omega arith)
+        (sym (length-through_all bindings so_far.frames ∙ ap (λ (m : ℕ). m * length bindings) so_far.count))
+        (ap length is_part ∙ length-through bindings frame.samples) (omega (arith, room)) (omega arith)
         ∙ ap (λ xs. xs ++ drop ((done + 1) * length bindings) before)
         (ap (λ xs. through_all bindings so_far.frames ++ xs) (is_part ∙ sym (append-nil (bound_samples bindings frame.samples)))
         ∙ sym (flat_map-append (λ (f : Frame). bound_samples bindings f.samples) so_far.frames (frame ∷ []))));

@@ -31,8 +31,10 @@ module _ {S T : Type 0} (P : snoopport.Ghosts S) (G : gates.Ghosts T) where
         Whole,
         next,
         step,
-        Takes-then (LoadsAtSnoop P G) NoLay (GetsAtSnoop P G) next t t (gets_frames (count - (i + 1)) (first + i + 1)) (λ end. ends (one_more end)) (done, ended) (done + 1, ended)
-            (subst (λ n. TakesAtSnoop P G next (gets_frames (count - (i + 1)) n) t (done, ended)) (let at : first + (i + 1) ≡ first + i + 1 = omega arith in at) takes) (record { there = refl; result = refl }),
+        Takes-then (LoadsAtSnoop P G) NoLay (GetsAtSnoop P G) next t t (gets_frames (count - (i + 1)) (first + i + 1)) (λ end. ends (one_more end))
+            (done, ended) (done + 1, ended)
+            (subst (λ n. TakesAtSnoop P G next (gets_frames (count - (i + 1)) n) t (done, ended)) (let at : first + (i + 1) ≡ first + i + 1 = omega arith in at)
+            takes) (record { there = refl; result = refl }),
       )))
     where
       counted : i + (done + 1) ≡ i + 1 + done
@@ -61,4 +63,5 @@ module _ {S T : Type 0} (P : snoopport.Ghosts S) (G : gates.Ghosts T) where
   unfolding gets_frames
   Rest-all count first start now i is so_far =
       subst (λ n. TakesAtSnoop P G start (gets_frames count first) now (n, Whole)) (let counted : i + 0 ≡ count = omega (arith, is) in counted)
-      (so_far now 0 Whole (subst (λ n. TakesAtSnoop P G now (gets_frames n (first + i)) now (0, Whole)) (sym (let none : count - i ≡ 0 = omega (arith, is) in none)) (record { there = refl; result = refl })))
+      (so_far now 0 Whole (subst (λ n. TakesAtSnoop P G now (gets_frames n (first + i)) now (0, Whole))
+      (sym (let none : count - i ≡ 0 = omega (arith, is) in none)) (record { there = refl; result = refl })))

@@ -1,3 +1,4 @@
+mod CallLaws
 pub mod CameTo
 pub mod Filling
 pub mod Getting

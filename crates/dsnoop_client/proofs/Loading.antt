@@ -1,13 +1,10 @@
 -- The calls take their courses, by what their parts took.
 use Rattle.std.proofs.Common.{◌≡◌, ℕ, refl, sym, subst}
-use Rattle.std.specs.Prelude.{Ok, Result, Option, None, Some}
-use Rattle.snd_base.specs.declared.errors.PcmError.{PcmError}
+use Rattle.std.specs.Prelude.{Option}
 use Rattle.mix_core.specs.declared.gate.Gate as gates
 use Rattle.mix_core.specs.declared.port.Position.{Position}
 use Rattle.pcm_states.specs.declared.calls.Call.{Call}
 use Rattle.pcm_states.specs.declared.calls.Call.TheVariants as call
-use Rattle.pcm_stream.specs.declared.direction.Direction.TheVariants.{Capture}
-use Rattle.pcm_stream.specs.Status.{refusal_of, refused_by}
 use Rattle.snoop_core.specs.declared.port.Got.{Got}
 use Rattle.snoop_core.specs.declared.port.SnoopPort as snoopport
 use Rattle.course.specs.AtSnoopPort.{GetsAtSnoop, LoadsAtSnoop, NoLay, TakesAtSnoop}
@@ -15,20 +12,23 @@ use Rattle.course.specs.Course.{Course}
 use Rattle.course.specs.CourseLaws.{Takes-map, Takes-then}
 use Rattle.dsnoop_client.specs.declared.stream.CaptureStream.{CaptureStream}
 use Rattle.dsnoop_client.specs.Calls.{Answered, read_after, after_start, after_sync, taken_of, with_avail}
-use Rattle.dsnoop_client.specs.Course.{if_admitted, admitted_by, counts, gets_frames, reads_first, reads_on, starts, syncs, transfer_on, transfers}
+use Rattle.dsnoop_client.specs.Course.{counts, gets_frames, reads_first, reads_on, starts, syncs, transfer_on, transfers}
 
 module _ {S T : Type 0} (P : snoopport.Ghosts S) (G : gates.Ghosts T) where
   -- a start and a sync, by their loads
-  pub starts-by : (s t : S × T) (c : CaptureStream) (call : Call) (load : Option Position) (done : Answered (Unit {0})) → LoadsAtSnoop P G s load t → done ≡ after_start c call load → TakesAtSnoop P G s (starts c call) t done
+  pub starts-by : (s t : S × T) (c : CaptureStream) (call : Call) (load : Option Position) (done : Answered (Unit {0})) → LoadsAtSnoop P G s load t
+      → done ≡ after_start c call load → TakesAtSnoop P G s (starts c call) t done
   unfolding starts
   starts-by s t c call load done step is = (load, t, step, record { there = refl; result = is })
 
-  pub syncs-by : (s t : S × T) (c : CaptureStream) (call : Call) (load : Option Position) (done : Answered (Unit {0})) → LoadsAtSnoop P G s load t → done ≡ after_sync c call load → TakesAtSnoop P G s (syncs c call) t done
+  pub syncs-by : (s t : S × T) (c : CaptureStream) (call : Call) (load : Option Position) (done : Answered (Unit {0})) → LoadsAtSnoop P G s load t
+      → done ≡ after_sync c call load → TakesAtSnoop P G s (syncs c call) t done
   unfolding syncs
   syncs-by s t c call load done step is = (load, t, step, record { there = refl; result = is })
 
   -- a sync's answer with the frames available
-  pub counts-by : (s t : S × T) (m : Course (Answered (Unit {0}))) (done : Answered (Unit {0})) (x : Answered ℕ) → TakesAtSnoop P G s m t done → with_avail done ≡ x → TakesAtSnoop P G s (counts m) t x
+  pub counts-by : (s t : S × T) (m : Course (Answered (Unit {0}))) (done : Answered (Unit {0})) (x : Answered ℕ) → TakesAtSnoop P G s m t done
+      → with_avail done ≡ x → TakesAtSnoop P G s (counts m) t x
   unfolding counts
   counts-by s t m done x takes is = Takes-map (LoadsAtSnoop P G) NoLay (GetsAtSnoop P G) s t m with_avail done x takes is
 
@@ -37,26 +37,21 @@ module _ {S T : Type 0} (P : snoopport.Ghosts S) (G : gates.Ghosts T) where
       → TakesAtSnoop P G s (gets_frames count c.next) t (done, ended) → x ≡ read_after c n done ended → TakesAtSnoop P G s (transfers c n) t x
   unfolding transfers
   transfers-by s t c n count done ended x is_count takes is =
-      Takes-map (LoadsAtSnoop P G) NoLay (GetsAtSnoop P G) s t (gets_frames (taken_of c n) c.next) (λ (end : ℕ × Got). read_after c n end.0 end.1) (done, ended) x
+      Takes-map (LoadsAtSnoop P G) NoLay (GetsAtSnoop P G) s t (gets_frames (taken_of c n) c.next)
+      (λ (end : ℕ × Got). read_after c n end.0 end.1) (done, ended) x
       (subst (λ k. TakesAtSnoop P G s (gets_frames k c.next) t (done, ended)) is_count takes) (sym is)
 
   -- a read of a reader that runs, and one that starts it
-  pub reads_on-by : (s t u : S × T) (c : CaptureStream) (n : ℕ) (first : Answered (Unit {0})) (done : Answered ℕ) → TakesAtSnoop P G s (syncs c call.Transfer) t first
+  pub reads_on-by : (s t u : S × T) (c : CaptureStream) (n : ℕ) (first : Answered (Unit {0})) (done : Answered ℕ)
+      → TakesAtSnoop P G s (syncs c call.Transfer) t first
       → TakesAtSnoop P G t (transfer_on n first) u done → TakesAtSnoop P G s (reads_on c n) u done
   unfolding reads_on
-  reads_on-by s t u c n first done one two = Takes-then (LoadsAtSnoop P G) NoLay (GetsAtSnoop P G) s t u (syncs c call.Transfer) (transfer_on n) first done one two
+  reads_on-by s t u c n first done one two =
+      Takes-then (LoadsAtSnoop P G) NoLay (GetsAtSnoop P G) s t u (syncs c call.Transfer) (transfer_on n) first done one two
 
-  pub reads_first-by : (s t u : S × T) (c : CaptureStream) (n : ℕ) (first : Answered (Unit {0})) (done : Answered ℕ) → TakesAtSnoop P G s (starts c call.Transfer) t first
+  pub reads_first-by : (s t u : S × T) (c : CaptureStream) (n : ℕ) (first : Answered (Unit {0})) (done : Answered ℕ)
+      → TakesAtSnoop P G s (starts c call.Transfer) t first
       → TakesAtSnoop P G t (transfer_on n first) u done → TakesAtSnoop P G s (reads_first c n) u done
   unfolding reads_first
-  reads_first-by s t u c n first done one two = Takes-then (LoadsAtSnoop P G) NoLay (GetsAtSnoop P G) s t u (starts c call.Transfer) (transfer_on n) first done one two
-
--- a call that was admitted
-pub admitted-ok : {S T X : Type 0} (P : snoopport.Ghosts S) (G : gates.Ghosts T) (s t : S × T) (c : CaptureStream) (k : Call) (m : Course (Answered X)) (done : Answered X) → refusal_of Capture c.status k ≡ None
-    → TakesAtSnoop P G s m t done → TakesAtSnoop P G s (if_admitted c k m) t done
-admitted-ok P G s t c k m done is takes = subst (λ (o : Option PcmError). TakesAtSnoop P G s (admitted_by o c m) t done) (sym is) takes
-
--- a test that was passed says that the call isn't refused
-pub none-refused : (o : Option PcmError) (r : Result (Unit {0}) PcmError) → r ≡ refused_by o → r ≡ Ok tt → o ≡ None
-none-refused None r is good = refl
-none-refused (Some e) r is good = absurd (cc)
+  reads_first-by s t u c n first done one two =
+      Takes-then (LoadsAtSnoop P G) NoLay (GetsAtSnoop P G) s t u (starts c call.Transfer) (transfer_on n) first done one two

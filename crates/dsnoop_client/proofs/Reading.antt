@@ -34,10 +34,12 @@ use Rattle.dsnoop_client.proofs.Explaining.{IsExplained, Went, explained-some, e
 -- ---- what it gives
 
 module _ {S : Type 0} (P : snoopport.Ghosts S) (p q : S) (c : CaptureStream) (before after : List ℤ) (same : (P.view p).geometry ≡ c.geometry) where
-  are-frames : (done : ℕ) (ended : Got) (fills : Fills P p q c.setup.bindings c.next done ended before after) → AreFrames fills.frames c.next c.geometry.channels
+  are-frames : (done : ℕ) (ended : Got) (fills : Fills P p q c.setup.bindings c.next done ended before after)
+      → AreFrames fills.frames c.next c.geometry.channels
   are-frames done ended fills = subst (λ (g : Geometry). AreFrames fills.frames c.next g.channels) same fills.are
 
-  reads-error : (done : ℕ) (ended : Got) (d : CaptureStream) (e : PcmError) → d.next ≡ c.next → Fills P p q c.setup.bindings c.next done ended before after → GivesFrames P p q c d before after (Err e)
+  reads-error : (done : ℕ) (ended : Got) (d : CaptureStream) (e : PcmError) → d.next ≡ c.next → Fills P p q c.setup.bindings c.next done ended before after
+      → GivesFrames P p q c d before after (Err e)
   reads-error done ended d e stays fills = record {
     first = c.next;
     begins = λ runs. refl;
@@ -62,7 +64,8 @@ module _ {S : Type 0} (P : snoopport.Ghosts S) (p q : S) (c : CaptureStream) (be
     count = fills.count;
     samples = fills.samples;
   }
-  reads-if false done (Overtaken channel word) fills = reads-error done (Overtaken channel word) (in_state c state.Xrun) (Xrun (why.Overtaken (c.next + done) channel word)) refl fills
+  reads-if false done (Overtaken channel word) fills =
+      reads-error done (Overtaken channel word) (in_state c state.Xrun) (Xrun (why.Overtaken (c.next + done) channel word)) refl fills
   reads-if false done Stopped fills = reads-error done Stopped (record c { status = record c.status { stopped = true } }) error.Stopped refl fills
 
   pub reads-of : (n done : ℕ) (ended : Got) → Fills P p q c.setup.bindings c.next done ended before after
@@ -72,7 +75,8 @@ module _ {S : Type 0} (P : snoopport.Ghosts S) (p q : S) (c : CaptureStream) (be
 -- ---- why it answers so
 
 -- what a read ended in that loaded the position
-pub record IsReadExplained {S T : Type 0} (P : snoopport.Ghosts S) (G : gates.Ghosts T) (s t : S × T) (c d : CaptureStream) (n : ℕ) (answer : Result ℕ PcmError) : Type 0 where
+pub record IsReadExplained {S T : Type 0} (P : snoopport.Ghosts S) (G : gates.Ghosts T) (s t : S × T) (c d : CaptureStream) (n : ℕ)
+    (answer : Result ℕ PcmError) : Type 0 where
   pub told : IsExplained P G s t c d answer
   pub again : (answer ≡ Err Again) ↔ ((0 < n) × FindsNone c told.why.load)
   pub asks : Asks G s.1 t.1 d n answer
@@ -91,7 +95,8 @@ runs-or : (s : State) → (s ≡ state.Running) ⊎ (s ≡ state.Running → ⊥
 runs-or state.Running = inl refl
 runs-or other = inr (λ h. cc)
 
-module _ {S T : Type 0} (P : snoopport.Ghosts S) (G : gates.Ghosts T) (composes : Composes P.loaded) (asks : AsksCompose G.asked) (s m t : S × T) (c u : CaptureStream) (position : Position)
+module _ {S T : Type 0} (P : snoopport.Ghosts S) (G : gates.Ghosts T) (composes : Composes P.loaded) (asks : AsksCompose G.asked) (s m t : S × T)
+    (c u : CaptureStream) (position : Position)
     (went : Went P G s m c u position Go) (asked : G.asked s.1 m.1 (kind.Position ∷ []) Go) where
   went-frames : (count first done : ℕ) (ended : Got) → CameTo P G m t count first done ended → Went P G s t c u position (pass_of_got ended)
   went-frames count first done ended came = record {
@@ -116,8 +121,11 @@ module _ {S T : Type 0} (P : snoopport.Ghosts S) (G : gates.Ghosts T) (composes 
 
   -- no frame is available exactly where the reader finds none at the position
   finds-none : avail_of u ≡ 0 → FindsNone c (Some position)
-  finds-none none =
-      (went.here, λ runs. let next : u.next ≡ c.next = went.goes_on runs in let most : u.next ≤ unwrap_or u.seen 0 = (went.sound.reading went.running).most in omega (arith, none, saw-at, next, most))
+  finds-none none = (
+    went.here,
+    λ runs. let next : u.next ≡ c.next = went.goes_on runs in let most : u.next ≤ unwrap_or u.seen 0 = (went.sound.reading went.running).most in
+        omega (arith, none, saw-at, next, most),
+  )
 
   none-found : FindsNone c (Some position) → avail_of u ≡ 0
   none-found finds = elim (runs-or c.status.state) [
@@ -125,12 +133,14 @@ module _ {S T : Type 0} (P : snoopport.Ghosts S) (G : gates.Ghosts T) (composes 
     | inr stands ↦ let next : u.next ≡ position.frame = went.begins stands in omega (arith, saw-at, next)
   ]
 
-  asks-frames : (d : CaptureStream) (n looks : ℕ) (pass : Pass) (answer : Result ℕ PcmError) → IsLookNumber answer d.next d.geometry.channels n looks → pass_by answer ≡ pass
+  asks-frames : (d : CaptureStream) (n looks : ℕ) (pass : Pass) (answer : Result ℕ PcmError)
+      → IsLookNumber answer d.next d.geometry.channels n looks → pass_by answer ≡ pass
       → G.asked m.1 t.1 (replicate looks kind.Look) pass → Asks G s.1 t.1 d n answer
   asks-frames d n looks pass answer number is_pass later = record {
     looks = looks;
     looks_number = number;
-    asked_them = asks.joined s.1 m.1 t.1 (kind.Position ∷ []) (replicate looks kind.Look) (pass_by answer) asked (subst (λ (p : Pass). G.asked m.1 t.1 (replicate looks kind.Look) p) (sym is_pass) later);
+    asked_them = asks.joined s.1 m.1 t.1 (kind.Position ∷ []) (replicate looks kind.Look) (pass_by answer) asked
+        (subst (λ (p : Pass). G.asked m.1 t.1 (replicate looks kind.Look) p) (sym is_pass) later);
   }
 
   same-channels : (P.view m.0).geometry.channels ≡ u.geometry.channels
@@ -170,48 +180,61 @@ module _ {S T : Type 0} (P : snoopport.Ghosts S) (G : gates.Ghosts T) (composes 
     reading = λ runs. let at = went.sound.reading runs in record { least = at.least; most = at.most };
   }
 
-  missed-at : (count done channel word frame at seen : ℕ) → count ≤ avail_of u → CameTo P G m t count u.next done (Overtaken channel word) → frame ≡ u.next + done → at ≡ channel → seen ≡ word
+  missed-at : (count done channel word frame at seen : ℕ) → count ≤ avail_of u → CameTo P G m t count u.next done (Overtaken channel word)
+      → frame ≡ u.next + done → at ≡ channel → seen ≡ word
       → IsMissed P t.0 (in_state u state.Xrun) frame at seen
   missed-at count done channel word frame at seen few came is_frame is_channel is_word = record {
     unread = omega (arith, is_frame);
     captured = omega (arith, is_frame, few, came.up_to);
-    past = subst (λ (k : ℕ). IsPast P.view P.shows t.0 k at seen) (sym is_frame) (subst (λ (k : ℕ). IsPast P.view P.shows t.0 (u.next + done) k seen) (sym is_channel)
+    past = subst (λ (k : ℕ). IsPast P.view P.shows t.0 k at seen) (sym is_frame) (subst (λ (k : ℕ). IsPast P.view P.shows t.0 (u.next + done)
+        k seen) (sym is_channel)
         (subst (λ (k : ℕ). IsPast P.view P.shows t.0 (u.next + done) channel k) (sym is_word) came.overtaken));
   }
 
-  read-explained-if : (test : Bool) (n count done : ℕ) (ended : Got) → (nat_lt 0 n && nat_eq (avail_of u) 0) ≡ test → count ≡ taken_of u n → CameTo P G m t count u.next done ended
+  read-explained-if : (test : Bool) (n count done : ℕ) (ended : Got) → (nat_lt 0 n && nat_eq (avail_of u) 0) ≡ test → count ≡ taken_of u n
+      → CameTo P G m t count u.next done ended
       → IsReadExplained P G s t c (if test then (u, Err Again) else read_to u done ended).0 n (if test then (u, Err Again) else read_to u done ended).1
   unfolding explained-went explained-some
   read-explained-if true n count done Whole test is_count came =
       let none : avail_of u ≡ 0 = no-avail n (avail_of u) test in
       let nothing = no-frames n count done Whole none is_count came.up_to in
       record {
-        told = explained-went P G s t c u u position Go (Err Again) (went-frames count u.next done Whole came) refl refl refl refl went.sound (λ h. cc, λ h. let goes = went.unstopped in cc) tt (λ h. cc) (λ avail frame h. cc) (λ frame channel word h. cc);
+        told = explained-went P G s t c u u position Go (Err Again) (went-frames count u.next done Whole came) refl refl refl refl went.sound
+            (λ h. cc, λ h. let goes = went.unstopped in cc) tt (λ h. cc) (λ avail frame h. cc) (λ frame channel word h. cc);
         again = (λ h. (some-wanted n (avail_of u) test, finds-none none), λ h. refl);
-        asks = asks-frames u n came.looks Go (Err Again) (came.looks_number ∙ ap (λ (k : ℕ). k * (P.view m.0).geometry.channels) nothing.1 ∙ (let zero : 0 * (P.view m.0).geometry.channels ≡ 0 = omega arith in zero)) refl came.asked_them;
+        asks = asks-frames u n came.looks Go (Err Again) (came.looks_number ∙ ap (λ (k : ℕ). k * (P.view m.0).geometry.channels) nothing.1
+            ∙ (let zero : 0 * (P.view m.0).geometry.channels ≡ 0 = omega arith in zero)) refl came.asked_them;
       }
-  read-explained-if true n count done (Overtaken channel word) test is_count came = absurd (let nothing = no-frames n count done (Overtaken channel word) (no-avail n (avail_of u) test) is_count came.up_to in let is = nothing.0 in cc)
-  read-explained-if true n count done Stopped test is_count came = absurd (let nothing = no-frames n count done Stopped (no-avail n (avail_of u) test) is_count came.up_to in let is = nothing.0 in cc)
+  read-explained-if true n count done (Overtaken channel word) test is_count came =
+      absurd (let nothing = no-frames n count done (Overtaken channel word) (no-avail n (avail_of u) test) is_count came.up_to in let is = nothing.0 in cc)
+  read-explained-if true n count done Stopped test is_count came =
+      absurd (let nothing = no-frames n count done Stopped (no-avail n (avail_of u) test) is_count came.up_to in let is = nothing.0 in cc)
   read-explained-if false n count done Whole test is_count came = record {
-    told = explained-went P G s t c u (record u { next = u.next + done }) position Go (Ok done) (went-frames count u.next done Whole came) refl refl refl refl (sound-next done (omega (arith, is_count, came.up_to)))
+    told = explained-went P G s t c u (record u { next = u.next + done }) position Go (Ok done) (went-frames count u.next done Whole came) refl refl refl refl
+        (sound-next done (omega (arith, is_count, came.up_to)))
         (λ h. cc, λ h. let goes = went.unstopped in cc) tt (λ h. cc) (λ avail frame h. cc) (λ frame channel word h. cc);
     again = (λ h. cc, λ h. absurd (avail-found n (avail_of u) test (none-found h.1) h.0));
-    asks = asks-frames (record u { next = u.next + done }) n came.looks Go (Ok done) (came.looks_number ∙ ap (λ (k : ℕ). done * k) same-channels) refl came.asked_them;
+    asks = asks-frames (record u { next = u.next + done }) n came.looks Go (Ok done) (came.looks_number ∙ ap (λ (k : ℕ). done * k)
+        same-channels) refl came.asked_them;
   }
   read-explained-if false n count done (Overtaken channel word) test is_count came = record {
-    told = explained-went P G s t c u (in_state u state.Xrun) position Go (Err (Xrun (why.Overtaken (u.next + done) channel word))) (went-frames count u.next done (Overtaken channel word) came) refl refl refl refl sound-missed
+    told = explained-went P G s t c u (in_state u state.Xrun) position Go (Err (Xrun (why.Overtaken (u.next + done) channel word)))
+        (went-frames count u.next done (Overtaken channel word) came) refl refl refl refl sound-missed
         (λ h. cc, λ h. let goes = went.unstopped in cc) tt (λ h. cc) (λ avail frame h. cc)
         (λ frame at seen h. missed-at count done channel word frame at seen (omega (arith, is_count)) came (cc) (cc) (cc));
     again = (λ h. cc, λ h. absurd (avail-found n (avail_of u) test (none-found h.1) h.0));
     asks = asks-frames (in_state u state.Xrun) n came.looks Go (Err (Xrun (why.Overtaken (u.next + done) channel word)))
-        (came.looks_number ∙ ap (λ (k : ℕ). done * k + (channel + 1)) same-channels ∙ ap (λ (k : ℕ). k * u.geometry.channels + (channel + 1)) (let gone : done ≡ u.next + done - u.next = omega arith in gone)) refl came.asked_them;
+        (came.looks_number ∙ ap (λ (k : ℕ). done * k + (channel + 1)) same-channels ∙ ap (λ (k : ℕ). k * u.geometry.channels + (channel + 1))
+        (let gone : done ≡ u.next + done - u.next = omega arith in gone)) refl came.asked_them;
   }
   read-explained-if false n count done Stopped test is_count came = record {
-    told = explained-went P G s t c u (record u { status = record u.status { stopped = true } }) position Stop (Err error.Stopped) (went-frames count u.next done Stopped came) refl refl refl refl sound-stopped
+    told = explained-went P G s t c u (record u { status = record u.status { stopped = true } }) position Stop (Err error.Stopped)
+        (went-frames count u.next done Stopped came) refl refl refl refl sound-stopped
         (λ h. refl, λ h. refl) tt (λ h. cc) (λ avail frame h. cc) (λ frame channel word h. cc);
     again = (λ h. cc, λ h. absurd (avail-found n (avail_of u) test (none-found h.1) h.0));
     asks = asks-frames (record u { status = record u.status { stopped = true } }) n came.looks Stop (Err error.Stopped)
-        (let fewer : (done + 1) * (P.view m.0).geometry.channels ≤ n * (P.view m.0).geometry.channels = mul-le-mul_right (P.view m.0).geometry.channels (omega (arith, is_count, came.up_to)) in
+        (let fewer : (done + 1) * (P.view m.0).geometry.channels ≤ n * (P.view m.0).geometry.channels = mul-le-mul_right (P.view m.0).geometry.channels
+        (omega (arith, is_count, came.up_to)) in
         subst (λ (k : ℕ). came.looks ≤ n * k) same-channels (omega (arith, came.looks_number, fewer))) refl came.asked_them;
   }
 

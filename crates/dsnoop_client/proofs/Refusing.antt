@@ -1,6 +1,6 @@
 -- A call that the test of a reader's state refuses, and one that it lets pass.
 use Rattle.std.proofs.Common.{◌≡◌, ◌∙◌, ap, refl, subst, sym}
-use Rattle.std.specs.Prelude.{Bool, Err, IsErrAnd, None, Ok, OnOk, Option, Result, Some, false, if◌then◌else◌, true, ◌↔◌}
+use Rattle.std.specs.Prelude.{Bool, Err, None, Ok, OnOk, Option, Result, Some, false, if◌then◌else◌, true, ◌↔◌}
 use Rattle.snd_base.specs.declared.errors.PcmError.{PcmError}
 use Rattle.snd_base.specs.declared.errors.PcmError.TheVariants as error
 use Rattle.snd_base.specs.declared.errors.XrunWhy.TheVariants as why
@@ -16,12 +16,8 @@ use Rattle.pcm_states.specs.Table.{next_of}
 use Rattle.pcm_stream.specs.declared.direction.Direction.TheVariants.{Capture}
 use Rattle.pcm_stream.specs.Status.{is_refusal, nothing_found, refusal_in, refusal_of, refused_by}
 use Rattle.snoop_core.specs.declared.port.SnoopPort as snoopport
-use Rattle.course.specs.AtSnoopPort.{TakesAtSnoop}
-use Rattle.course.specs.Course.{Course}
 use Rattle.course.specs.Stops.{pass_by}
 use Rattle.dsnoop_client.specs.declared.stream.CaptureStream.{CaptureStream}
-use Rattle.dsnoop_client.specs.Calls.{Answered}
-use Rattle.dsnoop_client.specs.Course.{admitted_by, if_admitted}
 use Rattle.dsnoop_client.specs.Port.{Keeps}
 use Rattle.dsnoop_client.specs.View.{CanUse, IsSoundReader, is_running}
 
@@ -45,42 +41,17 @@ pub running-by : (s : State) → is_running s ≡ true → s ≡ state.Running
 running-by state.Running is = refl
 running-by other is = absurd (cc)
 
-prepared-by : (stopped : Bool) (s : State) → (if stopped then Some error.Stopped else refusal_in (next_of s call.Transfer (nothing_found Capture)).answer) ≡ None → is_running s ≡ false → s ≡ state.Prepared
+prepared-by : (stopped : Bool) (s : State)
+    → (if stopped then Some error.Stopped else refusal_in (next_of s call.Transfer (nothing_found Capture)).answer) ≡ None
+    → is_running s ≡ false → s ≡ state.Prepared
 prepared-by true s admitted waits = absurd (cc)
 prepared-by false state.Prepared admitted waits = refl
 prepared-by false state.Running admitted waits = absurd (cc)
 prepared-by false other admitted waits = absurd (cc)
 
-pub admitted-prepared : (c : CaptureStream) → refusal_of Capture c.status call.Transfer ≡ None → is_running c.status.state ≡ false → c.status.state ≡ state.Prepared
+pub admitted-prepared : (c : CaptureStream) → refusal_of Capture c.status call.Transfer ≡ None → is_running c.status.state ≡ false
+    → c.status.state ≡ state.Prepared
 admitted-prepared c admitted waits = prepared-by c.status.stopped c.status.state admitted waits
-
--- the test of a call answers its refusal, and an admission where there is none
-tested-err : (o : Option PcmError) (e f : PcmError) → refused_by o ≡ Err e → o ≡ Some f → f ≡ e
-tested-err None e f is some = absurd (cc)
-tested-err (Some x) e f is some = cc
-
-untested : (o : Option PcmError) (e : PcmError) → refused_by o ≡ Err e → o ≡ None → ⊥
-untested None e is none = cc
-untested (Some f) e is none = cc
-
-tested-ok : (o : Option PcmError) (e : PcmError) → refused_by o ≡ Ok tt → o ≡ Some e → ⊥
-tested-ok None e is some = cc
-tested-ok (Some f) e is some = cc
-
-pub not-admitted : (c : CaptureStream) (k : Call) (r : Result (Unit {0}) PcmError) (e : PcmError) → r ≡ refused_by (refusal_of Capture c.status k) → r ≡ Err e → refusal_of Capture c.status k ≡ None → ⊥
-not-admitted c k r e is err none = untested (refusal_of Capture c.status k) e (sym is ∙ err) none
-
-pub not-refused : (c : CaptureStream) (k : Call) (r : Result (Unit {0}) PcmError) (e : PcmError) → r ≡ refused_by (refusal_of Capture c.status k) → r ≡ Ok tt → refusal_of Capture c.status k ≡ Some e → ⊥
-not-refused c k r e is ok some = tested-ok (refusal_of Capture c.status k) e (sym is ∙ ok) some
-
-err-of : {X : Type 0} (r : Result X PcmError) (e f : PcmError) → IsErrAnd r (λ x. x ≡ e) → f ≡ e → r ≡ Err f
-err-of (Ok n) e f is same = absurd is
-err-of (Err x) e f is same = ap Err (is ∙ sym same)
-
--- the refusal is the call's answer
-pub refused-answer : {X : Type 0} (c : CaptureStream) (k : Call) (r : Result (Unit {0}) PcmError) (e f : PcmError) (answer : Result X PcmError) → r ≡ refused_by (refusal_of Capture c.status k) → r ≡ Err e
-    → IsErrAnd answer (λ x. x ≡ e) → refusal_of Capture c.status k ≡ Some f → answer ≡ Err f
-refused-answer c k r e f answer is err answered some = err-of answer e f answered (tested-err (refusal_of Capture c.status k) e f (sym is ∙ err) some)
 
 -- a refusal of the state table is no stop of the gate
 go-in : (e : PcmError) → pass_by (refused_by (if is_refusal e then Some e else None)) ≡ Go
@@ -88,7 +59,8 @@ go-in (error.Xrun why.Already) = refl
 go-in (error.Xrun w) = refl
 go-in e = refl
 
-go-by : (stopped : Bool) (r : Result (Unit {0}) PcmError) → stopped ≡ false → pass_by (refused_by (let o : Option PcmError = (if stopped then Some error.Stopped else refusal_in r) in o)) ≡ Go
+go-by : (stopped : Bool) (r : Result (Unit {0}) PcmError) → stopped ≡ false
+    → pass_by (refused_by (let o : Option PcmError = (if stopped then Some error.Stopped else refusal_in r) in o)) ≡ Go
 go-by true r is = absurd (cc)
 go-by false (Ok done) is = refl
 go-by false (Err e) is = go-in e
@@ -103,20 +75,23 @@ never-stopped true f is stopped =
     absurd (cc)
 never-stopped false f is stopped = cc
 
-stopped-by : (stopped : Bool) (r : Result (Unit {0}) PcmError) (e : PcmError) → refused_by (let o : Option PcmError = (if stopped then Some error.Stopped else refusal_in r) in o) ≡ Err e → (e ≡ error.Stopped) ↔ (stopped ≡ true)
+stopped-by : (stopped : Bool) (r : Result (Unit {0}) PcmError) (e : PcmError)
+    → refused_by (let o : Option PcmError = (if stopped then Some error.Stopped else refusal_in r) in o) ≡ Err e → (e ≡ error.Stopped) ↔ (stopped ≡ true)
 stopped-by true r e is = (λ h. refl, λ h. cc)
 stopped-by false (Ok done) e is = absurd (cc)
 stopped-by false (Err f) e is = (λ h. absurd (never-stopped (is_refusal f) f refl (is ∙ ap Err h)), λ h. absurd (cc))
 
 -- a call is refused with `Stopped` exactly where the reader was stopped
-refused-stopped : (c : CaptureStream) (k : Call) (e : PcmError) → refused_by (refusal_of Capture c.status k) ≡ Err e → (e ≡ error.Stopped) ↔ (c.status.stopped ≡ true)
+refused-stopped : (c : CaptureStream) (k : Call) (e : PcmError) → refused_by (refusal_of Capture c.status k) ≡ Err e
+    → (e ≡ error.Stopped) ↔ (c.status.stopped ≡ true)
 refused-stopped c k e is = stopped-by c.status.stopped (next_of c.status.state k (nothing_found Capture)).answer e is
 
 same_error : {X : Type 0} (e f : PcmError) → (let r : Result X PcmError = Err e in r) ≡ Err f → e ≡ f
 same_error e f is = cc
 
 module _ {S T : Type 0} (P : snoopport.Ghosts S) (G : gates.Ghosts T) where
-  refused-keeps : {X : Type 0} (s : S × T) (c : CaptureStream) (k : Call) (e : PcmError) → IsSoundReader c → CanUse c (P.view s.0) → refused_by (refusal_of Capture c.status k) ≡ Err e → Keeps {X = X} P G s s c c (Err e)
+  refused-keeps : {X : Type 0} (s : S × T) (c : CaptureStream) (k : Call) (e : PcmError) → IsSoundReader c → CanUse c (P.view s.0)
+      → refused_by (refusal_of Capture c.status k) ≡ Err e → Keeps {X = X} P G s s c c (Err e)
   refused-keeps s c k e sound can is =
       let stops = refused-stopped c k e is in
       record {
@@ -125,17 +100,19 @@ module _ {S T : Type 0} (P : snoopport.Ghosts S) (G : gates.Ghosts T) where
         same_ring = refl;
         same_setup = refl;
         stopped = (λ h. stops.0 (same_error e error.Stopped h), λ h. ap Err (stops.1 h));
-        told = λ unstopped. ap (λ (pass : Pass). stops_after pass (G.stops s.1)) (sym (ap (λ (r : Result (Unit {0}) PcmError). pass_by r) (sym is) ∙ refused-go c k unstopped));
+        told = λ unstopped. ap (λ (pass : Pass). stops_after pass (G.stops s.1)) (sym (ap (λ (r : Result (Unit {0}) PcmError). pass_by r) (sym is)
+            ∙ refused-go c k unstopped));
       }
 
   -- a call that is refused keeps what every call keeps
-  pub Keeps-refused : {X : Type 0} (s : S × T) (c : CaptureStream) (k : Call) (e : PcmError) (r : Result (Unit {0}) PcmError) (answer : Result X PcmError) → IsSoundReader c → CanUse c (P.view s.0)
-      → r ≡ refused_by (refusal_of Capture c.status k) → r ≡ Err e → IsErrAnd answer (λ x. x ≡ e) → Keeps P G s s c c answer
-  Keeps-refused s c k e r (Ok x) sound can is err answered = absurd answered
-  Keeps-refused s c k e r (Err x) sound can is err answered = refused-keeps s c k x sound can (sym is ∙ err ∙ ap Err (sym answered))
+  pub Keeps-refused : {X : Type 0} (s : S × T) (c : CaptureStream) (k : Call) (e : PcmError) (answer : Result X PcmError)
+      → IsSoundReader c → CanUse c (P.view s.0)
+      → refusal_of Capture c.status k ≡ Some e → answer ≡ Err e → Keeps P G s s c c answer
+  Keeps-refused s c k e answer sound can found answered = rw answered (refused-keeps s c k e sound can (ap (λ (o : Option PcmError). refused_by o) found))
 
   -- a call that finds nothing to do keeps it too
-  pub Keeps-still : {X : Type 0} (s : S × T) (c : CaptureStream) (x : X) → IsSoundReader c → CanUse c (P.view s.0) → c.status.stopped ≡ false → Keeps P G s s c c (let r : Result X PcmError = Ok x in r)
+  pub Keeps-still : {X : Type 0} (s : S × T) (c : CaptureStream) (x : X) → IsSoundReader c → CanUse c (P.view s.0) → c.status.stopped ≡ false
+      → Keeps P G s s c c (let r : Result X PcmError = Ok x in r)
   Keeps-still s c x sound can unstopped = record {
     sound = sound;
     port = can;
@@ -144,14 +121,3 @@ module _ {S T : Type 0} (P : snoopport.Ghosts S) (G : gates.Ghosts T) where
     stopped = (λ h. cc, λ h. absurd (cc));
     told = λ still. refl;
   }
-
-  admitted_by-err : {X : Type 0} (s : S × T) (o : Option PcmError) (c : CaptureStream) (m : Course (Answered X)) (e : PcmError) (answer : Result X PcmError) → refused_by o ≡ Err e → IsErrAnd answer (λ x. x ≡ e)
-      → TakesAtSnoop P G s (admitted_by o c m) s (c, answer)
-  admitted_by-err s None c m e answer is answered = absurd (cc)
-  admitted_by-err s (Some f) c m e (Ok x) is answered = absurd answered
-  admitted_by-err s (Some f) c m e (Err x) is answered = record { there = refl; result = cc }
-
-  -- a call that is refused takes no step
-  pub refused-takes : {X : Type 0} (s : S × T) (c : CaptureStream) (k : Call) (m : Course (Answered X)) (e : PcmError) (r : Result (Unit {0}) PcmError) (answer : Result X PcmError)
-      → r ≡ refused_by (refusal_of Capture c.status k) → r ≡ Err e → IsErrAnd answer (λ x. x ≡ e) → TakesAtSnoop P G s (if_admitted c k m) s (c, answer)
-  refused-takes s c k m e r answer is err answered = admitted_by-err s (refusal_of Capture c.status k) c m e answer (sym is ∙ err) answered

@@ -35,13 +35,15 @@ no-looks error.Stopped next channels n never = omega arith
 no-looks other next channels n never = refl
 
 module _ {S T : Type 0} (P : snoopport.Ghosts S) (G : gates.Ghosts T) where
-  pub syncs-after : (s t : S × T) (c : CaptureStream) (k : Call) (done : Answered (Unit {0})) → IsSoundReader c → c.status.state ≡ state.Running → c.status.stopped ≡ false → IsSync k
+  pub syncs-after : (s t : S × T) (c : CaptureStream) (k : Call) (done : Answered (Unit {0})) → IsSoundReader c → c.status.state ≡ state.Running
+      → c.status.stopped ≡ false → IsSync k
       → CanUse c (P.view s.0) → TakesAtSnoop P G s (syncs c k) t done → After P G s t c done
   unfolding syncs
   syncs-after s t c k done sound runs unstopped sync can (load, m, step, rest) =
       subst (λ (u : S × T). After P G s u c done) (sym rest.there) (sync-after P G s m c k load done sound runs unstopped sync can step rest.result)
 
-  pub starts-after : (s t : S × T) (c : CaptureStream) (k : Call) (done : Answered (Unit {0})) → IsSoundReader c → c.status.state ≡ state.Prepared → c.status.stopped ≡ false → IsStart k
+  pub starts-after : (s t : S × T) (c : CaptureStream) (k : Call) (done : Answered (Unit {0})) → IsSoundReader c → c.status.state ≡ state.Prepared
+      → c.status.stopped ≡ false → IsStart k
       → CanUse c (P.view s.0) → TakesAtSnoop P G s (starts c k) t done → After P G s t c done
   unfolding starts
   starts-after s t c k done sound waits unstopped start can (load, m, step, rest) =
@@ -57,7 +59,8 @@ module _ {S T : Type 0} (P : snoopport.Ghosts S) (G : gates.Ghosts T) where
   starts-none s t c k done (load, m, step, rest) = subst (λ (u : S × T). P.got s.0 u.0 []) (sym rest.there) step.got_nothing
 
   -- a reader that went on is ready to read
-  pub After-going : (s t : S × T) (c u : CaptureStream) (answer : Result (Unit {0}) PcmError) → After P G s t c (u, answer) → OnOk answer (IsGoing u (P.view t.0))
+  pub After-going : (s t : S × T) (c u : CaptureStream) (answer : Result (Unit {0}) PcmError) → After P G s t c (u, answer)
+      → OnOk answer (IsGoing u (P.view t.0))
   After-going s t c u (Ok done) after =
       let went = after.went.1 in
       record {
@@ -69,14 +72,17 @@ module _ {S T : Type 0} (P : snoopport.Ghosts S) (G : gates.Ghosts T) where
   After-going s t c u (Err e) after = tt
 
   -- what followed the load of a read
-  transfer_on-explained : Composes P.loaded → AsksCompose G.asked → (s m t : S × T) (c : CaptureStream) (first : Answered (Unit {0})) (n : ℕ) (d : Answered ℕ) → After P G s m c first
+  transfer_on-explained : Composes P.loaded → AsksCompose G.asked
+      → (s m t : S × T) (c : CaptureStream) (first : Answered (Unit {0})) (n : ℕ) (d : Answered ℕ) → After P G s m c first
       → TakesAtSnoop P G m (transfer_on n first) t d → IsReadExplained P G s t c d.0 n d.1
   unfolding transfers explained-error why-error
   transfer_on-explained composes asks s m t c (u, Ok done) n d after takes =
-      let parts = Takes-parts (LoadsAtSnoop P G) NoLay (GetsAtSnoop P G) m t (gets_frames (taken_of u n) u.next) (λ (end : ℕ × Got). ends (read_after u n end.0 end.1)) d takes in
+      let parts = Takes-parts (LoadsAtSnoop P G) NoLay (GetsAtSnoop P G) m t (gets_frames (taken_of u n) u.next)
+      (λ (end : ℕ × Got). ends (read_after u n end.0 end.1)) d takes in
       subst (λ (w : S × T). IsReadExplained P G s w c d.0 n d.1) (sym parts.3.there)
       (subst (λ (x : Answered ℕ). IsReadExplained P G s parts.0 c x.0 n x.1) (sym parts.3.result)
-      (read-explained P G composes asks s m parts.0 c u after.went.0 after.went.1 after.asked n (taken_of u n) parts.1.0 parts.1.1 refl (gets_frames-come P G composes asks (taken_of u n) u.next m parts.0 parts.1.0 parts.1.1 parts.2)))
+      (read-explained P G composes asks s m parts.0 c u after.went.0 after.went.1 after.asked n (taken_of u n) parts.1.0 parts.1.1 refl
+      (gets_frames-come P G composes asks (taken_of u n) u.next m parts.0 parts.1.0 parts.1.1 parts.2)))
   transfer_on-explained composes asks s m t c (u, Err e) n d after takes =
       subst (λ (w : S × T). IsReadExplained P G s w c d.0 n d.1) (sym takes.there)
       (subst (λ (x : Answered ℕ). IsReadExplained P G s m c x.0 n x.1) (sym takes.result) (record {
@@ -85,30 +91,35 @@ module _ {S T : Type 0} (P : snoopport.Ghosts S) (G : gates.Ghosts T) where
         asks = record { looks = 0; looks_number = no-looks e u.next u.geometry.channels n after.ended.2; asked_them = after.asked };
       }))
 
-  pub reads_on-explained : Composes P.loaded → AsksCompose G.asked → (s t : S × T) (c : CaptureStream) (n : ℕ) (d : Answered ℕ) → IsSoundReader c → c.status.state ≡ state.Running → c.status.stopped ≡ false
+  pub reads_on-explained : Composes P.loaded → AsksCompose G.asked → (s t : S × T) (c : CaptureStream) (n : ℕ) (d : Answered ℕ) → IsSoundReader c
+      → c.status.state ≡ state.Running → c.status.stopped ≡ false
       → CanUse c (P.view s.0) → TakesAtSnoop P G s (reads_on c n) t d → IsReadExplained P G s t c d.0 n d.1
   unfolding reads_on
   reads_on-explained composes asks s t c n d sound runs unstopped can takes =
       let parts = Takes-parts (LoadsAtSnoop P G) NoLay (GetsAtSnoop P G) s t (syncs c call.Transfer) (transfer_on n) d takes in
       transfer_on-explained composes asks s parts.0 t c parts.1 n d (syncs-after s parts.0 c call.Transfer parts.1 sound runs unstopped tt can parts.2) parts.3
 
-  pub reads_first-explained : Composes P.loaded → AsksCompose G.asked → (s t : S × T) (c : CaptureStream) (n : ℕ) (d : Answered ℕ) → IsSoundReader c → c.status.state ≡ state.Prepared → c.status.stopped ≡ false
+  pub reads_first-explained : Composes P.loaded → AsksCompose G.asked → (s t : S × T) (c : CaptureStream) (n : ℕ) (d : Answered ℕ) → IsSoundReader c
+      → c.status.state ≡ state.Prepared → c.status.stopped ≡ false
       → CanUse c (P.view s.0) → TakesAtSnoop P G s (reads_first c n) t d → IsReadExplained P G s t c d.0 n d.1
   unfolding reads_first
   reads_first-explained composes asks s t c n d sound waits unstopped can takes =
       let parts = Takes-parts (LoadsAtSnoop P G) NoLay (GetsAtSnoop P G) s t (starts c call.Transfer) (transfer_on n) d takes in
-      transfer_on-explained composes asks s parts.0 t c parts.1 n d (starts-after s parts.0 c call.Transfer parts.1 sound waits unstopped tt can parts.2) parts.3
+      transfer_on-explained composes asks s parts.0 t c parts.1 n d (starts-after s parts.0 c call.Transfer parts.1 sound waits
+      unstopped tt can parts.2) parts.3
 
 -- what a reader of one ring and setup has room for
 pub HasRoom-same : (c d : CaptureStream) (room : List ℤ) → d.geometry ≡ c.geometry → d.setup ≡ c.setup → HasRoom c room → HasRoom d room
 HasRoom-same c d room same_ring same_setup holds is =
     holds (subst (λ (x : Setup). x.configured ≡ true) same_setup is) ∙ ap (λ (x : Geometry). x.channels) (sym same_ring)
 
-pub fits-same : (c d : CaptureStream) (frames samples : ℕ) → d.setup ≡ c.setup → frames * length c.setup.bindings ≤ samples → frames * length d.setup.bindings ≤ samples
+pub fits-same : (c d : CaptureStream) (frames samples : ℕ) → d.setup ≡ c.setup → frames * length c.setup.bindings ≤ samples
+    → frames * length d.setup.bindings ≤ samples
 fits-same c d frames samples same_setup fits = subst (λ (x : Setup). frames * length x.bindings ≤ samples) (sym same_setup) fits
 
 -- a call that did nothing, and got no frame
-pub reads-none : {S : Type 0} (P : snoopport.Ghosts S) (p q : S) (c d : CaptureStream) (out after : List ℤ) (e : PcmError) → P.got p q [] → (c.status.state ≡ state.Running → d.next ≡ c.next) → GivesFrames P p q c d out after (Err e)
+pub reads-none : {S : Type 0} (P : snoopport.Ghosts S) (p q : S) (c d : CaptureStream) (out after : List ℤ) (e : PcmError) → P.got p q []
+    → (c.status.state ≡ state.Running → d.next ≡ c.next) → GivesFrames P p q c d out after (Err e)
 reads-none P p q c d out after e nothing stays = record {
   first = d.next;
   begins = stays;
@@ -121,8 +132,10 @@ reads-none P p q c d out after e nothing stays = record {
 }
 
 -- frames that were got after a load of the position
-pub reads-behind : {S : Type 0} (P : snoopport.Ghosts S) → Composes P.got → (p m q : S) (c u d : CaptureStream) (before after : List ℤ) (answer : Result ℕ PcmError) → P.got p m [] → u.geometry ≡ c.geometry → u.setup ≡ c.setup
-    → u.status.state ≡ state.Running → (c.status.state ≡ state.Running → u.next ≡ c.next) → GivesFrames P m q u d before after answer → GivesFrames P p q c d before after answer
+pub reads-behind : {S : Type 0} (P : snoopport.Ghosts S) → Composes P.got
+    → (p m q : S) (c u d : CaptureStream) (before after : List ℤ) (answer : Result ℕ PcmError) → P.got p m [] → u.geometry ≡ c.geometry → u.setup ≡ c.setup
+    → u.status.state ≡ state.Running → (c.status.state ≡ state.Running → u.next ≡ c.next) → GivesFrames P m q u d before after answer
+    → GivesFrames P p q c d before after answer
 reads-behind P composes p m q c u d before after answer nothing same_ring same_setup runs stays reads = record {
   first = reads.first;
   begins = λ is. reads.begins runs ∙ stays is;
@@ -131,11 +144,13 @@ reads-behind P composes p m q c u d before after answer nothing same_ring same_s
   got_them = Composes-none_before P.got p m q reads.frames composes nothing reads.got_them;
   are = subst (λ (g : Geometry). AreFrames reads.frames reads.first g.channels) same_ring reads.are;
   count = reads.count;
-  samples = subst (λ (x : Setup). IfOk answer (λ n. after ≡ through_all x.bindings reads.frames ++ drop (n * length x.bindings) before)) same_setup reads.samples;
+  samples = subst (λ (x : Setup). IfOk answer (λ n. after ≡ through_all x.bindings reads.frames ++ drop (n * length x.bindings) before))
+      same_setup reads.samples;
 }
 
 -- a read that waits gives nothing
-reads-if_waits : {S : Type 0} (P : snoopport.Ghosts S) → Composes P.got → (p : S) (c : CaptureStream) (out : List ℤ) (none : Bool) → GivesFrames P p p c c out out (if none then Ok 0 else Err Again)
+reads-if_waits : {S : Type 0} (P : snoopport.Ghosts S) → Composes P.got → (p : S) (c : CaptureStream) (out : List ℤ) (none : Bool)
+    → GivesFrames P p p c c out out (if none then Ok 0 else Err Again)
 reads-if_waits P composes p c out true = record {
   first = c.next;
   begins = λ runs. refl;
@@ -148,10 +163,14 @@ reads-if_waits P composes p c out true = record {
 }
 reads-if_waits P composes p c out false = reads-none P p p c c out out Again (composes.none p) (λ runs. refl)
 
-pub reads-waits : {S : Type 0} (P : snoopport.Ghosts S) → Composes P.got → (p : S) (c : CaptureStream) (out : List ℤ) (n : ℕ) (answer : Result ℕ PcmError) → answer ≡ waits n → GivesFrames P p p c c out out answer
-reads-waits P composes p c out n answer is = subst (λ (r : Result ℕ PcmError). GivesFrames P p p c c out out r) (sym is) (reads-if_waits P composes p c out (nat_eq n 0))
+pub reads-waits : {S : Type 0} (P : snoopport.Ghosts S) → Composes P.got → (p : S) (c : CaptureStream) (out : List ℤ) (n : ℕ) (answer : Result ℕ PcmError)
+    → answer ≡ waits n → GivesFrames P p p c c out out answer
+reads-waits P composes p c out n answer is =
+    subst (λ (r : Result ℕ PcmError). GivesFrames P p p c c out out r) (sym is) (reads-if_waits P composes p c out (nat_eq n 0))
 
 -- a read that was refused gives nothing
-pub reads-refused : {S : Type 0} (P : snoopport.Ghosts S) → Composes P.got → (p : S) (c : CaptureStream) (out : List ℤ) (e : PcmError) (answer : Result ℕ PcmError) → IsErrAnd answer (λ f. f ≡ e) → GivesFrames P p p c c out out answer
+pub reads-refused : {S : Type 0} (P : snoopport.Ghosts S) → Composes P.got
+    → (p : S) (c : CaptureStream) (out : List ℤ) (e : PcmError) (answer : Result ℕ PcmError) → IsErrAnd answer (λ f. f ≡ e)
+    → GivesFrames P p p c c out out answer
 reads-refused P composes p c out e (Ok n) is = absurd is
 reads-refused P composes p c out e (Err f) is = reads-none P p p c c out out f (composes.none p) (λ runs. refl)

@@ -47,13 +47,21 @@ waits-few n answer is = subst (λ (r : Result ℕ PcmError). IfOk r (λ k. k ≤
 
 module _ {S T : Type 0} (P : snoopport.Ghosts S) (G : gates.Ghosts T) where
   -- the read that starts a reader, and one that waits
-  pub read-first : (s t : S × T) (c : CaptureStream) (n : ℕ) (done : Answered ℕ) → is_running c.status.state ≡ false → c.setup.params.start_threshold ≤ n → TakesAtSnoop P G s (reads_first c n) t done → TakesAtSnoop P G s (read_course c n) t done
+  pub read-first : (s t : S × T) (c : CaptureStream) (n : ℕ) (done : Answered ℕ) → is_running c.status.state ≡ false → c.setup.params.start_threshold ≤ n
+      → TakesAtSnoop P G s (reads_first c n) t done → TakesAtSnoop P G s (read_course c n) t done
   read-first s t c n done still high takes = rw (still, reached c.setup.params.start_threshold n high) takes
 
-  pub read-waits : (s : S × T) (c : CaptureStream) (n : ℕ) (answer : Result ℕ PcmError) → is_running c.status.state ≡ false → n < c.setup.params.start_threshold → answer ≡ waits n → TakesAtSnoop P G s (read_course c n) s (c, answer)
-  read-waits s c n answer still low is = rw (still, missed c.setup.params.start_threshold n low) (record { there = refl; result = ap (λ (r : Result ℕ PcmError). let a : Answered ℕ = (c, r) in a) is })
+  pub read-waits : (s : S × T) (c : CaptureStream) (n : ℕ) (answer : Result ℕ PcmError) → is_running c.status.state ≡ false → n < c.setup.params.start_threshold
+      → answer ≡ waits n → TakesAtSnoop P G s (read_course c n) s (c, answer)
+  read-waits s c n answer still low is =
+      rw (still, missed c.setup.params.start_threshold n low) (record {
+        there = refl;
+        result = ap (λ (r : Result ℕ PcmError). let a :
+            Answered ℕ = (c, r) in a) is;
+      })
 
-  keeps-waits : (s : S × T) (c : CaptureStream) (none : Bool) → IsSoundReader c → CanUse c (P.view s.0) → c.status.stopped ≡ false → Keeps P G s s c c (let r : Result ℕ PcmError = (if none then Ok 0 else Err Again) in r)
+  keeps-waits : (s : S × T) (c : CaptureStream) (none : Bool) → IsSoundReader c → CanUse c (P.view s.0) → c.status.stopped ≡ false
+      → Keeps P G s s c c (let r : Result ℕ PcmError = (if none then Ok 0 else Err Again) in r)
   keeps-waits s c true sound can unstopped = Keeps-still P G s c 0 sound can unstopped
   keeps-waits s c false sound can unstopped = record {
     sound = sound;
@@ -64,5 +72,7 @@ module _ {S T : Type 0} (P : snoopport.Ghosts S) (G : gates.Ghosts T) where
     told = λ still. refl;
   }
 
-  pub Keeps-waits : (s : S × T) (c : CaptureStream) (n : ℕ) (answer : Result ℕ PcmError) → IsSoundReader c → CanUse c (P.view s.0) → c.status.stopped ≡ false → answer ≡ waits n → Keeps P G s s c c answer
-  Keeps-waits s c n answer sound can unstopped is = subst (λ (r : Result ℕ PcmError). Keeps P G s s c c r) (sym is) (keeps-waits s c (nat_eq n 0) sound can unstopped)
+  pub Keeps-waits : (s : S × T) (c : CaptureStream) (n : ℕ) (answer : Result ℕ PcmError) → IsSoundReader c → CanUse c (P.view s.0) → c.status.stopped ≡ false
+      → answer ≡ waits n → Keeps P G s s c c answer
+  Keeps-waits s c n answer sound can unstopped is =
+      subst (λ (r : Result ℕ PcmError). Keeps P G s s c c r) (sym is) (keeps-waits s c (nat_eq n 0) sound can unstopped)

@@ -45,7 +45,8 @@ module _ {S T : Type 0} (P : snoopport.Ghosts S) (G : gates.Ghosts T) where
   gets-at-once s t first i j y early (Stopped, m, step, rest) = (Stopped, m, step, rest)
 
   -- so is it where more frames are wanted than the ring has
-  gets-more : (s t : S × T) (c : CaptureStream) (k n : ℕ) (y : ℕ × Got) → 1 ≤ k → k ≤ n → (P.view s.0).geometry.frames ≤ k → (P.view s.0).seen ≡ unwrap_or c.seen 0
+  gets-more : (s t : S × T) (c : CaptureStream) (k n : ℕ) (y : ℕ × Got) → 1 ≤ k → k ≤ n → (P.view s.0).geometry.frames ≤ k
+      → (P.view s.0).seen ≡ unwrap_or c.seen 0
       → TakesAtSnoop P G s (gets_frames (taken_of c k) c.next) t y → TakesAtSnoop P G s (gets_frames (taken_of c n) c.next) t y
   gets-more s t c k n y some more ring saw takes = by_order (nat_le (avail_of c) k) refl
     where
@@ -63,31 +64,37 @@ module _ {S T : Type 0} (P : snoopport.Ghosts S) (G : gates.Ghosts T) where
           (subst (λ (j : ℕ). TakesAtSnoop P G s (gets_frames j c.next) t y) one takes))
 
   -- the frames of a read, after its load of the position
-  transfers-more : (s t : S × T) (c : CaptureStream) (k n : ℕ) (y : Answered ℕ) → 1 ≤ k → k ≤ n → (P.view s.0).geometry.frames ≤ k → (P.view s.0).seen ≡ unwrap_or c.seen 0
+  transfers-more : (s t : S × T) (c : CaptureStream) (k n : ℕ) (y : Answered ℕ) → 1 ≤ k → k ≤ n → (P.view s.0).geometry.frames ≤ k
+      → (P.view s.0).seen ≡ unwrap_or c.seen 0
       → TakesAtSnoop P G s (transfers c k) t y → TakesAtSnoop P G s (transfers c n) t y
   unfolding transfers
   transfers-more s t c k n y some more ring saw takes =
-      let parts = Takes-parts (LoadsAtSnoop P G) NoLay (GetsAtSnoop P G) s t (gets_frames (taken_of c k) c.next) (λ (end : ℕ × Got). ends (read_after c k end.0 end.1)) y takes in
-      Takes-then (LoadsAtSnoop P G) NoLay (GetsAtSnoop P G) s parts.0 t (gets_frames (taken_of c n) c.next) (λ (end : ℕ × Got). ends (read_after c n end.0 end.1)) parts.1 y
+      let parts = Takes-parts (LoadsAtSnoop P G) NoLay (GetsAtSnoop P G) s t (gets_frames (taken_of c k) c.next)
+      (λ (end : ℕ × Got). ends (read_after c k end.0 end.1)) y takes in
+      Takes-then (LoadsAtSnoop P G) NoLay (GetsAtSnoop P G) s parts.0 t (gets_frames (taken_of c n) c.next)
+      (λ (end : ℕ × Got). ends (read_after c n end.0 end.1)) parts.1 y
       (gets-more s parts.0 c k n parts.1 some more ring saw parts.2)
       (record { there = parts.3.there; result = parts.3.result ∙ read_after-more c k n parts.1.0 parts.1.1 some more })
 
   -- a start and a sync that went well saw the position
-  syncs-saw : (s t : S × T) (c d : CaptureStream) (done : Unit {0}) → TakesAtSnoop P G s (syncs c call.Transfer) t (d, Ok done) → (P.view t.0).seen ≡ unwrap_or d.seen 0
+  syncs-saw : (s t : S × T) (c d : CaptureStream) (done : Unit {0}) → TakesAtSnoop P G s (syncs c call.Transfer) t (d, Ok done)
+      → (P.view t.0).seen ≡ unwrap_or d.seen 0
   unfolding syncs
   syncs-saw s t c d done (None, m, step, rest) = absurd (let wrong = ap (λ (x : Answered (Unit {0})). x.1) rest.result in cc)
   syncs-saw s t c d done (Some position, m, step, rest) =
       ap (λ (u : S × T). (P.view u.0).seen) rest.there ∙ ap (λ (v : SnoopView). v.seen) step.view_is
       ∙ sym (ap (λ (x : Answered (Unit {0})). unwrap_or x.0.seen 0) rest.result)
 
-  starts-saw : (s t : S × T) (c d : CaptureStream) (done : Unit {0}) → TakesAtSnoop P G s (starts c call.Transfer) t (d, Ok done) → (P.view t.0).seen ≡ unwrap_or d.seen 0
+  starts-saw : (s t : S × T) (c d : CaptureStream) (done : Unit {0}) → TakesAtSnoop P G s (starts c call.Transfer) t (d, Ok done)
+      → (P.view t.0).seen ≡ unwrap_or d.seen 0
   unfolding starts
   starts-saw s t c d done (None, m, step, rest) = absurd (let wrong = ap (λ (x : Answered (Unit {0})). x.1) rest.result in cc)
   starts-saw s t c d done (Some position, m, step, rest) =
       ap (λ (u : S × T). (P.view u.0).seen) rest.there ∙ ap (λ (v : SnoopView). v.seen) step.view_is
       ∙ sym (ap (λ (x : Answered (Unit {0})). unwrap_or x.0.seen 0) rest.result ∙ by_gone position.gone)
     where
-      by_gone : (gone : Bool) → unwrap_or (if gone then seen_at c position else record c { seen = Some position.frame; next = position.frame }).seen 0 ≡ position.frame
+      by_gone : (gone : Bool)
+          → unwrap_or (if gone then seen_at c position else record c { seen = Some position.frame; next = position.frame }).seen 0 ≡ position.frame
       by_gone true = refl
       by_gone false = refl
 
@@ -106,7 +113,8 @@ module _ {S T : Type 0} (P : snoopport.Ghosts S) (G : gates.Ghosts T) where
       let same = TakesAtSnoop-same P G s parts.0 (syncs c call.Transfer) parts.1 parts.2 in
       Takes-then (LoadsAtSnoop P G) NoLay (GetsAtSnoop P G) s parts.0 t (syncs c call.Transfer) (transfer_on n) parts.1 y parts.2
       (transfer_on-more parts.0 t parts.1 k n y some more (subst (λ (g : Geometry). g.frames ≤ k) (sym same) ring)
-      (λ d done is. syncs-saw s parts.0 c d done (subst (λ (x : Answered (Unit {0})). TakesAtSnoop P G s (syncs c call.Transfer) parts.0 x) is parts.2)) parts.3)
+      (λ d done is. syncs-saw s parts.0 c d done (subst (λ (x : Answered (Unit {0})). TakesAtSnoop P G s (syncs c call.Transfer) parts.0
+      x) is parts.2)) parts.3)
 
   reads_first-more : (s t : S × T) (c : CaptureStream) (k n : ℕ) (y : Answered ℕ) → 1 ≤ k → k ≤ n → (P.view s.0).geometry.frames ≤ k
       → TakesAtSnoop P G s (reads_first c k) t y → TakesAtSnoop P G s (reads_first c n) t y
@@ -116,9 +124,11 @@ module _ {S T : Type 0} (P : snoopport.Ghosts S) (G : gates.Ghosts T) where
       let same = TakesAtSnoop-same P G s parts.0 (starts c call.Transfer) parts.1 parts.2 in
       Takes-then (LoadsAtSnoop P G) NoLay (GetsAtSnoop P G) s parts.0 t (starts c call.Transfer) (transfer_on n) parts.1 y parts.2
       (transfer_on-more parts.0 t parts.1 k n y some more (subst (λ (g : Geometry). g.frames ≤ k) (sym same) ring)
-      (λ d done is. starts-saw s parts.0 c d done (subst (λ (x : Answered (Unit {0})). TakesAtSnoop P G s (starts c call.Transfer) parts.0 x) is parts.2)) parts.3)
+      (λ d done is. starts-saw s parts.0 c d done (subst (λ (x : Answered (Unit {0})). TakesAtSnoop P G s (starts c call.Transfer) parts.0
+      x) is parts.2)) parts.3)
 
-  read-more : (s t : S × T) (c : CaptureStream) (k n : ℕ) (y : Answered ℕ) → 1 ≤ k → k ≤ n → (P.view s.0).geometry.frames ≤ k → c.setup.params.start_threshold ≤ k
+  read-more : (s t : S × T) (c : CaptureStream) (k n : ℕ) (y : Answered ℕ) → 1 ≤ k → k ≤ n → (P.view s.0).geometry.frames ≤ k
+      → c.setup.params.start_threshold ≤ k
       → TakesAtSnoop P G s (read_course c k) t y → TakesAtSnoop P G s (read_course c n) t y
   read-more s t c k n y some more ring start takes = by_running (is_running c.status.state) takes
     where

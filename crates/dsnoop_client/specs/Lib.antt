@@ -1,3 +1,4 @@
+pub mod CallRelations
 pub mod Calls
 pub mod Causes
 pub mod Course

@@ -1,14 +1,12 @@
 //! The calls that load the card's position and no frame, as alsa-lib groups them: a start, and those that ask how far the
 //! capture is.
 ghost use Rattle.std.specs.Prelude.{◌≡◌, true, false, [], OnOk};
-ghost use Rattle.pcm_states.specs.declared.calls.Call.TheVariants as call;
-ghost use Rattle.pcm_stream.specs.Status.{refusal_of};
-ghost use Rattle.pcm_stream.specs.declared.direction.Direction.{Direction};
 ghost use Rattle.course.specs.AtSnoopPort.{LoadsAtSnoop, TakesAtSnoop};
+ghost use Rattle.dsnoop_client.specs.CallRelations.{AnswersAvail, Starts, Syncs};
 ghost use Rattle.dsnoop_client.specs.Causes.{Explains};
-ghost use Rattle.dsnoop_client.specs.Course.{if_admitted, avail_course, starts, sync_course, syncs};
+ghost use Rattle.dsnoop_client.specs.Course.{starts, syncs};
 ghost use Rattle.dsnoop_client.specs.Port.{Keeps};
-ghost use Rattle.dsnoop_client.specs.View.{CanUse, IsGoing, IsReadyIf, IsSoundReader, IsStart, IsSync, is_running};
+ghost use Rattle.dsnoop_client.specs.View.{CanUse, IsGoing, IsReadyIf, IsSoundReader, IsStart, IsSync};
 
 use crate::parts::{after_start, after_sync, with_avail};
 use crate::reader::Reader;
@@ -96,17 +94,8 @@ impl Reader {
         gate: &mut G,
     ) -> Result<(), PcmError>
         requires { CanUse self.old (P.view port.old) }
-        ensures takes { TakesAtSnoop P.SnoopPort G.Gate (port.old, gate.old)
-            (if_admitted self.old call.Start (starts self.old call.Start))
-            (port.new, gate.new) (self.new, result) }
-        ensures refused { (e : PcmError)
-            → refusal_of Direction.Capture self.old.status call.Start ≡ Some e
-            → (result ≡ Err e) × (self.new ≡ self.old) × (port.new ≡ port.old)
-            × (gate.new ≡ gate.old) }
-        ensures keeps { Keeps P.SnoopPort G.Gate (port.old, gate.old) (port.new, gate.new)
-            self.old self.new result }
-        ensures causes { refusal_of Direction.Capture self.old.status call.Start ≡ None
-            → Explains P.SnoopPort port.old port.new self.old self.new result }
+        ensures { Starts P.SnoopPort G.Gate (port.old, gate.old) (port.new, gate.new) self.old
+            self.new result }
     {
         self.stream.status.admit(Direction::Capture, Call::Start)?;
         start_call(&mut self.stream, port, gate, Call::Start)
@@ -124,18 +113,8 @@ impl Reader {
         gate: &mut G,
     ) -> Result<(), PcmError>
         requires { CanUse self.old (P.view port.old) }
-        ensures takes { TakesAtSnoop P.SnoopPort G.Gate (port.old, gate.old)
-            (if_admitted self.old call.Sync (sync_course self.old)) (port.new, gate.new)
-            (self.new, result) }
-        ensures refused { (e : PcmError)
-            → refusal_of Direction.Capture self.old.status call.Sync ≡ Some e
-            → (result ≡ Err e) × (self.new ≡ self.old) × (port.new ≡ port.old)
-            × (gate.new ≡ gate.old) }
-        ensures keeps { Keeps P.SnoopPort G.Gate (port.old, gate.old) (port.new, gate.new)
-            self.old self.new result }
-        ensures causes { refusal_of Direction.Capture self.old.status call.Sync ≡ None
-            → is_running self.old.status.state ≡ true
-            → Explains P.SnoopPort port.old port.new self.old self.new result }
+        ensures { Syncs P.SnoopPort G.Gate (port.old, gate.old) (port.new, gate.new) self.old
+            self.new result }
     {
         self.stream.status.admit(Direction::Capture, Call::Sync)?;
         if !self.stream.is_running() {
@@ -152,18 +131,8 @@ impl Reader {
         gate: &mut G,
     ) -> Result<u64, PcmError>
         requires { CanUse self.old (P.view port.old) }
-        ensures takes { TakesAtSnoop P.SnoopPort G.Gate (port.old, gate.old)
-            (if_admitted self.old call.Sync (avail_course self.old))
-            (port.new, gate.new) (self.new, result) }
-        ensures refused { (e : PcmError)
-            → refusal_of Direction.Capture self.old.status call.Sync ≡ Some e
-            → (result ≡ Err e) × (self.new ≡ self.old) × (port.new ≡ port.old)
-            × (gate.new ≡ gate.old) }
-        ensures keeps { Keeps P.SnoopPort G.Gate (port.old, gate.old) (port.new, gate.new)
+        ensures { AnswersAvail P.SnoopPort G.Gate (port.old, gate.old) (port.new, gate.new)
             self.old self.new result }
-        ensures causes { refusal_of Direction.Capture self.old.status call.Sync ≡ None
-            → is_running self.old.status.state ≡ true
-            → Explains P.SnoopPort port.old port.new self.old self.new result }
     {
         self.stream.status.admit(Direction::Capture, Call::Sync)?;
         if !self.stream.is_running() {

@@ -4,12 +4,10 @@ ghost use Rattle.pcm_states.specs.declared.calls.Call.TheVariants as call;
 ghost use Rattle.pcm_stream.specs.Status.{refusal_of};
 ghost use Rattle.pcm_stream.specs.declared.direction.Direction.{Direction};
 ghost use Rattle.course.specs.AtSnoopPort.{TakesAtSnoop};
-ghost use Rattle.dsnoop_client.specs.Calls.{waits};
-ghost use Rattle.dsnoop_client.specs.Causes.{ExplainsRead};
-ghost use Rattle.dsnoop_client.specs.Course.{if_admitted, read_course, reads_first, reads_on, transfers};
-ghost use Rattle.dsnoop_client.specs.Port.{Asks, Keeps};
+ghost use Rattle.dsnoop_client.specs.CallRelations.{ReadsFrames};
+ghost use Rattle.dsnoop_client.specs.Course.{reads_first, reads_on, transfers};
 ghost use Rattle.dsnoop_client.specs.Reads.{GivesFrames};
-ghost use Rattle.dsnoop_client.specs.View.{CanRead, CanUse, HasRoom, IsGoing, IsSoundReader, LoadsFor, frames_in, is_running};
+ghost use Rattle.dsnoop_client.specs.View.{CanRead, CanUse, HasRoom, IsGoing, IsSoundReader, LoadsFor, frames_in};
 
 use crate::frames::load_frames;
 use crate::parts::{read_after, waits};
@@ -124,22 +122,10 @@ fn read_admitted<P: SnoopPort, G: Gate>(
     requires admitted { refusal_of Direction.Capture stream.old.status call.Transfer ≡ None }
     requires port { CanUse stream.old (P.view port.old) }
     requires room { HasRoom stream.old frame.old }
-    ensures takes { TakesAtSnoop P.SnoopPort G.Gate (port.old, gate.old)
-        (read_course stream.old (frames_in stream.old out.old)) (port.new, gate.new)
-        (stream.new, result) }
-    ensures reads { GivesFrames P.SnoopPort port.old port.new stream.old stream.new
-        out.old out.new result }
-    ensures keeps { Keeps P.SnoopPort G.Gate (port.old, gate.old) (port.new, gate.new)
-        stream.old stream.new result }
-    ensures waits { (LoadsFor stream.old (frames_in stream.old out.old) → ⊥)
-        → (result ≡ waits (frames_in stream.old out.old)) × (stream.new ≡ stream.old)
-        × (port.new ≡ port.old) × (gate.new ≡ gate.old) × (out.new ≡ out.old)
-        × (frame.new ≡ frame.old) }
-    ensures causes { LoadsFor stream.old (frames_in stream.old out.old)
-        → ExplainsRead P.SnoopPort port.old port.new stream.old stream.new
-        (frames_in stream.old out.old) result }
-    ensures asks { LoadsFor stream.old (frames_in stream.old out.old)
-        → Asks G.Gate gate.old gate.new stream.new (frames_in stream.old out.old) result }
+    ensures reads { ReadsFrames P.SnoopPort G.Gate (port.old, gate.old) (port.new, gate.new) out.old
+        out.new stream.old stream.new result }
+    ensures stays { (LoadsFor stream.old (frames_in stream.old out.old) → ⊥)
+        → frame.new ≡ frame.old }
     ensures few { IfOk result (λ n. n ≤ frames_in stream.old out.old) }
 {
     let frames = whole_frames(out, stream.setup.bindings.len());
@@ -187,28 +173,8 @@ impl Reader {
     ) -> Result<u32, PcmError>
         requires room { CanRead self.old out.old }
         requires port { CanUse self.old (P.view port.old) }
-        ensures takes { TakesAtSnoop P.SnoopPort G.Gate (port.old, gate.old)
-            (if_admitted self.old call.Transfer (read_course self.old (frames_in self.old out.old)))
-            (port.new, gate.new) (self.new, result) }
-        ensures refused { (e : PcmError)
-            → refusal_of Direction.Capture self.old.status call.Transfer ≡ Some e
-            → (result ≡ Err e) × (self.new ≡ self.old)
-            × (port.new ≡ port.old) × (gate.new ≡ gate.old) × (out.new ≡ out.old) }
-        ensures reads { GivesFrames P.SnoopPort port.old port.new self.old self.new
-            out.old out.new result }
-        ensures keeps { Keeps P.SnoopPort G.Gate (port.old, gate.old) (port.new, gate.new)
-            self.old self.new result }
-        ensures waits { refusal_of Direction.Capture self.old.status call.Transfer ≡ None
-            → (LoadsFor self.old (frames_in self.old out.old) → ⊥)
-            → (result ≡ waits (frames_in self.old out.old)) × (self.new ≡ self.old)
-            × (port.new ≡ port.old) × (gate.new ≡ gate.old) × (out.new ≡ out.old) }
-        ensures causes { refusal_of Direction.Capture self.old.status call.Transfer ≡ None
-            → LoadsFor self.old (frames_in self.old out.old)
-            → ExplainsRead P.SnoopPort port.old port.new self.old self.new
-            (frames_in self.old out.old) result }
-        ensures asks { refusal_of Direction.Capture self.old.status call.Transfer ≡ None
-            → LoadsFor self.old (frames_in self.old out.old)
-            → Asks G.Gate gate.old gate.new self.new (frames_in self.old out.old) result }
+        ensures { ReadsFrames P.SnoopPort G.Gate (port.old, gate.old) (port.new, gate.new) out.old
+            out.new self.old self.new result }
     {
         self.stream
             .status

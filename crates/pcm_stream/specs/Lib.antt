@@ -1,3 +1,4 @@
 pub mod Direction
+pub mod RefusalLaws
 pub mod Setup
 pub mod Status

@@ -6,7 +6,7 @@ use Rattle.dmix_client.specs.Calls.{configured_with}
 use Rattle.dmix_client.specs.View.{ClientView}
 use Rattle.dmix_c.specs.Params.{CanConfigure}
 use Rattle.dmix_c.specs.ClientCalls.{CanSetUp}
-use Rattle.dmix_c.proofs.Refused.{passed-on, refusal-of_err, refusal-of_ok}
+use Rattle.pcm_stream.specs.RefusalLaws.{passed-on, refusal-of_err, refusal-of_ok}
 use Rattle.dmix_c.proofs.SettingUp.{HasSetUp-done, HasSetUp-refused, HasSetUp-unbound, HasSetUp-unfit, backed-set_up, refusal}
 use Rattle.dmix_c.proofs.client_calls.set_up.Goals as goal
 

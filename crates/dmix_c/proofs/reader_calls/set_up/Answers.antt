@@ -7,7 +7,7 @@ use Rattle.dsnoop_client.specs.Calls.{configured_with}
 use Rattle.dmix_c.specs.Params.{CanConfigure}
 use Rattle.dmix_c.specs.ClientCalls.{CanSetUp}
 use Rattle.dmix_c.proofs.ReaderSettingUp.{ReaderHasSetUp-done, ReaderHasSetUp-refused, ReaderHasSetUp-unbound, ReaderHasSetUp-unfit, refusal}
-use Rattle.dmix_c.proofs.Refused.{passed-on, refusal-of_err, refusal-of_ok}
+use Rattle.pcm_stream.specs.RefusalLaws.{passed-on, refusal-of_err, refusal-of_ok}
 use Rattle.dmix_c.proofs.reader_calls.set_up.Goals as goal
 
 pub returns-in_err-admit : goal.returns-in_err-admit

@@ -10,7 +10,8 @@ invariant-loop-done g l = let port = g.P.MixPort in record {
   view_is : port.view l.port ≡ record (port.view l.fn.port) { marks = (port.view l.port).marks };
   few : l.done ≤ l.count;
   cursor : IsFrom (port.view l.port).marks.cursor (l.stream.stretch.card + (l.stream.stretch.committed + l.done)) (least_channel l.stream.setup.bindings);
-  takes : RestFrames g.P.MixPort g.G.Gate l.stream.identity.member l.stream.stretch.card l.stream.setup.bindings (ring_sample l.stream l.ring) l.count l.stream.stretch.committed (l.fn.port, l.fn.gate) (l.port, l.gate) l.done;
+  takes : RestFrames g.P.MixPort g.G.Gate l.stream.identity.member l.stream.stretch.card l.stream.setup.bindings (ring_sample l.stream l.ring) l.count
+      l.stream.stretch.committed (l.fn.port, l.fn.gate) (l.port, l.gate) l.done;
 }
 
 -- each run has a frame

@@ -10,6 +10,7 @@ use Rattle.dmix_client.specs.Port.{least_channel, IsOnCard}
 use Rattle.dmix_client.specs.RingLaws.{slot-within}
 use Rattle.dmix_client.specs.View.{ring_sample}
 use Rattle.snd_base.specs.declared.geometry.Geometry.{Geometry}
+use Rattle.dmix_client.proofs.CallLaws.{both}
 use Rattle.dmix_client.proofs.Frames.{IsFrom-next, marks-joined, slot-run}
 use Rattle.dmix_client.proofs.Laying.{RestFrames-all, RestFrames-ended, RestFrames-next, RestFrames-none, TakesAt-ring_sample}
 use Rattle.dmix_client.proofs.commit.lay_run_of.Goals as goal
@@ -27,51 +28,86 @@ loop-frame-init g c =
     record {
       view_is = refl;
       cursor = omega (arith, c.requires.from_cursor);
-      takes = RestFrames-none port g.G.Gate stream.identity.member stream.stretch.card stream.setup.bindings (ring_sample stream c.args.ring.now) c.args.count c.args.first (c.args.port.now, c.args.gate.now);
+      takes = RestFrames-none port g.G.Gate stream.identity.member stream.stretch.card stream.setup.bindings (ring_sample stream c.args.ring.now) c.args.count
+          c.args.first (c.args.port.now, c.args.gate.now);
     }
 
 pub place_frame-placed-requires-clause-slot : goal.place_frame-placed-requires-clause-slot
 place_frame-placed-requires-clause-slot g c =
     let stream = c.args.stream.now in
-    let within = slot-within stream.setup.config.buffer_size (length stream.setup.bindings) (stream.stretch.source + (c.args.first + c.loop-frame.frame)) c.requires.buffer in
-    omega (arith, c.requires.room, slot_is stream.setup.config.buffer_size c.args.channels (length stream.setup.bindings) stream.stretch.source c.args.first c.loop-frame.frame c.held_from-from.result (sym c.requires.channels) (omega (arith, c.requires.run, c.loop-frame-test.true)) c.held_from-from.ensures.value, within)
+    let within = slot-within stream.setup.config.buffer_size (length stream.setup.bindings)
+    (stream.stretch.source + (c.args.first + c.loop-frame.frame)) c.requires.buffer in
+    omega (
+      arith,
+      c.requires.room,
+      slot_is stream.setup.config.buffer_size c.args.channels (length stream.setup.bindings) stream.stretch.source c.args.first
+          c.loop-frame.frame c.held_from-from.result (sym c.requires.channels) (omega (arith, c.requires.run, c.loop-frame-test.true))
+          c.held_from-from.ensures.value,
+      within,
+    )
 
 pub loop-frame-preserved : goal.loop-frame-preserved
 loop-frame-preserved g c =
+    let G = g.G.Gate in
+    let s = both c.args.port.now c.args.gate.now in
+    let t = both c.loop-frame.port c.loop-frame.gate in
+    let u = both c.place_frame-placed.new.port c.place_frame-placed.new.gate in
     let port = g.P.MixPort in
     let before = c.loop-frame.invariant in
     let stream = c.args.stream.now in
     let number : ℕ = c.args.first + c.loop-frame.frame in
     let member : (port.view c.loop-frame.port).member ≡ stream.identity.member = ap (λ (v : PortView). v.member) before.view_is ∙ c.requires.member in
-    let placed = TakesAt-ring_sample port g.G.Gate stream c.args.ring.now (port.view c.loop-frame.port).member (stream.stretch.card + number) (c.held_from-from.result + c.loop-frame.frame * c.args.channels) number (c.loop-frame.port, c.loop-frame.gate) (c.place_frame-placed.new.port, c.place_frame-placed.new.gate)
-    (c.place_frame-placed.result.placed, c.place_frame-placed.result.ended) member refl (slot_is stream.setup.config.buffer_size c.args.channels (length stream.setup.bindings) stream.stretch.source c.args.first c.loop-frame.frame c.held_from-from.result (sym c.requires.channels) (omega (arith, c.requires.run, c.loop-frame-test.true)) c.held_from-from.ensures.value) c.place_frame-placed.ensures in
-    let step : TakesAt port g.G.Gate (c.loop-frame.port, c.loop-frame.gate) (lay_frame stream.identity.member (stream.stretch.card + number) stream.setup.bindings (ring_sample stream c.args.ring.now number)) (c.place_frame-placed.new.port, c.place_frame-placed.new.gate) (c.place_frame-placed.result.placed, Whole) =
-    subst (λ (e : Ended). TakesAt port g.G.Gate (c.loop-frame.port, c.loop-frame.gate) (lay_frame stream.identity.member (stream.stretch.card + number) stream.setup.bindings (ring_sample stream c.args.ring.now number)) (c.place_frame-placed.new.port, c.place_frame-placed.new.gate) (c.place_frame-placed.result.placed, e)) c.in-Whole.is placed in
-    let frame = TakesAt-frame port g.G.Gate g.met.P.MixPort.laid_composes g.met.P.MixPort.loaded_composes stream.identity.member (stream.stretch.card + number) stream.setup.bindings (ring_sample stream c.args.ring.now number) (rising stream.setup.bindings)
-    (c.loop-frame.port, c.loop-frame.gate) (c.place_frame-placed.new.port, c.place_frame-placed.new.gate) c.place_frame-placed.result.placed Whole step in
+    let placed = TakesAt-ring_sample port G stream c.args.ring.now (port.view c.loop-frame.port).member (stream.stretch.card + number)
+    (c.held_from-from.result + c.loop-frame.frame * c.args.channels) number t u
+    (c.place_frame-placed.result.placed, c.place_frame-placed.result.ended) member refl (slot_is stream.setup.config.buffer_size c.args.channels
+    (length stream.setup.bindings) stream.stretch.source c.args.first c.loop-frame.frame c.held_from-from.result (sym c.requires.channels)
+    (omega (arith, c.requires.run, c.loop-frame-test.true)) c.held_from-from.ensures.value) c.place_frame-placed.ensures in
+    let step : TakesAt port G t (lay_frame stream.identity.member (stream.stretch.card + number) stream.setup.bindings
+    (ring_sample stream c.args.ring.now number)) u (c.place_frame-placed.result.placed, Whole) =
+    subst (λ (e : Ended). TakesAt port G t (lay_frame stream.identity.member (stream.stretch.card + number) stream.setup.bindings
+    (ring_sample stream c.args.ring.now number)) u (c.place_frame-placed.result.placed, e)) c.in-Whole.is placed in
+    let frame = TakesAt-frame port G g.met.P.MixPort.laid_composes g.met.P.MixPort.loaded_composes stream.identity.member (stream.stretch.card + number)
+    stream.setup.bindings (ring_sample stream c.args.ring.now number) (rising stream.setup.bindings)
+    t u c.place_frame-placed.result.placed Whole step in
     record {
       view_is = marks-joined (port.view c.args.port.now) (port.view c.loop-frame.port) (port.view c.place_frame-placed.new.port) _ before.view_is frame.view_is;
-      cursor = omega (arith, frame.free (least_channel stream.setup.bindings) (IsFrom-next (port.view c.loop-frame.port).marks.cursor (stream.stretch.card + number) (least_channel stream.setup.bindings) (least_channel stream.setup.bindings) (omega (arith, before.cursor))));
-      takes = RestFrames-next port g.G.Gate stream.identity.member stream.stretch.card stream.setup.bindings (ring_sample stream c.args.ring.now) c.args.count c.args.first (c.args.port.now, c.args.gate.now) (c.loop-frame.port, c.loop-frame.gate) (c.place_frame-placed.new.port, c.place_frame-placed.new.gate)
+      cursor = omega (
+        arith,
+        frame.free (least_channel stream.setup.bindings) (IsFrom-next (port.view c.loop-frame.port).marks.cursor
+            (stream.stretch.card + number) (least_channel stream.setup.bindings) (least_channel stream.setup.bindings) (omega (arith, before.cursor))),
+      );
+      takes = RestFrames-next port G stream.identity.member stream.stretch.card stream.setup.bindings (ring_sample stream c.args.ring.now)
+          c.args.count c.args.first s t u
           c.loop-frame.frame c.place_frame-placed.result.placed c.loop-frame-test.true before.takes step;
     }
 
 pub returns-in_default : goal.returns-in_default
 returns-in_default g c =
+    let s = both c.args.port.now c.args.gate.now in
+    let t = both c.loop-frame.port c.loop-frame.gate in
+    let u = both c.place_frame-placed.new.port c.place_frame-placed.new.gate in
     let port = g.P.MixPort in
     let before = c.loop-frame.invariant in
     let stream = c.args.stream.now in
     let number : ℕ = c.args.first + c.loop-frame.frame in
-    RestFrames-ended port g.G.Gate stream.identity.member stream.stretch.card stream.setup.bindings (ring_sample stream c.args.ring.now) c.args.count c.args.first (c.args.port.now, c.args.gate.now) (c.loop-frame.port, c.loop-frame.gate) (c.place_frame-placed.new.port, c.place_frame-placed.new.gate)
+    RestFrames-ended port g.G.Gate stream.identity.member stream.stretch.card stream.setup.bindings (ring_sample stream c.args.ring.now)
+    c.args.count c.args.first s t u
     c.loop-frame.frame c.place_frame-placed.result.placed c.place_frame-placed.result.ended c.loop-frame-test.true c.in_default.not-Whole before.takes
-    (TakesAt-ring_sample port g.G.Gate stream c.args.ring.now (port.view c.loop-frame.port).member (stream.stretch.card + number) (c.held_from-from.result + c.loop-frame.frame * c.args.channels) number (c.loop-frame.port, c.loop-frame.gate) (c.place_frame-placed.new.port, c.place_frame-placed.new.gate)
-    (c.place_frame-placed.result.placed, c.place_frame-placed.result.ended) (ap (λ (v : PortView). v.member) before.view_is ∙ c.requires.member) refl (slot_is stream.setup.config.buffer_size c.args.channels (length stream.setup.bindings) stream.stretch.source c.args.first c.loop-frame.frame c.held_from-from.result (sym c.requires.channels) (omega (arith, c.requires.run, c.loop-frame-test.true)) c.held_from-from.ensures.value) c.place_frame-placed.ensures)
+    (TakesAt-ring_sample port g.G.Gate stream c.args.ring.now (port.view c.loop-frame.port).member (stream.stretch.card + number)
+    (c.held_from-from.result + c.loop-frame.frame * c.args.channels) number t u
+    (c.place_frame-placed.result.placed, c.place_frame-placed.result.ended) (ap (λ (v : PortView). v.member) before.view_is ∙ c.requires.member) refl
+    (slot_is stream.setup.config.buffer_size c.args.channels (length stream.setup.bindings) stream.stretch.source c.args.first c.loop-frame.frame
+    c.held_from-from.result (sym c.requires.channels) (omega (arith, c.requires.run, c.loop-frame-test.true)) c.held_from-from.ensures.value)
+    c.place_frame-placed.ensures)
 
 pub returns : goal.returns
 returns g c =
+    let s = both c.args.port.now c.args.gate.now in
+    let t = both c.loop-frame.port c.loop-frame.gate in
     let port = g.P.MixPort in
     let stream = c.args.stream.now in
-    RestFrames-all port g.G.Gate stream.identity.member stream.stretch.card stream.setup.bindings (ring_sample stream c.args.ring.now) c.args.count c.args.first (c.args.port.now, c.args.gate.now) (c.loop-frame.port, c.loop-frame.gate) c.loop-frame.frame
+    RestFrames-all port g.G.Gate stream.identity.member stream.stretch.card stream.setup.bindings (ring_sample stream c.args.ring.now) c.args.count
+    c.args.first s t c.loop-frame.frame
     (omega (arith, c.loop-frame-test.false, c.loop-frame.auto.frame-end)) c.loop-frame.invariant.takes
 
 pub place_frame-placed-requires-clause-can_add : goal.place_frame-placed-requires-clause-can_add
@@ -81,4 +117,6 @@ pub place_frame-placed-requires-clause-channels : goal.place_frame-placed-requir
 place_frame-placed-requires-clause-channels g c = c.requires.channels
 
 pub place_frame-placed-requires-clause-bound : goal.place_frame-placed-requires-clause-bound
-place_frame-placed-requires-clause-bound g c = subst (λ (h : Geometry). IsOnCard c.args.stream.now.setup.bindings h) (sym (ap (λ (v : PortView). v.geometry) c.loop-frame.invariant.view_is)) c.requires.bound
+place_frame-placed-requires-clause-bound g c =
+    subst (λ (h : Geometry). IsOnCard c.args.stream.now.setup.bindings h) (sym (ap (λ (v : PortView). v.geometry)
+    c.loop-frame.invariant.view_is)) c.requires.bound

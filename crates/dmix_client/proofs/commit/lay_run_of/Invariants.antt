@@ -9,5 +9,6 @@ abbrev pub invariant-loop-frame : goal.invariant-loop-frame
 invariant-loop-frame g l = let port = g.P.MixPort in record {
   view_is : port.view l.port ≡ record (port.view l.fn.port) { marks = (port.view l.port).marks };
   cursor : IsFrom (port.view l.port).marks.cursor (l.stream.stretch.card + (l.first + l.frame)) (least_channel l.stream.setup.bindings);
-  takes : RestFrames g.P.MixPort g.G.Gate l.stream.identity.member l.stream.stretch.card l.stream.setup.bindings (ring_sample l.stream l.ring) l.count l.first (l.fn.port, l.fn.gate) (l.port, l.gate) l.frame;
+  takes : RestFrames g.P.MixPort g.G.Gate l.stream.identity.member l.stream.stretch.card l.stream.setup.bindings (ring_sample l.stream l.ring) l.count l.first
+      (l.fn.port, l.fn.gate) (l.port, l.gate) l.frame;
 }

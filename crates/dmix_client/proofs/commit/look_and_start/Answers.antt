@@ -7,6 +7,7 @@ use Rattle.dmix_client.specs.Calls.{start_count, started_in}
 use Rattle.dmix_client.specs.CourseLaws.{TakesAt-looks}
 use Rattle.dmix_client.specs.declared.stream.PlaybackStream.{PlaybackStream}
 use Rattle.dmix_client.specs.Port.{IsOnCard}
+use Rattle.dmix_client.proofs.CallLaws.{both}
 use Rattle.dmix_client.proofs.Readiness.{IsOnCard-configured}
 use Rattle.dmix_client.proofs.Sound.{configured-prepared}
 use Rattle.dmix_client.proofs.Looking.{looks-none, looks-some}
@@ -14,33 +15,53 @@ use Rattle.dmix_client.proofs.commit.look_and_start.Goals as goal
 
 pub returns-in_default-clause-takes : goal.returns-in_default-clause-takes
 returns-in_default-clause-takes g c =
-    looks-none g.P.MixPort g.G.Gate (c.args.port.now, c.args.gate.now) (c.position.new.self, c.position.new.gate) (λ position. started_in c.args.stream.now Running position c.args.cursor) (λ position. start_count c.args.stream.now c.args.cursor position c.args.upto) c.args.ring.now
-    (subst (λ r. LoadsAt g.P.MixPort g.G.Gate (c.args.port.now, c.args.gate.now) (load_of r) (c.position.new.self, c.position.new.gate)) c.in_default.is c.position.ensures.step)
+    let s = both c.args.port.now c.args.gate.now in
+    let t = both c.position.new.self c.position.new.gate in
+    looks-none g.P.MixPort g.G.Gate s t (λ position. started_in c.args.stream.now Running position c.args.cursor)
+    (λ position. start_count c.args.stream.now c.args.cursor position c.args.upto) c.args.ring.now
+    (subst (λ r. LoadsAt g.P.MixPort g.G.Gate s (load_of r) t) c.in_default.is c.position.ensures.step)
 
 pub returns-clause-takes : goal.returns-clause-takes
 returns-clause-takes g c =
-    looks-some g.P.MixPort g.G.Gate (c.args.port.now, c.args.gate.now) (c.position.new.self, c.position.new.gate) (c.lay_frames-commit.new.port, c.lay_frames-commit.new.gate) (λ position. started_in c.args.stream.now Running position c.args.cursor) (λ position. start_count c.args.stream.now c.args.cursor position c.args.upto) c.args.ring.now
+    let s = both c.args.port.now c.args.gate.now in
+    let t = both c.position.new.self c.position.new.gate in
+    let u = both c.lay_frames-commit.new.port c.lay_frames-commit.new.gate in
+    looks-some g.P.MixPort g.G.Gate s t u (λ position. started_in c.args.stream.now Running position c.args.cursor)
+    (λ position. start_count c.args.stream.now c.args.cursor position c.args.upto) c.args.ring.now
     c.in-Ok.position c.started_in-from.result c.start_count-count.result c.lay_frames-commit.result c.started_in-from.ensures c.start_count-count.ensures
-    (subst (λ r. LoadsAt g.P.MixPort g.G.Gate (c.args.port.now, c.args.gate.now) (load_of r) (c.position.new.self, c.position.new.gate)) c.in-Ok.is c.position.ensures.step) c.lay_frames-commit.ensures
+    (subst (λ r. LoadsAt g.P.MixPort g.G.Gate s (load_of r) t) c.in-Ok.is c.position.ensures.step) c.lay_frames-commit.ensures
 
 pub returns-clause-found : goal.returns-clause-found
 returns-clause-found g c =
-    (TakesAt-looks g.P.MixPort g.G.Gate g.met.P.MixPort.laid_composes g.met.P.MixPort.loaded_composes (λ position. started_in c.args.stream.now Running position c.args.cursor) (λ position. start_count c.args.stream.now c.args.cursor position c.args.upto) c.args.ring.now c.args.stream.now.setup.bindings
-    (c.args.port.now, c.args.gate.now) (c.lay_frames-commit.new.port, c.lay_frames-commit.new.gate) (Some c.in-Ok.position) c.lay_frames-commit.result
+    let s = both c.args.port.now c.args.gate.now in
+    let t = both c.lay_frames-commit.new.port c.lay_frames-commit.new.gate in
+    (TakesAt-looks g.P.MixPort g.G.Gate g.met.P.MixPort.laid_composes g.met.P.MixPort.loaded_composes
+    (λ position. started_in c.args.stream.now Running position c.args.cursor) (λ position. start_count c.args.stream.now c.args.cursor position c.args.upto)
+    c.args.ring.now c.args.stream.now.setup.bindings
+    s t (Some c.in-Ok.position) c.lay_frames-commit.result
     (configured-prepared c.args.stream.now c.args.ring.now c.requires.sound c.requires.prepared).bound (λ position. refl) (returns-clause-takes g c)).found
 
 pub lay_frames-commit-requires-clause-can_add : goal.lay_frames-commit-requires-clause-can_add
 lay_frames-commit-requires-clause-can_add g c = ap (λ (v : PortView). v.can_add) c.in-Ok.ensures.step.view_is ∙ c.requires.port.can
 
 pub lay_frames-commit-requires-clause-member : goal.lay_frames-commit-requires-clause-member
-lay_frames-commit-requires-clause-member g c = subst (λ (d : PlaybackStream). (g.P.MixPort.view c.position.new.self).member ≡ d.identity.member) (sym c.started_in-from.ensures) (ap (λ (v : PortView). v.member) c.in-Ok.ensures.step.view_is ∙ c.requires.port.same_member)
+lay_frames-commit-requires-clause-member g c =
+    subst (λ (d : PlaybackStream). (g.P.MixPort.view c.position.new.self).member ≡ d.identity.member) (sym c.started_in-from.ensures)
+    (ap (λ (v : PortView). v.member) c.in-Ok.ensures.step.view_is ∙ c.requires.port.same_member)
 
 pub lay_frames-commit-requires-clause-bound : goal.lay_frames-commit-requires-clause-bound
 lay_frames-commit-requires-clause-bound g c =
-    subst (λ (d : PlaybackStream). IsOnCard d.setup.bindings (g.P.MixPort.view c.position.new.self).geometry) (sym c.started_in-from.ensures) (IsOnCard-configured c.args.stream.now c.args.ring.now (g.P.MixPort.view c.position.new.self).geometry (configured-prepared c.args.stream.now c.args.ring.now c.requires.sound c.requires.prepared) (ap (λ (v : PortView). v.geometry) c.in-Ok.ensures.step.view_is ∙ c.requires.port.same_geometry))
+    subst (λ (d : PlaybackStream). IsOnCard d.setup.bindings (g.P.MixPort.view c.position.new.self).geometry) (sym c.started_in-from.ensures)
+    (IsOnCard-configured c.args.stream.now c.args.ring.now (g.P.MixPort.view c.position.new.self).geometry
+    (configured-prepared c.args.stream.now c.args.ring.now c.requires.sound c.requires.prepared)
+    (ap (λ (v : PortView). v.geometry) c.in-Ok.ensures.step.view_is ∙ c.requires.port.same_geometry))
 
 pub lay_frames-commit-requires-clause-buffer : goal.lay_frames-commit-requires-clause-buffer
-lay_frames-commit-requires-clause-buffer g c = subst (λ (d : PlaybackStream). 1 ≤ d.setup.config.buffer_size) (sym c.started_in-from.ensures) ((configured-prepared c.args.stream.now c.args.ring.now c.requires.sound c.requires.prepared).buffer_least)
+lay_frames-commit-requires-clause-buffer g c =
+    subst (λ (d : PlaybackStream). 1 ≤ d.setup.config.buffer_size) (sym c.started_in-from.ensures)
+    ((configured-prepared c.args.stream.now c.args.ring.now c.requires.sound c.requires.prepared).buffer_least)
 
 pub lay_frames-commit-requires-clause-room : goal.lay_frames-commit-requires-clause-room
-lay_frames-commit-requires-clause-room g c = subst (λ (d : PlaybackStream). length c.args.ring.now ≡ d.setup.config.buffer_size * length d.setup.bindings) (sym c.started_in-from.ensures) ((configured-prepared c.args.stream.now c.args.ring.now c.requires.sound c.requires.prepared).room)
+lay_frames-commit-requires-clause-room g c =
+    subst (λ (d : PlaybackStream). length c.args.ring.now ≡ d.setup.config.buffer_size * length d.setup.bindings) (sym c.started_in-from.ensures)
+    ((configured-prepared c.args.stream.now c.args.ring.now c.requires.sound c.requires.prepared).room)

@@ -22,6 +22,7 @@ loop-done-preserved c =
       so_far = c.write_frames.ensures
           ∙ ap (λ (xs : List ℤ). written_over xs (c.slot_of-slot.result * c.args.channels) part) c.loop-done.invariant.so_far
           ∙ ap (λ (s : ℕ). written_over before (s * c.args.channels) part) slot
-          ∙ sym (stored-run c.args.buffer_size c.args.channels c.args.ring.now c.args.from c.args.samples.now done run (record { some = c.requires.some; room = c.requires.room })
+          ∙ sym (stored-run c.args.buffer_size c.args.channels c.args.ring.now c.args.from c.args.samples.now done run
+          (record { some = c.requires.some; room = c.requires.room })
           (omega (arith, scaled, c.requires.held)) (omega (arith, fits, slot, c.slot_of-slot.ensures.within)));
     }

@@ -10,27 +10,36 @@ use Rattle.bindings.specs.Bound.{rising}
 use Rattle.dmix_client.specs.Expansion.{frame_entries}
 use Rattle.dmix_client.specs.Port.{least_channel}
 use Rattle.dmix_client.specs.View.{ring_sample}
+use Rattle.dmix_client.proofs.CallLaws.{both}
 use Rattle.dmix_client.proofs.Frames.{IsFrom-later, entry-ring_sample, rising-least}
 use Rattle.dmix_client.proofs.Withdrawing.{Back-all, Back-ended, Back-next, stands-last}
 use Rattle.dmix_client.proofs.withdraw.take_frame.Goals as goal
 
 pub take_sample-requires : goal.take_sample-requires
 take_sample-requires g c =
+    let P = g.P.MixPort in
     let stream = c.args.stream.now in
     let before = c.loop-place.invariant in
     let n : ℕ = c.loop-place.place - 1 in
     let frame : ℕ = stream.stretch.card + c.args.number in
     let bound = c.bound_sample-bound.ensures in
     record {
-      last = g.met.P.MixPort.ends_in_part c.loop-place.port (frame_entries stream.identity.member stream.setup.bindings (ring_sample stream c.args.ring.now c.args.number) n frame) _
-          (stands-last g.P.MixPort.ends_in c.loop-place.port stream.identity.member frame stream.setup.bindings (ring_sample stream c.args.ring.now c.args.number) n c.loop-place.place _ before.bound (omega (arith, c.loop-place-test.true)) before.few
-          (entry-ring_sample (λ m k x. an_add m frame k x) stream c.args.ring.now c.args.number c.held_from-slot.result (slice_index (rising stream.setup.bindings) n) _ _ _ before.member bound.channel c.held_from-slot.ensures.value bound.sample) before.stand);
-      from_floor = subst (λ (k : ℕ). IsFrom (g.P.MixPort.view c.loop-place.port).marks.floor frame k) (sym bound.channel)
-          (IsFrom-later (g.P.MixPort.view c.loop-place.port).marks.floor _ _ _ (rising-least stream.setup.bindings n before.bound (omega (arith, before.few, c.loop-place-test.true))) before.from_floor);
+      last = g.met.P.MixPort.ends_in_part c.loop-place.port (frame_entries stream.identity.member stream.setup.bindings
+          (ring_sample stream c.args.ring.now c.args.number) n frame) _
+          (stands-last P.ends_in c.loop-place.port stream.identity.member frame stream.setup.bindings (ring_sample stream c.args.ring.now c.args.number) n
+          c.loop-place.place _ before.bound (omega (arith, c.loop-place-test.true)) before.few
+          (entry-ring_sample (λ m k x. an_add m frame k x) stream c.args.ring.now c.args.number c.held_from-slot.result
+          (slice_index (rising stream.setup.bindings) n) _ _ _ before.member bound.channel c.held_from-slot.ensures.value bound.sample) before.stand);
+      from_floor = subst (λ (k : ℕ). IsFrom (P.view c.loop-place.port).marks.floor frame k) (sym bound.channel)
+          (IsFrom-later (P.view c.loop-place.port).marks.floor _ _ _ (rising-least stream.setup.bindings n before.bound
+          (omega (arith, before.few, c.loop-place-test.true))) before.from_floor);
     }
 
 pub loop-place-preserved : goal.loop-place-preserved
 loop-place-preserved g c =
+    let s = both c.args.port.now c.args.gate.now in
+    let t = both c.loop-place.port c.loop-place.gate in
+    let u = both c.take_sample.new.port c.take_sample.new.gate in
     let port = g.P.MixPort in
     let stream = c.args.stream.now in
     let before = c.loop-place.invariant in
@@ -40,33 +49,49 @@ loop-place-preserved g c =
     let bound = c.bound_sample-bound.ensures in
     let one : c.loop-place.place ≡ n + 1 = omega (arith, c.loop-place-test.true) in
     let from_floor = subst (λ (k : ℕ). IsFrom (port.view c.loop-place.port).marks.floor frame k) (sym bound.channel)
-    (IsFrom-later (port.view c.loop-place.port).marks.floor frame _ _ (rising-least stream.setup.bindings n before.bound (omega (arith, before.few, one))) before.from_floor) in
-    let step = subst (λ (e : Ended). LaysAt port g.G.Gate (c.loop-place.port, c.loop-place.gate) (a_withdrawal (port.view c.loop-place.port).member frame c.bound_sample-bound.result.channel c.bound_sample-bound.result.sample) e (c.take_sample.new.port, c.take_sample.new.gate)) c.in-Whole.is c.take_sample.ensures in
+    (IsFrom-later (port.view c.loop-place.port).marks.floor frame _ _ (rising-least stream.setup.bindings n before.bound
+    (omega (arith, before.few, one))) before.from_floor) in
+    let step = subst (λ (e : Ended). LaysAt port g.G.Gate t (a_withdrawal (port.view c.loop-place.port).member frame c.bound_sample-bound.result.channel
+    c.bound_sample-bound.result.sample) e u) c.in-Whole.is c.take_sample.ensures in
     record {
       member = ap (λ (v : PortView). v.member) step.view_is ∙ before.member;
-      from_floor = subst (λ (x : Cursor). IsFrom x frame (least_channel stream.setup.bindings)) (sym (ap (λ (v : PortView). v.marks.floor) step.view_is)) before.from_floor;
+      from_floor = subst (λ (x : Cursor). IsFrom x frame (least_channel stream.setup.bindings))
+          (sym (ap (λ (v : PortView). v.marks.floor) step.view_is)) before.from_floor;
       bound = before.bound;
       few = omega (arith, before.few);
-      stand = g.met.P.MixPort.held_back c.loop-place.port c.take_sample.new.port (frame_entries stream.identity.member stream.setup.bindings samples n frame) frame _ _ from_floor step.laid_it
-          (stands-last port.ends_in c.loop-place.port stream.identity.member frame stream.setup.bindings samples n c.loop-place.place _ before.bound one before.few
-          (entry-ring_sample (λ m k x. an_add m frame k x) stream c.args.ring.now c.args.number c.held_from-slot.result (slice_index (rising stream.setup.bindings) n) _ _ _ before.member bound.channel c.held_from-slot.ensures.value bound.sample) before.stand);
-      takes = Back-next port g.G.Gate stream.identity.member frame stream.setup.bindings samples _ (c.args.port.now, c.args.gate.now) (c.loop-place.port, c.loop-place.gate) (c.take_sample.new.port, c.take_sample.new.gate) n c.loop-place.place _ one
-          (entry-ring_sample (λ m k x. a_withdrawal m frame k x) stream c.args.ring.now c.args.number c.held_from-slot.result (slice_index (rising stream.setup.bindings) n) _ _ _ before.member bound.channel c.held_from-slot.ensures.value bound.sample) before.takes step;
+      stand = g.met.P.MixPort.held_back c.loop-place.port c.take_sample.new.port (frame_entries stream.identity.member stream.setup.bindings samples n frame)
+          frame _ _ from_floor step.laid_it
+          (stands-last port.ends_in c.loop-place.port stream.identity.member frame stream.setup.bindings samples n c.loop-place.place _
+          before.bound one before.few
+          (entry-ring_sample (λ m k x. an_add m frame k x) stream c.args.ring.now c.args.number c.held_from-slot.result
+          (slice_index (rising stream.setup.bindings) n) _ _ _ before.member bound.channel c.held_from-slot.ensures.value bound.sample) before.stand);
+      takes = Back-next port g.G.Gate stream.identity.member frame stream.setup.bindings samples _ s t u n c.loop-place.place _ one
+          (entry-ring_sample (λ m k x. a_withdrawal m frame k x) stream c.args.ring.now c.args.number c.held_from-slot.result
+          (slice_index (rising stream.setup.bindings) n) _ _ _ before.member bound.channel c.held_from-slot.ensures.value bound.sample) before.takes step;
     }
 
 pub returns-in_default : goal.returns-in_default
 returns-in_default g c =
+    let s = both c.args.port.now c.args.gate.now in
+    let t = both c.loop-place.port c.loop-place.gate in
+    let u = both c.take_sample.new.port c.take_sample.new.gate in
     let stream = c.args.stream.now in
     let before = c.loop-place.invariant in
     let n : ℕ = c.loop-place.place - 1 in
     let frame : ℕ = stream.stretch.card + c.args.number in
     let bound = c.bound_sample-bound.ensures in
-    let ended = Back-ended g.P.MixPort g.G.Gate stream.identity.member frame stream.setup.bindings (ring_sample stream c.args.ring.now c.args.number) _ (c.args.port.now, c.args.gate.now) (c.loop-place.port, c.loop-place.gate) (c.take_sample.new.port, c.take_sample.new.gate) n c.loop-place.place _ c.take_sample.result (omega (arith, c.loop-place-test.true))
-    (entry-ring_sample (λ m k x. a_withdrawal m frame k x) stream c.args.ring.now c.args.number c.held_from-slot.result (slice_index (rising stream.setup.bindings) n) _ _ _ before.member bound.channel c.held_from-slot.ensures.value bound.sample) c.in_default.not-Whole before.takes c.take_sample.ensures in
+    let ended = Back-ended g.P.MixPort g.G.Gate stream.identity.member frame stream.setup.bindings (ring_sample stream c.args.ring.now c.args.number) _ s t u n
+    c.loop-place.place _ c.take_sample.result (omega (arith, c.loop-place-test.true))
+    (entry-ring_sample (λ m k x. a_withdrawal m frame k x) stream c.args.ring.now c.args.number c.held_from-slot.result
+    (slice_index (rising stream.setup.bindings) n) _ _ _ before.member bound.channel c.held_from-slot.ensures.value bound.sample) c.in_default.not-Whole
+    before.takes c.take_sample.ensures in
     rw (let one : n + 1 ≡ c.loop-place.place = omega (arith, c.loop-place-test.true) in one) ended
 
 pub returns : goal.returns
 returns g c =
+    let s = both c.args.port.now c.args.gate.now in
+    let t = both c.loop-place.port c.loop-place.gate in
     let stream = c.args.stream.now in
-    Back-all g.P.MixPort g.G.Gate stream.identity.member (stream.stretch.card + c.args.number) stream.setup.bindings (ring_sample stream c.args.ring.now c.args.number) _ (c.args.port.now, c.args.gate.now) (c.loop-place.port, c.loop-place.gate) c.loop-place.place
+    Back-all g.P.MixPort g.G.Gate stream.identity.member (stream.stretch.card + c.args.number) stream.setup.bindings
+    (ring_sample stream c.args.ring.now c.args.number) _ s t c.loop-place.place
     (omega (arith, c.loop-place-test.false)) c.loop-place.invariant.takes

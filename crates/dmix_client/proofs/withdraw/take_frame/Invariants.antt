@@ -14,5 +14,6 @@ invariant-loop-place g l = let port = g.P.MixPort in let list = l.stream.setup.b
   bound : AreBindings list;
   few : l.place ≤ length list;
   stand : port.ends_in l.port (frame_entries l.stream.identity.member list (ring_sample l.stream l.ring l.number) l.place frame);
-  takes : Back port g.G.Gate l.stream.identity.member frame list (ring_sample l.stream l.ring l.number) (length list) (l.fn.port, l.fn.gate) (l.port, l.gate) l.place;
+  takes : Back port g.G.Gate l.stream.identity.member frame list (ring_sample l.stream l.ring l.number) (length list) (l.fn.port, l.fn.gate)
+      (l.port, l.gate) l.place;
 }

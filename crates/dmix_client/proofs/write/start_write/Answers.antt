@@ -3,9 +3,13 @@ use Rattle.course.specs.AtPort.{LaysAt, LoadsAt, NoGet}
 use Rattle.course.specs.CourseLaws.{Takes-map}
 use Rattle.dmix_client.specs.Calls.{accepted_if}
 use Rattle.dmix_client.specs.Course.{starts_taking}
+use Rattle.dmix_client.proofs.CallLaws.{both}
 use Rattle.dmix_client.proofs.write.start_write.Goals as goal
 
 pub returns-clause-takes : goal.returns-clause-takes
 unfolding starts_taking
 returns-clause-takes g c =
-    Takes-map (LoadsAt g.P.MixPort g.G.Gate) (LaysAt g.P.MixPort g.G.Gate) NoGet (c.args.port.now, c.args.gate.now) (c.begin-begun.new.port, c.begin-begun.new.gate) _ (accepted_if c.args.taken) c.begin-begun.result c.accepted_if-after.result c.begin-begun.ensures.takes (sym c.accepted_if-after.ensures)
+    let s = both c.args.port.now c.args.gate.now in
+    let t = both c.begin-begun.new.port c.begin-begun.new.gate in
+    Takes-map (LoadsAt g.P.MixPort g.G.Gate) (LaysAt g.P.MixPort g.G.Gate) NoGet s t _ (accepted_if c.args.taken) c.begin-begun.result
+    c.accepted_if-after.result c.begin-begun.ensures.takes (sym c.accepted_if-after.ensures)

@@ -3,14 +3,18 @@ use Rattle.std.specs.Prelude.{IfOk, Ok, Err, Result}
 use Rattle.snd_base.specs.declared.errors.PcmError.{PcmError}
 use Rattle.dmix_client.specs.declared.stream.PlaybackStream.{PlaybackStream}
 use Rattle.dmix_client.specs.Growth.{Follows, Keeps}
+use Rattle.dmix_client.proofs.CallLaws.{both}
 use Rattle.dmix_client.proofs.Keeping.{client, filled-kept, stored-kept}
 use Rattle.dmix_client.proofs.write.write_prepared.Goals as goal
 
 pub returns-then-stream-taken-clause-keeps : goal.returns-then-stream-taken-clause-keeps
 returns-then-stream-taken-clause-keeps g c =
+    let s = both c.args.port.now c.args.gate.now in
     let stream = c.args.stream.now in
-    subst (λ (d : PlaybackStream). Keeps g.P.MixPort g.G.Gate (c.args.port.now, c.args.gate.now) (c.args.port.now, c.args.gate.now) (client stream c.args.ring.now) (client d c.store_taken.new.ring) (let r : Result ℕ PcmError = Ok c.taken-taken.result in r) (λ all. Follows stream all c.args.samples.now c.args.frames)) (sym c.accepted.ensures)
-    (stored-kept g.P.MixPort g.G.Gate g.met.P.MixPort.laid_composes g.met.P.MixPort.loaded_composes (c.args.port.now, c.args.gate.now) stream c.args.ring.now c.store_taken.new.ring c.args.samples.now c.args.frames c.taken-taken.result
+    subst (λ (d : PlaybackStream). Keeps g.P.MixPort g.G.Gate s s (client stream c.args.ring.now) (client d c.store_taken.new.ring)
+    (let r : Result ℕ PcmError = Ok c.taken-taken.result in r) (λ all. Follows stream all c.args.samples.now c.args.frames)) (sym c.accepted.ensures)
+    (stored-kept g.P.MixPort g.G.Gate g.met.P.MixPort.laid_composes g.met.P.MixPort.loaded_composes s stream c.args.ring.now c.store_taken.new.ring
+    c.args.samples.now c.args.frames c.taken-taken.result
     c.taken-taken.ensures c.store_taken.ensures.ring c.requires.sound c.store_taken.ensures.sound c.requires.prepared c.requires.held c.requires.port)
 
 few : (r : Result ℕ PcmError) (m : ℕ) → m ≤ 16384 → IfOk r (λ k. k ≡ m) → IfOk r (λ k. k ≤ 16384)
@@ -19,8 +23,12 @@ few (Err e) m low is = tt
 
 pub returns : goal.returns
 returns g c =
-    let kept = filled-kept g.P.MixPort g.G.Gate g.met.P.MixPort.laid_composes g.met.P.MixPort.loaded_composes (c.args.port.now, c.args.gate.now) (c.start_write.new.port, c.start_write.new.gate) c.args.stream.now c.args.ring.now c.store_taken.new.ring c.args.samples.now c.args.frames c.taken-taken.result
-    (c.start_write.new.stream, c.start_write.result) c.taken-taken.ensures c.store_taken.ensures.ring c.requires.sound c.store_taken.ensures.sound c.requires.prepared c.requires.held c.start_write.ensures.near c.requires.port c.start_write.ensures.takes in
+    let s = both c.args.port.now c.args.gate.now in
+    let t = both c.start_write.new.port c.start_write.new.gate in
+    let kept = filled-kept g.P.MixPort g.G.Gate g.met.P.MixPort.laid_composes g.met.P.MixPort.loaded_composes s t c.args.stream.now c.args.ring.now
+    c.store_taken.new.ring c.args.samples.now c.args.frames c.taken-taken.result
+    (c.start_write.new.stream, c.start_write.result) c.taken-taken.ensures c.store_taken.ensures.ring c.requires.sound c.store_taken.ensures.sound
+    c.requires.prepared c.requires.held c.start_write.ensures.near c.requires.port c.start_write.ensures.takes in
     record {
       takes = search rules;
       ring = search rules;

@@ -1,23 +1,22 @@
+use Rattle.dsnoop_client.proofs.CallLaws.{both}
 use Rattle.dsnoop_client.proofs.Loading.{starts-by}
 use Rattle.dsnoop_client.proofs.Stepping.{After-going, starts-after, starts-none}
 use Rattle.dsnoop_client.proofs.positions.start_call.Goals as goal
 
-pub returns-clause-takes : goal.returns-clause-takes
-returns-clause-takes g c =
-    starts-by g.P.SnoopPort g.G.Gate (c.args.port.now, c.args.gate.now) (c.load-position.new.port, c.load-position.new.gate) c.args.stream.now c.args.call c.load-position.result c.after_start-after.result c.load-position.ensures c.after_start-after.ensures
-
-pub returns-clause-keeps : goal.returns-clause-keeps
-returns-clause-keeps g c =
-    (starts-after g.P.SnoopPort g.G.Gate (c.args.port.now, c.args.gate.now) (c.load-position.new.port, c.load-position.new.gate) c.args.stream.now c.args.call c.after_start-after.result c.requires.sound c.requires.prepared c.requires.unstopped c.requires.start c.requires.port (returns-clause-takes g c)).told.keeps
-
-pub returns-clause-causes : goal.returns-clause-causes
-returns-clause-causes g c =
-    (starts-after g.P.SnoopPort g.G.Gate (c.args.port.now, c.args.gate.now) (c.load-position.new.port, c.load-position.new.gate) c.args.stream.now c.args.call c.after_start-after.result c.requires.sound c.requires.prepared c.requires.unstopped c.requires.start c.requires.port (returns-clause-takes g c)).told.why
-
-pub returns-clause-going : goal.returns-clause-going
-returns-clause-going g c =
-    After-going g.P.SnoopPort g.G.Gate (c.args.port.now, c.args.gate.now) (c.load-position.new.port, c.load-position.new.gate) c.args.stream.now c.after_start-after.result.0 c.after_start-after.result.1
-    (starts-after g.P.SnoopPort g.G.Gate (c.args.port.now, c.args.gate.now) (c.load-position.new.port, c.load-position.new.gate) c.args.stream.now c.args.call c.after_start-after.result c.requires.sound c.requires.prepared c.requires.unstopped c.requires.start c.requires.port (returns-clause-takes g c))
-
-pub returns-clause-got_nothing : goal.returns-clause-got_nothing
-returns-clause-got_nothing g c = starts-none g.P.SnoopPort g.G.Gate (c.args.port.now, c.args.gate.now) (c.load-position.new.port, c.load-position.new.gate) c.args.stream.now c.args.call c.after_start-after.result (returns-clause-takes g c)
+pub returns : goal.returns
+returns g c =
+    let P = g.P.SnoopPort in
+    let G = g.G.Gate in
+    let stream = c.args.stream.now in
+    let done = c.after_start-after.result in
+    let s = both c.args.port.now c.args.gate.now in
+    let t = both c.load-position.new.port c.load-position.new.gate in
+    let takes = starts-by P G s t stream c.args.call c.load-position.result done c.load-position.ensures c.after_start-after.ensures in
+    let after = starts-after P G s t stream c.args.call done c.requires.sound c.requires.prepared c.requires.unstopped c.requires.start c.requires.port takes in
+    record {
+      takes = takes;
+      keeps = after.told.keeps;
+      causes = after.told.why;
+      going = After-going P G s t stream done.0 done.1 after;
+      got_nothing = starts-none P G s t stream c.args.call done takes;
+    }

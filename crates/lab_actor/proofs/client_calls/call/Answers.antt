@@ -155,7 +155,7 @@ returns-in-Pause g c =
     subst (λ (asked : Op). HasClientCalled P G s t c.args.wav.now v d asked c.done-in-Pause.result) (sym c.in-Pause.is)
     (called-pause P G met.laid_composes met.held_laid met.ends_in_part s t c.args.wav.now v d c.done-in-Pause.result c.pause.result c.requires.ready
     (answer-taken P G met.laid_composes met.held_laid met.ends_in_part done_answer s t _ d.stream c.pause.result c.done-in-Pause.result call.takes c.done-in-Pause.ensures)
-    (call.keeps c.requires.ready.usable) (λ e found. (call.refused e found).1) (λ found. (call.pauses refl found).1)
+    (call.keeps c.requires.ready.usable) (λ e found. (call.refused e found).1) (λ found. ((call.causes found).pauses refl).1)
     (subst (λ (k : ℕ). k ≤ frames_of c.args.wav.now) (sym same) c.requires.ready.fed))
 
 pub pause-requires : goal.pause-requires

@@ -1,7 +1,7 @@
 use Rattle.std.proofs.Common.{◌∙◌, refl, sym}
 use Rattle.std.proofs.lemmas.Bool.{false≢true}
 use Rattle.dmix_c.specs.SamePlace.{AreOfPlace-goes}
-use Rattle.dmix_c.proofs.Refused.{passed-on, refusal-of_err, refusal-of_ok}
+use Rattle.pcm_stream.specs.RefusalLaws.{passed-on, refusal-of_err, refusal-of_ok}
 use Rattle.dmix_c.proofs.Unstopped.{written-unstopped}
 use Rattle.dmix_c.proofs.Writing.{Written-done, Written-invalid, Written-refused, refusal}
 use Rattle.dmix_c.proofs.playback.Playback.writei.Goals as goal

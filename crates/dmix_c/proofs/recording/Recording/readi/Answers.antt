@@ -2,7 +2,7 @@ use Rattle.std.proofs.Common.{◌∙◌, refl, sym}
 use Rattle.std.proofs.lemmas.Bool.{false≢true}
 use Rattle.dmix_c.proofs.Reading.{WasRead-done, WasRead-invalid, WasRead-refused, refusal}
 use Rattle.dmix_c.proofs.ReaderUnstopped.{read-unstopped}
-use Rattle.dmix_c.proofs.Refused.{passed-on, refusal-of_err, refusal-of_ok}
+use Rattle.pcm_stream.specs.RefusalLaws.{passed-on, refusal-of_err, refusal-of_ok}
 use Rattle.dmix_c.proofs.recording.Recording.readi.Goals as goal
 
 pub returns-in_err-admit : goal.returns-in_err-admit

@@ -10,6 +10,10 @@ returns c =
       hw_wraps = c.at.ensures.hw ∙ c.wrap_count-hw.ensures ∙ ap (λ (b : ℕ). c.hw.result % b) same;
       appl_wraps = c.at.ensures.appl ∙ c.wrap_count-appl.ensures ∙ ap (λ (b : ℕ). stream.stretch.written % b) same;
     } in
-    let near : AreNear c.hw.result stream.stretch.written = record { above = omega (arith, c.hw.ensures, c.requires.near); below = omega (arith, c.hw.ensures, c.requires.fits, c.requires.buffer_most) } in
-    let counts : c.avail_playback.result ≡ c.hw.result + c.at.result.size - stream.stretch.written = c.avail_playback.ensures.counts c.hw.result stream.stretch.written stand near (omega (arith, c.hw.ensures, c.at.ensures.size, c.requires.fits)) in
+    let near : AreNear c.hw.result stream.stretch.written = record {
+      above = omega (arith, c.hw.ensures, c.requires.near);
+      below = omega (arith, c.hw.ensures, c.requires.fits, c.requires.buffer_most);
+    } in
+    let counts : c.avail_playback.result ≡ c.hw.result + c.at.result.size - stream.stretch.written = c.avail_playback.ensures.counts c.hw.result
+    stream.stretch.written stand near (omega (arith, c.hw.ensures, c.at.ensures.size, c.requires.fits)) in
     omega (arith, counts, c.hw.ensures, c.at.ensures.size)

@@ -1,83 +1,87 @@
-use Rattle.std.proofs.Common.{◌≡◌, ◌∙◌, ℕ, refl, sym, subst}
-use Rattle.std.specs.Prelude.{None, Some, true}
+use Rattle.std.proofs.Common.{◌≡◌, ◌∙◌, ℕ, ap, refl, subst, sym}
+use Rattle.std.specs.Prelude.{Err, Ok, false, true}
+use Rattle.snd_base.specs.declared.errors.PcmError.TheVariants.{Stopped}
+use Rattle.mix_core.specs.declared.gate.Gate as gates
 use Rattle.pcm_states.specs.declared.calls.Call.TheVariants as call
-use Rattle.pcm_stream.specs.declared.direction.Direction.TheVariants.{Capture}
-use Rattle.pcm_stream.specs.Status.{refusal_of}
+use Rattle.snoop_core.specs.declared.port.SnoopPort as snoopport
 use Rattle.dsnoop_client.specs.declared.stream.CaptureStream.{CaptureStream}
-use Rattle.dsnoop_client.specs.View.{CanUse, is_running}
-use Rattle.dsnoop_client.proofs.Loading.{admitted-ok, counts-by, none-refused}
-use Rattle.dsnoop_client.proofs.Refusing.{Keeps-refused, Keeps-still, OnOk-of, not-admitted, not-both, not-refused, refused-answer, refused-takes, running-by}
-use Rattle.course.specs.AtSnoopPort.{TakesAtSnoop}
-use Rattle.dsnoop_client.specs.Causes.{Explains}
-use Rattle.dsnoop_client.specs.Course.{if_admitted, avail_course, syncs}
+use Rattle.dsnoop_client.specs.CallRelations.{AnswersAvail}
+use Rattle.dsnoop_client.specs.Calls.{Answered, with_avail}
+use Rattle.dsnoop_client.specs.Course.{syncs}
+use Rattle.dsnoop_client.specs.Port.{Keeps}
+use Rattle.dsnoop_client.specs.View.{is_running}
+use Rattle.dsnoop_client.proofs.CallLaws.{admitted-by, admitted-call, both, refused-by, refused-call, resting-call, sound-seen, usable-inside}
 use Rattle.dsnoop_client.proofs.Explaining.{why-avail}
+use Rattle.dsnoop_client.proofs.Loading.{counts-by}
+use Rattle.dsnoop_client.proofs.Refusing.{OnOk-of, not-both, running-by}
 use Rattle.dsnoop_client.proofs.reader.Reader.avail_update.Goals as goal
 
-pub returns-in_err-admit-clause-takes : goal.returns-in_err-admit-clause-takes
-returns-in_err-admit-clause-takes g c =
-    rw (← c.self.view_is) (refused-takes g.P.SnoopPort g.G.Gate (c.args.port.now, c.args.gate.now) c.self.inside.stream call.Sync _ c.in_err-admit.field-0.0 c.admit.result c.from_residual.result c.admit.ensures.answer c.in_err-admit.was c.from_residual.ensures.1)
+module _ {S T : Type 0} (P : snoopport.Ghosts S) (G : gates.Ghosts T) where
+  -- what a sync keeps, it keeps with a number in its answer
+  Keeps-avail : (s t : S × T) (c : CaptureStream) (a : Answered (Unit {0})) → Keeps P G s t c a.0 a.1 → Keeps P G s t c (with_avail a).0 (with_avail a).1
+  Keeps-avail s t c (d, Ok done) k = record {
+    sound = k.sound;
+    port = k.port;
+    same_ring = k.same_ring;
+    same_setup = k.same_setup;
+    stopped = (λ h. cc, λ h. let no = k.stopped.1 h in cc);
+    told = k.told;
+  }
+  Keeps-avail s t c (d, Err e) k = record {
+    sound = k.sound;
+    port = k.port;
+    same_ring = k.same_ring;
+    same_setup = k.same_setup;
+    stopped = (λ h. let same : e ≡ Stopped = cc in k.stopped.0 (ap Err same), λ h. let is = k.stopped.1 h in let same : e ≡ Stopped = cc in ap Err same);
+    told = k.told;
+  }
 
-pub returns-in_err-admit-clause-refused : goal.returns-in_err-admit-clause-refused
-returns-in_err-admit-clause-refused g c e is = (
-  refused-answer c.self.inside.stream call.Sync c.admit.result c.in_err-admit.field-0.0 e c.from_residual.result c.admit.ensures.answer c.in_err-admit.was c.from_residual.ensures.1
-      (subst (λ (v : CaptureStream). refusal_of Capture v.status call.Sync ≡ Some e) (sym c.self.view_is) is),
-  refl,
-  refl,
-  refl,
-)
+pub returns-in_err-admit : goal.returns-in_err-admit
+returns-in_err-admit g c =
+    let inside = c.self.inside.stream in
+    refused-call g.P.SnoopPort g.G.Gate (both c.args.port.now c.args.gate.now) c.args.self.now call.Sync _ _ c.from_residual.result
+    (refused-by inside c.args.self.now call.Sync c.admit.result c.in_err-admit.field-0.0 c.from_residual.result c.self.view_is c.admit.ensures.answer
+    c.in_err-admit.was c.from_residual.ensures.1)
+    (sound-seen inside c.args.self.now c.self.view_is c.self.invariant.0) c.requires
 
-pub returns-in_err-admit-clause-keeps : goal.returns-in_err-admit-clause-keeps
-returns-in_err-admit-clause-keeps g c =
-    rw (← c.self.view_is) (Keeps-refused g.P.SnoopPort g.G.Gate (c.args.port.now, c.args.gate.now) c.self.inside.stream call.Sync c.in_err-admit.field-0.0 c.admit.result c.from_residual.result c.self.invariant.0
-    (subst (λ (v : CaptureStream). CanUse v (g.P.SnoopPort.view c.args.port.now)) (sym c.self.view_is) c.requires) c.admit.ensures.answer c.in_err-admit.was c.from_residual.ensures.1)
+pub returns-then-not-is_running : goal.returns-then-not-is_running
+returns-then-not-is_running g c =
+    let stream = c.self.inside.stream in
+    let rests : is_running stream.status.state ≡ false = sym c.is_running.ensures ∙ c.if-not-is_running.true in
+    let admitted = admitted-by stream call.Sync c.admit.result c.admit.ensures.answer c.in_ok-admit.was in
+    rw (← c.self.view_is) (resting-call g.P.SnoopPort g.G.Gate (both c.args.port.now c.args.gate.now) stream call.Sync _ _ 0 admitted
+    (rw rests (record { there = refl; result = refl })) c.self.invariant.0 (usable-inside stream c.args.self.now _ c.self.view_is c.requires)
+    (OnOk-of c.admit.result _ c.in_ok-admit.was c.admit.ensures.unstopped)
+    (λ runs. absurd (not-both stream.status.state rests runs)))
 
-pub returns-in_err-admit-clause-causes : goal.returns-in_err-admit-clause-causes
-returns-in_err-admit-clause-causes g c admitted runs =
-    absurd (not-admitted c.self.inside.stream call.Sync c.admit.result c.in_err-admit.field-0.0 c.admit.ensures.answer c.in_err-admit.was
-    (subst (λ (v : CaptureStream). refusal_of Capture v.status call.Sync ≡ None) (sym c.self.view_is) admitted))
+pub returns : goal.returns
+returns g c =
+    let P = g.P.SnoopPort in
+    let G = g.G.Gate in
+    let stream = c.self.inside.stream in
+    let after = c.sync_call-answer.new.stream in
+    let s = both c.args.port.now c.args.gate.now in
+    let t = both c.sync_call-answer.new.port c.sync_call-answer.new.gate in
+    let runs : is_running stream.status.state ≡ true = sym c.is_running.ensures ∙ c.if-not-is_running.false in
+    let keeps : Keeps P G s t stream after c.with_avail.result =
+    subst (λ (b : Answered ℕ). Keeps P G s t stream b.0 b.1) c.with_avail.ensures (Keeps-avail P G s t stream (after, c.sync_call-answer.result)
+    c.sync_call-answer.ensures.keeps) in
+    let admitted = admitted-by stream call.Sync c.admit.result c.admit.ensures.answer c.in_ok-admit.was in
+    subst (λ (v : CaptureStream). AnswersAvail P G s t v after c.with_avail.result) c.self.view_is
+    (admitted-call P G s t stream after call.Sync _ _ c.with_avail.result admitted
+    (rw runs (counts-by P G s t (syncs stream call.Sync) (after, c.sync_call-answer.result) (after, c.with_avail.result) c.sync_call-answer.ensures.takes
+    c.with_avail.ensures)) keeps
+    (λ running. why-avail P c.args.port.now c.sync_call-answer.new.port stream after c.sync_call-answer.result c.with_avail.result c.with_avail.ensures
+    c.sync_call-answer.ensures.causes))
 
 pub sync_call-answer-requires-clause-sound : goal.sync_call-answer-requires-clause-sound
 sync_call-answer-requires-clause-sound g c = c.self.invariant.0
+
+pub sync_call-answer-requires-clause-running : goal.sync_call-answer-requires-clause-running
+sync_call-answer-requires-clause-running g c = running-by c.self.inside.stream.status.state (sym c.is_running.ensures ∙ c.if-not-is_running.false)
 
 pub sync_call-answer-requires-clause-unstopped : goal.sync_call-answer-requires-clause-unstopped
 sync_call-answer-requires-clause-unstopped g c = OnOk-of c.admit.result _ c.in_ok-admit.was c.admit.ensures.unstopped
 
 pub sync_call-answer-requires-clause-port : goal.sync_call-answer-requires-clause-port
-sync_call-answer-requires-clause-port g c = subst (λ (v : CaptureStream). CanUse v (g.P.SnoopPort.view c.args.port.now)) (sym c.self.view_is) c.requires
-
-pub returns-clause-refused : goal.returns-clause-refused
-returns-clause-refused g c e is =
-    absurd (not-refused c.self.inside.stream call.Sync c.admit.result e c.admit.ensures.answer c.in_ok-admit.was
-    (subst (λ (v : CaptureStream). refusal_of Capture v.status call.Sync ≡ Some e) (sym c.self.view_is) is))
-
-pub returns-then-not-is_running-clause-refused : goal.returns-then-not-is_running-clause-refused
-returns-then-not-is_running-clause-refused g c e is =
-    absurd (not-refused c.self.inside.stream call.Sync c.admit.result e c.admit.ensures.answer c.in_ok-admit.was
-    (subst (λ (v : CaptureStream). refusal_of Capture v.status call.Sync ≡ Some e) (sym c.self.view_is) is))
-
-pub returns-clause-takes : goal.returns-clause-takes
-returns-clause-takes g c =
-    let stream = c.self.inside.stream in
-    let runs : is_running stream.status.state ≡ true = sym c.is_running.ensures ∙ c.if-not-is_running.false in
-    subst (λ (v : CaptureStream). TakesAtSnoop g.P.SnoopPort g.G.Gate (c.args.port.now, c.args.gate.now) (if_admitted v call.Sync (avail_course v)) (c.sync_call-answer.new.port, c.sync_call-answer.new.gate) (c.sync_call-answer.new.stream, c.with_avail.result)) c.self.view_is
-    (admitted-ok g.P.SnoopPort g.G.Gate (c.args.port.now, c.args.gate.now) (c.sync_call-answer.new.port, c.sync_call-answer.new.gate) stream call.Sync (avail_course stream) (c.sync_call-answer.new.stream, c.with_avail.result)
-    (none-refused (refusal_of Capture stream.status call.Sync) c.admit.result c.admit.ensures.answer c.in_ok-admit.was)
-    (rw runs (counts-by g.P.SnoopPort g.G.Gate (c.args.port.now, c.args.gate.now) (c.sync_call-answer.new.port, c.sync_call-answer.new.gate) (syncs stream call.Sync) (c.sync_call-answer.new.stream, c.sync_call-answer.result)
-    (c.sync_call-answer.new.stream, c.with_avail.result) c.sync_call-answer.ensures.takes c.with_avail.ensures)))
-
-pub returns-clause-causes : goal.returns-clause-causes
-returns-clause-causes g c admitted runs =
-    subst (λ (v : CaptureStream). Explains {X = ℕ} g.P.SnoopPort c.args.port.now c.sync_call-answer.new.port v c.sync_call-answer.new.stream c.with_avail.result) c.self.view_is
-    (why-avail g.P.SnoopPort c.args.port.now c.sync_call-answer.new.port c.self.inside.stream c.sync_call-answer.new.stream c.sync_call-answer.result c.with_avail.result c.with_avail.ensures c.sync_call-answer.ensures.causes)
-
-pub returns-then-not-is_running-clause-keeps : goal.returns-then-not-is_running-clause-keeps
-returns-then-not-is_running-clause-keeps g c =
-    rw (← c.self.view_is) (Keeps-still g.P.SnoopPort g.G.Gate (c.args.port.now, c.args.gate.now) c.self.inside.stream 0 c.self.invariant.0
-    (subst (λ (v : CaptureStream). CanUse v (g.P.SnoopPort.view c.args.port.now)) (sym c.self.view_is) c.requires) (OnOk-of c.admit.result _ c.in_ok-admit.was c.admit.ensures.unstopped))
-
-pub returns-then-not-is_running-clause-causes : goal.returns-then-not-is_running-clause-causes
-returns-then-not-is_running-clause-causes g c admitted runs =
-    absurd (not-both c.self.inside.stream.status.state (sym c.is_running.ensures ∙ c.if-not-is_running.true) (subst (λ (v : CaptureStream). is_running v.status.state ≡ true) (sym c.self.view_is) runs))
-
-pub sync_call-answer-requires-clause-running : goal.sync_call-answer-requires-clause-running
-sync_call-answer-requires-clause-running g c = running-by c.self.inside.stream.status.state (sym c.is_running.ensures ∙ c.if-not-is_running.false)
+sync_call-answer-requires-clause-port g c = usable-inside c.self.inside.stream c.args.self.now _ c.self.view_is c.requires

@@ -1,4 +1,4 @@
--- What a test of a call says: that it is refused, or that it isn't.
+-- What the test of a call says: that the call is refused, or that it isn't.
 use Rattle.std.proofs.Common.{◌≡◌, sym, ◌∙◌, ap}
 use Rattle.std.specs.Prelude.{Option, None, Some, Result, Ok, Err, IsErrAnd}
 use Rattle.std.proofs.lemmas.Option.{none-some, same_Some}

@@ -1,0 +1,135 @@
+-- What a call does by its test: one that is refused changes nothing, and one that is admitted takes its course.
+use Rattle.std.proofs.Common.{refl, subst, sym, ◌≡◌}
+use Rattle.std.specs.Prelude.{Err, IsErrAnd, List, None, Ok, Option, Result, Some, ℤ}
+use Rattle.course.specs.AtPort.{TakesAt}
+use Rattle.course.specs.Course.{Course}
+use Rattle.course.specs.Stops.{pass_by}
+use Rattle.mix_core.specs.Port.{PortView}
+use Rattle.mix_core.specs.declared.gate.Gate as gates
+use Rattle.mix_core.specs.declared.gate.Pass.TheVariants.{Go}
+use Rattle.mix_core.specs.declared.port.MixPort as mixport
+use Rattle.pcm_states.specs.declared.calls.Call.{Call}
+use Rattle.pcm_stream.specs.RefusalLaws.{not-both, passed-on, refusal-of_err, refusal-of_ok, same-refusal}
+use Rattle.pcm_stream.specs.Status.{refusal_of, refused_by}
+use Rattle.pcm_stream.specs.declared.direction.Direction.TheVariants.{Playback}
+use Rattle.snd_base.specs.Relations.{Composes}
+use Rattle.snd_base.specs.declared.errors.PcmError.{PcmError}
+use Rattle.dmix_client.proofs.Going.{refused-go}
+use Rattle.dmix_client.proofs.Keeping.{Keeps-none}
+use Rattle.dmix_client.specs.CallRelations.{Calls}
+use Rattle.dmix_client.specs.Calls.{Answered}
+use Rattle.dmix_client.specs.Course.{admitted_by, if_admitted}
+use Rattle.dmix_client.specs.Growth.{AnySamples, Keeps}
+use Rattle.dmix_client.specs.Port.{CanUse}
+use Rattle.dmix_client.specs.View.{ClientView, IsSoundClient}
+use Rattle.dmix_client.specs.declared.stream.PlaybackStream.{PlaybackStream}
+
+-- a port and its gate
+abbrev pub both : {S T : Type 0} → S → T → S × T
+both port gate = (port, gate)
+
+-- what holds of a client inside its type holds of what contracts see of it, and the other way round
+pub sound-seen : (v c : ClientView) → v ≡ c → IsSoundClient v.stream v.ring → IsSoundClient c.stream c.ring
+sound-seen v c is sound = subst (λ (u : ClientView). IsSoundClient u.stream u.ring) is sound
+
+pub usable-inside : (v c : ClientView) (port : PortView) → v ≡ c → CanUse c.stream port → CanUse v.stream port
+usable-inside v c port is usable = subst (λ (u : ClientView). CanUse u.stream port) (sym is) usable
+
+-- the state table refuses a call, which answers the table's error
+pub record Refusal {X : Type 0} (c : ClientView) (call : Call) (answer : Result X PcmError) : Type 0 where
+  pub error : PcmError
+  pub found : refusal_of Playback c.stream.status call ≡ Some error
+  pub answered : answer ≡ Err error
+
+-- its test says so, of the client inside its type
+pub refused-by : {X : Type 0} (v c : ClientView) (call : Call) (test : Result (Unit {0}) PcmError) (error : PcmError) (answer : Result X PcmError)
+    → v ≡ c → test ≡ refused_by (refusal_of Playback v.stream.status call) → test ≡ Err error → IsErrAnd answer (λ e. e ≡ error) → Refusal c call answer
+refused-by v c call test error answer is tested failed answered = record {
+  error = error;
+  found = subst (λ (u : ClientView). refusal_of Playback u.stream.status call ≡ Some error) is
+      (refusal-of_err (refusal_of Playback v.stream.status call) test error tested failed);
+  answered = passed-on answer error answered;
+}
+
+-- or that it admits the call
+pub admitted-by : (c : PlaybackStream) (call : Call) (test : Result (Unit {0}) PcmError) → test ≡ refused_by (refusal_of Playback c.status call) → test ≡ Ok tt
+    → refusal_of Playback c.status call ≡ None
+admitted-by c call test tested passed = refusal-of_ok (refusal_of Playback c.status call) test tested passed
+
+-- a refused call is refused by this error alone, and not admitted
+pub refused-answer : {X : Type 0} (c : ClientView) (call : Call) (answer : Result X PcmError) (e : PcmError) → Refusal c call answer
+    → refusal_of Playback c.stream.status call ≡ Some e → answer ≡ Err e
+refused-answer c call answer e r found =
+    subst (λ (f : PcmError). answer ≡ Err f) (same-refusal (refusal_of Playback c.stream.status call) r.error e r.found found) r.answered
+
+pub never-admitted : {X : Type 0} (c : ClientView) (call : Call) (answer : Result X PcmError) → Refusal c call answer
+    → refusal_of Playback c.stream.status call ≡ None → ⊥
+never-admitted c call answer r admitted = not-both (refusal_of Playback c.stream.status call) r.error r.found admitted
+
+-- an admitted call is refused by none
+pub never-refused : (c : PlaybackStream) (call : Call) (e : PcmError) → refusal_of Playback c.status call ≡ None
+    → refusal_of Playback c.status call ≡ Some e → ⊥
+never-refused c call e admitted found = not-both (refusal_of Playback c.status call) e found admitted
+
+module _ {S T : Type 0} (P : mixport.Ghosts S) (G : gates.Ghosts T) where
+  takes-none : {X : Type 0} (s : S × T) (o : Option PcmError) (c : PlaybackStream) (course : Course (Answered X)) (e : PcmError) (answer : Result X PcmError)
+      → o ≡ Some e → answer ≡ Err e → TakesAt P G s (admitted_by o c course) s (c, answer)
+  takes-none s None c course e answer found answered = absurd (cc)
+  takes-none s (Some f) c course e (Ok x) found answered = absurd (cc)
+  takes-none s (Some f) c course e (Err x) found answered = record { there = refl; result = cc }
+
+  -- a refused call takes no step, and an admitted one its course
+  pub refused-takes : {X : Type 0} (s : S × T) (c : ClientView) (call : Call) (course : Course (Answered X)) (answer : Result X PcmError)
+      → Refusal c call answer → TakesAt P G s (if_admitted c.stream call course) s (c.stream, answer)
+  refused-takes s c call course answer r = takes-none s (refusal_of Playback c.stream.status call) c.stream course r.error answer r.found r.answered
+
+  pub admitted-takes : {X : Type 0} (s t : S × T) (c : PlaybackStream) (call : Call) (course : Course (Answered X)) (done : Answered X)
+      → refusal_of Playback c.status call ≡ None → TakesAt P G s course t done → TakesAt P G s (if_admitted c call course) t done
+  admitted-takes s t c call course done admitted takes = subst (λ (o : Option PcmError). TakesAt P G s (admitted_by o c course) t done) (sym admitted) takes
+
+  -- a call that is refused, whatever it keeps of a client that stays
+  pub refused-call : {X : Type 0} (s : S × T) (c : ClientView) (call : Call) (course : Course (Answered X)) (Frame Cause : Type 0) (answer : Result X PcmError)
+      → Refusal c call answer → Frame → Calls P G s s c c answer call course Frame Cause
+  refused-call s c call course Frame Cause answer r frame = record {
+    takes = refused-takes s c call course answer r;
+    refused = λ e found. (refused-answer c call answer e r found, refl, refl, refl);
+    ring = refl;
+    keeps = frame;
+    causes = λ admitted. absurd (never-admitted c call answer r admitted);
+  }
+
+  -- a call that is admitted
+  pub admitted-call : {X : Type 0} (s t : S × T) (c d : ClientView) (call : Call) (course : Course (Answered X)) (Frame Cause : Type 0)
+      (answer : Result X PcmError)
+      → refusal_of Playback c.stream.status call ≡ None → TakesAt P G s course t (d.stream, answer) → d.ring ≡ c.ring → Frame → Cause
+      → Calls P G s t c d answer call course Frame Cause
+  admitted-call s t c d call course Frame Cause answer admitted takes ring frame cause = record {
+    takes = admitted-takes s t c.stream call course (d.stream, answer) admitted takes;
+    refused = λ e found. absurd (never-refused c.stream call e admitted found);
+    ring = ring;
+    keeps = frame;
+    causes = λ still. cause;
+  }
+
+module _ {S T : Type 0} (P : mixport.Ghosts S) (G : gates.Ghosts T) (laid_composes : Composes P.laid) (loaded_composes : Composes P.loaded) where
+  -- what a refused call keeps: its refusal is no stop of the gate
+  pub refused-keeps : {X : Type 0} (s : S × T) (c : ClientView) (call : Call) (answer : Result X PcmError) (For : List ℤ → Type 0)
+      → Refusal c call answer → IsSoundClient c.stream c.ring → CanUse c.stream (P.view s.0) → Keeps P G s s c c answer For
+  refused-keeps s c call answer For r sound port =
+      Keeps-none P G laid_composes loaded_composes s c answer For sound port
+      (λ unstopped. rw r.answered (subst (λ (o : Option PcmError). pass_by (refused_by o) ≡ Go) r.found (refused-go c.stream call unstopped)))
+
+  pub refused-keeping : {X : Type 0} (s : S × T) (c : ClientView) (call : Call) (course : Course (Answered X)) (Cause : Type 0) (answer : Result X PcmError)
+      → Refusal c call answer → IsSoundClient c.stream c.ring → CanUse c.stream (P.view s.0)
+      → Calls P G s s c c answer call course (Keeps P G s s c c answer AnySamples) Cause
+  refused-keeping s c call course Cause answer r sound port =
+      refused-call P G s c call course (Keeps P G s s c c answer AnySamples) Cause answer r (refused-keeps s c call answer AnySamples r sound port)
+
+  -- a call that is admitted and does nothing
+  pub resting-call : {X : Type 0} (s : S × T) (c : ClientView) (call : Call) (course : Course (Answered X)) (Cause : Type 0) (answer : Result X PcmError)
+      → refusal_of Playback c.stream.status call ≡ None → TakesAt P G s course s (c.stream, answer) → IsSoundClient c.stream c.ring
+      → CanUse c.stream (P.view s.0)
+      → pass_by answer ≡ Go → Cause → Calls P G s s c c answer call course (Keeps P G s s c c answer AnySamples) Cause
+  resting-call s c call course Cause answer admitted takes sound port went cause =
+      admitted-call P G s s c c call course (Keeps P G s s c c answer AnySamples) Cause answer admitted takes refl
+      (Keeps-none P G laid_composes loaded_composes s c answer AnySamples sound port (λ unstopped. went)) cause

@@ -1,0 +1,112 @@
+-- What a call does by its test: one that is refused changes nothing, and one that is admitted takes its course.
+use Rattle.std.proofs.Common.{refl, subst, sym, ◌≡◌}
+use Rattle.std.specs.Prelude.{Err, IsErrAnd, None, Ok, Option, Result, Some, false}
+use Rattle.course.specs.AtSnoopPort.{TakesAtSnoop}
+use Rattle.course.specs.Course.{Course}
+use Rattle.mix_core.specs.declared.gate.Gate as gates
+use Rattle.pcm_states.specs.declared.calls.Call.{Call}
+use Rattle.pcm_stream.specs.RefusalLaws.{not-both, passed-on, refusal-of_err, refusal-of_ok, same-refusal}
+use Rattle.pcm_stream.specs.Status.{refusal_of, refused_by}
+use Rattle.pcm_stream.specs.declared.direction.Direction.TheVariants.{Capture}
+use Rattle.snd_base.specs.declared.errors.PcmError.{PcmError}
+use Rattle.snoop_core.specs.Port.{SnoopView}
+use Rattle.snoop_core.specs.declared.port.SnoopPort as snoopport
+use Rattle.dsnoop_client.proofs.Refusing.{Keeps-refused, Keeps-still}
+use Rattle.dsnoop_client.specs.CallRelations.{Calls}
+use Rattle.dsnoop_client.specs.Calls.{Answered}
+use Rattle.dsnoop_client.specs.Course.{admitted_by, if_admitted}
+use Rattle.dsnoop_client.specs.Port.{Keeps}
+use Rattle.dsnoop_client.specs.View.{CanUse, IsSoundReader}
+use Rattle.dsnoop_client.specs.declared.stream.CaptureStream.{CaptureStream}
+
+-- a port and its gate
+abbrev pub both : {S T : Type 0} → S → T → S × T
+both port gate = (port, gate)
+
+-- what holds of a reader inside its type holds of what contracts see of it, and the other way round
+pub sound-seen : (v c : CaptureStream) → v ≡ c → IsSoundReader v → IsSoundReader c
+sound-seen v c is sound = subst (λ (u : CaptureStream). IsSoundReader u) is sound
+
+pub usable-inside : (v c : CaptureStream) (port : SnoopView) → v ≡ c → CanUse c port → CanUse v port
+usable-inside v c port is usable = subst (λ (u : CaptureStream). CanUse u port) (sym is) usable
+
+-- the state table refuses a call, which answers the table's error
+pub record Refusal {X : Type 0} (c : CaptureStream) (call : Call) (answer : Result X PcmError) : Type 0 where
+  pub error : PcmError
+  pub found : refusal_of Capture c.status call ≡ Some error
+  pub answered : answer ≡ Err error
+
+-- its test says so, of the reader inside its type
+pub refused-by : {X : Type 0} (v c : CaptureStream) (call : Call) (test : Result (Unit {0}) PcmError) (error : PcmError) (answer : Result X PcmError)
+    → v ≡ c → test ≡ refused_by (refusal_of Capture v.status call) → test ≡ Err error → IsErrAnd answer (λ e. e ≡ error) → Refusal c call answer
+refused-by v c call test error answer is tested failed answered = record {
+  error = error;
+  found = subst (λ (u : CaptureStream). refusal_of Capture u.status call ≡ Some error) is (refusal-of_err (refusal_of Capture v.status call)
+      test error tested failed);
+  answered = passed-on answer error answered;
+}
+
+-- or that it admits the call
+pub admitted-by : (c : CaptureStream) (call : Call) (test : Result (Unit {0}) PcmError) → test ≡ refused_by (refusal_of Capture c.status call) → test ≡ Ok tt
+    → refusal_of Capture c.status call ≡ None
+admitted-by c call test tested passed = refusal-of_ok (refusal_of Capture c.status call) test tested passed
+
+-- a refused call is refused by this error alone, and not admitted
+pub refused-answer : {X : Type 0} (c : CaptureStream) (call : Call) (answer : Result X PcmError) (e : PcmError) → Refusal c call answer
+    → refusal_of Capture c.status call ≡ Some e → answer ≡ Err e
+refused-answer c call answer e r found =
+    subst (λ (f : PcmError). answer ≡ Err f) (same-refusal (refusal_of Capture c.status call) r.error e r.found found) r.answered
+
+pub never-admitted : {X : Type 0} (c : CaptureStream) (call : Call) (answer : Result X PcmError) → Refusal c call answer
+    → refusal_of Capture c.status call ≡ None → ⊥
+never-admitted c call answer r admitted = not-both (refusal_of Capture c.status call) r.error r.found admitted
+
+-- an admitted call is refused by none
+pub never-refused : (c : CaptureStream) (call : Call) (e : PcmError) → refusal_of Capture c.status call ≡ None → refusal_of Capture c.status call ≡ Some e → ⊥
+never-refused c call e admitted found = not-both (refusal_of Capture c.status call) e found admitted
+
+module _ {S T : Type 0} (P : snoopport.Ghosts S) (G : gates.Ghosts T) where
+  takes-none : {X : Type 0} (s : S × T) (o : Option PcmError) (c : CaptureStream) (course : Course (Answered X)) (e : PcmError) (answer : Result X PcmError)
+      → o ≡ Some e → answer ≡ Err e → TakesAtSnoop P G s (admitted_by o c course) s (c, answer)
+  takes-none s None c course e answer found answered = absurd (cc)
+  takes-none s (Some f) c course e (Ok x) found answered = absurd (cc)
+  takes-none s (Some f) c course e (Err x) found answered = record { there = refl; result = cc }
+
+  -- a refused call takes no step, and an admitted one its course
+  pub refused-takes : {X : Type 0} (s : S × T) (c : CaptureStream) (call : Call) (course : Course (Answered X)) (answer : Result X PcmError)
+      → Refusal c call answer → TakesAtSnoop P G s (if_admitted c call course) s (c, answer)
+  refused-takes s c call course answer r = takes-none s (refusal_of Capture c.status call) c course r.error answer r.found r.answered
+
+  pub admitted-takes : {X : Type 0} (s t : S × T) (c : CaptureStream) (call : Call) (course : Course (Answered X)) (done : Answered X)
+      → refusal_of Capture c.status call ≡ None → TakesAtSnoop P G s course t done → TakesAtSnoop P G s (if_admitted c call course) t done
+  admitted-takes s t c call course done admitted takes =
+      subst (λ (o : Option PcmError). TakesAtSnoop P G s (admitted_by o c course) t done) (sym admitted) takes
+
+  -- a call that is refused
+  pub refused-call : {X : Type 0} (s : S × T) (c : CaptureStream) (call : Call) (course : Course (Answered X)) (Cause : Type 0) (answer : Result X PcmError)
+      → Refusal c call answer → IsSoundReader c → CanUse c (P.view s.0) → Calls P G s s c c answer call course Cause
+  refused-call s c call course Cause answer r sound port = record {
+    takes = refused-takes s c call course answer r;
+    refused = λ e found. (refused-answer c call answer e r found, refl, refl, refl);
+    keeps = Keeps-refused P G s c call r.error answer sound port r.found r.answered;
+    causes = λ admitted. absurd (never-admitted c call answer r admitted);
+  }
+
+  -- a call that is admitted
+  pub admitted-call : {X : Type 0} (s t : S × T) (c d : CaptureStream) (call : Call) (course : Course (Answered X)) (Cause : Type 0)
+      (answer : Result X PcmError)
+      → refusal_of Capture c.status call ≡ None → TakesAtSnoop P G s course t (d, answer) → Keeps P G s t c d answer → Cause
+      → Calls P G s t c d answer call course Cause
+  admitted-call s t c d call course Cause answer admitted takes keeps cause = record {
+    takes = admitted-takes s t c call course (d, answer) admitted takes;
+    refused = λ e found. absurd (never-refused c call e admitted found);
+    keeps = keeps;
+    causes = λ still. cause;
+  }
+
+  -- a call that is admitted and does nothing
+  pub resting-call : {X : Type 0} (s : S × T) (c : CaptureStream) (call : Call) (course : Course (Answered X)) (Cause : Type 0) (x : X)
+      → refusal_of Capture c.status call ≡ None → TakesAtSnoop P G s course s (let y : Answered X = (c, Ok x) in y) → IsSoundReader c → CanUse c (P.view s.0)
+      → c.status.stopped ≡ false → Cause → Calls P G s s c c (let r : Result X PcmError = Ok x in r) call course Cause
+  resting-call s c call course Cause x admitted takes sound port unstopped cause =
+      admitted-call s s c c call course Cause (Ok x) admitted takes (Keeps-still P G s c x sound port unstopped) cause
