@@ -20,11 +20,11 @@ use Rattle.lab_lines.specs.Limits.{IsReaderLine}
 use Rattle.lab_output.specs.declared.file.OutputFile.{OutputFile}
 use Rattle.lab_output.specs.Files.{played_file, recorded_file}
 use Rattle.lab_report.specs.Reading.{report_in_text}
+use Rattle.lab_shelf.specs.declared.traits.Shelf as shelves
 use Rattle.lab_shelf.specs.Files.{Files, bytes_under}
-use Rattle.lab_stop.specs.declared.stop.Stop.{Stop}
 use Rattle.lab_stop.specs.Causes.{Cause, bytes_or_cause, first_bytes, ◌>>=◌}
-use Rattle.lab_stop.specs.Passing.{IsCauseOf-passed, Misses-passed}
-use Rattle.lab_stop.specs.Stops.{AnswersOrStops, IsCauseOf, Misses, TestFaults}
+use Rattle.lab_stop.specs.Effects.{IsSameShelf}
+use Rattle.lab_stop.specs.Stops.{AnswersOrStops, Misses, TestFaults}
 use Rattle.wav_io.specs.Sound.{Sound}
 use Rattle.lab_commands.specs.Checking.{IsReportIn, as_tested, check_in, is_same_in, outputs_in, passed, played_in, recording_in, recordings_in, same_in, same_or_line, tested_in}
 
@@ -36,22 +36,11 @@ pub same_in-compared : (m : Files) (line : ℕ) (file : OutputFile) (samples : L
 unfolding same_in
 same_in-compared m line file samples same is = ap (λ (r : Result Bool Cause). r >>= λ s. same_or_line line s) is
 
-same_in-missing : (m : Files) (line : ℕ) (file : OutputFile) (samples : List ℤ) (e : Cause) → is_same_in m file samples ≡ Err e
+-- a file that is missing fails its test so
+pub same_in-missing : (m : Files) (line : ℕ) (file : OutputFile) (samples : List ℤ) (e : Cause) → is_same_in m file samples ≡ Err e
     → same_in m line file samples ≡ Err e
 unfolding same_in
 same_in-missing m line file samples e is = ap (λ (r : Result Bool Cause). r >>= λ s. same_or_line line s) is
-
--- a stop at the file is one at its test
-pub same_in-stop : (files : Option Files) (line : ℕ) (file : OutputFile) (samples : List ℤ) (stop : Stop)
-    → ForSome files (λ m. IsCauseOf stop (is_same_in m file samples)) → ForSome files (λ m. IsCauseOf stop (same_in m line file samples))
-same_in-stop files line file samples stop is m told =
-    IsCauseOf-passed stop (is_same_in m file samples) (same_in m line file samples) (same_in-missing m line file samples) (is m told)
-
-pub same_in-misses : (files : Option Files) (line : ℕ) (file : OutputFile) (samples : List ℤ) (stop : Stop)
-    → ForSome files (λ m. Misses {X = Unit {0}} (Err stop) (is_same_in m file samples))
-    → ForSome files (λ m. Misses {X = Unit {0}} (Err stop) (same_in m line file samples))
-same_in-misses files line file samples stop is m told =
-    Misses-passed stop (is_same_in m file samples) (same_in m line file samples) (same_in-missing m line file samples) (is m told)
 
 -- the test of a file is that of what was played, where it is compared with that
 pub played_in-of : (m : Files) (input : RunInput) (out : List ℕ) (report : Report) (line : ℕ) (file : OutputFile) (samples : List ℤ)
@@ -224,14 +213,11 @@ unfolding recordings_in
 recordings_in-none m input out report number = refl
 
 -- what a loop over the readers keeps: the tests of all are those of the ones that are left
-pub record Reviewing (files now : Option Files) (input : RunInput) (out : List ℕ) (report : Report) (readers : List ReaderLine) (index number : ℕ)
-    (faults faults_now writes writes_now : ℕ) (before after : Type 0) : Type 0 where
-  pub so_far : ForSome files (λ m. recordings_in m input out report 0 readers ≡ recordings_in m input out report number (drop index readers))
+pub record Reviewing {S : Type 0} (H : shelves.Ghosts S) (old now : S) (input : RunInput) (out : List ℕ) (report : Report)
+    (readers : List ReaderLine) (index number : ℕ) : Type 0 where
+  pub so_far : ForSome (H.files old) (λ m. recordings_in m input out report 0 readers ≡ recordings_in m input out report number (drop index readers))
   pub counted : number ≡ index
-  pub same_files : now ≡ files
-  pub no_fault : faults_now ≡ faults
-  pub no_write_fault : writes_now ≡ writes
-  pub reliable : before → after
+  pub same : IsSameShelf H old now
 
 -- the next reader's test, and then those of the others
 pub recordings_in-next : (m : Files) (input : RunInput) (out : List ℕ) (report : Report) (readers : List ReaderLine) (index number : ℕ)

@@ -11,12 +11,11 @@ use Rattle.std.proofs.lemmas.Slice.Eq.{bytes_eq-Decides}
 use Rattle.lab_check.specs.Pieces.{IsSameUpTo}
 use Rattle.lab_output.specs.declared.file.OutputFile.{OutputFile}
 use Rattle.lab_output.specs.Files.{finished_file}
+use Rattle.lab_shelf.specs.declared.traits.Shelf as shelves
 use Rattle.lab_shelf.specs.Files.{Files, bytes_under}
-use Rattle.lab_stop.specs.declared.stop.Stop.{Stop}
 use Rattle.lab_stop.specs.Causes.{Cause, bytes_or_cause, first_bytes, fetched_from, ◌>>=◌}
-use Rattle.lab_stop.specs.Passing.{IsCauseOf-passed, Misses-passed}
+use Rattle.lab_stop.specs.Effects.{IsSameShelf}
 use Rattle.lab_stop.specs.Pieces.{refused_alike}
-use Rattle.lab_stop.specs.Stops.{IsCauseOf, Misses}
 use Rattle.lab_commands.specs.Checking.{is_same_in}
 
 -- what the law of pieces says of all files
@@ -45,15 +44,12 @@ pub record IsEven (n : ℕ) : Type 0 where
   pub twice : n ≡ half * 2
 
 -- what a loop over the pieces keeps: the place is even, unless it is past the end that the file must have
-pub record Comparing (files now : Option Files) (name expected : List ℕ) (size from : ℕ) (same last : Bool)
-    (faults faults_now writes writes_now : ℕ) (before after : Type 0) : Type 0 where
-  pub so_far : ForSome files (λ m. IsComparing m name expected from same last)
+pub record Comparing {S : Type 0} (H : shelves.Ghosts S) (old now : S) (name expected : List ℕ) (size from : ℕ)
+    (same last : Bool) : Type 0 where
+  pub so_far : ForSome (H.files old) (λ m. IsComparing m name expected from same last)
   pub even : from ≤ size → IsEven from
   pub within : from ≤ size + 1
-  pub same_files : now ≡ files
-  pub no_fault : faults_now ≡ faults
-  pub no_write_fault : writes_now ≡ writes
-  pub reliable : before → after
+  pub shelf : IsSameShelf H old now
 
 -- ---- places
 
@@ -204,25 +200,11 @@ is_same_in-all files file samples size from same last so_far is enough within m 
 
 -- ---- stops
 
-is_same_in-missing : (m : Files) (file : OutputFile) (samples : List ℤ) (from most : ℕ) (e : Cause) → fetched_from m file.name from most ≡ Err e
-    → is_same_in m file samples ≡ Err e
+-- a file that is missing at a piece is missing
+pub is_same_in-missing : (m : Files) (file : OutputFile) (samples : List ℤ) (spelled : List ℕ) (from most : ℕ) (e : Cause) → spelled ≡ file.name
+    → fetched_from m spelled from most ≡ Err e → is_same_in m file samples ≡ Err e
 unfolding is_same_in
-is_same_in-missing m file samples from most e is =
+is_same_in-missing m file samples spelled from most e named is =
     ap (λ (r : Result (List ℕ) Cause). r >>= λ bytes. Ok (bytes_eq bytes (finished_file file samples)))
-    (refused_alike m file.name from most 0 (length (finished_file file samples) + 1) e is)
-
--- a stop at a piece is one at the file
-pub is_same_in-stop : (files now : Option Files) (file : OutputFile) (samples : List ℤ) (spelled : List ℕ) (from most : ℕ) (stop : Stop) → now ≡ files
-    → spelled ≡ file.name → ForSome now (λ m. IsCauseOf stop (fetched_from m spelled from most))
-    → ForSome files (λ m. IsCauseOf stop (is_same_in m file samples))
-is_same_in-stop files now file samples spelled from most stop same named is m told =
-    IsCauseOf-passed stop (fetched_from m file.name from most) (is_same_in m file samples) (is_same_in-missing m file samples from most)
-    (subst (λ (n : List ℕ). IsCauseOf stop (fetched_from m n from most)) named (is m (same ∙ told)))
-
--- over reliable files a file that is missing at a piece is missing
-pub is_same_in-misses : (files now : Option Files) (file : OutputFile) (samples : List ℤ) (spelled : List ℕ) (from most : ℕ) (stop : Stop) → now ≡ files
-    → spelled ≡ file.name → ForSome now (λ m. Misses {X = Unit {0}} (Err stop) (fetched_from m spelled from most))
-    → ForSome files (λ m. Misses {X = Unit {0}} (Err stop) (is_same_in m file samples))
-is_same_in-misses files now file samples spelled from most stop same named is m told =
-    Misses-passed stop (fetched_from m file.name from most) (is_same_in m file samples) (is_same_in-missing m file samples from most)
-    (subst (λ (n : List ℕ). Misses {X = Unit {0}} (Err stop) (fetched_from m n from most)) named (is m (same ∙ told)))
+    (refused_alike m file.name from most 0 (length (finished_file file samples) + 1) e
+    (subst (λ (n : List ℕ). fetched_from m n from most ≡ Err e) named is))

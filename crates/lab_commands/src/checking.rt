@@ -1,10 +1,9 @@
 //! What the command `check` does: a report and the files of a run are tested against its script.
 ghost use Rattle.std.specs.Prelude.{◌≡◌, IfOk, OnOk, Some, slice_get};
-ghost use Rattle.std.specs.Option.{ForSome};
 ghost use Rattle.lab_check.specs.Defects.{HasTestedRuns, HasTestedSegments};
 ghost use Rattle.lab_input.specs.Read.{input_of};
 ghost use Rattle.lab_lines.specs.Limits.{IsScript};
-ghost use Rattle.lab_stop.specs.Stops.{AnswersOrStops, Misses, TestFaults};
+ghost use Rattle.lab_stop.specs.Effects.{AnswersFrom, OnlyTests};
 ghost use Rattle.lab_commands.specs.Checking.{IsCheckedRun, IsReportIn, check_in, outputs_in, passed, played_in, recording_in, recordings_in, tested_in};
 
 use crate::comparison::check_file;
@@ -42,16 +41,10 @@ fn load_report<S: Shelf>(
     name: &[u8],
 ) -> Result<Report, Stop>
     requires script { IsScript input.now.script }
-    ensures report { ForSome (S.files shelf.old)
-        (λ files. AnswersOrStops (λ report. report) result
-        (tested_in files (input_of input.now) name.now)) }
+    ensures report { AnswersFrom S.Shelf (λ report. report) result shelf.old
+        (λ files. tested_in files (input_of input.now) name.now) }
     ensures held { IfOk result (IsReportIn (S.files shelf.old) (input_of input.now) name.now) }
-    ensures files { S.files shelf.new ≡ S.files shelf.old }
-    ensures faults { TestFaults result (S.fetch_faults shelf.old) (S.fetch_faults shelf.new) }
-    ensures write_faults { S.write_faults shelf.new ≡ S.write_faults shelf.old }
-    ensures reliable { S.is_reliable shelf.old → S.is_reliable shelf.new }
-    ensures missing { S.is_reliable shelf.old → ForSome (S.files shelf.old)
-        (λ files. Misses result (tested_in files (input_of input.now) name.now)) }
+    ensures only_tests { OnlyTests S.Shelf result shelf.old shelf.new }
 {
     let text = fetch_most(shelf, alloc, name, MOST_FETCHED)?;
     passed(tested_report(alloc, &input.script, &input.wavs, &text))
@@ -67,15 +60,9 @@ fn check_played<S: Shelf>(
 ) -> Result<(), Stop>
     requires script { IsScript input.now.script }
     requires tested { HasTestedSegments input.now.script input.now.wavs.items report.now }
-    ensures played { ForSome (S.files shelf.old)
-        (λ files. AnswersOrStops (λ done. done) result
-        (played_in files (input_of input.now) out.now report.now)) }
-    ensures files { S.files shelf.new ≡ S.files shelf.old }
-    ensures faults { TestFaults result (S.fetch_faults shelf.old) (S.fetch_faults shelf.new) }
-    ensures write_faults { S.write_faults shelf.new ≡ S.write_faults shelf.old }
-    ensures reliable { S.is_reliable shelf.old → S.is_reliable shelf.new }
-    ensures missing { S.is_reliable shelf.old → ForSome (S.files shelf.old)
-        (λ files. Misses result (played_in files (input_of input.now) out.now report.now)) }
+    ensures played { AnswersFrom S.Shelf (λ done. done) result shelf.old
+        (λ files. played_in files (input_of input.now) out.now report.now) }
+    ensures only_tests { OnlyTests S.Shelf result shelf.old shelf.new }
 {
     let file = played_file(alloc, &input.script.card, out)?;
     let samples = played_samples(alloc, &input.script, &input.wavs, report)?;
@@ -95,16 +82,9 @@ fn check_recording<S: Shelf>(
     requires script { IsScript input.now.script }
     requires tested { HasTestedRuns input.now.script report.now }
     requires reader { slice_get input.now.script.readers number ≡ Some reader.now }
-    ensures recorded { ForSome (S.files shelf.old)
-        (λ files. AnswersOrStops (λ done. done) result
-        (recording_in files (input_of input.now) out.now report.now number reader.now)) }
-    ensures files { S.files shelf.new ≡ S.files shelf.old }
-    ensures faults { TestFaults result (S.fetch_faults shelf.old) (S.fetch_faults shelf.new) }
-    ensures write_faults { S.write_faults shelf.new ≡ S.write_faults shelf.old }
-    ensures reliable { S.is_reliable shelf.old → S.is_reliable shelf.new }
-    ensures missing { S.is_reliable shelf.old → ForSome (S.files shelf.old)
-        (λ files. Misses result
-        (recording_in files (input_of input.now) out.now report.now number reader.now)) }
+    ensures recorded { AnswersFrom S.Shelf (λ done. done) result shelf.old
+        (λ files. recording_in files (input_of input.now) out.now report.now number reader.now) }
+    ensures only_tests { OnlyTests S.Shelf result shelf.old shelf.new }
 {
     let file = recorded_file(alloc, &input.script.card, out, reader)?;
     let capture = input.capture.as_ref();
@@ -122,16 +102,10 @@ fn check_recordings<S: Shelf>(
 ) -> Result<(), Stop>
     requires script { IsScript input.now.script }
     requires tested { HasTestedRuns input.now.script report.now }
-    ensures recorded { ForSome (S.files shelf.old)
-        (λ files. AnswersOrStops (λ done. done) result
-        (recordings_in files (input_of input.now) out.now report.now 0 input.now.script.readers)) }
-    ensures files { S.files shelf.new ≡ S.files shelf.old }
-    ensures faults { TestFaults result (S.fetch_faults shelf.old) (S.fetch_faults shelf.new) }
-    ensures write_faults { S.write_faults shelf.new ≡ S.write_faults shelf.old }
-    ensures reliable { S.is_reliable shelf.old → S.is_reliable shelf.new }
-    ensures missing { S.is_reliable shelf.old → ForSome (S.files shelf.old)
-        (λ files. Misses result
-        (recordings_in files (input_of input.now) out.now report.now 0 input.now.script.readers)) }
+    ensures recorded { AnswersFrom S.Shelf (λ done. done) result shelf.old
+        (λ files.
+        recordings_in files (input_of input.now) out.now report.now 0 input.now.script.readers) }
+    ensures only_tests { OnlyTests S.Shelf result shelf.old shelf.new }
 {
     let mut number = 0;
     for reader in input.script.readers.as_slice() {
@@ -152,15 +126,9 @@ fn check_outputs<S: Shelf>(
     requires script { IsScript input.now.script }
     requires segments { HasTestedSegments input.now.script input.now.wavs.items report.now }
     requires runs { HasTestedRuns input.now.script report.now }
-    ensures outputs { ForSome (S.files shelf.old)
-        (λ files. AnswersOrStops (λ done. done) result
-        (outputs_in files (input_of input.now) out.now report.now)) }
-    ensures files { S.files shelf.new ≡ S.files shelf.old }
-    ensures faults { TestFaults result (S.fetch_faults shelf.old) (S.fetch_faults shelf.new) }
-    ensures write_faults { S.write_faults shelf.new ≡ S.write_faults shelf.old }
-    ensures reliable { S.is_reliable shelf.old → S.is_reliable shelf.new }
-    ensures missing { S.is_reliable shelf.old → ForSome (S.files shelf.old)
-        (λ files. Misses result (outputs_in files (input_of input.now) out.now report.now)) }
+    ensures outputs { AnswersFrom S.Shelf (λ done. done) result shelf.old
+        (λ files. outputs_in files (input_of input.now) out.now report.now) }
+    ensures only_tests { OnlyTests S.Shelf result shelf.old shelf.new }
 {
     check_played(shelf, alloc, input, report, out)?;
     check_recordings(shelf, alloc, input, report, out)
@@ -180,17 +148,11 @@ pub(crate) fn check_run<S: Shelf>(
     report: &[u8],
     out: &[u8],
 ) -> Result<(), Stop>
-    ensures check { ForSome (S.files shelf.old)
-        (λ files. AnswersOrStops (λ done. done) result
-        (check_in files script.now report.now out.now)) }
+    ensures check { AnswersFrom S.Shelf (λ done. done) result shelf.old
+        (λ files. check_in files script.now report.now out.now) }
     ensures done { OnOk result
         (IsCheckedRun (S.files shelf.old) script.now report.now out.now) }
-    ensures files { S.files shelf.new ≡ S.files shelf.old }
-    ensures faults { TestFaults result (S.fetch_faults shelf.old) (S.fetch_faults shelf.new) }
-    ensures write_faults { S.write_faults shelf.new ≡ S.write_faults shelf.old }
-    ensures reliable { S.is_reliable shelf.old → S.is_reliable shelf.new }
-    ensures missing { S.is_reliable shelf.old → ForSome (S.files shelf.old)
-        (λ files. Misses result (check_in files script.now report.now out.now)) }
+    ensures only_tests { OnlyTests S.Shelf result shelf.old shelf.new }
 {
     checked_runs_show();
     pieces_tell_files();

@@ -1,9 +1,8 @@
 //! Whether a file of the shelf is the canonical WAV file of some samples, piece by piece.
 ghost use Rattle.std.specs.Prelude.{◌≡◌, ◌+◌, ◌*◌, ◌<◌, ◌^◌, ◌&&◌, length};
-ghost use Rattle.std.specs.Option.{ForSome};
 ghost use Rattle.std.specs.Str.{bytes_eq};
 ghost use Rattle.lab_output.specs.Files.{IsOutputFile};
-ghost use Rattle.lab_stop.specs.Stops.{AnswersOrStops, FetchFaults, Misses, TestFaults};
+ghost use Rattle.lab_stop.specs.Effects.{AnswersFrom, OnlyReads, OnlyTests};
 ghost use Rattle.lab_commands.specs.Checking.{is_same_in, same_in};
 
 use lab_check::{canonical_piece, pieces_tell_files};
@@ -35,14 +34,9 @@ fn is_same_file<S: Shelf>(
 ) -> Result<bool, Stop>
     requires file { IsOutputFile file.now }
     requires size { length samples.now * 2 + 36 < 2 ^ 32 }
-    ensures same { ForSome (S.files shelf.old)
-        (λ files. AnswersOrStops (λ same. same) result (is_same_in files file.now samples.now)) }
-    ensures files { S.files shelf.new ≡ S.files shelf.old }
-    ensures faults { FetchFaults result (S.fetch_faults shelf.old) (S.fetch_faults shelf.new) }
-    ensures write_faults { S.write_faults shelf.new ≡ S.write_faults shelf.old }
-    ensures reliable { S.is_reliable shelf.old → S.is_reliable shelf.new }
-    ensures missing { S.is_reliable shelf.old → ForSome (S.files shelf.old)
-        (λ files. Misses result (is_same_in files file.now samples.now)) }
+    ensures same { AnswersFrom S.Shelf (λ same. same) result shelf.old
+        (λ files. is_same_in files file.now samples.now) }
+    ensures only_reads { OnlyReads S.Shelf result shelf.old shelf.new }
 {
     pieces_tell_files();
     let size = HEAD_BYTES + 2 * samples.len() as u64;
@@ -71,14 +65,9 @@ pub(crate) fn check_file<S: Shelf>(
 ) -> Result<(), Stop>
     requires file { IsOutputFile file.now }
     requires size { length samples.now * 2 + 36 < 2 ^ 32 }
-    ensures same { ForSome (S.files shelf.old)
-        (λ files. AnswersOrStops (λ done. done) result (same_in files line file.now samples.now)) }
-    ensures files { S.files shelf.new ≡ S.files shelf.old }
-    ensures faults { TestFaults result (S.fetch_faults shelf.old) (S.fetch_faults shelf.new) }
-    ensures write_faults { S.write_faults shelf.new ≡ S.write_faults shelf.old }
-    ensures reliable { S.is_reliable shelf.old → S.is_reliable shelf.new }
-    ensures missing { S.is_reliable shelf.old → ForSome (S.files shelf.old)
-        (λ files. Misses result (same_in files line file.now samples.now)) }
+    ensures same { AnswersFrom S.Shelf (λ done. done) result shelf.old
+        (λ files. same_in files line file.now samples.now) }
+    ensures only_tests { OnlyTests S.Shelf result shelf.old shelf.new }
 {
     let same = is_same_file(shelf, alloc, file, samples)?;
     if same { Ok(()) } else { Err(Stop::No { line }) }

@@ -14,7 +14,7 @@ use Rattle.lab_shelf.specs.Files.{Files}
 use Rattle.lab_stop.specs.declared.stop.Stop.{Stop}
 use Rattle.lab_stop.specs.declared.stop.Stop.TheVariants as stops
 use Rattle.lab_stop.specs.Causes.{Cause, first_bytes, ◌>>=◌}
-use Rattle.lab_stop.specs.Passing.{IsCauseOf-passed, Misses-passed}
+use Rattle.lab_stop.specs.Passing.{IsCauseOf-passed}
 use Rattle.lab_stop.specs.Stops.{FetchFaults, IsCauseOf, IsConfStop, Misses}
 use Rattle.lab_conf.specs.Described.{as_conf, device_in}
 
@@ -77,26 +77,11 @@ device_from name conf = conf >>= λ root. as_conf (device_of root name)
 abbrev device_at : List ℕ → Result (List ℕ) Cause → Result Device Cause
 device_at name bytes = bytes >>= λ text. device_from name (as_conf (conf_of text))
 
-device_in-text : (files : Files) (file name : List ℕ) (bytes : Result (List ℕ) Cause) → first_bytes files file 1048577 ≡ bytes
+-- the device of a configuration whose bytes are these, or are refused so
+pub device_in-text : (files : Files) (file name : List ℕ) (bytes : Result (List ℕ) Cause) → first_bytes files file 1048577 ≡ bytes
     → device_in files file name ≡ device_at name bytes
 unfolding device_in
 device_in-text files file name bytes is = ap (device_at name) is
-
--- a stop at the configuration's bytes is one at the device
-pub device_in-stop : (files : Option Files) (file name : List ℕ) (stop : Stop)
-    → ForSome files (λ m. IsCauseOf stop (first_bytes m file 1048577))
-    → ForSome files (λ m. IsCauseOf stop (device_in m file name))
-device_in-stop files file name stop is m told =
-    IsCauseOf-passed stop (first_bytes m file 1048577) (device_in m file name)
-    (λ e. device_in-text m file name (Err e)) (is m told)
-
--- over reliable files a configuration that is missing at its bytes is missing
-pub device_in-misses : (files : Option Files) (file name : List ℕ) (stop : Stop)
-    → ForSome files (λ m. Misses {X = Unit {0}} (Err stop) (first_bytes m file 1048577))
-    → ForSome files (λ m. Misses {X = Unit {0}} (Err stop) (device_in m file name))
-device_in-misses files file name stop is m told =
-    Misses-passed stop (first_bytes m file 1048577) (device_in m file name)
-    (λ e. device_in-text m file name (Err e)) (is m told)
 
 device_in-read : (files : Files) (file name text spelled : List ℕ) (conf : Result Entries ConfError)
     → first_bytes files file 1048577 ≡ Ok text → spelled ≡ text → conf_of spelled ≡ conf

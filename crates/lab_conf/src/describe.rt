@@ -1,9 +1,10 @@
 //! The lines of the device that a configuration file defines under a name.
-ghost use Rattle.std.specs.Prelude.{◌≡◌, IfErr, IfOk, string_bytes};
+ghost use Rattle.std.specs.Prelude.{IfErr, IfOk, string_bytes};
 ghost use Rattle.std.specs.Option.{ForSome};
 ghost use Rattle.asound_conf.specs.Device.{IsCard};
 ghost use Rattle.lab_stop.specs.Causes.{cause};
-ghost use Rattle.lab_stop.specs.Stops.{EndsOf, EndsReliably, FetchFaults, AnswersOrStops, InputFaults, IsReadStop, Misses};
+ghost use Rattle.lab_stop.specs.Effects.{AnswersFrom, OnlyReads};
+ghost use Rattle.lab_stop.specs.Stops.{EndsOf, EndsReliably, IsReadStop};
 ghost use Rattle.lab_conf.specs.Described.{IsDeviceText, device_in};
 
 use asound_conf::{Device, device, print_device, read_conf};
@@ -41,12 +42,9 @@ pub fn describe_device<S: Shelf>(
     ensures missing { S.is_reliable shelf.old → ForSome (S.files shelf.old)
         (λ files. EndsReliably result (cause (device_in files file.now name.now))) }
     ensures only { IfErr result IsReadStop }
-    ensures faults { InputFaults result (S.fetch_faults shelf.old) (S.fetch_faults shelf.new) }
 
-    // What it leaves of the shelf.
-    ensures files { S.files shelf.new ≡ S.files shelf.old }
-    ensures write_faults { S.write_faults shelf.new ≡ S.write_faults shelf.old }
-    ensures reliable { S.is_reliable shelf.old → S.is_reliable shelf.new }
+    // What it leaves of the shelf, and that a failed fetch is counted.
+    ensures only_reads { OnlyReads S.Shelf result shelf.old shelf.new }
 {
     let device = device_in(shelf, alloc, file, name)?;
     let text = print_device(alloc, &device)?;
@@ -60,15 +58,10 @@ fn device_in<S: Shelf>(
     file: &[u8],
     name: &[u8],
 ) -> Result<Device, Stop>
-    ensures device { ForSome (S.files shelf.old)
-        (λ files. AnswersOrStops (λ d. d) result (device_in files file.now name.now)) }
+    ensures device { AnswersFrom S.Shelf (λ d. d) result shelf.old
+        (λ files. device_in files file.now name.now) }
     ensures card { IfOk result (λ d. IsCard d.channels d.rate d.period d.ring) }
-    ensures missing { S.is_reliable shelf.old → ForSome (S.files shelf.old)
-        (λ files. Misses result (device_in files file.now name.now)) }
-    ensures faults { FetchFaults result (S.fetch_faults shelf.old) (S.fetch_faults shelf.new) }
-    ensures files { S.files shelf.new ≡ S.files shelf.old }
-    ensures write_faults { S.write_faults shelf.new ≡ S.write_faults shelf.old }
-    ensures reliable { S.is_reliable shelf.old → S.is_reliable shelf.new }
+    ensures only_reads { OnlyReads S.Shelf result shelf.old shelf.new }
 {
     let text = fetch_most(shelf, alloc, file, MOST_FETCHED)?;
     let root = read_conf(alloc, &text)?;

@@ -12,7 +12,6 @@ use Rattle.lab_shelf.specs.Files.{Files}
 use Rattle.lab_stop.specs.declared.stop.Stop.{Stop}
 use Rattle.lab_stop.specs.declared.stop.Stop.TheVariants as stops
 use Rattle.lab_stop.specs.Causes.{Cause, first_bytes, ◌>>=◌}
-use Rattle.lab_stop.specs.Passing.{IsCauseOf-passed, Misses-passed}
 use Rattle.lab_stop.specs.Stops.{FetchFaults, IsCauseOf, IsScriptStop, Misses}
 use Rattle.wav_io.specs.Sound.{Sound}
 use Rattle.lab_input.specs.Input.{RunInput, as_script, script_in, capture_in, sounds_in, input_in}
@@ -23,31 +22,22 @@ use Rattle.lab_input.specs.Input.{RunInput, as_script, script_in, capture_in, so
 abbrev script_from : Result (List ℕ) Cause → Result Script Cause
 script_from bytes = bytes >>= λ text. as_script (script_of text)
 
-script_in-missing : (files : Files) (name : List ℕ) (e : Cause)
+pub script_in-missing : (files : Files) (name : List ℕ) (e : Cause)
     → first_bytes files name 1048577 ≡ Err e → script_in files name ≡ Err e
 unfolding script_in
 script_in-missing files name e is = ap script_from is
 
--- a stop at the bytes of a script is one at the script
-pub script_in-stop : (files : Option Files) (name : List ℕ) (stop : Stop)
-    → ForSome files (λ m. IsCauseOf stop (first_bytes m name 1048577))
-    → ForSome files (λ m. IsCauseOf stop (script_in m name))
-script_in-stop files name stop is m told =
-    IsCauseOf-passed stop (first_bytes m name 1048577) (script_in m name)
-    (script_in-missing m name) (is m told)
-
--- over reliable files a script that is missing at its bytes is missing
-pub script_in-misses : (files : Option Files) (name : List ℕ) (stop : Stop)
-    → ForSome files (λ m. Misses {X = Unit {0}} (Err stop) (first_bytes m name 1048577))
-    → ForSome files (λ m. Misses {X = Unit {0}} (Err stop) (script_in m name))
-script_in-misses files name stop is m told =
-    Misses-passed stop (first_bytes m name 1048577) (script_in m name)
-    (script_in-missing m name) (is m told)
-
+-- what the bytes of a script spell is the script
 script_in-read : (files : Files) (name text : List ℕ) → first_bytes files name 1048577 ≡ Ok text
     → script_in files name ≡ as_script (script_of text)
 unfolding script_in
 script_in-read files name text is = ap script_from is
+
+pub script_in-all : (files : Option Files) (name text spelled : List ℕ) (script : Script)
+    → ForSome files (λ m. first_bytes m name 1048577 ≡ Ok text) → spelled ≡ text → script_of spelled ≡ Ok script
+    → ForSome files (λ m. script_in m name ≡ Ok script)
+script_in-all files name text spelled script read same is m told =
+    script_in-read m name text (read m told) ∙ ap (λ (t : List ℕ). as_script (script_of t)) (sym same) ∙ ap as_script is
 
 -- a stop at a text that is refused: for memory, or with the refusal
 abbrev IsRefused : ScriptError → Stop → Result Script ScriptError → Type 0
@@ -129,24 +119,10 @@ input_from files script = do
   sounds ← sounds_in files capture.1 s.card s.clients
   Ok (record { script = s; capture = capture.0; sounds = sounds })
 
-input_in-missing : (files : Files) (name : List ℕ) (e : Cause)
+pub input_in-missing : (files : Files) (name : List ℕ) (e : Cause)
     → script_in files name ≡ Err e → input_in files name ≡ Err e
 unfolding input_in
 input_in-missing files name e is = ap (input_from files) is
-
--- a stop at the script is one at the input
-pub input_in-stop : (files : Option Files) (name : List ℕ) (stop : Stop)
-    → ForSome files (λ m. IsCauseOf stop (script_in m name))
-    → ForSome files (λ m. IsCauseOf stop (input_in m name))
-input_in-stop files name stop is m told =
-    IsCauseOf-passed stop (script_in m name) (input_in m name) (input_in-missing m name) (is m told)
-
--- over reliable files a script that is missing is missing in the input
-pub input_in-misses : (files : Option Files) (name : List ℕ) (stop : Stop)
-    → ForSome files (λ m. Misses {X = Unit {0}} (Err stop) (script_in m name))
-    → ForSome files (λ m. Misses {X = Unit {0}} (Err stop) (input_in m name))
-input_in-misses files name stop is m told =
-    Misses-passed stop (script_in m name) (input_in m name) (input_in-missing m name) (is m told)
 
 -- the input of a script that is there
 abbrev captured_from : Files → Script → Result (Option Sound × ℕ) Cause → Result RunInput Cause
@@ -160,27 +136,10 @@ input_in-script : (files : Files) (name : List ℕ) (script : Script) → script
 unfolding input_in
 input_in-script files name script is = ap (input_from files) is
 
-capture-missing : (files : Files) (name : List ℕ) (script : Script) (e : Cause) → script_in files name ≡ Ok script
+-- what the captured file is refused for, the input is
+pub capture-missing : (files : Files) (name : List ℕ) (script : Script) (e : Cause) → script_in files name ≡ Ok script
     → capture_in files script.card.capture ≡ Err e → input_in files name ≡ Err e
 capture-missing files name script e read is = input_in-script files name script read ∙ ap (captured_from files script) is
-
--- a stop at the file that the card captures is one at the input
-pub capture_in-stop : (files now : Option Files) (name : List ℕ) (script : Script) (stop : Stop) → now ≡ files
-    → ForSome files (λ m. script_in m name ≡ Ok script)
-    → ForSome now (λ m. IsCauseOf stop (capture_in m script.card.capture))
-    → ForSome files (λ m. IsCauseOf stop (input_in m name))
-capture_in-stop files now name script stop same read is m told =
-    IsCauseOf-passed stop (capture_in m script.card.capture) (input_in m name)
-    (λ e. capture-missing m name script e (read m told)) (is m (same ∙ told))
-
--- over reliable files a captured file that is missing is missing in the input
-pub capture_in-misses : (files now : Option Files) (name : List ℕ) (script : Script) (stop : Stop) → now ≡ files
-    → ForSome files (λ m. script_in m name ≡ Ok script)
-    → ForSome now (λ m. Misses {X = Unit {0}} (Err stop) (capture_in m script.card.capture))
-    → ForSome files (λ m. Misses {X = Unit {0}} (Err stop) (input_in m name))
-capture_in-misses files now name script stop same read is m told =
-    Misses-passed stop (capture_in m script.card.capture) (input_in m name)
-    (λ e. capture-missing m name script e (read m told)) (is m (same ∙ told))
 
 -- the input of a script and of a captured sound that are there
 abbrev sounds_from : Script → Option Sound → Result (List Sound) Cause → Result RunInput Cause
@@ -196,35 +155,12 @@ input_in-captured files name script captured clients listed read is =
     ∙ ap (captured_from files script) is
     ∙ ap (λ cs. sounds_from script captured.0 (sounds_in files captured.1 script.card cs)) (sym listed)
 
-sounds-missing : (files : Files) (name : List ℕ) (script : Script) (captured : Option Sound × ℕ) (clients : List ClientLine) (e : Cause)
+-- what the clients' sounds are refused for, the input is
+pub sounds-missing : (files : Files) (name : List ℕ) (script : Script) (captured : Option Sound × ℕ) (clients : List ClientLine) (e : Cause)
     → clients ≡ script.clients → script_in files name ≡ Ok script → capture_in files script.card.capture ≡ Ok captured
     → sounds_in files captured.1 script.card clients ≡ Err e → input_in files name ≡ Err e
 sounds-missing files name script captured clients e listed read found is =
     input_in-captured files name script captured clients listed read found ∙ ap (sounds_from script captured.0) is
-
--- a stop at the clients' sounds is one at the input
-pub sounds_in-stop : (files now then_ : Option Files) (name : List ℕ) (script : Script) (captured : Option Sound × ℕ) (clients : List ClientLine) (stop : Stop)
-    → clients ≡ script.clients → now ≡ files → then_ ≡ now
-    → ForSome files (λ m. script_in m name ≡ Ok script)
-    → ForSome now (λ m. capture_in m script.card.capture ≡ Ok captured)
-    → ForSome then_ (λ m. IsCauseOf stop (sounds_in m captured.1 script.card clients))
-    → ForSome files (λ m. IsCauseOf stop (input_in m name))
-sounds_in-stop files now then_ name script captured clients stop listed same same_then read found is m told =
-    IsCauseOf-passed stop (sounds_in m captured.1 script.card clients) (input_in m name)
-    (λ e. sounds-missing m name script captured clients e listed (read m told) (found m (same ∙ told)))
-    (is m (same_then ∙ same ∙ told))
-
--- over reliable files a client's file that is missing is missing in the input
-pub sounds_in-misses : (files now then_ : Option Files) (name : List ℕ) (script : Script) (captured : Option Sound × ℕ) (clients : List ClientLine) (stop : Stop)
-    → clients ≡ script.clients → now ≡ files → then_ ≡ now
-    → ForSome files (λ m. script_in m name ≡ Ok script)
-    → ForSome now (λ m. capture_in m script.card.capture ≡ Ok captured)
-    → ForSome then_ (λ m. Misses {X = Unit {0}} (Err stop) (sounds_in m captured.1 script.card clients))
-    → ForSome files (λ m. Misses {X = Unit {0}} (Err stop) (input_in m name))
-sounds_in-misses files now then_ name script captured clients stop listed same same_then read found is m told =
-    Misses-passed stop (sounds_in m captured.1 script.card clients) (input_in m name)
-    (λ e. sounds-missing m name script captured clients e listed (read m told) (found m (same ∙ told)))
-    (is m (same_then ∙ same ∙ told))
 
 -- the input of a script, of a captured sound and of sounds that are there
 pub input_in-all : (files now then_ : Option Files) (name : List ℕ) (script : Script) (captured : Option Sound × ℕ) (clients : List ClientLine) (sounds : List Sound)

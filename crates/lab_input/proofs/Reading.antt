@@ -4,11 +4,12 @@ use Rattle.std.proofs.lemmas.List.{length-append}
 use Rattle.std.specs.Prelude.{Bool, Option, Some, Result, Ok, Err}
 use Rattle.std.specs.Global.{Vec}
 use Rattle.std.specs.Option.{ForSome}
+use Rattle.lab_shelf.specs.declared.traits.Shelf as shelves
 use Rattle.lab_shelf.specs.Files.{Files}
 use Rattle.lab_stop.specs.declared.stop.Stop.{Stop}
 use Rattle.lab_stop.specs.declared.stop.Stop.TheVariants.{Wav, Memory}
 use Rattle.lab_stop.specs.Causes.{Cause, missing, wav_refused, content_in, fetched_from, piece_bytes, ◌>>=◌}
-use Rattle.lab_stop.specs.Passing.{IsCauseOf-passed, Misses-passed}
+use Rattle.lab_stop.specs.Effects.{IsSameShelf, OnlyReads}
 use Rattle.lab_stop.specs.Pieces.{IsFetched, IsBegun, IsFetched-next, IsFetched-rest, whole_refused}
 use Rattle.lab_stop.specs.Stops.{FetchFaults, IsCauseOf, IsWavStop, Misses, NamesWav}
 use Rattle.wav_io.specs.declared.error.WavError.{WavError}
@@ -23,17 +24,14 @@ use Rattle.lab_input.specs.Sound.{IsAfter}
 use Rattle.lab_input.proofs.Long.{sound_file-long, sound_file-refused}
 
 -- what a loop over the pieces keeps: the bytes that were read, and that they are the first of the file
-pub record Reading (files now : Option Files) (name : List ℕ) (shape : Option Shape) (reader : FileReader) (bytes : ℕ) (last : Bool)
-    (faults faults_now writes writes_now : ℕ) (before after : Type 0) : Type 0 where
+pub record Reading {S : Type 0} (H : shelves.Ghosts S) (old now : S) (name : List ℕ) (shape : Option Shape) (reader : FileReader)
+    (bytes : ℕ) (last : Bool) : Type 0 where
   pub seen : List ℕ
   pub read : IsAfter reader shape seen
   pub count : bytes ≡ length seen
   pub few : bytes ≤ 67_174_400
-  pub so_far : ForSome files (λ m. IsBegun m name seen last)
-  pub same_files : now ≡ files
-  pub no_fault : faults_now ≡ faults
-  pub no_write_fault : writes_now ≡ writes
-  pub reliable : before → after
+  pub so_far : ForSome (H.files old) (λ m. IsBegun m name seen last)
+  pub same : IsSameShelf H old now
 
 -- a file that isn't there has no sound
 missing_sound : (r : Result (List ℕ) Cause) (shape : Option Shape) (name : List ℕ) (e : Cause) → r ≡ Err e
@@ -113,10 +111,20 @@ IsWavStop-only holds wav_whys.NoData name stop wav memory is = NamesWav-only hol
 IsWavStop-only holds wav_whys.TooLong name stop wav memory is = NamesWav-only holds wav_whys.TooLong name stop wav memory is
 
 -- it counts no fault of a fetch
-pub FetchFaults-wav : (why : WavError) (name : List ℕ) (stop : Stop) (before now : ℕ) → IsWavStop why name stop
+FetchFaults-wav : (why : WavError) (name : List ℕ) (stop : Stop) (before now : ℕ) → IsWavStop why name stop
     → now ≡ before → FetchFaults {X = Unit {0}} (Err stop) before now
 FetchFaults-wav why name stop before now is same =
     IsWavStop-only (λ (s : Stop). FetchFaults {X = Unit {0}} (Err s) before now) why name stop (λ file because. same) same is
+
+-- it changes nothing
+pub OnlyReads-wav : {S X : Type 0} (H : shelves.Ghosts S) (why : WavError) (name : List ℕ) (stop : Stop) (old new : S)
+    → IsWavStop why name stop → IsSameShelf H old new → OnlyReads {X = X} H (Err stop) old new
+OnlyReads-wav H why name stop old new is same = record {
+  files = same.files;
+  faults = FetchFaults-wav why name stop (H.fetch_faults old) (H.fetch_faults new) is same.fetch_faults;
+  write_faults = same.write_faults;
+  reliable = same.reliable;
+}
 
 -- it is at no missing file
 pub Misses-wav : {Y : Type 0} (why : WavError) (name : List ℕ) (stop : Stop) (given : Result Y Cause) → IsWavStop why name stop
@@ -125,20 +133,6 @@ Misses-wav {Y} why name stop given is =
     IsWavStop-only (λ (s : Stop). Misses {X = Unit {0}} (Err s) given) why name stop (λ file because. tt) tt is
 
 -- ---- the loop
-
--- a stop at a piece is one at the sound
-pub reading-stop : (files now : Option Files) (shape : Option Shape) (name : List ℕ) (from : ℕ) (stop : Stop) → now ≡ files
-    → ForSome now (λ m. IsCauseOf stop (fetched_from m name from piece_bytes))
-    → ForSome files (λ m. IsCauseOf stop (wav_in m shape name))
-reading-stop files now shape name from stop same is m told =
-    IsCauseOf-passed stop (fetched_from m name from piece_bytes) (wav_in m shape name) (wav_in-missing m shape name from) (is m (same ∙ told))
-
--- over reliable files a file that is missing at a piece is missing
-pub reading-missing : (files now : Option Files) (shape : Option Shape) (name : List ℕ) (from : ℕ) (stop : Stop) → now ≡ files
-    → ForSome now (λ m. Misses {X = Unit {0}} (Err stop) (fetched_from m name from piece_bytes))
-    → ForSome files (λ m. Misses {X = Unit {0}} (Err stop) (wav_in m shape name))
-reading-missing files now shape name from stop same is m told =
-    Misses-passed stop (fetched_from m name from piece_bytes) (wav_in m shape name) (wav_in-missing m shape name from) (is m (same ∙ told))
 
 -- one piece more is fetched
 next_fetched : (files : Files) (now : Option Files) (name seen piece fed : List ℕ) (from : ℕ) (last then_last : Bool)

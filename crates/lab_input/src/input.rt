@@ -1,8 +1,7 @@
 //! The input of a run.
 ghost use Rattle.std.specs.Prelude.{◌≡◌, IfOk, length};
-ghost use Rattle.std.specs.Option.{ForSome};
 ghost use Rattle.lab_lines.specs.Limits.{IsScript};
-ghost use Rattle.lab_stop.specs.Stops.{FetchFaults, AnswersOrStops, Misses};
+ghost use Rattle.lab_stop.specs.Effects.{AnswersFrom, OnlyReads};
 ghost use Rattle.lab_input.specs.Input.{input_in, script_in};
 ghost use Rattle.lab_input.specs.Read.{input_of};
 
@@ -53,9 +52,10 @@ impl Drop for Input {
 ///   card's file counts as well, and a file that is named twice counts twice;
 /// - `Memory`, where memory ran out.
 pub fn read_input<S: Shelf>(shelf: &mut S, alloc: Global, name: &[u8]) -> Result<Input, Stop>
-    // The answer is what the files hold, or the first cause that they give.
-    ensures input { ForSome (S.files shelf.old)
-        (λ files. AnswersOrStops input_of result (input_in files name.now)) }
+    // The answer is what the files hold, or the first cause that they give; over a reliable shelf a
+    // read fails only where the file is missing.
+    ensures input { AnswersFrom S.Shelf input_of result shelf.old
+        (λ files. input_in files name.now) }
 
     // What is read keeps a script's limits, and there are as many sounds as clients.
     ensures script { IfOk result (λ input. IsScript input.script) }
@@ -63,14 +63,7 @@ pub fn read_input<S: Shelf>(shelf: &mut S, alloc: Global, name: &[u8]) -> Result
         (λ input. length input.wavs.items ≡ length input.script.clients) }
 
     // No file changes, and what fails is counted.
-    ensures files { S.files shelf.new ≡ S.files shelf.old }
-    ensures faults { FetchFaults result (S.fetch_faults shelf.old) (S.fetch_faults shelf.new) }
-    ensures write_faults { S.write_faults shelf.new ≡ S.write_faults shelf.old }
-
-    // Over a reliable shelf a read fails only where the file is missing.
-    ensures reliable { S.is_reliable shelf.old → S.is_reliable shelf.new }
-    ensures missing { S.is_reliable shelf.old → ForSome (S.files shelf.old)
-        (λ files. Misses result (input_in files name.now)) }
+    ensures only_reads { OnlyReads S.Shelf result shelf.old shelf.new }
 {
     let script = load_script(shelf, alloc, name)?;
     let (capture, total) = read_capture(shelf, alloc, &script.card)?;
@@ -85,15 +78,10 @@ pub fn read_input<S: Shelf>(shelf: &mut S, alloc: Global, name: &[u8]) -> Result
 /// The script in a file.
 #[tactic(auto, unfolding(crate::specs::Input::script_in))]
 fn load_script<S: Shelf>(shelf: &mut S, alloc: Global, name: &[u8]) -> Result<Script, Stop>
-    ensures script { ForSome (S.files shelf.old)
-        (λ files. AnswersOrStops (λ s. s) result (script_in files name.now)) }
+    ensures script { AnswersFrom S.Shelf (λ s. s) result shelf.old
+        (λ files. script_in files name.now) }
     ensures valid { IfOk result (λ s. IsScript s) }
-    ensures files { S.files shelf.new ≡ S.files shelf.old }
-    ensures faults { FetchFaults result (S.fetch_faults shelf.old) (S.fetch_faults shelf.new) }
-    ensures write_faults { S.write_faults shelf.new ≡ S.write_faults shelf.old }
-    ensures reliable { S.is_reliable shelf.old → S.is_reliable shelf.new }
-    ensures missing { S.is_reliable shelf.old → ForSome (S.files shelf.old)
-        (λ files. Misses result (script_in files name.now)) }
+    ensures only_reads { OnlyReads S.Shelf result shelf.old shelf.new }
 {
     let text = fetch_most(shelf, alloc, name, SCRIPT_MOST)?;
     let script = read_script(alloc, &text)?;

@@ -1,7 +1,7 @@
 //! A WAV file of the shelf, read piece by piece.
 ghost use Rattle.std.specs.Prelude.{◌≡◌, ◌*◌, ◌≤◌, ◌++◌, ℕ, List, [], Option, IfErr, IfOk, OnOk, length};
 ghost use Rattle.std.specs.Option.{ForSome};
-ghost use Rattle.lab_stop.specs.Stops.{FetchFaults, AnswersOrStops, Misses};
+ghost use Rattle.lab_stop.specs.Effects.{AnswersFrom, OnlyReads};
 ghost use Rattle.wav_io.specs.Reading.{IsRefusal, Reads, wav_file};
 ghost use Rattle.lab_input.specs.declared.shape.Shape.{Shape};
 ghost use Rattle.lab_input.specs.Input.{wav_in};
@@ -143,15 +143,10 @@ pub(crate) fn read_sound<S: Shelf>(
     name: &[u8],
 ) -> Result<(Wav, u64), Stop>
     requires { ForSome shape IsShape }
-    ensures sound { ForSome (S.files shelf.old)
-        (λ files. AnswersOrStops (λ r. r) result (wav_in files shape name.now)) }
+    ensures sound { AnswersFrom S.Shelf (λ r. r) result shelf.old
+        (λ files. wav_in files shape name.now) }
     ensures few { IfOk result (λ r. r.1 ≤ 67_174_400) }
-    ensures files { S.files shelf.new ≡ S.files shelf.old }
-    ensures faults { FetchFaults result (S.fetch_faults shelf.old) (S.fetch_faults shelf.new) }
-    ensures write_faults { S.write_faults shelf.new ≡ S.write_faults shelf.old }
-    ensures reliable { S.is_reliable shelf.old → S.is_reliable shelf.new }
-    ensures missing { S.is_reliable shelf.old → ForSome (S.files shelf.old)
-        (λ files. Misses result (wav_in files shape name.now)) }
+    ensures only_reads { OnlyReads S.Shelf result shelf.old shelf.new }
 {
     let mut sound = FileReader::new(alloc, shape);
     let mut length = 0;

@@ -1,7 +1,7 @@
 //! The WAV files of a run, one after the other, and how many bytes they have together.
 ghost use Rattle.std.specs.Prelude.{◌≡◌, ◌≤◌, IfOk, length};
 ghost use Rattle.std.specs.Option.{ForSome};
-ghost use Rattle.lab_stop.specs.Stops.{FetchFaults, AnswersOrStops, Misses};
+ghost use Rattle.lab_stop.specs.Effects.{AnswersFrom, OnlyReads};
 ghost use Rattle.lab_lines.specs.Limits.{IsCardLine};
 ghost use Rattle.lab_input.specs.Input.{capture_in, most_of_run, sound_in, sounds_in};
 ghost use Rattle.lab_input.specs.Plug.{IsShape};
@@ -29,15 +29,10 @@ fn read_within<S: Shelf>(
 ) -> Result<(Wav, u64), Stop>
     requires few { before ≤ most_of_run }
     requires shape { ForSome shape IsShape }
-    ensures sound { ForSome (S.files shelf.old)
-        (λ files. AnswersOrStops (λ r. r) result (sound_in files before shape name.now)) }
+    ensures sound { AnswersFrom S.Shelf (λ r. r) result shelf.old
+        (λ files. sound_in files before shape name.now) }
     ensures few { IfOk result (λ r. r.1 ≤ most_of_run) }
-    ensures files { S.files shelf.new ≡ S.files shelf.old }
-    ensures faults { FetchFaults result (S.fetch_faults shelf.old) (S.fetch_faults shelf.new) }
-    ensures write_faults { S.write_faults shelf.new ≡ S.write_faults shelf.old }
-    ensures reliable { S.is_reliable shelf.old → S.is_reliable shelf.new }
-    ensures missing { S.is_reliable shelf.old → ForSome (S.files shelf.old)
-        (λ files. Misses result (sound_in files before shape name.now)) }
+    ensures only_reads { OnlyReads S.Shelf result shelf.old shelf.new }
 {
     let (wav, bytes) = read_sound(shelf, alloc, shape, name)?;
     let total = before + bytes;
@@ -55,15 +50,10 @@ pub(crate) fn read_capture<S: Shelf>(
     alloc: Global,
     card: &CardLine,
 ) -> Result<(Option<Wav>, u64), Stop>
-    ensures sound { ForSome (S.files shelf.old)
-        (λ files. AnswersOrStops (λ r. r) result (capture_in files card.now.capture)) }
+    ensures sound { AnswersFrom S.Shelf (λ r. r) result shelf.old
+        (λ files. capture_in files card.now.capture) }
     ensures few { IfOk result (λ r. r.1 ≤ most_of_run) }
-    ensures files { S.files shelf.new ≡ S.files shelf.old }
-    ensures faults { FetchFaults result (S.fetch_faults shelf.old) (S.fetch_faults shelf.new) }
-    ensures write_faults { S.write_faults shelf.new ≡ S.write_faults shelf.old }
-    ensures reliable { S.is_reliable shelf.old → S.is_reliable shelf.new }
-    ensures missing { S.is_reliable shelf.old → ForSome (S.files shelf.old)
-        (λ files. Misses result (capture_in files card.now.capture)) }
+    ensures only_reads { OnlyReads S.Shelf result shelf.old shelf.new }
 {
     match &card.capture {
         Some(file) => {
@@ -85,16 +75,10 @@ pub(crate) fn read_wavs<S: Shelf>(
 ) -> Result<Vec<Wav>, Stop>
     requires few { before ≤ most_of_run }
     requires card { IsCardLine card.now }
-    ensures sounds { ForSome (S.files shelf.old)
-        (λ files. AnswersOrStops (λ v. v.items) result
-        (sounds_in files before card.now clients.now)) }
+    ensures sounds { AnswersFrom S.Shelf (λ v. v.items) result shelf.old
+        (λ files. sounds_in files before card.now clients.now) }
     ensures number { IfOk result (λ wavs. length wavs.items ≡ length clients.now) }
-    ensures files { S.files shelf.new ≡ S.files shelf.old }
-    ensures faults { FetchFaults result (S.fetch_faults shelf.old) (S.fetch_faults shelf.new) }
-    ensures write_faults { S.write_faults shelf.new ≡ S.write_faults shelf.old }
-    ensures reliable { S.is_reliable shelf.old → S.is_reliable shelf.new }
-    ensures missing { S.is_reliable shelf.old → ForSome (S.files shelf.old)
-        (λ files. Misses result (sounds_in files before card.now clients.now)) }
+    ensures only_reads { OnlyReads S.Shelf result shelf.old shelf.new }
 {
     let mut wavs = Vec::new(alloc);
     let mut total = before;

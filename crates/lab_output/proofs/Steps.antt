@@ -7,20 +7,20 @@ use Rattle.std.proofs.lemmas.List.Elements.{All-from_recursion}
 use Rattle.lab_output.proofs.Shelves.{bytes_under-with_file_at, test}
 use Rattle.std.specs.Prelude.{Option, IfSome}
 use Rattle.std.specs.Option.{option_map_or}
+use Rattle.lab_shelf.specs.declared.traits.Shelf as shelves
 use Rattle.lab_shelf.specs.Files.{Files, bytes_under, with_file, with_change, with_first_bytes, IsPartWritten, IsPartFinished}
+use Rattle.lab_stop.specs.EffectLaws.{CountsNoFault-then}
+use Rattle.lab_stop.specs.Effects.{CountsNoFault}
 use Rattle.lab_output.specs.declared.file.OutputFile.{OutputFile}
 use Rattle.lab_output.specs.Files.{open_head_of, head_of}
 use Rattle.lab_output.specs.Going.{opened_files, OpenedInPart, closed_files, ClosedInPart, HasHeadRoom, HaveFiles, HaveHeadRoom}
 use Rattle.lab_output.proofs.Held.{changed-files}
 
 -- the first files are begun, and what is left to do does all
-pub record Opening (before now : Option Files) (outputs : List OutputFile) (n : ℕ) (fetches fetches_now writes writes_now : ℕ)
-    (steady steady_now : Type 0) : Type 0 where
-  pub rest : option_map (opened_files (drop n outputs)) now ≡ option_map (opened_files outputs) before
-  pub part : (after : Option Files) → OpenedInPart (drop n outputs) now after → OpenedInPart outputs before after
-  pub fetch_faults : fetches_now ≡ fetches
-  pub write_faults : writes_now ≡ writes
-  pub reliable : steady → steady_now
+pub record Opening {S : Type 0} (H : shelves.Ghosts S) (before now : S) (outputs : List OutputFile) (n : ℕ) : Type 0 where
+  pub rest : option_map (opened_files (drop n outputs)) (H.files now) ≡ option_map (opened_files outputs) (H.files before)
+  pub part : (after : Option Files) → OpenedInPart (drop n outputs) (H.files now) after → OpenedInPart outputs (H.files before) after
+  pub counts : CountsNoFault H before now
 
 -- what is left begins with the file at its place
 left : (outputs : List OutputFile) (n : ℕ) (output : OutputFile) → n < length outputs → output ≡ get_or outputs n output
@@ -43,57 +43,47 @@ opened_files-none None = refl
 opened_files-none (Some m) = refl
 
 -- the next file is begun
-pub Opening-next : (before now then : Option Files) (outputs : List OutputFile) (n : ℕ) (output : OutputFile)
-    (fetches fetches_now fetches_then writes writes_now writes_then : ℕ) (reliable reliable_now reliable_then : Type 0)
-    → Opening before now outputs n fetches fetches_now writes writes_now reliable reliable_now
-    → n < length outputs → output ≡ get_or outputs n output
-    → then ≡ option_map (λ files. with_file files output.name (open_head_of output)) now
-    → fetches_then ≡ fetches_now → writes_then ≡ writes_now → (reliable_now → reliable_then)
-    → Opening before then outputs (n + 1) fetches fetches_then writes writes_then reliable reliable_then
-Opening-next before now then outputs n output fetches fetches_now fetches_then writes writes_now writes_then reliable reliable_now reliable_then so_far within is begun same_fetches same_writes stays = record {
+pub Opening-next : {S : Type 0} (H : shelves.Ghosts S) (before now then : S) (outputs : List OutputFile) (n : ℕ) (output : OutputFile)
+    → Opening H before now outputs n → n < length outputs → output ≡ get_or outputs n output
+    → H.files then ≡ option_map (λ files. with_file files output.name (open_head_of output)) (H.files now)
+    → CountsNoFault H now then → Opening H before then outputs (n + 1)
+Opening-next H before now then outputs n output so_far within is begun counts = record {
   rest =
       ap (option_map (opened_files (drop (n + 1) outputs))) begun
-      ∙ opened_files-joined output (drop (n + 1) outputs) now
-      ∙ ap (λ (os : List OutputFile). option_map (opened_files os) now) (sym (left outputs n output within is))
+      ∙ opened_files-joined output (drop (n + 1) outputs) (H.files now)
+      ∙ ap (λ (os : List OutputFile). option_map (opened_files os) (H.files now)) (sym (left outputs n output within is))
       ∙ so_far.rest;
   part = λ after part. so_far.part after
-      (subst (λ (os : List OutputFile). OpenedInPart os now after) (sym (left outputs n output within is))
+      (subst (λ (os : List OutputFile). OpenedInPart os (H.files now) after) (sym (left outputs n output within is))
       (inr (subst (λ (f : Option Files). OpenedInPart (drop (n + 1) outputs) f after) begun part)));
-  fetch_faults = same_fetches ∙ so_far.fetch_faults;
-  write_faults = same_writes ∙ so_far.write_faults;
-  reliable = λ r. stays (so_far.reliable r);
+  counts = CountsNoFault-then H before now then so_far.counts counts;
 }
 
 -- the next file is begun in part
-pub Opening-stop : (before now after : Option Files) (outputs : List OutputFile) (n : ℕ) (output : OutputFile)
-    (fetches fetches_now writes writes_now : ℕ) (reliable reliable_now : Type 0)
-    → Opening before now outputs n fetches fetches_now writes writes_now reliable reliable_now
-    → n < length outputs → output ≡ get_or outputs n output
-    → IsPartWritten now after output.name (open_head_of output) → OpenedInPart outputs before after
-Opening-stop before now after outputs n output fetches fetches_now writes writes_now reliable reliable_now so_far within is part =
+pub Opening-stop : {S : Type 0} (H : shelves.Ghosts S) (before now : S) (after : Option Files) (outputs : List OutputFile) (n : ℕ)
+    (output : OutputFile) → Opening H before now outputs n → n < length outputs → output ≡ get_or outputs n output
+    → IsPartWritten (H.files now) after output.name (open_head_of output) → OpenedInPart outputs (H.files before) after
+Opening-stop H before now after outputs n output so_far within is part =
     so_far.part after
-    (subst (λ (os : List OutputFile). OpenedInPart os now after) (sym (left outputs n output within is)) (inl part))
+    (subst (λ (os : List OutputFile). OpenedInPart os (H.files now) after) (sym (left outputs n output within is)) (inl part))
 
 -- all files are begun
-pub Opening-all : (before now : Option Files) (outputs : List OutputFile) (n : ℕ)
-    (fetches fetches_now writes writes_now : ℕ) (reliable reliable_now : Type 0)
-    → Opening before now outputs n fetches fetches_now writes writes_now reliable reliable_now
-    → length outputs ≤ n → now ≡ option_map (opened_files outputs) before
-Opening-all before now outputs n fetches fetches_now writes writes_now reliable reliable_now so_far all =
-    sym (opened_files-none now)
-    ∙ ap (λ (os : List OutputFile). option_map (opened_files os) now) (sym (drop_of_length-le outputs all))
+pub Opening-all : {S : Type 0} (H : shelves.Ghosts S) (before now : S) (outputs : List OutputFile) (n : ℕ)
+    → Opening H before now outputs n → length outputs ≤ n → H.files now ≡ option_map (opened_files outputs) (H.files before)
+Opening-all H before now outputs n so_far all =
+    sym (opened_files-none (H.files now))
+    ∙ ap (λ (os : List OutputFile). option_map (opened_files os) (H.files now)) (sym (drop_of_length-le outputs all))
     ∙ so_far.rest
 
 -- the first files have their true heads, what is left to do does all, there is room for each head, and each file stays there
-pub record Closing (before now : Option Files) (outputs : List OutputFile) (counts : List ℕ) (n : ℕ)
-    (fetches fetches_now writes writes_now : ℕ) (steady steady_now : Type 0) : Type 0 where
-  pub rest : option_map (closed_files (drop n outputs) (drop n counts)) now ≡ option_map (closed_files outputs counts) before
-  pub part : (after : Option Files) → ClosedInPart (drop n outputs) (drop n counts) now after → ClosedInPart outputs counts before after
-  pub rooms : HaveHeadRoom now outputs
-  pub there : HaveFiles before outputs → HaveFiles now outputs
-  pub fetch_faults : fetches_now ≡ fetches
-  pub write_faults : writes_now ≡ writes
-  pub reliable : steady → steady_now
+pub record Closing {S : Type 0} (H : shelves.Ghosts S) (before now : S) (outputs : List OutputFile) (samples : List ℕ) (n : ℕ) : Type 0 where
+  pub rest : option_map (closed_files (drop n outputs) (drop n samples)) (H.files now)
+      ≡ option_map (closed_files outputs samples) (H.files before)
+  pub part : (after : Option Files) → ClosedInPart (drop n outputs) (drop n samples) (H.files now) after
+      → ClosedInPart outputs samples (H.files before) after
+  pub rooms : HaveHeadRoom (H.files now) outputs
+  pub there : HaveFiles (H.files before) outputs → HaveFiles (H.files now) outputs
+  pub counts : CountsNoFault H before now
 
 -- what is left begins with the number at its place
 left_counts : (counts : List ℕ) (n count : ℕ) → n < length counts → count ≡ get_or counts n 0 → drop n counts ≡ count ∷ drop (n + 1) counts
@@ -162,54 +152,48 @@ room-at now outputs n output rooms within is =
     (All-from_recursion (λ (o : OutputFile). HasHeadRoom now o.name) outputs rooms n output within)
 
 -- the next file gets its true head
-pub Closing-next : (before now then : Option Files) (outputs : List OutputFile) (counts : List ℕ) (n : ℕ) (output : OutputFile) (count : ℕ)
-    (fetches fetches_now fetches_then writes writes_now writes_then : ℕ) (reliable reliable_now reliable_then : Type 0)
-    → Closing before now outputs counts n fetches fetches_now writes writes_now reliable reliable_now
-    → n < length outputs → length counts ≡ length outputs → output ≡ get_or outputs n output → count ≡ get_or counts n 0
-    → then ≡ option_map (λ files. with_change (with_first_bytes (head_of output count)) files output.name) now
-    → fetches_then ≡ fetches_now → writes_then ≡ writes_now → (reliable_now → reliable_then)
-    → Closing before then outputs counts (n + 1) fetches fetches_then writes writes_then reliable reliable_then
-Closing-next before now then outputs counts n output count fetches fetches_now fetches_then writes writes_now writes_then reliable reliable_now reliable_then so_far within even is counted closes same_fetches same_writes stays =
+pub Closing-next : {S : Type 0} (H : shelves.Ghosts S) (before now then : S) (outputs : List OutputFile) (samples : List ℕ) (n : ℕ)
+    (output : OutputFile) (count : ℕ) → Closing H before now outputs samples n
+    → n < length outputs → length samples ≡ length outputs → output ≡ get_or outputs n output → count ≡ get_or samples n 0
+    → H.files then ≡ option_map (λ files. with_change (with_first_bytes (head_of output count)) files output.name) (H.files now)
+    → CountsNoFault H now then → Closing H before then outputs samples (n + 1)
+Closing-next H before now then outputs samples n output count so_far within even is counted closes counts =
     let here : drop n outputs ≡ output ∷ drop (n + 1) outputs = left outputs n output within is in
-    let count_here : drop n counts ≡ count ∷ drop (n + 1) counts = left_counts counts n count (omega (arith, even, within)) counted in
+    let count_here : drop n samples ≡ count ∷ drop (n + 1) samples = left_counts samples n count (omega (arith, even, within)) counted in
     record {
       rest =
-          ap (option_map (closed_files (drop (n + 1) outputs) (drop (n + 1) counts))) closes
-          ∙ closed_files-joined output (drop (n + 1) outputs) count (drop (n + 1) counts) now
-          ∙ ap (λ (os : List OutputFile). option_map (closed_files os (count ∷ drop (n + 1) counts)) now) (sym here)
-          ∙ ap (λ (cs : List ℕ). option_map (closed_files (drop n outputs) cs) now) (sym count_here)
+          ap (option_map (closed_files (drop (n + 1) outputs) (drop (n + 1) samples))) closes
+          ∙ closed_files-joined output (drop (n + 1) outputs) count (drop (n + 1) samples) (H.files now)
+          ∙ ap (λ (os : List OutputFile). option_map (closed_files os (count ∷ drop (n + 1) samples)) (H.files now)) (sym here)
+          ∙ ap (λ (cs : List ℕ). option_map (closed_files (drop n outputs) cs) (H.files now)) (sym count_here)
           ∙ so_far.rest;
       part = λ after part. so_far.part after
-          (subst (λ (os : List OutputFile). ClosedInPart os (drop n counts) now after) (sym here)
-          (subst (λ (cs : List ℕ). ClosedInPart (output ∷ drop (n + 1) outputs) cs now after) (sym count_here)
-          (inr (subst (λ (f : Option Files). ClosedInPart (drop (n + 1) outputs) (drop (n + 1) counts) f after) closes part))));
+          (subst (λ (os : List OutputFile). ClosedInPart os (drop n samples) (H.files now) after) (sym here)
+          (subst (λ (cs : List ℕ). ClosedInPart (output ∷ drop (n + 1) outputs) cs (H.files now) after) (sym count_here)
+          (inr (subst (λ (f : Option Files). ClosedInPart (drop (n + 1) outputs) (drop (n + 1) samples) f after) closes part))));
       rooms = subst (λ (f : Option Files). HaveHeadRoom f outputs) (sym closes)
-          (kept-rooms outputs now output.name (head_of output count) (room-at now outputs n output so_far.rooms within is) so_far.rooms);
+          (kept-rooms outputs (H.files now) output.name (head_of output count) (room-at (H.files now) outputs n output so_far.rooms within is) so_far.rooms);
       there = λ there. subst (λ (f : Option Files). HaveFiles f outputs) (sym closes)
-          (changed-files (with_first_bytes (head_of output count)) outputs now output.name (so_far.there there));
-      fetch_faults = same_fetches ∙ so_far.fetch_faults;
-      write_faults = same_writes ∙ so_far.write_faults;
-      reliable = λ r. stays (so_far.reliable r);
+          (changed-files (with_first_bytes (head_of output count)) outputs (H.files now) output.name (so_far.there there));
+      counts = CountsNoFault-then H before now then so_far.counts counts;
     }
 
 -- the next file gets its true head in part
-pub Closing-stop : (before now after : Option Files) (outputs : List OutputFile) (counts : List ℕ) (n : ℕ) (output : OutputFile) (count : ℕ)
-    (fetches fetches_now writes writes_now : ℕ) (reliable reliable_now : Type 0)
-    → Closing before now outputs counts n fetches fetches_now writes writes_now reliable reliable_now
-    → n < length outputs → length counts ≡ length outputs → output ≡ get_or outputs n output → count ≡ get_or counts n 0
-    → IsPartFinished now after output.name (head_of output count) → ClosedInPart outputs counts before after
-Closing-stop before now after outputs counts n output count fetches fetches_now writes writes_now reliable reliable_now so_far within even is counted part =
+pub Closing-stop : {S : Type 0} (H : shelves.Ghosts S) (before now : S) (after : Option Files) (outputs : List OutputFile) (samples : List ℕ)
+    (n : ℕ) (output : OutputFile) (count : ℕ) → Closing H before now outputs samples n
+    → n < length outputs → length samples ≡ length outputs → output ≡ get_or outputs n output → count ≡ get_or samples n 0
+    → IsPartFinished (H.files now) after output.name (head_of output count) → ClosedInPart outputs samples (H.files before) after
+Closing-stop H before now after outputs samples n output count so_far within even is counted part =
     so_far.part after
-    (subst (λ (os : List OutputFile). ClosedInPart os (drop n counts) now after) (sym (left outputs n output within is))
-    (subst (λ (cs : List ℕ). ClosedInPart (output ∷ drop (n + 1) outputs) cs now after)
-    (sym (left_counts counts n count (omega (arith, even, within)) counted)) (inl part)))
+    (subst (λ (os : List OutputFile). ClosedInPart os (drop n samples) (H.files now) after) (sym (left outputs n output within is))
+    (subst (λ (cs : List ℕ). ClosedInPart (output ∷ drop (n + 1) outputs) cs (H.files now) after)
+    (sym (left_counts samples n count (omega (arith, even, within)) counted)) (inl part)))
 
 -- all files have their true heads
-pub Closing-all : (before now : Option Files) (outputs : List OutputFile) (counts : List ℕ) (n : ℕ)
-    (fetches fetches_now writes writes_now : ℕ) (reliable reliable_now : Type 0)
-    → Closing before now outputs counts n fetches fetches_now writes writes_now reliable reliable_now
-    → length outputs ≤ n → now ≡ option_map (closed_files outputs counts) before
-Closing-all before now outputs counts n fetches fetches_now writes writes_now reliable reliable_now so_far all =
-    sym (closed_files-none (drop n counts) now)
-    ∙ ap (λ (os : List OutputFile). option_map (closed_files os (drop n counts)) now) (sym (drop_of_length-le outputs all))
+pub Closing-all : {S : Type 0} (H : shelves.Ghosts S) (before now : S) (outputs : List OutputFile) (samples : List ℕ) (n : ℕ)
+    → Closing H before now outputs samples n → length outputs ≤ n
+    → H.files now ≡ option_map (closed_files outputs samples) (H.files before)
+Closing-all H before now outputs samples n so_far all =
+    sym (closed_files-none (drop n samples) (H.files now))
+    ∙ ap (λ (os : List OutputFile). option_map (closed_files os (drop n samples)) (H.files now)) (sym (drop_of_length-le outputs all))
     ∙ so_far.rest

@@ -1,10 +1,10 @@
 //! What is appended to a run's files.
-ghost use Rattle.std.specs.Prelude.{◌≡◌, ◌≢◌, ◌++◌, Err, IfErr, OnErr, OnOk};
+ghost use Rattle.std.specs.Prelude.{◌≡◌, ◌≢◌, ◌++◌, Err, OnErr, OnOk};
 ghost use Rattle.std.specs.List.{flat_map};
 ghost use Rattle.std.specs.Option.{option_map};
 ghost use Rattle.lab_shelf.specs.Files.{IsPartAppended, with_change};
 ghost use Rattle.lab_output.specs.Going.{HasFile};
-ghost use Rattle.lab_stop.specs.Stops.{IsWriteStop, WriteFaults};
+ghost use Rattle.lab_stop.specs.Effects.{OnlyWrites};
 ghost use Rattle.lab_stop.specs.declared.stop.Stop.TheVariants as stops;
 ghost use Rattle.wav_io.specs.Canonical.{sample_bytes};
 
@@ -21,10 +21,7 @@ fn append_bytes<S: Shelf>(shelf: &mut S, name: &[u8], bytes: &[u8]) -> Result<()
         (S.files shelf.old)) }
     ensures part { OnErr result
         (IsPartAppended (S.files shelf.old) (S.files shelf.new) name.now bytes.now) }
-    ensures only { IfErr result IsWriteStop }
-    ensures fetch_faults { S.fetch_faults shelf.new ≡ S.fetch_faults shelf.old }
-    ensures faults { WriteFaults result (S.write_faults shelf.old) (S.write_faults shelf.new) }
-    ensures reliable { S.is_reliable shelf.old → S.is_reliable shelf.new }
+    ensures only_writes { OnlyWrites S.Shelf result shelf.old shelf.new }
     ensures never { S.is_reliable shelf.old → HasFile (S.files shelf.old) name.now
         → result ≢ Err stops.Write }
 {
@@ -43,10 +40,7 @@ pub fn append_new<S: Shelf>(
         file.now.name) (S.files shelf.old)) }
     ensures part { OnErr result (IsPartAppended (S.files shelf.old) (S.files shelf.new)
         file.now.name (flat_map sample_bytes samples.now)) }
-    ensures only { IfErr result IsWriteStop }
-    ensures fetch_faults { S.fetch_faults shelf.new ≡ S.fetch_faults shelf.old }
-    ensures faults { WriteFaults result (S.write_faults shelf.old) (S.write_faults shelf.new) }
-    ensures reliable { S.is_reliable shelf.old → S.is_reliable shelf.new }
+    ensures only_writes { OnlyWrites S.Shelf result shelf.old shelf.new }
     ensures never { S.is_reliable shelf.old → HasFile (S.files shelf.old) file.now.name
         → result ≢ Err stops.Write }
 {

@@ -1,10 +1,10 @@
 //! The beginning of a run's files.
-ghost use Rattle.std.specs.Prelude.{◌≡◌, ◌≢◌, All, Err, IfErr, OnErr, OnOk};
+ghost use Rattle.std.specs.Prelude.{◌≡◌, ◌≢◌, All, Err, OnErr, OnOk};
 ghost use Rattle.std.specs.Option.{option_map};
 ghost use Rattle.lab_shelf.specs.Files.{IsPartWritten, with_file};
 ghost use Rattle.lab_output.specs.Files.{IsOutputFile, open_head_of};
 ghost use Rattle.lab_output.specs.Going.{OpenedInPart, opened_files};
-ghost use Rattle.lab_stop.specs.Stops.{IsWriteStop, WriteFaults};
+ghost use Rattle.lab_stop.specs.Effects.{OnlyWrites};
 ghost use Rattle.lab_stop.specs.declared.stop.Stop.TheVariants as stops;
 
 use crate::file::OutputFile;
@@ -19,10 +19,7 @@ fn begin_file<S: Shelf>(shelf: &mut S, file: &OutputFile) -> Result<(), Stop>
         (λ files. with_file files file.now.name (open_head_of file.now)) (S.files shelf.old)) }
     ensures part { OnErr result (IsPartWritten (S.files shelf.old) (S.files shelf.new) file.now.name
         (open_head_of file.now)) }
-    ensures only { IfErr result IsWriteStop }
-    ensures fetch_faults { S.fetch_faults shelf.new ≡ S.fetch_faults shelf.old }
-    ensures faults { WriteFaults result (S.write_faults shelf.old) (S.write_faults shelf.new) }
-    ensures reliable { S.is_reliable shelf.old → S.is_reliable shelf.new }
+    ensures only_writes { OnlyWrites S.Shelf result shelf.old shelf.new }
     ensures never { S.is_reliable shelf.old → result ≢ Err stops.Write }
 {
     let head = open_header(file.channels, file.rate);
@@ -36,10 +33,7 @@ pub fn begin_files<S: Shelf>(shelf: &mut S, files: &[OutputFile]) -> Result<(), 
         (S.files shelf.new ≡ option_map (opened_files files.now) (S.files shelf.old)) }
     ensures part { OnErr result
         (OpenedInPart files.now (S.files shelf.old) (S.files shelf.new)) }
-    ensures only { IfErr result IsWriteStop }
-    ensures fetch_faults { S.fetch_faults shelf.new ≡ S.fetch_faults shelf.old }
-    ensures faults { WriteFaults result (S.write_faults shelf.old) (S.write_faults shelf.new) }
-    ensures reliable { S.is_reliable shelf.old → S.is_reliable shelf.new }
+    ensures only_writes { OnlyWrites S.Shelf result shelf.old shelf.new }
     ensures never { S.is_reliable shelf.old → result ≢ Err stops.Write }
 {
     for file in files {

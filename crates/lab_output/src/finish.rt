@@ -1,10 +1,10 @@
 //! The end of a run's files.
-ghost use Rattle.std.specs.Prelude.{◌≡◌, ◌≢◌, All, Err, IfErr, OnErr, OnOk, length};
+ghost use Rattle.std.specs.Prelude.{◌≡◌, ◌≢◌, All, Err, OnErr, OnOk, length};
 ghost use Rattle.std.specs.Option.{option_map};
 ghost use Rattle.lab_shelf.specs.Files.{IsPartFinished, with_change, with_first_bytes};
 ghost use Rattle.lab_output.specs.Files.{IsOutputFile, head_of};
 ghost use Rattle.lab_output.specs.Going.{ClosedInPart, HasFile, HasHeadRoom, HaveFiles, HaveHeadRoom, IsFew, closed_files};
-ghost use Rattle.lab_stop.specs.Stops.{IsWriteStop, WriteFaults};
+ghost use Rattle.lab_stop.specs.Effects.{OnlyWrites};
 ghost use Rattle.lab_stop.specs.declared.stop.Stop.TheVariants as stops;
 
 use crate::file::OutputFile;
@@ -22,10 +22,7 @@ fn finish_file<S: Shelf>(shelf: &mut S, file: &OutputFile, samples: usize) -> Re
         (S.files shelf.old)) }
     ensures part { OnErr result (IsPartFinished (S.files shelf.old) (S.files shelf.new)
         file.now.name (head_of file.now samples)) }
-    ensures only { IfErr result IsWriteStop }
-    ensures fetch_faults { S.fetch_faults shelf.new ≡ S.fetch_faults shelf.old }
-    ensures faults { WriteFaults result (S.write_faults shelf.old) (S.write_faults shelf.new) }
-    ensures reliable { S.is_reliable shelf.old → S.is_reliable shelf.new }
+    ensures only_writes { OnlyWrites S.Shelf result shelf.old shelf.new }
     ensures never { S.is_reliable shelf.old → HasFile (S.files shelf.old) file.now.name
         → result ≢ Err stops.Write }
 {
@@ -48,10 +45,7 @@ pub fn finish_files<S: Shelf>(
         (S.files shelf.new ≡ option_map (closed_files files.now samples.now) (S.files shelf.old)) }
     ensures part { OnErr result
         (ClosedInPart files.now samples.now (S.files shelf.old) (S.files shelf.new)) }
-    ensures only { IfErr result IsWriteStop }
-    ensures fetch_faults { S.fetch_faults shelf.new ≡ S.fetch_faults shelf.old }
-    ensures faults { WriteFaults result (S.write_faults shelf.old) (S.write_faults shelf.new) }
-    ensures reliable { S.is_reliable shelf.old → S.is_reliable shelf.new }
+    ensures only_writes { OnlyWrites S.Shelf result shelf.old shelf.new }
     ensures never { S.is_reliable shelf.old → HaveFiles (S.files shelf.old) files.now
         → result ≢ Err stops.Write }
 {

@@ -1,14 +1,14 @@
 //! What a run has written so far, and each step of writing it.
-ghost use Rattle.std.specs.Prelude.{[], ◌≡◌, ◌≢◌, ◌≤◌, ◌<◌, ◌++◌, All, Err, IfErr, IfOk, IsSome, List, ℤ, OnErr, OnOk, Option, drop, length, slice_index_or, slice_set, take};
+ghost use Rattle.std.specs.Prelude.{[], ◌≡◌, ◌≢◌, ◌≤◌, ◌<◌, All, Err, IfErr, IfOk, IsSome, List, ℤ, OnOk, Option, drop, length, slice_index_or, slice_set, take};
 ghost use Rattle.std.specs.Option.{option_map};
 ghost use Rattle.lab_lines.specs.Limits.{IsScript};
 ghost use Rattle.lab_report.specs.Text.{IsRowOf, IsTailOf};
 ghost use Rattle.lab_shelf.specs.Changes.{Changes};
-ghost use Rattle.lab_shelf.specs.Files.{Files, TookPart};
+ghost use Rattle.lab_shelf.specs.Files.{Files};
 ghost use Rattle.lab_output.specs.Files.{MayHold, nothing, finished_files};
 ghost use Rattle.lab_output.specs.Going.{AreLonger, AreNew, AreOutputs, IsFew, IsGoingOn, KeepSamples, SomeGoOn};
 ghost use Rattle.lab_output.specs.Text.{head_text, rows_text, tail_from};
-ghost use Rattle.lab_stop.specs.Stops.{IsWriteStop, WriteFaults};
+ghost use Rattle.lab_stop.specs.Effects.{OnlyWrites, PutsText};
 ghost use Rattle.lab_stop.specs.declared.stop.Stop.TheVariants as stops;
 
 use crate::append::append_new;
@@ -76,10 +76,7 @@ impl Outputs {
             (S.files shelf.old) (S.files shelf.new)) }
         ensures changes { Changes (MayHold self.now.files.items (nothing self.now.files.items))
             (S.files shelf.old) (S.files shelf.new) }
-        ensures only { IfErr result IsWriteStop }
-        ensures fetch_faults { S.fetch_faults shelf.new ≡ S.fetch_faults shelf.old }
-        ensures faults { WriteFaults result (S.write_faults shelf.old) (S.write_faults shelf.new) }
-        ensures reliable { S.is_reliable shelf.old → S.is_reliable shelf.new }
+        ensures only_writes { OnlyWrites S.Shelf result shelf.old shelf.new }
         ensures never { S.is_reliable shelf.old → result ≢ Err stops.Write }
     {
         begin_files(shelf, self.files.as_slice())
@@ -121,10 +118,7 @@ impl Outputs {
         ensures samples { OnOk result (self.new.samples.items
             ≡ slice_set self.old.samples.items number (length samples.now)) }
         ensures rows { self.new.rows ≡ self.old.rows }
-        ensures only { IfErr result IsWriteStop }
-        ensures fetch_faults { S.fetch_faults shelf.new ≡ S.fetch_faults shelf.old }
-        ensures faults { WriteFaults result (S.write_faults shelf.old) (S.write_faults shelf.new) }
-        ensures reliable { S.is_reliable shelf.old → S.is_reliable shelf.new }
+        ensures only_writes { OnlyWrites S.Shelf result shelf.old shelf.new }
         ensures never { (before : Option Files) (sounds : List (List ℤ))
             → IsGoingOn self.old.files.items self.old.samples.items sounds
             before (S.files shelf.old)
@@ -158,10 +152,7 @@ impl Outputs {
             → IsGoingOn self.now.files.items self.now.samples.items sounds
             before (S.files shelf.old)
             → KeepSamples self.now.files.items sounds (S.files shelf.new) }
-        ensures only { IfErr result IsWriteStop }
-        ensures fetch_faults { S.fetch_faults shelf.new ≡ S.fetch_faults shelf.old }
-        ensures faults { WriteFaults result (S.write_faults shelf.old) (S.write_faults shelf.new) }
-        ensures reliable { S.is_reliable shelf.old → S.is_reliable shelf.new }
+        ensures only_writes { OnlyWrites S.Shelf result shelf.old shelf.new }
         ensures never { (before : Option Files) (sounds : List (List ℤ))
             → IsGoingOn self.now.files.items self.now.samples.items sounds
             before (S.files shelf.old)
@@ -173,13 +164,7 @@ impl Outputs {
     /// Puts the report's first line, `dmixlab 1`. It stops with `Write` where the sink fails, and with
     /// `Memory` only where no memory is left; the sink took the first bytes of the line then.
     pub fn put_head<K: Sink>(&self, out: &mut K) -> Result<(), Stop>
-        ensures taken { OnOk result
-            (K.taken out.new ≡ option_map (λ taken. taken ++ head_text) (K.taken out.old)) }
-        ensures text { OnErr result (TookPart (K.taken out.old) (K.taken out.new) head_text) }
-        ensures only { IfErr result IsWriteStop }
-        ensures faults { WriteFaults result (K.faults out.old) (K.faults out.new) }
-        ensures still { K.is_reliable out.old → K.is_reliable out.new }
-        ensures reliable { K.is_reliable out.old → result ≢ Err stops.Write }
+        ensures puts_text { PutsText K.Sink head_text result out.old out.new }
     {
         put(out, b"dmixlab 1\n")
     }
@@ -197,17 +182,11 @@ impl Outputs {
     ) -> Result<(), Stop>
         requires rows { All (IsRowOf script.now) rows.now }
         requires more { self.old.rows ≤ length rows.now }
-        ensures taken { OnOk result (K.taken out.new ≡ option_map
-            (λ taken. taken ++ rows_text script.now self.old.rows rows.now) (K.taken out.old)) }
-        ensures text { OnErr result (TookPart (K.taken out.old) (K.taken out.new)
-            (rows_text script.now self.old.rows rows.now)) }
+        ensures puts_text { PutsText K.Sink (rows_text script.now self.old.rows rows.now) result
+            out.old out.new }
         ensures rows { OnOk result (self.new.rows ≡ length rows.now) }
         ensures files { self.new.files ≡ self.old.files }
         ensures samples { self.new.samples ≡ self.old.samples }
-        ensures only { IfErr result IsWriteStop }
-        ensures faults { WriteFaults result (K.faults out.old) (K.faults out.new) }
-        ensures still { K.is_reliable out.old → K.is_reliable out.new }
-        ensures reliable { K.is_reliable out.old → result ≢ Err stops.Write }
     {
         let text = rows_from(alloc, script, &rows[self.rows..])?;
         put_some(out, &text)?;
@@ -229,14 +208,8 @@ impl Outputs {
         requires rows { All (IsRowOf script.now) report.now.rows }
         requires tail { IsTailOf script.now report.now }
         requires more { self.now.rows ≤ length report.now.rows }
-        ensures taken { OnOk result (K.taken out.new ≡ option_map
-            (λ taken. taken ++ tail_from script.now self.now.rows report.now) (K.taken out.old)) }
-        ensures text { OnErr result (TookPart (K.taken out.old) (K.taken out.new)
-            (tail_from script.now self.now.rows report.now)) }
-        ensures only { IfErr result IsWriteStop }
-        ensures faults { WriteFaults result (K.faults out.old) (K.faults out.new) }
-        ensures still { K.is_reliable out.old → K.is_reliable out.new }
-        ensures reliable { K.is_reliable out.old → result ≢ Err stops.Write }
+        ensures puts_text { PutsText K.Sink (tail_from script.now self.now.rows report.now) result
+            out.old out.new }
     {
         let mut text = rows_from(alloc, script, &report.rows.as_slice()[self.rows..])?;
         push_tail(&mut text, script, report)?;
@@ -246,13 +219,7 @@ impl Outputs {
 
 /// Puts a text, unless there is none.
 fn put_some<K: Sink>(out: &mut K, text: &[u8]) -> Result<(), Stop>
-    ensures taken { OnOk result
-        (K.taken out.new ≡ option_map (λ taken. taken ++ text.now) (K.taken out.old)) }
-    ensures text { OnErr result (TookPart (K.taken out.old) (K.taken out.new) text.now) }
-    ensures only { IfErr result IsWriteStop }
-    ensures faults { WriteFaults result (K.faults out.old) (K.faults out.new) }
-    ensures still { K.is_reliable out.old → K.is_reliable out.new }
-    ensures reliable { K.is_reliable out.old → result ≢ Err stops.Write }
+    ensures { PutsText K.Sink text.now result out.old out.new }
 {
     if text.is_empty() {
         return Ok(());

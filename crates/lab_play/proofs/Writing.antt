@@ -15,7 +15,9 @@ use Rattle.lab_phase.specs.declared.lab.Lab.{Lab}
 use Rattle.lab_phase.specs.AtStage.{IsAtStage, capture_of, readers_in, session_of}
 use Rattle.lab_rows.specs.Growth.{recorded_from-at, recorded_from-size}
 use Rattle.lab_shelf.specs.Changes.{Changes}
+use Rattle.lab_shelf.specs.declared.traits.Shelf as shelves
 use Rattle.lab_shelf.specs.Files.{Files}
+use Rattle.lab_stop.specs.Effects.{CountsNoFault}
 use Rattle.lab_output.specs.declared.file.OutputFile.{OutputFile}
 use Rattle.lab_output.specs.declared.outputs.Outputs.{Outputs}
 use Rattle.lab_output.specs.Files.{MayHold}
@@ -208,14 +210,11 @@ all-going outputs counts sounds targets number before now longer all going =
 -- ---- all outputs in turn
 
 -- a lab's outputs as they were, and after so many appends
-pub record IsAppended (lab : Lab) (was is : Outputs) (number : ℕ) (files_was files_is : Option Files) (fetches_was fetches_is writes_was writes_is : ℕ)
-    (reliable_was reliable_is : Type 0) : Type 0 where
+pub record IsAppended {S : Type 0} (H : shelves.Ghosts S) (lab : Lab) (was is : Outputs) (number : ℕ) (old now : S) : Type 0 where
   pub outputs_are : AreOutputs is
   pub files : is.files ≡ was.files
   pub rows : is.rows ≡ was.rows
   pub going_on : (before : Option Files) (stage : Stage) (sounds : List (List ℤ)) → IsAtStage lab stage → AreLonger sounds (sounds_at lab stage)
-      → IsGoingOn was.files.items was.samples.items sounds before files_was
-      → IsGoingOn is.files.items is.samples.items (caught_up number sounds (sounds_at lab stage)) before files_is
-  pub fetch_faults : fetches_is ≡ fetches_was
-  pub write_faults : writes_is ≡ writes_was
-  pub reliable : reliable_was → reliable_is
+      → IsGoingOn was.files.items was.samples.items sounds before (H.files old)
+      → IsGoingOn is.files.items is.samples.items (caught_up number sounds (sounds_at lab stage)) before (H.files now)
+  pub counts : CountsNoFault H old now

@@ -1,7 +1,7 @@
 //! The items of a script's body, one after the other.
 ghost use Rattle.std.specs.Prelude.{◌≡◌, ◌≢◌, ◌+◌, ◌≤◌, Err, IfErr, OnErr, OnOk, length};
 ghost use Rattle.lab_lines.specs.declared.line.Item.TheVariants as item;
-ghost use Rattle.lab_stop.specs.Stops.{IsWriteStop, OutputFaults};
+ghost use Rattle.lab_stop.specs.Effects.{StoresAndPuts};
 ghost use Rattle.lab_stop.specs.declared.stop.Stop.TheVariants as stops;
 ghost use Rattle.lab_phase.specs.AtStage.{DoesItem, IsBorderItem, IsLab, IsNextItem, IsSameScript, items_done, played_of};
 ghost use Rattle.lab_phase.specs.PhaseRuns.{HaveAsked, stops_by};
@@ -53,12 +53,8 @@ pub(crate) fn do_items<R: Threads + Sync, S: Shelf, K: Sink, G: Gate + Send>(
         (stops_by G.stops gates.old)
         (scene lab.old outputs.old (S.files shelf.old) (K.taken out.old))
         (stops_by G.stops gates.new) lab.new (S.files shelf.new) (K.taken out.new)) }
-    ensures only { IfErr result IsWriteStop }
-    ensures fetch_faults { S.fetch_faults shelf.new ≡ S.fetch_faults shelf.old }
-    ensures faults { OutputFaults result (S.write_faults shelf.old) (S.write_faults shelf.new)
-        (K.faults out.old) (K.faults out.new) }
-    ensures reliable { S.is_reliable shelf.old → S.is_reliable shelf.new }
-    ensures reliable_out { K.is_reliable out.old → K.is_reliable out.new }
+    ensures stores_and_puts { StoresAndPuts S.Shelf K.Sink result (shelf.old, out.old)
+        (shelf.new, out.new) }
     ensures never { S.is_reliable shelf.old → K.is_reliable out.old
         → IsKnownRun (stops_by G.stops gates.old)
         (scene lab.old outputs.old (S.files shelf.old) (K.taken out.old))
@@ -108,12 +104,8 @@ fn do_item<R: Threads + Sync, S: Shelf, K: Sink, G: Gate + Send>(
         (stops_by G.stops gates.old)
         (scene lab.old outputs.old (S.files shelf.old) (K.taken out.old))
         (stops_by G.stops gates.new) lab.new (S.files shelf.new) (K.taken out.new)) }
-    ensures only { IfErr result IsWriteStop }
-    ensures fetch_faults { S.fetch_faults shelf.new ≡ S.fetch_faults shelf.old }
-    ensures faults { OutputFaults result (S.write_faults shelf.old) (S.write_faults shelf.new)
-        (K.faults out.old) (K.faults out.new) }
-    ensures reliable { S.is_reliable shelf.old → S.is_reliable shelf.new }
-    ensures reliable_out { K.is_reliable out.old → K.is_reliable out.new }
+    ensures stores_and_puts { StoresAndPuts S.Shelf K.Sink result (shelf.old, out.old)
+        (shelf.new, out.new) }
     ensures never { S.is_reliable shelf.old → K.is_reliable out.old
         → IsKnownRun (stops_by G.stops gates.old)
         (scene lab.old outputs.old (S.files shelf.old) (K.taken out.old))
@@ -162,12 +154,8 @@ fn do_phase<R: Threads + Sync, S: Shelf, K: Sink, G: Gate + Send>(
         (stops_by G.stops gates.old)
         (scene lab.old outputs.old (S.files shelf.old) (K.taken out.old))
         (stops_by G.stops gates.new) lab.new (S.files shelf.new) (K.taken out.new)) }
-    ensures only { IfErr result IsWriteStop }
-    ensures fetch_faults { S.fetch_faults shelf.new ≡ S.fetch_faults shelf.old }
-    ensures faults { OutputFaults result (S.write_faults shelf.old) (S.write_faults shelf.new)
-        (K.faults out.old) (K.faults out.new) }
-    ensures reliable { S.is_reliable shelf.old → S.is_reliable shelf.new }
-    ensures reliable_out { K.is_reliable out.old → K.is_reliable out.new }
+    ensures stores_and_puts { StoresAndPuts S.Shelf K.Sink result (shelf.old, out.old)
+        (shelf.new, out.new) }
     ensures never { S.is_reliable shelf.old → K.is_reliable out.old
         → IsKnownRun (stops_by G.stops gates.old)
         (scene lab.old outputs.old (S.files shelf.old) (K.taken out.old))

@@ -8,7 +8,7 @@ ghost use Rattle.lab_input.specs.Input.{RunInput};
 ghost use Rattle.lab_input.specs.Read.{input_of};
 ghost use Rattle.lab_shelf.specs.Changes.{Changes};
 ghost use Rattle.lab_shelf.specs.Files.{TookPart};
-ghost use Rattle.lab_stop.specs.Stops.{IsWriteStop, OutputFaults};
+ghost use Rattle.lab_stop.specs.Effects.{StoresAndPuts};
 ghost use Rattle.lab_stop.specs.declared.stop.Stop.TheVariants as stops;
 ghost use Rattle.lab_phase.specs.AtStage.{items_done};
 ghost use Rattle.lab_phase.specs.Ended.{outcome_in};
@@ -78,12 +78,8 @@ pub fn play<R: Threads + Sync, S: Shelf, K: Sink, G: Gate + Send>(
         (rises (stops_by G.stops gates.old) (stops_by G.stops gates.new))
         (S.files shelf.old) (S.files shelf.new) (K.taken out.old) (K.taken out.new)) }
 
-    ensures only { IfErr result IsWriteStop }
-    ensures fetch_faults { S.fetch_faults shelf.new ≡ S.fetch_faults shelf.old }
-    ensures faults { OutputFaults result (S.write_faults shelf.old) (S.write_faults shelf.new)
-        (K.faults out.old) (K.faults out.new) }
-
-    ensures reliable { S.is_reliable shelf.old → S.is_reliable shelf.new }
+    ensures stores_and_puts { StoresAndPuts S.Shelf K.Sink result (shelf.old, out.old)
+        (shelf.new, out.new) }
 
     // Over a reliable shelf whose files are known, and a reliable output, nothing fails but for want of memory.
     ensures never { S.is_reliable shelf.old → K.is_reliable out.old → IsSome (S.files shelf.old)
@@ -192,11 +188,8 @@ fn play_all<R: Threads + Sync, S: Shelf, K: Sink, G: Gate + Send>(
         → IsNewRun input name lab.entry outputs
         → HasStopped input name (rises (stops_by G.stops gates.old) (stops_by G.stops gates.new))
         (S.files shelf.old) (S.files shelf.new) (K.taken out.old) (K.taken out.new)) }
-    ensures only { IfErr result IsWriteStop }
-    ensures fetch_faults { S.fetch_faults shelf.new ≡ S.fetch_faults shelf.old }
-    ensures faults { OutputFaults result (S.write_faults shelf.old) (S.write_faults shelf.new)
-        (K.faults out.old) (K.faults out.new) }
-    ensures reliable { S.is_reliable shelf.old → S.is_reliable shelf.new }
+    ensures stores_and_puts { StoresAndPuts S.Shelf K.Sink result (shelf.old, out.old)
+        (shelf.new, out.new) }
     ensures never { S.is_reliable shelf.old → K.is_reliable out.old → IsSome (S.files shelf.old)
         → result ≢ Err stops.Write }
 {
@@ -224,12 +217,8 @@ fn begin<S: Shelf, K: Sink>(outputs: &Outputs, shelf: &mut S, out: &mut K) -> Re
         (Changes (MayHold outputs.now.files.items (nothing outputs.now.files.items))
         (S.files shelf.old) (S.files shelf.new)) }
     ensures text { OnErr result (TookPart (K.taken out.old) (K.taken out.new) head_text) }
-    ensures only { IfErr result IsWriteStop }
-    ensures fetch_faults { S.fetch_faults shelf.new ≡ S.fetch_faults shelf.old }
-    ensures faults { OutputFaults result (S.write_faults shelf.old) (S.write_faults shelf.new)
-        (K.faults out.old) (K.faults out.new) }
-    ensures reliable { S.is_reliable shelf.old → S.is_reliable shelf.new }
-    ensures reliable_out { K.is_reliable out.old → K.is_reliable out.new }
+    ensures stores_and_puts { StoresAndPuts S.Shelf K.Sink result (shelf.old, out.old)
+        (shelf.new, out.new) }
     ensures never { S.is_reliable shelf.old → K.is_reliable out.old → result ≢ Err stops.Write }
 {
     outputs.begin(shelf)?;
@@ -254,11 +243,8 @@ fn end<S: Shelf, K: Sink>(
     ensures part { OnErr result
         (StopsAtEnd (scene lab.entry outputs.now (S.files shelf.old) (K.taken out.old))
         (S.files shelf.new) (K.taken out.new)) }
-    ensures only { IfErr result IsWriteStop }
-    ensures fetch_faults { S.fetch_faults shelf.new ≡ S.fetch_faults shelf.old }
-    ensures faults { OutputFaults result (S.write_faults shelf.old) (S.write_faults shelf.new)
-        (K.faults out.old) (K.faults out.new) }
-    ensures reliable { S.is_reliable shelf.old → S.is_reliable shelf.new }
+    ensures stores_and_puts { StoresAndPuts S.Shelf K.Sink result (shelf.old, out.old)
+        (shelf.new, out.new) }
     ensures never { S.is_reliable shelf.old → K.is_reliable out.old
         → IsKnownAtEnd (scene lab.entry outputs.now (S.files shelf.old) (K.taken out.old))
         → result ≢ Err stops.Write }

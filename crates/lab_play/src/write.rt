@@ -1,10 +1,10 @@
 //! What a phase writes: the samples that its card played and its readers recorded, and then its rows.
-ghost use Rattle.std.specs.Prelude.{[], ◌≡◌, ◌≢◌, ◌≤◌, ℤ, List, Option, Err, IfErr, IsSome, OnErr, OnOk, length, slice_index_or};
+ghost use Rattle.std.specs.Prelude.{[], ◌≡◌, ◌≢◌, ◌≤◌, ℤ, List, Option, Err, IsSome, OnErr, OnOk, length, slice_index_or};
 ghost use Rattle.lab_run.specs.Stage.{Stage};
 ghost use Rattle.lab_shelf.specs.Changes.{Changes};
 ghost use Rattle.lab_shelf.specs.Files.{Files};
 ghost use Rattle.lab_stop.specs.declared.stop.Stop.TheVariants as stops;
-ghost use Rattle.lab_stop.specs.Stops.{IsWriteStop, OutputFaults, WriteFaults};
+ghost use Rattle.lab_stop.specs.Effects.{OnlyWrites, StoresAndPuts};
 ghost use Rattle.lab_phase.specs.AtStage.{IsAtStage, readers_in};
 ghost use Rattle.lab_readers.specs.AtStage.{readers_of};
 ghost use Rattle.lab_output.specs.Files.{MayHold};
@@ -59,10 +59,7 @@ fn append_all<S: Shelf>(
     ensures outputs { AreOutputs outputs.new }
     ensures files { outputs.new.files ≡ outputs.old.files }
     ensures rows { outputs.new.rows ≡ outputs.old.rows }
-    ensures only { IfErr result IsWriteStop }
-    ensures fetch_faults { S.fetch_faults shelf.new ≡ S.fetch_faults shelf.old }
-    ensures faults { WriteFaults result (S.write_faults shelf.old) (S.write_faults shelf.new) }
-    ensures reliable { S.is_reliable shelf.old → S.is_reliable shelf.new }
+    ensures only_writes { OnlyWrites S.Shelf result shelf.old shelf.new }
     ensures never { (before : Option Files) (stage : Stage) (sounds : List (List ℤ))
         → IsAtStage lab.now stage → AreLonger sounds (sounds_at lab.now stage)
         → IsGoingOn outputs.old.files.items outputs.old.samples.items sounds before
@@ -92,12 +89,8 @@ pub(crate) fn write_phase<S: Shelf, K: Sink>(
     ensures part { OnErr result (StopsBehind
         (scene lab.now outputs.old (S.files shelf.old) (K.taken out.old))
         (S.files shelf.new) (K.taken out.new)) }
-    ensures only { IfErr result IsWriteStop }
-    ensures fetch_faults { S.fetch_faults shelf.new ≡ S.fetch_faults shelf.old }
-    ensures faults { OutputFaults result (S.write_faults shelf.old) (S.write_faults shelf.new)
-        (K.faults out.old) (K.faults out.new) }
-    ensures reliable { S.is_reliable shelf.old → S.is_reliable shelf.new }
-    ensures reliable_out { K.is_reliable out.old → K.is_reliable out.new }
+    ensures stores_and_puts { StoresAndPuts S.Shelf K.Sink result (shelf.old, out.old)
+        (shelf.new, out.new) }
     ensures never { S.is_reliable shelf.old → K.is_reliable out.old
         → IsKnownBehind (scene lab.now outputs.old (S.files shelf.old) (K.taken out.old))
         → result ≢ Err stops.Write }

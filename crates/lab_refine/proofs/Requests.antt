@@ -9,7 +9,6 @@ use Rattle.lab_shelf.specs.Files.{Files}
 use Rattle.lab_stop.specs.declared.stop.Stop.{Stop}
 use Rattle.lab_stop.specs.declared.stop.Stop.TheVariants as stops
 use Rattle.lab_stop.specs.Causes.{Cause, first_bytes, ◌>>=◌}
-use Rattle.lab_stop.specs.Passing.{IsCauseOf-passed, Misses-passed}
 use Rattle.lab_stop.specs.Stops.{FetchFaults, IsCauseOf, IsScriptStop, Misses}
 use Rattle.lab_refine.specs.declared.request.Request.{Request}
 use Rattle.lab_refine.specs.Answered.{as_request, request_in}
@@ -59,24 +58,11 @@ FetchFaults-refused error stop asked before now refuses is same =
 abbrev request_from : Result (List ℕ) Cause → Result Request Cause
 request_from bytes = bytes >>= λ text. as_request (request_of_text text)
 
-request_in-text : (files : Files) (name : List ℕ) (bytes : Result (List ℕ) Cause) → first_bytes files name 1048577 ≡ bytes
+-- what a text asks whose bytes are these, or are refused so
+pub request_in-text : (files : Files) (name : List ℕ) (bytes : Result (List ℕ) Cause) → first_bytes files name 1048577 ≡ bytes
     → request_in files name ≡ request_from bytes
 unfolding request_in
 request_in-text files name bytes is = ap request_from is
-
--- a stop at the bytes of a text is one at what it asks
-pub request_in-stop : (files : Option Files) (name : List ℕ) (stop : Stop)
-    → ForSome files (λ m. IsCauseOf stop (first_bytes m name 1048577))
-    → ForSome files (λ m. IsCauseOf stop (request_in m name))
-request_in-stop files name stop is m told =
-    IsCauseOf-passed stop (first_bytes m name 1048577) (request_in m name) (λ e. request_in-text m name (Err e)) (is m told)
-
--- over reliable files a text that is missing at its bytes is missing
-pub request_in-misses : (files : Option Files) (name : List ℕ) (stop : Stop)
-    → ForSome files (λ m. Misses {X = Unit {0}} (Err stop) (first_bytes m name 1048577))
-    → ForSome files (λ m. Misses {X = Unit {0}} (Err stop) (request_in m name))
-request_in-misses files name stop is m told =
-    Misses-passed stop (first_bytes m name 1048577) (request_in m name) (λ e. request_in-text m name (Err e)) (is m told)
 
 -- what a text asks that is read, or why it is refused
 pub request_in-read : (files : Option Files) (name text spelled : List ℕ) (asked : Result Request ScriptError)

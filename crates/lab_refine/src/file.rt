@@ -1,8 +1,9 @@
 //! The answers to the text in a file.
-ghost use Rattle.std.specs.Prelude.{◌≡◌, All, IfErr, IfOk, string_bytes};
+ghost use Rattle.std.specs.Prelude.{All, IfErr, IfOk, string_bytes};
 ghost use Rattle.std.specs.Option.{ForSome};
 ghost use Rattle.lab_stop.specs.Causes.{cause};
-ghost use Rattle.lab_stop.specs.Stops.{EndsOf, EndsReliably, FetchFaults, AnswersOrStops, InputFaults, IsReadStop, Misses};
+ghost use Rattle.lab_stop.specs.Effects.{AnswersFrom, OnlyReads};
+ghost use Rattle.lab_stop.specs.Stops.{EndsOf, EndsReliably, IsReadStop};
 ghost use Rattle.lab_refine.specs.Answered.{IsAnswerTo, request_in};
 ghost use Rattle.lab_refine.specs.Grammar.{IsAsk, IsSlaveLine};
 
@@ -36,12 +37,9 @@ pub fn refine_file<S: Shelf>(shelf: &mut S, alloc: Global, name: &[u8]) -> Resul
     ensures missing { S.is_reliable shelf.old → ForSome (S.files shelf.old)
         (λ files. EndsReliably result (cause (request_in files name.now))) }
     ensures only { IfErr result IsReadStop }
-    ensures faults { InputFaults result (S.fetch_faults shelf.old) (S.fetch_faults shelf.new) }
 
-    // What it leaves of the shelf.
-    ensures files { S.files shelf.new ≡ S.files shelf.old }
-    ensures write_faults { S.write_faults shelf.new ≡ S.write_faults shelf.old }
-    ensures reliable { S.is_reliable shelf.old → S.is_reliable shelf.new }
+    // What it leaves of the shelf, and that a failed fetch is counted.
+    ensures only_reads { OnlyReads S.Shelf result shelf.old shelf.new }
 {
     let request = request_in(shelf, alloc, name)?;
     let text = answer_request(alloc, &request)?;
@@ -51,16 +49,11 @@ pub fn refine_file<S: Shelf>(shelf: &mut S, alloc: Global, name: &[u8]) -> Resul
 /// What the text in a file of the shelf asks.
 #[tactic(auto, unfolding(crate::specs::Answered::request_in))]
 fn request_in<S: Shelf>(shelf: &mut S, alloc: Global, name: &[u8]) -> Result<Request, Stop>
-    ensures request { ForSome (S.files shelf.old)
-        (λ files. AnswersOrStops (λ r. r) result (request_in files name.now)) }
+    ensures request { AnswersFrom S.Shelf (λ r. r) result shelf.old
+        (λ files. request_in files name.now) }
     ensures slave { IfOk result (λ r. IsSlaveLine r.slave) }
     ensures asks { IfOk result (λ r. All IsAsk r.asks) }
-    ensures missing { S.is_reliable shelf.old → ForSome (S.files shelf.old)
-        (λ files. Misses result (request_in files name.now)) }
-    ensures faults { FetchFaults result (S.fetch_faults shelf.old) (S.fetch_faults shelf.new) }
-    ensures files { S.files shelf.new ≡ S.files shelf.old }
-    ensures write_faults { S.write_faults shelf.new ≡ S.write_faults shelf.old }
-    ensures reliable { S.is_reliable shelf.old → S.is_reliable shelf.new }
+    ensures only_reads { OnlyReads S.Shelf result shelf.old shelf.new }
 {
     let text = fetch_most(shelf, alloc, name, MOST_FETCHED)?;
     let request = read_request(alloc, &text)?;

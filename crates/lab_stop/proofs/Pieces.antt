@@ -2,21 +2,16 @@
 use Rattle.std.proofs.Common.{◌≡◌, ℕ, ◌≤◌, ◌<◌, ◌⊎◌, true, false, List, [], ◌++◌, length, drop, take, sym, ap, subst, refl, inl, inr, ◌∙◌}
 use Rattle.std.specs.Prelude.{Bool, IfSome, Option, Some, None, Ok, Err}
 use Rattle.std.specs.Option.{ForSome, option_map}
+use Rattle.lab_shelf.specs.declared.traits.Shelf as shelves
 use Rattle.lab_shelf.specs.Files.{Files, bytes_under, piece}
-use Rattle.lab_stop.specs.declared.stop.Stop.{Stop}
 use Rattle.lab_stop.specs.Causes.{bytes_or_cause, first_bytes, fetched_from, missing, piece_bytes}
-use Rattle.lab_stop.specs.Passing.{IsCauseOf-passed, Misses-passed}
-use Rattle.lab_stop.specs.Pieces.{IsFetched, IsFetched-next, IsFetched-most, refused_alike}
-use Rattle.lab_stop.specs.Stops.{IsCauseOf, Misses}
+use Rattle.lab_stop.specs.Effects.{IsSameShelf}
+use Rattle.lab_stop.specs.Pieces.{IsFetched, IsFetched-next, IsFetched-most}
 
 -- what a loop over the pieces keeps
-pub record Fetching (files now : Option Files) (name bytes : List ℕ) (last : Bool)
-    (faults faults_now writes writes_now : ℕ) (before after : Type 0) : Type 0 where
-  pub so_far : ForSome files (λ m. IsFetched m name bytes last)
-  pub same_files : now ≡ files
-  pub no_fault : faults_now ≡ faults
-  pub no_write_fault : writes_now ≡ writes
-  pub reliable : before → after
+pub record Fetching {S : Type 0} (H : shelves.Ghosts S) (old now : S) (name bytes : List ℕ) (last : Bool) : Type 0 where
+  pub so_far : ForSome (H.files old) (λ m. IsFetched m name bytes last)
+  pub same : IsSameShelf H old now
 
 -- a piece that a shelf gives is the file's
 pub piece-fetched : (files : Option Files) (name bytes : List ℕ) (from most : ℕ)
@@ -63,19 +58,3 @@ pub fetched-most : (files : Option Files) (name bytes first : List ℕ) (last : 
     → ForSome files (λ m. first_bytes m name most ≡ Ok first)
 fetched-most files name bytes first last most so_far enough is m told =
     IsFetched-most m name bytes last most (so_far m told) enough ∙ ap Ok (sym is)
-
--- a stop at a piece is one at the bytes that are wanted
-pub stop-passed : (files now : Option Files) (name : List ℕ) (from most : ℕ) (stop : Stop) → now ≡ files
-    → ForSome now (λ m. IsCauseOf stop (fetched_from m name from piece_bytes))
-    → ForSome files (λ m. IsCauseOf stop (first_bytes m name most))
-stop-passed files now name from most stop same is m told =
-    IsCauseOf-passed stop (fetched_from m name from piece_bytes) (first_bytes m name most)
-    (refused_alike m name from piece_bytes 0 most) (is m (same ∙ told))
-
--- over reliable files a file that is missing at a piece is missing
-pub missing-passed : (files now : Option Files) (name : List ℕ) (from most : ℕ) (stop : Stop) → now ≡ files
-    → ForSome now (λ m. Misses {X = Unit {0}} (Err stop) (fetched_from m name from piece_bytes))
-    → ForSome files (λ m. Misses {X = Unit {0}} (Err stop) (first_bytes m name most))
-missing-passed files now name from most stop same is m told =
-    Misses-passed stop (fetched_from m name from piece_bytes) (first_bytes m name most)
-    (refused_alike m name from piece_bytes 0 most) (is m (same ∙ told))

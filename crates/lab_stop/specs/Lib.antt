@@ -1,8 +1,13 @@
 pub mod Causes
+pub mod EffectLaws
+pub mod Effects
 pub mod EndLaws
 pub mod FaultLaws
 pub mod Lines
+pub mod OutputLaws
 pub mod Passing
 pub mod Pieces
+pub mod ReadLaws
 pub mod Stops
+pub mod TestLaws
 pub mod Writing

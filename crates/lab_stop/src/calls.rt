@@ -1,10 +1,7 @@
 //! Calls of a shelf and of a sink that stop a command where they fail.
-ghost use Rattle.std.specs.Prelude.{◌≡◌, ◌≢◌, ◌≤◌, ◌++◌, Err, IfErr, IfOk, OnErr, OnOk, vec_len};
-ghost use Rattle.std.specs.Option.{ForSome, option_map};
-ghost use Rattle.lab_shelf.specs.Files.{TookPart};
-ghost use Rattle.lab_stop.specs.declared.stop.Stop.TheVariants as stops;
+ghost use Rattle.std.specs.Prelude.{◌≡◌, ◌≤◌, IfOk, vec_len};
 ghost use Rattle.lab_stop.specs.Causes.{first_bytes, fetched_from, piece_bytes};
-ghost use Rattle.lab_stop.specs.Stops.{FetchFaults, AnswersOrStops, IsWriteStop, Misses, WriteFaults};
+ghost use Rattle.lab_stop.specs.Effects.{AnswersFrom, OnlyReads, PutsText};
 ghost use Rattle.lab_stop.specs.Writing.{written};
 
 use crate::stop::Stop;
@@ -26,15 +23,10 @@ pub fn fetch_up_to<S: Shelf>(
     from: u64,
     most: u64,
 ) -> Result<Vec<u8>, Stop>
-    ensures bytes { ForSome (S.files shelf.old)
-        (λ files. AnswersOrStops (λ v. v.items) result (fetched_from files name.now from most)) }
+    ensures bytes { AnswersFrom S.Shelf (λ v. v.items) result shelf.old
+        (λ files. fetched_from files name.now from most) }
     ensures most { IfOk result (λ v. vec_len v ≤ most) }
-    ensures files { S.files shelf.new ≡ S.files shelf.old }
-    ensures faults { FetchFaults result (S.fetch_faults shelf.old) (S.fetch_faults shelf.new) }
-    ensures write_faults { S.write_faults shelf.new ≡ S.write_faults shelf.old }
-    ensures reliable { S.is_reliable shelf.old → S.is_reliable shelf.new }
-    ensures missing { S.is_reliable shelf.old → ForSome (S.files shelf.old)
-        (λ files. Misses result (fetched_from files name.now from most)) }
+    ensures only_reads { OnlyReads S.Shelf result shelf.old shelf.new }
 {
     // The name is copied first, so that a fetch that fails is never answered as want of memory.
     let named = Vec::from_slice(alloc, name)?;
@@ -57,16 +49,10 @@ pub fn fetch_piece<S: Shelf>(
     name: &[u8],
     from: u64,
 ) -> Result<Vec<u8>, Stop>
-    ensures bytes { ForSome (S.files shelf.old)
-        (λ files. AnswersOrStops (λ v. v.items) result
-        (fetched_from files name.now from piece_bytes)) }
+    ensures bytes { AnswersFrom S.Shelf (λ v. v.items) result shelf.old
+        (λ files. fetched_from files name.now from piece_bytes) }
     ensures most { IfOk result (λ v. vec_len v ≤ piece_bytes) }
-    ensures files { S.files shelf.new ≡ S.files shelf.old }
-    ensures faults { FetchFaults result (S.fetch_faults shelf.old) (S.fetch_faults shelf.new) }
-    ensures write_faults { S.write_faults shelf.new ≡ S.write_faults shelf.old }
-    ensures reliable { S.is_reliable shelf.old → S.is_reliable shelf.new }
-    ensures missing { S.is_reliable shelf.old → ForSome (S.files shelf.old)
-        (λ files. Misses result (fetched_from files name.now from piece_bytes)) }
+    ensures only_reads { OnlyReads S.Shelf result shelf.old shelf.new }
 {
     fetch_up_to(shelf, alloc, name, from, PIECE_BYTES as u64)
 }
@@ -82,15 +68,10 @@ pub fn fetch_most<S: Shelf>(
     name: &[u8],
     most: u64,
 ) -> Result<Vec<u8>, Stop>
-    ensures bytes { ForSome (S.files shelf.old)
-        (λ files. AnswersOrStops (λ v. v.items) result (first_bytes files name.now most)) }
+    ensures bytes { AnswersFrom S.Shelf (λ v. v.items) result shelf.old
+        (λ files. first_bytes files name.now most) }
     ensures most { IfOk result (λ v. vec_len v ≤ most) }
-    ensures files { S.files shelf.new ≡ S.files shelf.old }
-    ensures faults { FetchFaults result (S.fetch_faults shelf.old) (S.fetch_faults shelf.new) }
-    ensures write_faults { S.write_faults shelf.new ≡ S.write_faults shelf.old }
-    ensures reliable { S.is_reliable shelf.old → S.is_reliable shelf.new }
-    ensures missing { S.is_reliable shelf.old → ForSome (S.files shelf.old)
-        (λ files. Misses result (first_bytes files name.now most)) }
+    ensures only_reads { OnlyReads S.Shelf result shelf.old shelf.new }
 {
     let mut bytes = fetch_piece(shelf, alloc, name, 0)?;
     let mut is_last = bytes.len() < PIECE_BYTES;
@@ -118,13 +99,7 @@ pub fn written(end: Result<(), ShelfFault>) -> Result<(), Stop>
 /// Puts a text on a sink. It stops with `Write` exactly where the sink fails, which counts that, and with
 /// `Memory` only where no memory is left; the sink took the first bytes of the text then.
 pub fn put<K: Sink>(out: &mut K, text: &[u8]) -> Result<(), Stop>
-    ensures taken { OnOk result
-        (K.taken out.new ≡ option_map (λ taken. taken ++ text.now) (K.taken out.old)) }
-    ensures text { OnErr result (TookPart (K.taken out.old) (K.taken out.new) text.now) }
-    ensures only { IfErr result IsWriteStop }
-    ensures faults { WriteFaults result (K.faults out.old) (K.faults out.new) }
-    ensures still { K.is_reliable out.old → K.is_reliable out.new }
-    ensures reliable { K.is_reliable out.old → result ≢ Err stops.Write }
+    ensures puts_text { PutsText K.Sink text.now result out.old out.new }
 {
     written(out.put(text))
 }

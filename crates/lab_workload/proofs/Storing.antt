@@ -7,18 +7,20 @@ use Rattle.std.proofs.lemmas.List.Elements.{All-more}
 use Rattle.std.specs.Prelude.{All, Option}
 use Rattle.wav_io.specs.Canonical.{canonical}
 use Rattle.wav_io.specs.Sound.{Sound}
+use Rattle.lab_shelf.specs.declared.traits.Shelf as shelves
 use Rattle.lab_shelf.specs.Files.{Files, IsPartWritten, with_file}
+use Rattle.lab_stop.specs.EffectLaws.{CountsNoFault-then}
+use Rattle.lab_stop.specs.Effects.{CountsNoFault}
 use Rattle.lab_make.specs.Files.{file_name}
 use Rattle.lab_workload.specs.Stored.{IsReadBack, NamedFile, StoredInPart, script_name, sound_files, with_files, with_input}
 
 -- the first files are stored, and what is left to do does all
-pub record Storing (before now : Option Files) (sounds : List Sound) (n : ℕ) (fetches fetches_now writes writes_now : ℕ) (steady steady_now : Type 0) : Type 0 where
-  pub more : option_map (with_files (sound_files n (drop n sounds))) now ≡ option_map (with_files (sound_files 0 sounds)) before
-  pub part : (after : Option Files) → StoredInPart (sound_files n (drop n sounds)) now after → StoredInPart (sound_files 0 sounds) before after
+pub record Storing {S : Type 0} (H : shelves.Ghosts S) (before now : S) (sounds : List Sound) (n : ℕ) : Type 0 where
+  pub more : option_map (with_files (sound_files n (drop n sounds))) (H.files now) ≡ option_map (with_files (sound_files 0 sounds)) (H.files before)
+  pub part : (after : Option Files) → StoredInPart (sound_files n (drop n sounds)) (H.files now) after
+      → StoredInPart (sound_files 0 sounds) (H.files before) after
   pub read : All IsReadBack (take n sounds)
-  pub fetch_faults : fetches_now ≡ fetches
-  pub write_faults : writes_now ≡ writes
-  pub reliable : steady → steady_now
+  pub counts : CountsNoFault H before now
 
 -- what is left begins with the file of the next client
 left : (sounds : List Sound) (n : ℕ) (sound : Sound) → n < length sounds → sound ≡ get_or sounds n sound
@@ -47,43 +49,38 @@ with_files-none None = refl
 with_files-none (Some m) = refl
 
 -- the next file is stored
-pub Storing-next : (before now then : Option Files) (sounds : List Sound) (n : ℕ) (sound : Sound)
-    (fetches fetches_now fetches_then writes writes_now writes_then : ℕ) (steady steady_now steady_then : Type 0)
-    → Storing before now sounds n fetches fetches_now writes writes_now steady steady_now → n < length sounds → sound ≡ get_or sounds n sound
-    → then ≡ option_map (λ files. with_file files (file_name n) (canonical sound)) now → IsReadBack sound
-    → fetches_then ≡ fetches_now → writes_then ≡ writes_now → (steady_now → steady_then)
-    → Storing before then sounds (n + 1) fetches fetches_then writes writes_then steady steady_then
-Storing-next before now then sounds n sound fetches fetches_now fetches_then writes writes_now writes_then steady steady_now steady_then so_far within is stored back same_fetches same_writes stays = record {
+pub Storing-next : {S : Type 0} (H : shelves.Ghosts S) (before now then : S) (sounds : List Sound) (n : ℕ) (sound : Sound)
+    → Storing H before now sounds n → n < length sounds → sound ≡ get_or sounds n sound
+    → H.files then ≡ option_map (λ files. with_file files (file_name n) (canonical sound)) (H.files now) → IsReadBack sound
+    → CountsNoFault H now then → Storing H before then sounds (n + 1)
+Storing-next H before now then sounds n sound so_far within is stored back counts = record {
   more =
       ap (option_map (with_files (sound_files (n + 1) (drop (n + 1) sounds)))) stored
-      ∙ with_files-joined (record { name = file_name n; bytes = canonical sound }) (sound_files (n + 1) (drop (n + 1) sounds)) now
-      ∙ ap (λ (files : List NamedFile). option_map (with_files files) now) (sym (left sounds n sound within is))
+      ∙ with_files-joined (record { name = file_name n; bytes = canonical sound }) (sound_files (n + 1) (drop (n + 1) sounds)) (H.files now)
+      ∙ ap (λ (files : List NamedFile). option_map (with_files files) (H.files now)) (sym (left sounds n sound within is))
       ∙ so_far.more;
   part = λ after part. so_far.part after
-      (subst (λ (files : List NamedFile). StoredInPart files now after) (sym (left sounds n sound within is))
+      (subst (λ (files : List NamedFile). StoredInPart files (H.files now) after) (sym (left sounds n sound within is))
       (inr (subst (λ (f : Option Files). StoredInPart (sound_files (n + 1) (drop (n + 1) sounds)) f after) stored part)));
   read = All-more IsReadBack sounds n sound within so_far.read (subst IsReadBack is back);
-  fetch_faults = same_fetches ∙ so_far.fetch_faults;
-  write_faults = same_writes ∙ so_far.write_faults;
-  reliable = λ r. stays (so_far.reliable r);
+  counts = CountsNoFault-then H before now then so_far.counts counts;
 }
 
 -- the next file is stored in part
-pub Storing-stop : (before now after : Option Files) (sounds : List Sound) (n : ℕ) (sound : Sound)
-    (fetches fetches_now writes writes_now : ℕ) (steady steady_now : Type 0)
-    → Storing before now sounds n fetches fetches_now writes writes_now steady steady_now → n < length sounds → sound ≡ get_or sounds n sound
-    → IsPartWritten now after (file_name n) (canonical sound) → StoredInPart (sound_files 0 sounds) before after
-Storing-stop before now after sounds n sound fetches fetches_now writes writes_now steady steady_now so_far within is part =
+pub Storing-stop : {S : Type 0} (H : shelves.Ghosts S) (before now : S) (after : Option Files) (sounds : List Sound) (n : ℕ) (sound : Sound)
+    → Storing H before now sounds n → n < length sounds → sound ≡ get_or sounds n sound
+    → IsPartWritten (H.files now) after (file_name n) (canonical sound) → StoredInPart (sound_files 0 sounds) (H.files before) after
+Storing-stop H before now after sounds n sound so_far within is part =
     so_far.part after
-    (subst (λ (files : List NamedFile). StoredInPart files now after) (sym (left sounds n sound within is)) (inl part))
+    (subst (λ (files : List NamedFile). StoredInPart files (H.files now) after) (sym (left sounds n sound within is)) (inl part))
 
-module _ (before now : Option Files) (sounds : List Sound) (n : ℕ) (fetches fetches_now writes writes_now : ℕ) (steady steady_now : Type 0)
-    (so_far : Storing before now sounds n fetches fetches_now writes writes_now steady steady_now) (all : length sounds ≤ n) where
+module _ {S : Type 0} (H : shelves.Ghosts S) (before now : S) (sounds : List Sound) (n : ℕ) (so_far : Storing H before now sounds n)
+    (all : length sounds ≤ n) where
   -- all files are stored
-  pub Storing-all : now ≡ option_map (with_files (sound_files 0 sounds)) before
+  pub Storing-all : H.files now ≡ option_map (with_files (sound_files 0 sounds)) (H.files before)
   Storing-all =
-      sym (with_files-none now)
-      ∙ ap (λ (more : List Sound). option_map (with_files (sound_files n more)) now) (sym (drop_of_length-le sounds all))
+      sym (with_files-none (H.files now))
+      ∙ ap (λ (more : List Sound). option_map (with_files (sound_files n more)) (H.files now)) (sym (drop_of_length-le sounds all))
       ∙ so_far.more
 
   -- and each is read as its sound

@@ -3,7 +3,7 @@ ghost use Rattle.std.specs.Prelude.{◌≡◌, ◌≢◌, ◌≤◌, All, Err, I
 ghost use Rattle.std.specs.Option.{option_map};
 ghost use Rattle.wav_io.specs.Canonical.{canonical};
 ghost use Rattle.lab_shelf.specs.Files.{IsPartWritten, with_file};
-ghost use Rattle.lab_stop.specs.Stops.{IsWriteStop, WriteFaults};
+ghost use Rattle.lab_stop.specs.Effects.{OnlyWrites};
 ghost use Rattle.lab_stop.specs.declared.stop.Stop.TheVariants as stops;
 ghost use Rattle.lab_make.specs.Files.{IsMadeSound, file_name};
 ghost use Rattle.lab_workload.specs.Stored.{InputInPart, IsReadBack, StoredInPart, sound_files, with_files, with_input};
@@ -22,10 +22,7 @@ pub(crate) fn store<S: Shelf>(shelf: &mut S, name: &[u8], bytes: &[u8]) -> Resul
         (λ files. with_file files name.now bytes.now) (S.files shelf.old)) }
     ensures part { OnErr result
         (IsPartWritten (S.files shelf.old) (S.files shelf.new) name.now bytes.now) }
-    ensures only { IfErr result IsWriteStop }
-    ensures fetch_faults { S.fetch_faults shelf.new ≡ S.fetch_faults shelf.old }
-    ensures faults { WriteFaults result (S.write_faults shelf.old) (S.write_faults shelf.new) }
-    ensures reliable { S.is_reliable shelf.old → S.is_reliable shelf.new }
+    ensures only_writes { OnlyWrites S.Shelf result shelf.old shelf.new }
     ensures never { S.is_reliable shelf.old → result ≢ Err stops.Write }
 {
     written(shelf.store(name, bytes))
@@ -52,10 +49,7 @@ fn store_client<S: Shelf>(shelf: &mut S, alloc: Global, client: u32, wav: &Wav) 
     ensures read { OnOk result (IsReadBack wav.now) }
     ensures part { OnErr result (IsPartWritten (S.files shelf.old) (S.files shelf.new)
         (file_name client) (canonical wav.now)) }
-    ensures only { IfErr result IsWriteStop }
-    ensures fetch_faults { S.fetch_faults shelf.new ≡ S.fetch_faults shelf.old }
-    ensures faults { WriteFaults result (S.write_faults shelf.old) (S.write_faults shelf.new) }
-    ensures reliable { S.is_reliable shelf.old → S.is_reliable shelf.new }
+    ensures only_writes { OnlyWrites S.Shelf result shelf.old shelf.new }
     ensures never { S.is_reliable shelf.old → result ≢ Err stops.Write }
 {
     let name = file_name(alloc, client)?;
@@ -72,10 +66,7 @@ fn store_clients<S: Shelf>(shelf: &mut S, alloc: Global, wavs: &[Wav]) -> Result
     ensures read { OnOk result (All IsReadBack wavs.now) }
     ensures part { OnErr result
         (StoredInPart (sound_files 0 wavs.now) (S.files shelf.old) (S.files shelf.new)) }
-    ensures only { IfErr result IsWriteStop }
-    ensures fetch_faults { S.fetch_faults shelf.new ≡ S.fetch_faults shelf.old }
-    ensures faults { WriteFaults result (S.write_faults shelf.old) (S.write_faults shelf.new) }
-    ensures reliable { S.is_reliable shelf.old → S.is_reliable shelf.new }
+    ensures only_writes { OnlyWrites S.Shelf result shelf.old shelf.new }
     ensures never { S.is_reliable shelf.old → result ≢ Err stops.Write }
 {
     for client in 0..wavs.len() {
@@ -101,10 +92,7 @@ pub(crate) fn store_input<S: Shelf>(
     ensures read { OnOk result (All IsReadBack wavs.now) }
     ensures part { OnErr result
         (InputInPart wavs.now script.now (S.files shelf.old) (S.files shelf.new)) }
-    ensures only { IfErr result IsWriteStop }
-    ensures fetch_faults { S.fetch_faults shelf.new ≡ S.fetch_faults shelf.old }
-    ensures faults { WriteFaults result (S.write_faults shelf.old) (S.write_faults shelf.new) }
-    ensures reliable { S.is_reliable shelf.old → S.is_reliable shelf.new }
+    ensures only_writes { OnlyWrites S.Shelf result shelf.old shelf.new }
     ensures never { S.is_reliable shelf.old → result ≢ Err stops.Write }
 {
     store_clients(shelf, alloc, wavs)?;

@@ -1,13 +1,11 @@
-use Rattle.std.proofs.Common.{◌≡◌, ◌∙◌, List, ap, arith, length, refl, subst, sym}
-use Rattle.std.proofs.lemmas.Result.{err_from_is_err_and}
-use Rattle.std.specs.Prelude.{Result}
+use Rattle.std.proofs.Common.{◌≡◌, ◌∙◌, List, ap, arith, length, subst, sym}
 use Rattle.lab_check.specs.Defects.{HasTestedSegments}
 use Rattle.lab_check.specs.Samples.{played_samples}
 use Rattle.lab_input.specs.Read.{input_of}
 use Rattle.lab_output.specs.FileLaws.{IsOutputFile-played}
 use Rattle.lab_output.specs.Files.{IsOutputFile}
-use Rattle.lab_stop.specs.Causes.{Cause}
-use Rattle.lab_stop.specs.Stops.{AnswersOrStops, Misses}
+use Rattle.lab_stop.specs.ReadLaws.{AnswersFrom-last, AnswersFrom-memory, IsSameShelf-same}
+use Rattle.lab_stop.specs.TestLaws.{OnlyTests-memory}
 use Rattle.wav_io.specs.Sound.{Sound}
 use Rattle.lab_commands.proofs.Checks.{played_in-of}
 use Rattle.lab_commands.proofs.checking.check_played.Goals as goal
@@ -24,49 +22,26 @@ pub check_file-requires-clause-size : goal.check_file-requires-clause-size
 check_file-requires-clause-size g c = omega (arith, ap length c.deref-2.ensures.value, c.in_ok-samples.ensures.few)
 
 pub returns-in_err-file-clause-played : goal.returns-in_err-file-clause-played
-returns-in_err-file-clause-played g c =
-    let p = err_from_is_err_and c.from_residual.result c.from_residual.ensures.1 in
-    rw (p.1, p.2) (λ m told. tt)
+returns-in_err-file-clause-played g c = AnswersFrom-memory g.S.Shelf _ c.from_residual.result _ _ c.from_residual.ensures.1
 
-pub returns-in_err-file-clause-missing : goal.returns-in_err-file-clause-missing
-returns-in_err-file-clause-missing g c reliable =
-    let p = err_from_is_err_and c.from_residual.result c.from_residual.ensures.1 in
-    rw (p.1, p.2) (λ m told. tt)
-
-pub returns-in_err-file-clause-faults : goal.returns-in_err-file-clause-faults
-returns-in_err-file-clause-faults g c =
-    let p = err_from_is_err_and c.from_residual.result c.from_residual.ensures.1 in
-    rw (p.1, p.2) refl
+pub returns-in_err-file-clause-only_tests : goal.returns-in_err-file-clause-only_tests
+returns-in_err-file-clause-only_tests g c =
+    OnlyTests-memory g.S.Shelf c.from_residual.result _ _ c.from_residual.ensures.1 (IsSameShelf-same g.S.Shelf _)
 
 pub returns-in_err-samples-clause-played : goal.returns-in_err-samples-clause-played
-returns-in_err-samples-clause-played g c =
-    let p = err_from_is_err_and c.from_residual-in_err-samples.result c.from_residual-in_err-samples.ensures.1 in
-    rw (p.1, p.2) (λ m told. tt)
+returns-in_err-samples-clause-played g c = AnswersFrom-memory g.S.Shelf _ c.from_residual-in_err-samples.result _ _ c.from_residual-in_err-samples.ensures.1
 
-pub returns-in_err-samples-clause-missing : goal.returns-in_err-samples-clause-missing
-returns-in_err-samples-clause-missing g c reliable =
-    let p = err_from_is_err_and c.from_residual-in_err-samples.result c.from_residual-in_err-samples.ensures.1 in
-    rw (p.1, p.2) (λ m told. tt)
-
-pub returns-in_err-samples-clause-faults : goal.returns-in_err-samples-clause-faults
-returns-in_err-samples-clause-faults g c =
-    let p = err_from_is_err_and c.from_residual-in_err-samples.result c.from_residual-in_err-samples.ensures.1 in
-    rw (p.1, p.2) refl
+pub returns-in_err-samples-clause-only_tests : goal.returns-in_err-samples-clause-only_tests
+returns-in_err-samples-clause-only_tests g c =
+    OnlyTests-memory g.S.Shelf c.from_residual-in_err-samples.result _ _ c.from_residual-in_err-samples.ensures.1 (IsSameShelf-same g.S.Shelf _)
 
 pub returns-clause-played : goal.returns-clause-played
-returns-clause-played g c m told =
+returns-clause-played g c =
     let samples : c.deref-2.result.now ≡ played_samples c.args.input.now.script c.args.input.now.wavs.items c.args.report.now =
     c.deref-2.ensures.value ∙ c.in_ok-samples.ensures.samples
     ∙ ap (λ (wavs : List Sound). played_samples c.args.input.now.script wavs c.args.report.now) c.deref.ensures.value in
-    subst (λ (given : Result (Unit {0}) Cause). AnswersOrStops (λ done. done) c.check_file.result given)
-    (played_in-of m (input_of c.args.input.now) c.args.out.now c.args.report.now _ _ _ c.line_of_played.ensures c.in_ok-file.ensures samples)
-    (c.check_file.ensures.same m told)
+    AnswersFrom-last g.S.Shelf _ c.check_file.result _ _ _ _ (IsSameShelf-same g.S.Shelf _) c.check_file.ensures.same
+    (λ m told. played_in-of m (input_of c.args.input.now) c.args.out.now c.args.report.now _ _ _ c.line_of_played.ensures c.in_ok-file.ensures samples)
 
-pub returns-clause-missing : goal.returns-clause-missing
-returns-clause-missing g c reliable m told =
-    let samples : c.deref-2.result.now ≡ played_samples c.args.input.now.script c.args.input.now.wavs.items c.args.report.now =
-    c.deref-2.ensures.value ∙ c.in_ok-samples.ensures.samples
-    ∙ ap (λ (wavs : List Sound). played_samples c.args.input.now.script wavs c.args.report.now) c.deref.ensures.value in
-    subst (λ (given : Result (Unit {0}) Cause). Misses c.check_file.result given)
-    (played_in-of m (input_of c.args.input.now) c.args.out.now c.args.report.now _ _ _ c.line_of_played.ensures c.in_ok-file.ensures samples)
-    (c.check_file.ensures.missing reliable m told)
+pub returns-clause-only_tests : goal.returns-clause-only_tests
+returns-clause-only_tests g c = c.check_file.ensures.only_tests

@@ -5,9 +5,7 @@ use Rattle.lab_commands.proofs.comparison.is_same_file.Given as goal
 
 abbrev pub invariant-loop-is_last : goal.invariant-loop-is_last
 invariant-loop-is_last g l =
-    Comparing (g.S.Shelf.files l.fn.shelf) (g.S.Shelf.files l.shelf) l.file.name (finished_file l.file l.samples) l.size l.from l.same l.is_last
-    (g.S.Shelf.fetch_faults l.fn.shelf) (g.S.Shelf.fetch_faults l.shelf) (g.S.Shelf.write_faults l.fn.shelf) (g.S.Shelf.write_faults l.shelf)
-    (g.S.Shelf.is_reliable l.fn.shelf) (g.S.Shelf.is_reliable l.shelf)
+    Comparing g.S.Shelf l.fn.shelf l.shelf l.file.name (finished_file l.file l.samples) l.size l.from l.same l.is_last
 
 abbrev pub decreases-loop-is_last : goal.decreases-loop-is_last
 decreases-loop-is_last g l = cond l.is_last 0 (l.size + 1 - l.from)

@@ -1,4 +1,5 @@
-use Rattle.lab_stop.specs.Writing.{OnOk-written, OnErr-written, IfErr-written, WriteFaults-written, written-no_write}
+use Rattle.lab_stop.specs.EffectLaws.{OnlyWrites-written}
+use Rattle.lab_stop.specs.Writing.{OnOk-written, OnErr-written, written-no_write}
 use Rattle.lab_output.proofs.Held.{no-failure}
 use Rattle.lab_output.proofs.append.append_bytes.Goals as goal
 
@@ -8,11 +9,10 @@ returns-clause-appended g c = rw c.written.ensures (OnOk-written _ c.append.resu
 pub returns-clause-part : goal.returns-clause-part
 returns-clause-part g c = rw c.written.ensures (OnErr-written _ c.append.result c.append.ensures.err)
 
-pub returns-clause-only : goal.returns-clause-only
-returns-clause-only g c = rw c.written.ensures (IfErr-written c.append.result)
-
-pub returns-clause-faults : goal.returns-clause-faults
-returns-clause-faults g c = rw c.written.ensures (WriteFaults-written c.append.result _ _ c.append.ensures.faults)
+pub returns-clause-only_writes : goal.returns-clause-only_writes
+returns-clause-only_writes g c =
+    rw c.written.ensures
+    (OnlyWrites-written g.S.Shelf c.append.result _ _ c.append.ensures.fetch_faults c.append.ensures.faults c.append.ensures.reliable)
 
 pub returns-clause-never : goal.returns-clause-never
 returns-clause-never g c reliable there =

@@ -3,6 +3,7 @@ use Rattle.std.proofs.lemmas.Bool.{eqb-true}
 use Rattle.std.proofs.lemmas.List.{nil_from_length}
 use Rattle.std.specs.List.{flat_map}
 use Rattle.wav_io.specs.Canonical.{sample_bytes}
+use Rattle.lab_stop.specs.EffectLaws.{CountsNoFault-same, OnlyWrites-done, OnlyWrites-memory}
 use Rattle.lab_output.proofs.Shelves.{appended-nothing}
 use Rattle.lab_output.proofs.append.append_new.Goals as goal
 
@@ -10,3 +11,12 @@ pub returns-then-is_empty-clause-appended : goal.returns-then-is_empty-clause-ap
 returns-then-is_empty-clause-appended g c =
     let none : c.args.samples.now ≡ [] = nil_from_length _ (eqb-true _ _ (sym c.is_empty.ensures ∙ c.if-is_empty.true)) in
     appended-nothing _ _ _ (ap (flat_map sample_bytes) none)
+
+pub returns-then-is_empty-clause-only_writes : goal.returns-then-is_empty-clause-only_writes
+returns-then-is_empty-clause-only_writes g c = OnlyWrites-done g.S.Shelf _ _ _ (CountsNoFault-same g.S.Shelf _)
+
+pub returns-in_err-append_samples-clause-only_writes : goal.returns-in_err-append_samples-clause-only_writes
+returns-in_err-append_samples-clause-only_writes g c = OnlyWrites-memory g.S.Shelf c.from_residual.result _ c.from_residual.ensures.1
+
+pub returns-clause-only_writes : goal.returns-clause-only_writes
+returns-clause-only_writes g c = c.append_bytes.ensures.only_writes

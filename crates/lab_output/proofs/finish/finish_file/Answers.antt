@@ -1,7 +1,8 @@
 use Rattle.std.proofs.Common.{◌≡◌, ℕ, ◌/◌, ap, sym, subst, ◌∙◌}
 use Rattle.std.proofs.lemmas.Result.{on_err_weaker, on_ok_weaker}
 use Rattle.wav_io.specs.Canonical.{head}
-use Rattle.lab_stop.specs.Writing.{OnOk-written, OnErr-written, IfErr-written, WriteFaults-written, written-no_write}
+use Rattle.lab_stop.specs.EffectLaws.{OnlyWrites-written}
+use Rattle.lab_stop.specs.Writing.{OnOk-written, OnErr-written, written-no_write}
 use Rattle.lab_output.specs.Files.{head_of}
 use Rattle.lab_output.specs.Going.{HasFile}
 use Rattle.lab_output.proofs.Going.{named-closed, named-part}
@@ -28,11 +29,10 @@ returns-clause-part g c =
     (named-part _ _ c.as_slice.result.now c.args.file.now.name c.header-head.result (head_of c.args.file.now c.args.samples) c.as_slice.ensures h)
     c.finish.ensures.err))
 
-pub returns-clause-only : goal.returns-clause-only
-returns-clause-only g c = rw c.written.ensures (IfErr-written c.finish.result)
-
-pub returns-clause-faults : goal.returns-clause-faults
-returns-clause-faults g c = rw c.written.ensures (WriteFaults-written c.finish.result _ _ c.finish.ensures.faults)
+pub returns-clause-only_writes : goal.returns-clause-only_writes
+returns-clause-only_writes g c =
+    rw c.written.ensures
+    (OnlyWrites-written g.S.Shelf c.finish.result _ _ c.finish.ensures.fetch_faults c.finish.ensures.faults c.finish.ensures.reliable)
 
 pub returns-clause-never : goal.returns-clause-never
 returns-clause-never g c reliable there =

@@ -1,13 +1,13 @@
-use Rattle.std.proofs.Common.{ℕ, Err, refl, subst}
+use Rattle.std.proofs.Common.{refl}
 use Rattle.std.proofs.lemmas.Result.{err_from_is_err_and}
-use Rattle.lab_stop.specs.Stops.{WriteFaults}
+use Rattle.lab_stop.specs.EffectLaws.{CountsNoFault-same, CountsNoFault-writes, OnlyWrites-after, OnlyWrites-done, OnlyWrites-passed}
 use Rattle.lab_output.proofs.Held.{file-at}
 use Rattle.lab_output.proofs.Steps.{Closing-next, Closing-stop, Closing-all, room-at}
 use Rattle.lab_output.proofs.finish.finish_files.Goals as goal
 
 pub loop-number-init : goal.loop-number-init
 loop-number-init g c =
-    record { rest = refl; part = λ after p. p; rooms = c.requires.room; there = λ h. h; fetch_faults = refl; write_faults = refl; reliable = λ r. r }
+    record { rest = refl; part = λ after p. p; rooms = c.requires.room; there = λ h. h; counts = CountsNoFault-same g.S.Shelf _ }
 
 pub finish_file-requires-clause-room : goal.finish_file-requires-clause-room
 finish_file-requires-clause-room g c =
@@ -15,30 +15,31 @@ finish_file-requires-clause-room g c =
 
 pub loop-number-preserved : goal.loop-number-preserved
 loop-number-preserved g c =
-    Closing-next _ _ _ _ _ _ c.index-files-number.result _ _ _ _ _ _ _ _ _ _ c.loop-number.invariant c.loop-number-test.true c.requires.number
-    c.index-files-number.is refl
-    c.in_ok-finish_file.ensures.closed c.in_ok-finish_file.ensures.fetch_faults c.in_ok-finish_file.ensures.faults c.in_ok-finish_file.ensures.reliable
+    Closing-next g.S.Shelf _ _ _ _ _ _ c.index-files-number.result _ c.loop-number.invariant c.loop-number-test.true c.requires.number
+    c.index-files-number.is refl c.in_ok-finish_file.ensures.closed
+    (CountsNoFault-writes g.S.Shelf _ _ _ c.in_ok-finish_file.ensures.only_writes)
 
 pub returns-in_err-finish_file-clause-part : goal.returns-in_err-finish_file-clause-part
 returns-in_err-finish_file-clause-part g c =
     let p = err_from_is_err_and c.from_residual.result c.from_residual.ensures.1 in
     rw p.1
-    (Closing-stop _ _ _ _ _ _ c.index-files-number.result _ _ _ _ _ _ _ c.loop-number.invariant c.loop-number-test.true c.requires.number
+    (Closing-stop g.S.Shelf _ _ _ _ _ _ c.index-files-number.result _ c.loop-number.invariant c.loop-number-test.true c.requires.number
     c.index-files-number.is refl c.in_err-finish_file.ensures.part)
 
-pub returns-clause-closed : goal.returns-clause-closed
-returns-clause-closed g c = Closing-all _ _ _ _ _ _ _ _ _ _ _ c.loop-number.invariant c.loop-number-test.false
-
-pub returns-in_err-finish_file-clause-faults : goal.returns-in_err-finish_file-clause-faults
-returns-in_err-finish_file-clause-faults g c =
-    let p = err_from_is_err_and c.from_residual.result c.from_residual.ensures.1 in
-    rw (p.1, p.2)
-    (subst (λ (before : ℕ). WriteFaults {X = Unit {0}} (Err c.in_err-finish_file.field-0.0) before (g.S.Shelf.write_faults c.finish_file.new.shelf))
-    c.loop-number.invariant.write_faults c.in_err-finish_file.ensures.faults)
+pub returns-in_err-finish_file-clause-only_writes : goal.returns-in_err-finish_file-clause-only_writes
+returns-in_err-finish_file-clause-only_writes g c =
+    OnlyWrites-passed g.S.Shelf c.from_residual.result c.in_err-finish_file.field-0.0 _ _ c.from_residual.ensures.1
+    (OnlyWrites-after g.S.Shelf _ _ _ _ c.loop-number.invariant.counts c.in_err-finish_file.ensures.only_writes)
 
 pub returns-in_err-finish_file-clause-never : goal.returns-in_err-finish_file-clause-never
 returns-in_err-finish_file-clause-never g c reliable there =
     let p = err_from_is_err_and c.from_residual.result c.from_residual.ensures.1 in
     rw (p.1, p.2)
-    (c.in_err-finish_file.ensures.never (c.loop-number.invariant.reliable reliable)
+    (c.in_err-finish_file.ensures.never (c.loop-number.invariant.counts.reliable reliable)
     (file-at _ _ _ c.index-files-number.result (c.loop-number.invariant.there there) c.loop-number-test.true c.index-files-number.is))
+
+pub returns-clause-closed : goal.returns-clause-closed
+returns-clause-closed g c = Closing-all g.S.Shelf _ _ _ _ _ c.loop-number.invariant c.loop-number-test.false
+
+pub returns-clause-only_writes : goal.returns-clause-only_writes
+returns-clause-only_writes g c = OnlyWrites-done g.S.Shelf _ _ _ c.loop-number.invariant.counts

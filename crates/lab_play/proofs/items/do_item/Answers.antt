@@ -1,6 +1,6 @@
 use Rattle.lab_phase.specs.AskLaws.{HaveAsked-none}
 use Rattle.lab_phase.specs.PhaseRuns.{HaveAsked, Stops, stops_by}
-use Rattle.lab_stop.specs.FaultLaws.{OutputFaults-memory}
+use Rattle.lab_stop.specs.OutputLaws.{StoresAndPuts-nothing}
 use Rattle.lab_play.specs.Playing.{SceneGoesOn, Scene, StopsAt, scene}
 use Rattle.lab_play.proofs.ItemsResults.{OnErr-all, OnOk-all}
 use Rattle.lab_play.proofs.ItemsStopped.{IsStoppedAt-playing}
@@ -23,5 +23,8 @@ returns-in-Opens-clause-part g c =
     OnErr-all (StopsAt stops before stops after.lab before.files before.taken) c.do_border.result
     (λ start is. IsStoppedAt-playing start stops after (c.do_border.ensures.written stops before.outputs before.files before.taken start is).playing)
 
-pub returns-in-Opens-clause-faults : goal.returns-in-Opens-clause-faults
-returns-in-Opens-clause-faults g c = OutputFaults-memory c.do_border.result _ _ c.do_border.ensures.only
+pub returns-in-Opens-clause-stores_and_puts : goal.returns-in-Opens-clause-stores_and_puts
+returns-in-Opens-clause-stores_and_puts g c = StoresAndPuts-nothing g.S.Shelf g.K.Sink c.do_border.result _ c.do_border.ensures.only
+
+pub returns-in-Phase-clause-stores_and_puts : goal.returns-in-Phase-clause-stores_and_puts
+returns-in-Phase-clause-stores_and_puts g c = c.do_phase.ensures.stores_and_puts

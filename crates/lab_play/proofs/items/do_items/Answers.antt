@@ -1,12 +1,11 @@
-use Rattle.std.specs.Prelude.{ℕ, ◌+◌, Err, List, length, slice_get}
+use Rattle.std.specs.Prelude.{ℕ, ◌+◌, List, length, slice_get}
 use Rattle.std.proofs.Common.{refl, sym, ap, ◌∙◌}
 use Rattle.std.proofs.lemmas.Option.{slice_get_read}
-use Rattle.std.proofs.lemmas.Result.{err_from_is_err_and}
 use Rattle.lab_lines.specs.declared.line.Item.{Item}
 use Rattle.lab_phase.specs.AtStage.{IsNextItem-at}
 use Rattle.lab_phase.specs.AskLaws.{HaveAsked-joined, HaveAsked-none, HaveSameAsks-none}
 use Rattle.lab_phase.specs.PhaseRuns.{stops_by}
-use Rattle.lab_stop.specs.FaultLaws.{OutputFaults-after}
+use Rattle.lab_stop.specs.OutputLaws.{BothCountNoFault-done, BothCountNoFault-same, BothCountNoFault-then, StoresAndPuts-after, StoresAndPuts-done, StoresAndPuts-passed}
 use Rattle.lab_play.specs.Playing.{Scene, StopsAt, scene}
 use Rattle.lab_play.proofs.ItemsResults.{OnErr-all, stopped-with}
 use Rattle.lab_play.proofs.items.do_items.Goals as goal
@@ -19,10 +18,7 @@ loop-index-init g c = record {
   };
   done = c.requires.first;
   same = record { script = refl; wavs = refl; capture = refl; openings = refl };
-  fetch_faults = refl;
-  faults = record { writes_same = refl; puts_same = refl };
-  reliable = λ is. is;
-  reliable_out = λ is. is;
+  counts = BothCountNoFault-same g.S.Shelf g.K.Sink (c.args.shelf.now, c.args.out.now);
 }
 
 pub do_item-requires-clause-playing : goal.do_item-requires-clause-playing
@@ -52,7 +48,7 @@ returns-in_err-do_item-clause-part g c =
 pub returns-in_err-do_item-clause-never : goal.returns-in_err-do_item-clause-never
 returns-in_err-do_item-clause-never g c shelf_reliable out_reliable known =
     let so_far = c.loop-index.invariant in
-    λ at_write. c.in_err-do_item.ensures.never (so_far.reliable shelf_reliable) (so_far.reliable_out out_reliable)
+    λ at_write. c.in_err-do_item.ensures.never (so_far.counts.reliable shelf_reliable) (so_far.counts.reliable_out out_reliable)
     (record { start = known.start; is = (so_far.goes_on known.start known.is).playing; known = known.known })
     (sym (stopped-with c.from_residual.result c.in_err-do_item.field-0.0 c.from_residual.ensures.1) ∙ at_write)
 
@@ -76,10 +72,7 @@ loop-index-preserved g c =
         capture = item.same.capture ∙ so_far.same.capture;
         openings = item.same.openings ∙ so_far.same.openings;
       };
-      fetch_faults = item.fetch_faults ∙ so_far.fetch_faults;
-      faults = record { writes_same = item.faults.writes_same ∙ so_far.faults.writes_same; puts_same = item.faults.puts_same ∙ so_far.faults.puts_same };
-      reliable = λ is. item.reliable (so_far.reliable is);
-      reliable_out = λ is. item.reliable_out (so_far.reliable_out is);
+      counts = BothCountNoFault-then g.S.Shelf g.K.Sink _ _ _ so_far.counts (BothCountNoFault-done g.S.Shelf g.K.Sink _ _ _ item.stores_and_puts);
     }
 
 pub returns-clause-done : goal.returns-clause-done
@@ -88,29 +81,10 @@ returns-clause-done g c = c.loop-index.invariant.goes_on
 pub returns-clause-same : goal.returns-clause-same
 returns-clause-same g c = c.loop-index.invariant.same
 
-pub returns-clause-fetch_faults : goal.returns-clause-fetch_faults
-returns-clause-fetch_faults g c = c.loop-index.invariant.fetch_faults
+pub returns-clause-stores_and_puts : goal.returns-clause-stores_and_puts
+returns-clause-stores_and_puts g c = StoresAndPuts-done g.S.Shelf g.K.Sink _ _ _ c.loop-index.invariant.counts
 
-pub returns-clause-faults : goal.returns-clause-faults
-returns-clause-faults g c = c.loop-index.invariant.faults
-
-pub returns-clause-reliable : goal.returns-clause-reliable
-returns-clause-reliable g c = c.loop-index.invariant.reliable
-
-pub returns-clause-reliable_out : goal.returns-clause-reliable_out
-returns-clause-reliable_out g c = c.loop-index.invariant.reliable_out
-
-pub returns-in_err-do_item-clause-fetch_faults : goal.returns-in_err-do_item-clause-fetch_faults
-returns-in_err-do_item-clause-fetch_faults g c = c.do_item.ensures.fetch_faults ∙ c.loop-index.invariant.fetch_faults
-
-pub returns-in_err-do_item-clause-reliable : goal.returns-in_err-do_item-clause-reliable
-returns-in_err-do_item-clause-reliable g c is = c.do_item.ensures.reliable (c.loop-index.invariant.reliable is)
-
-pub returns-in_err-do_item-clause-reliable_out : goal.returns-in_err-do_item-clause-reliable_out
-returns-in_err-do_item-clause-reliable_out g c is = c.do_item.ensures.reliable_out (c.loop-index.invariant.reliable_out is)
-
-pub returns-in_err-do_item-clause-faults : goal.returns-in_err-do_item-clause-faults
-returns-in_err-do_item-clause-faults g c =
-    let p = err_from_is_err_and c.from_residual.result c.from_residual.ensures.1 in
-    rw (p.1, p.2)
-    (OutputFaults-after {X = Unit {0}} (Err c.in_err-do_item.field-0.0) _ _ _ _ _ _ c.loop-index.invariant.faults c.in_err-do_item.ensures.faults)
+pub returns-in_err-do_item-clause-stores_and_puts : goal.returns-in_err-do_item-clause-stores_and_puts
+returns-in_err-do_item-clause-stores_and_puts g c =
+    StoresAndPuts-passed g.S.Shelf g.K.Sink c.from_residual.result c.in_err-do_item.field-0.0 _ _ c.from_residual.ensures.1
+    (StoresAndPuts-after g.S.Shelf g.K.Sink _ _ _ _ c.loop-index.invariant.counts c.in_err-do_item.ensures.stores_and_puts)

@@ -2,7 +2,7 @@
 use Rattle.std.proofs.Common.{◌≡◌}
 use Rattle.lab_phase.specs.AtStage.{IsSameScript, items_done}
 use Rattle.lab_phase.specs.PhaseRuns.{HaveAsked, stops_by}
-use Rattle.lab_stop.specs.Stops.{AreSameCounts}
+use Rattle.lab_stop.specs.Effects.{BothCountNoFault}
 use Rattle.lab_play.specs.Playing.{SceneGoesOn, scene}
 use Rattle.lab_play.proofs.items.do_items.Given as goal
 
@@ -15,8 +15,5 @@ invariant-loop-index g l = record {
       (scene l.lab l.outputs (g.S.Shelf.files l.shelf) (g.K.Sink.taken l.out));
   done : items_done l.lab ≡ l.index;
   same : IsSameScript l.fn.lab l.lab;
-  fetch_faults : g.S.Shelf.fetch_faults l.shelf ≡ g.S.Shelf.fetch_faults l.fn.shelf;
-  faults : AreSameCounts (g.S.Shelf.write_faults l.fn.shelf) (g.S.Shelf.write_faults l.shelf) (g.K.Sink.faults l.fn.out) (g.K.Sink.faults l.out);
-  reliable : g.S.Shelf.is_reliable l.fn.shelf → g.S.Shelf.is_reliable l.shelf;
-  reliable_out : g.K.Sink.is_reliable l.fn.out → g.K.Sink.is_reliable l.out;
+  counts : BothCountNoFault g.S.Shelf g.K.Sink (l.fn.shelf, l.fn.out) (l.shelf, l.out);
 }

@@ -1,9 +1,10 @@
-use Rattle.std.proofs.Common.{List, Option, ap, subst, sym, ℕ}
+use Rattle.std.proofs.Common.{List, Option, ap, refl, subst, sym, ℕ}
 use Rattle.lab_shelf.specs.Files.{Files}
 use Rattle.lab_phase.specs.BorderLaws.{OnOk-more}
 use Rattle.lab_phase.specs.PhaseRuns.{HaveAsked, Stops, stops_by}
 use Rattle.lab_run.specs.Stage.{Stage}
 use Rattle.lab_phase.specs.Same.{StaysAtStage-same}
+use Rattle.lab_stop.specs.OutputLaws.{StoresAndPuts-nothing}
 use Rattle.lab_play.specs.Playing.{CatchesUp, IsStoppedAt, SceneGoesOn, Scene, StopsAt, StopsBehind, scene}
 use Rattle.lab_play.proofs.ItemsDone.{GoesOn-written, HasGoneBehind-phase, StaysWritten-stage}
 use Rattle.lab_play.proofs.ItemsResults.{OnErr-more}
@@ -80,17 +81,8 @@ returns-in-Err-clause-part g c start is =
     (StaysWritten-stage c.args.lab.now c.run_phase.new.self stays stops c.args.outputs.now files taken start is).playing in
     subst (λ (s : Stops). IsStoppedAt start s c.run_phase.new.self files taken) (ap (stops_by g.G.Gate.stops) (sym c.in-Err.ensures.gates)) stopped
 
-pub returns-in-Ok-clause-only : goal.returns-in-Ok-clause-only
-returns-in-Ok-clause-only g c = c.write_phase.ensures.only
+pub returns-in-Ok-clause-stores_and_puts : goal.returns-in-Ok-clause-stores_and_puts
+returns-in-Ok-clause-stores_and_puts g c = c.write_phase.ensures.stores_and_puts
 
-pub returns-in-Ok-clause-fetch_faults : goal.returns-in-Ok-clause-fetch_faults
-returns-in-Ok-clause-fetch_faults g c = c.write_phase.ensures.fetch_faults
-
-pub returns-in-Ok-clause-faults : goal.returns-in-Ok-clause-faults
-returns-in-Ok-clause-faults g c = c.write_phase.ensures.faults
-
-pub returns-in-Ok-clause-reliable : goal.returns-in-Ok-clause-reliable
-returns-in-Ok-clause-reliable g c = c.write_phase.ensures.reliable
-
-pub returns-in-Ok-clause-reliable_out : goal.returns-in-Ok-clause-reliable_out
-returns-in-Ok-clause-reliable_out g c = c.write_phase.ensures.reliable_out
+pub returns-in-Err-clause-stores_and_puts : goal.returns-in-Err-clause-stores_and_puts
+returns-in-Err-clause-stores_and_puts g c = StoresAndPuts-nothing g.S.Shelf g.K.Sink _ _ refl

@@ -1,14 +1,22 @@
-use Rattle.std.specs.Prelude.{Err}
-use Rattle.std.proofs.Common.{refl}
-use Rattle.std.proofs.lemmas.Result.{err_from_is_err_and}
-use Rattle.lab_stop.specs.FaultLaws.{OutputFaults-puts, OutputFaults-writes}
+use Rattle.lab_stop.specs.EffectLaws.{CountsNoFault-writes}
+use Rattle.lab_stop.specs.OutputLaws.{StoresAndPuts-passed, StoresAndPuts-puts, StoresAndPuts-writes}
 use Rattle.lab_play.proofs.run.begin.Goals as goal
 
-pub returns-in_err-begin-clause-faults : goal.returns-in_err-begin-clause-faults
-returns-in_err-begin-clause-faults g c =
-    let p = err_from_is_err_and c.from_residual.result c.from_residual.ensures.1 in
-    rw (p.1, p.2)
-    (OutputFaults-writes {X = Unit {0}} (Err c.in_err-begin.field-0.0) _ _ _ _ c.in_err-begin.ensures.faults refl)
+pub returns-in_err-begin-clause-stores_and_puts : goal.returns-in_err-begin-clause-stores_and_puts
+returns-in_err-begin-clause-stores_and_puts g c =
+    StoresAndPuts-passed g.S.Shelf g.K.Sink c.from_residual.result c.in_err-begin.field-0.0 _ _ c.from_residual.ensures.1
+    (StoresAndPuts-writes g.S.Shelf g.K.Sink _ _ _ _ c.in_err-begin.ensures.only_writes)
 
-pub returns-clause-faults : goal.returns-clause-faults
-returns-clause-faults g c = OutputFaults-puts c.put_head.result _ _ _ _ c.in_ok-begin.ensures.faults c.put_head.ensures.faults
+pub returns-clause-stores_and_puts : goal.returns-clause-stores_and_puts
+returns-clause-stores_and_puts g c =
+    StoresAndPuts-puts g.S.Shelf g.K.Sink _ _ _ _ _ _ (CountsNoFault-writes g.S.Shelf _ _ _ c.in_ok-begin.ensures.only_writes)
+    c.put_head.ensures.puts_text
+
+pub returns-clause-taken : goal.returns-clause-taken
+returns-clause-taken g c = c.put_head.ensures.puts_text.taken
+
+pub returns-clause-text : goal.returns-clause-text
+returns-clause-text g c = c.put_head.ensures.puts_text.text
+
+pub returns-clause-never : goal.returns-clause-never
+returns-clause-never g c shelf out = c.put_head.ensures.puts_text.reliable out

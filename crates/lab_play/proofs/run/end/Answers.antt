@@ -1,13 +1,13 @@
 use Rattle.std.specs.Prelude.{◌≡◌, ◌++◌, ℕ, List, Option, Err, length}
 use Rattle.std.specs.Option.{option_map}
-use Rattle.std.proofs.Common.{ap, refl, subst, sym, ◌∙◌}
-use Rattle.std.proofs.lemmas.Result.{err_from_is_err_and}
+use Rattle.std.proofs.Common.{ap, subst, sym, ◌∙◌}
 use Rattle.lab_output.specs.Text.{tail_from}
 use Rattle.lab_phase.specs.AtStage.{items_done}
 use Rattle.lab_report.specs.Text.{IsReportOf}
 use Rattle.lab_lines.specs.declared.script.Script.{Script}
 use Rattle.lab_shelf.specs.Files.{TookPart}
-use Rattle.lab_stop.specs.FaultLaws.{OutputFaults-puts, OutputFaults-writes}
+use Rattle.lab_stop.specs.EffectLaws.{CountsNoFault-writes}
+use Rattle.lab_stop.specs.OutputLaws.{BothCountNoFault-done, StoresAndPuts-done, StoresAndPuts-passed, StoresAndPuts-puts, StoresAndPuts-writes}
 use Rattle.lab_stop.specs.declared.stop.Stop.TheVariants as stop
 use Rattle.lab_play.specs.Ends.{StopsAtEnd}
 use Rattle.lab_play.specs.Playing.{Scene, scene, sounds_at}
@@ -67,11 +67,11 @@ returns-in_err-put_tail-clause-part g c =
     (subst (λ (s : Script). items_done c.args.lab ≡ length s.body) same c.requires.all) c.finish-outcome.result c.finish-outcome.ensures.stage c.finish-outcome.ensures.played
     (g.S.Shelf.files c.finish.new.shelf) taken_after (c.finish.ensures.changes start.files (sounds_at c.args.lab is.stage) is.written.going_on)
     (c.in_ok-finish.ensures.stored start.files (sounds_at c.args.lab is.stage) is.written.going_on)
-    (subst (λ (s : Script). TookPart taken taken_after (tail_from s c.args.outputs.now.rows c.finish-outcome.result.report)) same c.in_err-put_tail.ensures.text))
+    (subst (λ (s : Script). TookPart taken taken_after (tail_from s c.args.outputs.now.rows c.finish-outcome.result.report)) same c.in_err-put_tail.ensures.puts_text.text))
 
 pub returns-in_err-put_tail-clause-never : goal.returns-in_err-put_tail-clause-never
 returns-in_err-put_tail-clause-never g c shelf out known failed =
-    c.put_tail.ensures.reliable out
+    c.put_tail.ensures.puts_text.reliable out
     (c.in_err-put_tail.was ∙ ap Err (stop-passed c.from_residual-in_err-put_tail.result c.in_err-put_tail.field-0.0 stop.Write c.from_residual-in_err-put_tail.ensures.1 failed))
 
 pub returns-clause-done : goal.returns-clause-done
@@ -86,16 +86,22 @@ returns-clause-done g c start stops is =
     (subst (λ (s : Script). items_done c.args.lab ≡ length s.body) same c.requires.all) c.finish-outcome.result c.finish-outcome.ensures.stage c.finish-outcome.ensures.played
     c.runs_keep_headline.ensures.headline c.runs_keep_headline.ensures.one (g.S.Shelf.files c.finish.new.shelf) taken_after
     (c.in_ok-finish.ensures.stored start.files (sounds_at c.args.lab is.stage) is.written.going_on)
-    (subst (λ (s : Script). taken_after ≡ option_map (λ t. t ++ tail_from s c.args.outputs.now.rows c.finish-outcome.result.report) taken) same c.in_ok-put_tail.ensures.taken)
+    (subst (λ (s : Script). taken_after ≡ option_map (λ t. t ++ tail_from s c.args.outputs.now.rows c.finish-outcome.result.report) taken) same c.in_ok-put_tail.ensures.puts_text.taken)
 
-pub returns-in_err-finish-clause-faults : goal.returns-in_err-finish-clause-faults
-returns-in_err-finish-clause-faults g c =
-    let p = err_from_is_err_and c.from_residual.result c.from_residual.ensures.1 in
-    rw (p.1, p.2)
-    (OutputFaults-writes {X = Unit {0}} (Err c.in_err-finish.field-0.0) _ _ _ _ c.in_err-finish.ensures.faults refl)
+pub returns-in_err-finish-clause-stores_and_puts : goal.returns-in_err-finish-clause-stores_and_puts
+returns-in_err-finish-clause-stores_and_puts g c =
+    StoresAndPuts-passed g.S.Shelf g.K.Sink c.from_residual.result c.in_err-finish.field-0.0 _ _ c.from_residual.ensures.1
+    (StoresAndPuts-writes g.S.Shelf g.K.Sink _ _ _ _ c.in_err-finish.ensures.only_writes)
 
-pub returns-in_err-put_tail-clause-faults : goal.returns-in_err-put_tail-clause-faults
-returns-in_err-put_tail-clause-faults g c =
-    let p = err_from_is_err_and c.from_residual-in_err-put_tail.result c.from_residual-in_err-put_tail.ensures.1 in
-    rw (p.1, p.2)
-    (OutputFaults-puts {X = Unit {0}} (Err c.in_err-put_tail.field-0.0) _ _ _ _ c.in_ok-finish.ensures.faults c.in_err-put_tail.ensures.faults)
+pub returns-in_err-put_tail-clause-stores_and_puts : goal.returns-in_err-put_tail-clause-stores_and_puts
+returns-in_err-put_tail-clause-stores_and_puts g c =
+    StoresAndPuts-passed g.S.Shelf g.K.Sink c.from_residual-in_err-put_tail.result c.in_err-put_tail.field-0.0 _ _ c.from_residual-in_err-put_tail.ensures.1
+    (StoresAndPuts-puts g.S.Shelf g.K.Sink _ _ _ _ _ _ (CountsNoFault-writes g.S.Shelf _ _ _ c.in_ok-finish.ensures.only_writes)
+    c.in_err-put_tail.ensures.puts_text)
+
+pub returns-clause-stores_and_puts : goal.returns-clause-stores_and_puts
+returns-clause-stores_and_puts g c =
+    StoresAndPuts-done g.S.Shelf g.K.Sink _ _ _
+    (BothCountNoFault-done g.S.Shelf g.K.Sink _ _ _
+    (StoresAndPuts-puts g.S.Shelf g.K.Sink _ _ _ _ _ _ (CountsNoFault-writes g.S.Shelf _ _ _ c.in_ok-finish.ensures.only_writes)
+    c.in_ok-put_tail.ensures.puts_text))

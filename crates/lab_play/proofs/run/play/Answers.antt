@@ -1,4 +1,4 @@
-use Rattle.std.specs.Prelude.{ℕ, List, Option}
+use Rattle.std.specs.Prelude.{ℕ, Err, List, Option}
 use Rattle.std.specs.Option.{option_copied}
 use Rattle.std.proofs.lemmas.Result.{IfOk-weaker}
 use Rattle.std.proofs.Common.{inr, refl, subst}
@@ -10,6 +10,7 @@ use Rattle.lab_phase.specs.Ended.{outcome_in}
 use Rattle.lab_phase.specs.PhaseRuns.{Stops, stops_by}
 use Rattle.lab_shelf.specs.Files.{Files}
 use Rattle.wav_io.specs.Sound.{Sound}
+use Rattle.lab_stop.specs.OutputLaws.{StoresAndPuts-nothing, StoresAndPuts-passed}
 use Rattle.lab_play.specs.Ends.{IsNewRun}
 use Rattle.lab_play.specs.Played.{HasPlayedAsking, HasPlayedPart}
 use Rattle.lab_play.specs.Playing.{HasStopped}
@@ -94,17 +95,21 @@ returns-clause-part g c =
 pub play_all-requires-clause-gates : goal.play_all-requires-clause-gates
 play_all-requires-clause-gates g c κs within = c.requires.gates
 
-pub returns-clause-only : goal.returns-clause-only
-returns-clause-only g c = c.play_all.ensures.only
-
-pub returns-clause-fetch_faults : goal.returns-clause-fetch_faults
-returns-clause-fetch_faults g c = c.play_all.ensures.fetch_faults
-
-pub returns-clause-faults : goal.returns-clause-faults
-returns-clause-faults g c = c.play_all.ensures.faults
-
-pub returns-clause-reliable : goal.returns-clause-reliable
-returns-clause-reliable g c = c.play_all.ensures.reliable
-
 pub returns-clause-never : goal.returns-clause-never
 returns-clause-never g c = c.play_all.ensures.never
+
+pub returns-in_err-outputs-clause-stores_and_puts : goal.returns-in_err-outputs-clause-stores_and_puts
+returns-in_err-outputs-clause-stores_and_puts g c =
+    StoresAndPuts-passed g.S.Shelf g.K.Sink c.from_residual.result c.in_err-outputs.field-0.0 _ _ c.from_residual.ensures.1
+    (StoresAndPuts-nothing {X = Unit {0}} g.S.Shelf g.K.Sink (Err c.in_err-outputs.field-0.0) _ c.in_err-outputs.ensures.only)
+
+pub returns-in_err-rings-clause-stores_and_puts : goal.returns-in_err-rings-clause-stores_and_puts
+returns-in_err-rings-clause-stores_and_puts g c =
+    StoresAndPuts-passed g.S.Shelf g.K.Sink c.from_residual-in_err-rings.result c.in_err-rings.field-0.0 _ _ c.from_residual-in_err-rings.ensures.1
+    (StoresAndPuts-nothing {X = Unit {0}} g.S.Shelf g.K.Sink (Err c.in_err-rings.field-0.0) _ c.in_err-rings.ensures.only)
+
+pub returns-in-Err-clause-stores_and_puts : goal.returns-in-Err-clause-stores_and_puts
+returns-in-Err-clause-stores_and_puts g c = StoresAndPuts-nothing g.S.Shelf g.K.Sink _ _ refl
+
+pub returns-clause-stores_and_puts : goal.returns-clause-stores_and_puts
+returns-clause-stores_and_puts g c = c.play_all.ensures.stores_and_puts

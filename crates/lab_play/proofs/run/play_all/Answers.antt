@@ -1,15 +1,14 @@
 use Rattle.std.specs.Prelude.{◌≡◌, ℕ, List, Option, Err}
-use Rattle.std.proofs.lemmas.Result.{err_from_is_err_and, IfOk-weaker}
-use Rattle.std.proofs.Common.{ap, sym, ◌∙◌}
+use Rattle.std.proofs.lemmas.Result.{IfOk-weaker}
+use Rattle.std.proofs.Common.{ap, refl, sym, ◌∙◌}
 use Rattle.lab_input.specs.Input.{RunInput}
-use Rattle.lab_phase.specs.declared.finish.Outcome.{Outcome}
 use Rattle.lab_phase.specs.AtStage.{session_of}
 use Rattle.lab_phase.specs.BorderLaws.{session_of-same}
 use Rattle.lab_phase.specs.Ended.{outcome_in}
 use Rattle.lab_phase.specs.PhaseRuns.{Stops, stops_by}
 use Rattle.lab_run.specs.Stage.{first_stage}
 use Rattle.lab_shelf.specs.Files.{Files}
-use Rattle.lab_stop.specs.FaultLaws.{OutputFaults-after}
+use Rattle.lab_stop.specs.OutputLaws.{BothCountNoFault-done, BothCountNoFault-then, StoresAndPuts-after, StoresAndPuts-passed}
 use Rattle.lab_stop.specs.declared.stop.Stop.TheVariants as stop
 use Rattle.lab_play.specs.Ends.{EndsWith, IsNewRun, StopsAtEnd}
 use Rattle.lab_play.specs.Played.{HasPlayedAsking}
@@ -75,7 +74,7 @@ returns-clause-never g c shelf out known failed =
     let files : Option Files = g.S.Shelf.files c.args.shelf.now in
     let taken : Option (List ℕ) = g.K.Sink.taken c.args.out.now in
     let new = c.requires.new in
-    c.do_items.ensures.never (c.begin.ensures.reliable shelf) (c.begin.ensures.reliable_out out)
+    c.do_items.ensures.never (c.begin.ensures.stores_and_puts.reliable shelf) (c.begin.ensures.stores_and_puts.reliable_out out)
     (record {
       start = start-of new.input new.out stops c.args.lab c.args.outputs files taken new.is;
       is = IsPlaying-first new.input new.out stops c.args.lab c.args.outputs files taken new.is (g.S.Shelf.files c.begin.new.shelf) (g.K.Sink.taken c.begin.new.out)
@@ -145,7 +144,7 @@ returns-in-Ok-clause-never g c shelf out known failed =
     let files : Option Files = g.S.Shelf.files c.args.shelf.now in
     let taken : Option (List ℕ) = g.K.Sink.taken c.args.out.now in
     let new = c.requires.new in
-    c.end.ensures.never (c.do_items.ensures.reliable (c.begin.ensures.reliable shelf)) (c.do_items.ensures.reliable_out (c.begin.ensures.reliable_out out))
+    c.end.ensures.never (c.do_items.ensures.stores_and_puts.reliable (c.begin.ensures.stores_and_puts.reliable shelf)) (c.do_items.ensures.stores_and_puts.reliable_out (c.begin.ensures.stores_and_puts.reliable_out out))
     (record {
       start = start-of new.input new.out stops c.args.lab c.args.outputs files taken new.is;
       stops = stops_by g.G.Gate.stops c.do_items.new.gates;
@@ -156,36 +155,21 @@ returns-in-Ok-clause-never g c shelf out known failed =
     })
     failed
 
-pub returns-in-Ok-clause-only : goal.returns-in-Ok-clause-only
-returns-in-Ok-clause-only g c = c.end.ensures.only
-
-pub returns-in-Ok-clause-fetch_faults : goal.returns-in-Ok-clause-fetch_faults
-returns-in-Ok-clause-fetch_faults g c = c.end.ensures.fetch_faults ∙ (c.do_items.ensures.fetch_faults ∙ c.begin.ensures.fetch_faults)
-
-pub returns-in-Ok-clause-reliable : goal.returns-in-Ok-clause-reliable
-returns-in-Ok-clause-reliable g c is = c.end.ensures.reliable (c.do_items.ensures.reliable (c.begin.ensures.reliable is))
-
-pub returns-clause-fetch_faults : goal.returns-clause-fetch_faults
-returns-clause-fetch_faults g c = c.do_items.ensures.fetch_faults ∙ c.begin.ensures.fetch_faults
-
-pub returns-clause-reliable : goal.returns-clause-reliable
-returns-clause-reliable g c is = c.do_items.ensures.reliable (c.begin.ensures.reliable is)
-
 pub do_items-requires-clause-gates : goal.do_items-requires-clause-gates
 do_items-requires-clause-gates g c κs within = c.requires.gates
 
-pub returns-in_err-begin-clause-faults : goal.returns-in_err-begin-clause-faults
-returns-in_err-begin-clause-faults g c =
-    let p = err_from_is_err_and c.from_residual.result c.from_residual.ensures.1 in
-    rw (p.1, p.2) c.in_err-begin.ensures.faults
+pub returns-in_err-begin-clause-stores_and_puts : goal.returns-in_err-begin-clause-stores_and_puts
+returns-in_err-begin-clause-stores_and_puts g c =
+    StoresAndPuts-passed g.S.Shelf g.K.Sink c.from_residual.result c.in_err-begin.field-0.0 _ _ c.from_residual.ensures.1
+    c.in_err-begin.ensures.stores_and_puts
 
-pub returns-in-Ok-clause-faults : goal.returns-in-Ok-clause-faults
-returns-in-Ok-clause-faults g c =
-    let begun = c.in_ok-begin.ensures.faults in
-    let done = c.in-Ok.ensures.faults in
-    OutputFaults-after c.end.result _ _ _ _ _ _
-    (record { writes_same = done.writes_same ∙ begun.writes_same; puts_same = done.puts_same ∙ begun.puts_same })
-    c.end.ensures.faults
+pub returns-in-Ok-clause-stores_and_puts : goal.returns-in-Ok-clause-stores_and_puts
+returns-in-Ok-clause-stores_and_puts g c =
+    StoresAndPuts-after g.S.Shelf g.K.Sink c.end.result _ _ _
+    (BothCountNoFault-then g.S.Shelf g.K.Sink _ _ _ (BothCountNoFault-done g.S.Shelf g.K.Sink _ _ _ c.in_ok-begin.ensures.stores_and_puts)
+    (BothCountNoFault-done g.S.Shelf g.K.Sink _ _ _ c.in-Ok.ensures.stores_and_puts)) c.end.ensures.stores_and_puts
 
-pub returns-clause-faults : goal.returns-clause-faults
-returns-clause-faults g c = OutputFaults-after {X = Outcome} (Err c.in-Err.stop) _ _ _ _ _ _ c.in_ok-begin.ensures.faults c.in-Err.ensures.faults
+pub returns-clause-stores_and_puts : goal.returns-clause-stores_and_puts
+returns-clause-stores_and_puts g c =
+    StoresAndPuts-after g.S.Shelf g.K.Sink _ _ _ _ (BothCountNoFault-done g.S.Shelf g.K.Sink _ _ _ c.in_ok-begin.ensures.stores_and_puts)
+    (StoresAndPuts-passed g.S.Shelf g.K.Sink _ c.in-Err.stop _ _ refl c.in-Err.ensures.stores_and_puts)

@@ -2,6 +2,7 @@ use Rattle.std.proofs.Common.{◌≢◌, ◌≤◌, ◌<◌, List, length, arith
 use Rattle.std.specs.Prelude.{ℤ, slice_index_or}
 use Rattle.lab_shelf.specs.Changes.{Changes}
 use Rattle.lab_stop.specs.declared.stop.Stop.TheVariants as stops
+use Rattle.lab_stop.specs.EffectLaws.{CountsNoFault-then, CountsNoFault-writes, OnlyWrites-after, OnlyWrites-done, OnlyWrites-passed}
 use Rattle.lab_output.specs.Files.{MayHold}
 use Rattle.lab_output.specs.GoingLaws.{AreLonger-same, IsGoingOn-Changes}
 use Rattle.lab_play.specs.Playing.{sounds_at}
@@ -50,7 +51,7 @@ pub returns-in_err-append-clause-never : goal.returns-in_err-append-clause-never
 returns-in_err-append-clause-never g c before stage sounds at longer going known reliable =
     let inv = c.loop-number.invariant in
     let never : c.append.result ≢ Err stops.Write =
-    c.append.ensures.never before (caught_up c.loop-number.number sounds (sounds_at c.args.lab.now stage)) (inv.going_on before stage sounds at longer going) known (inv.reliable reliable) in
+    c.append.ensures.never before (caught_up c.loop-number.number sounds (sounds_at c.args.lab.now stage)) (inv.going_on before stage sounds at longer going) known (inv.counts.reliable reliable) in
     search (rules, never)
 
 pub loop-number-preserved : goal.loop-number-preserved
@@ -68,9 +69,7 @@ loop-number-preserved g c =
           appended-going c.loop-number.outputs.files.items c.append.new.self.files.items c.loop-number.outputs.samples.items c.append.new.self.samples.items sounds
           (sounds_at c.args.lab.now stage) c.loop-number.number c.samples_of.result.now before (g.S.Shelf.files c.loop-number.shelf) (g.S.Shelf.files c.append.new.shelf) longer
           (inv.going_on before stage sounds at longer going) within (c.samples_of.ensures stage at) c.in_ok-append.ensures.going_on;
-      fetch_faults = c.append.ensures.fetch_faults ∙ inv.fetch_faults;
-      write_faults = c.in_ok-append.ensures.faults ∙ inv.write_faults;
-      reliable = λ r. c.append.ensures.reliable (inv.reliable r);
+      counts = CountsNoFault-then g.S.Shelf _ _ _ inv.counts (CountsNoFault-writes g.S.Shelf _ _ _ c.in_ok-append.ensures.only_writes);
     }
 
 pub returns-clause-going_on : goal.returns-clause-going_on
@@ -97,15 +96,6 @@ returns-clause-changes g c before stage sounds at longer going =
     (inv.going_on before stage sounds at longer going))
     (AreLonger-same targets))
 
-pub returns-clause-fetch_faults : goal.returns-clause-fetch_faults
-returns-clause-fetch_faults g c = c.loop-number.invariant.fetch_faults
-
-pub returns-clause-faults : goal.returns-clause-faults
-returns-clause-faults g c = c.loop-number.invariant.write_faults
-
-pub returns-clause-reliable : goal.returns-clause-reliable
-returns-clause-reliable g c = c.loop-number.invariant.reliable
-
 pub returns-clause-outputs : goal.returns-clause-outputs
 returns-clause-outputs g c = c.loop-number.invariant.outputs_are
 
@@ -124,8 +114,10 @@ returns-in_err-append-clause-files g c = c.append.ensures.files ∙ c.loop-numbe
 pub returns-in_err-append-clause-rows : goal.returns-in_err-append-clause-rows
 returns-in_err-append-clause-rows g c = c.append.ensures.rows ∙ c.loop-number.invariant.rows
 
-pub returns-in_err-append-clause-fetch_faults : goal.returns-in_err-append-clause-fetch_faults
-returns-in_err-append-clause-fetch_faults g c = c.append.ensures.fetch_faults ∙ c.loop-number.invariant.fetch_faults
+pub returns-clause-only_writes : goal.returns-clause-only_writes
+returns-clause-only_writes g c = OnlyWrites-done g.S.Shelf _ _ _ c.loop-number.invariant.counts
 
-pub returns-in_err-append-clause-reliable : goal.returns-in_err-append-clause-reliable
-returns-in_err-append-clause-reliable g c is = c.append.ensures.reliable (c.loop-number.invariant.reliable is)
+pub returns-in_err-append-clause-only_writes : goal.returns-in_err-append-clause-only_writes
+returns-in_err-append-clause-only_writes g c =
+    OnlyWrites-passed g.S.Shelf c.from_residual.result c.in_err-append.field-0.0 _ _ c.from_residual.ensures.1
+    (OnlyWrites-after g.S.Shelf _ _ _ _ c.loop-number.invariant.counts c.in_err-append.ensures.only_writes)

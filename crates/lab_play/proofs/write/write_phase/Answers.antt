@@ -1,11 +1,11 @@
-use Rattle.std.proofs.Common.{◌≡◌, ◌++◌, List, ℕ, length, option_map, refl, ◌∙◌}
-use Rattle.std.proofs.lemmas.Result.{err_from_is_err_and}
-use Rattle.std.specs.Prelude.{Err, Option}
+use Rattle.std.proofs.Common.{◌≡◌, ◌++◌, List, ℕ, length, option_map, ◌∙◌}
+use Rattle.std.specs.Prelude.{Option}
 use Rattle.lab_lines.specs.declared.row.Row.{Row}
 use Rattle.lab_phase.specs.declared.lab.Lab.{Lab}
 use Rattle.lab_output.specs.Text.{rows_text}
 use Rattle.lab_shelf.specs.Files.{Files, TookPart}
-use Rattle.lab_stop.specs.FaultLaws.{OutputFaults-puts, OutputFaults-writes}
+use Rattle.lab_stop.specs.EffectLaws.{CountsNoFault-writes}
+use Rattle.lab_stop.specs.OutputLaws.{StoresAndPuts-passed, StoresAndPuts-puts, StoresAndPuts-writes}
 use Rattle.lab_play.specs.Playing.{CatchesUp, StopsBehind, scene}
 use Rattle.lab_play.proofs.WritingPhase.{OnErr-always, OnErr-more, OnOk-both, can-append, can-put, catches-up, stops-appending, stops-putting}
 use Rattle.lab_play.proofs.write.write_phase.Goals as goal
@@ -49,7 +49,7 @@ returns-clause-done g c =
       last_files = c.put_rows.ensures.files;
       last_samples = c.put_rows.ensures.samples;
     }) count text is)
-    c.put_rows.ensures.rows c.put_rows.ensures.taken
+    c.put_rows.ensures.rows c.put_rows.ensures.puts_text.taken
 
 pub returns-clause-part : goal.returns-clause-part
 returns-clause-part g c =
@@ -64,13 +64,17 @@ returns-clause-part g c =
     (λ part start stops is.
     stops-putting start stops lab c.args.outputs.now files files_after taken c.append_all.ensures.changes is c.args.script.now c.append_all.new.outputs rows taken_after
     (c.requires.is.lab_is.script_is.script_is ∙ c.requires.script_is) c.in_ok-append_all.ensures.going_on c.append_all.ensures.files c.append_all.ensures.rows c.rows.ensures part)
-    c.put_rows.ensures.text
+    c.put_rows.ensures.puts_text.text
 
-pub returns-in_err-append_all-clause-faults : goal.returns-in_err-append_all-clause-faults
-returns-in_err-append_all-clause-faults g c =
-    let p = err_from_is_err_and c.from_residual.result c.from_residual.ensures.1 in
-    rw (p.1, p.2)
-    (OutputFaults-writes {X = Unit {0}} (Err c.in_err-append_all.field-0.0) _ _ _ _ c.in_err-append_all.ensures.faults refl)
+pub returns-clause-never : goal.returns-clause-never
+returns-clause-never g c shelf out known = c.put_rows.ensures.puts_text.reliable out
 
-pub returns-clause-faults : goal.returns-clause-faults
-returns-clause-faults g c = OutputFaults-puts c.put_rows.result _ _ _ _ c.in_ok-append_all.ensures.faults c.put_rows.ensures.faults
+pub returns-in_err-append_all-clause-stores_and_puts : goal.returns-in_err-append_all-clause-stores_and_puts
+returns-in_err-append_all-clause-stores_and_puts g c =
+    StoresAndPuts-passed g.S.Shelf g.K.Sink c.from_residual.result c.in_err-append_all.field-0.0 _ _ c.from_residual.ensures.1
+    (StoresAndPuts-writes g.S.Shelf g.K.Sink _ _ _ _ c.in_err-append_all.ensures.only_writes)
+
+pub returns-clause-stores_and_puts : goal.returns-clause-stores_and_puts
+returns-clause-stores_and_puts g c =
+    StoresAndPuts-puts g.S.Shelf g.K.Sink _ _ _ _ _ _ (CountsNoFault-writes g.S.Shelf _ _ _ c.in_ok-append_all.ensures.only_writes)
+    c.put_rows.ensures.puts_text

@@ -96,14 +96,14 @@ pub returns-in_err-store_input-clause-faults : goal.returns-in_err-store_input-c
 returns-in_err-store_input-clause-faults g c =
     let p = err_from_is_err_and c.from_residual-in_err-store_input.result c.from_residual-in_err-store_input.ensures.1 in
     rw (p.1, p.2)
-    (OutputFaults-writes {X = Unit {0}} (Err c.in_err-store_input.field-0.0) _ _ _ _ c.in_err-store_input.ensures.faults refl)
+    (OutputFaults-writes {X = Unit {0}} (Err c.in_err-store_input.field-0.0) _ _ _ _ c.in_err-store_input.ensures.only_writes.faults refl)
 
 pub returns-in_err-run-clause-faults : goal.returns-in_err-run-clause-faults
 returns-in_err-run-clause-faults g c =
     let p = err_from_is_err_and c.from_residual-in_err-run.result c.from_residual-in_err-run.ensures.1 in
     rw (p.1, p.2)
     (OutputFaults-after {X = Unit {0}} (Err c.in_err-run.field-0.0) _ _ _ _ _ _
-    (record { writes_same = c.in_ok-store_input.ensures.faults; puts_same = refl })
+    (record { writes_same = c.in_ok-store_input.ensures.only_writes.faults; puts_same = refl })
     (OutputFaults-kept {X = Unit {0}} (Err c.in_err-run.field-0.0) _ _ _ c.in_err-run.ensures.faults))
 
 pub returns-in_err-store-clause-faults : goal.returns-in_err-store-clause-faults
@@ -111,11 +111,35 @@ returns-in_err-store-clause-faults g c =
     let p = err_from_is_err_and c.from_residual-in_err-store.result c.from_residual-in_err-store.ensures.1 in
     rw (p.1, p.2)
     (OutputFaults-after {X = Unit {0}} (Err c.in_err-store.field-0.0) _ _ _ _ _ _
-    (record { writes_same = c.in_ok-run.ensures.faults.writes_same ∙ c.in_ok-store_input.ensures.faults; puts_same = refl })
-    (OutputFaults-writes {X = Unit {0}} (Err c.in_err-store.field-0.0) _ _ _ _ c.in_err-store.ensures.faults refl))
+    (record { writes_same = c.in_ok-run.ensures.faults.writes_same ∙ c.in_ok-store_input.ensures.only_writes.faults; puts_same = refl })
+    (OutputFaults-writes {X = Unit {0}} (Err c.in_err-store.field-0.0) _ _ _ _ c.in_err-store.ensures.only_writes.faults refl))
 
 pub returns-clause-faults : goal.returns-clause-faults
 returns-clause-faults g c =
     OutputFaults-puts c.put_summary.result _ _ _ _
-    (c.in_ok-store.ensures.faults ∙ c.in_ok-run.ensures.faults.writes_same ∙ c.in_ok-store_input.ensures.faults)
+    (c.in_ok-store.ensures.only_writes.faults ∙ c.in_ok-run.ensures.faults.writes_same ∙ c.in_ok-store_input.ensures.only_writes.faults)
     c.put_summary.ensures.faults
+
+pub returns-in_err-store_input-clause-only : goal.returns-in_err-store_input-clause-only
+returns-in_err-store_input-clause-only g c =
+    let p = err_from_is_err_and c.from_residual-in_err-store_input.result c.from_residual-in_err-store_input.ensures.1 in
+    rw (p.1, p.2) c.in_err-store_input.ensures.only_writes.only
+
+pub returns-in_err-store-clause-only : goal.returns-in_err-store-clause-only
+returns-in_err-store-clause-only g c =
+    let p = err_from_is_err_and c.from_residual-in_err-store.result c.from_residual-in_err-store.ensures.1 in
+    rw (p.1, p.2) c.in_err-store.ensures.only_writes.only
+
+pub returns-in_err-store_input-clause-fetch_faults : goal.returns-in_err-store_input-clause-fetch_faults
+returns-in_err-store_input-clause-fetch_faults g c = c.in_err-store_input.ensures.only_writes.fetch_faults
+
+pub returns-in_err-run-clause-fetch_faults : goal.returns-in_err-run-clause-fetch_faults
+returns-in_err-run-clause-fetch_faults g c = c.in_err-run.ensures.fetch_faults ∙ c.in_ok-store_input.ensures.only_writes.fetch_faults
+
+pub returns-in_err-store-clause-fetch_faults : goal.returns-in_err-store-clause-fetch_faults
+returns-in_err-store-clause-fetch_faults g c =
+    c.in_err-store.ensures.only_writes.fetch_faults ∙ c.in_ok-run.ensures.fetch_faults ∙ c.in_ok-store_input.ensures.only_writes.fetch_faults
+
+pub returns-clause-fetch_faults : goal.returns-clause-fetch_faults
+returns-clause-fetch_faults g c =
+    c.in_ok-store.ensures.only_writes.fetch_faults ∙ c.in_ok-run.ensures.fetch_faults ∙ c.in_ok-store_input.ensures.only_writes.fetch_faults

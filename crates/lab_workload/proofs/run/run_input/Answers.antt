@@ -25,7 +25,7 @@ returns-in_err-outcome-clause-part g c =
 pub returns-in_err-outcome-clause-faults : goal.returns-in_err-outcome-clause-faults
 returns-in_err-outcome-clause-faults g c =
     let p = err_from_is_err_and c.from_residual.result c.from_residual.ensures.1 in
-    rw (p.1, p.2) c.in_err-outcome.ensures.faults
+    rw (p.1, p.2) c.in_err-outcome.ensures.stores_and_puts.faults
 
 pub returns-in_err-outcome-clause-never : goal.returns-in_err-outcome-clause-never
 returns-in_err-outcome-clause-never g c shelf known failed =
@@ -44,4 +44,21 @@ returns-clause-done g c =
     (subst (λ (text : List ℕ). played text c.play.new.out) c.new-text.ensures c.in_ok-outcome.ensures.done)
 
 pub returns-clause-faults : goal.returns-clause-faults
-returns-clause-faults g c = c.in_ok-outcome.ensures.faults
+returns-clause-faults g c = c.in_ok-outcome.ensures.stores_and_puts.faults
+
+pub returns-in_err-outcome-clause-only : goal.returns-in_err-outcome-clause-only
+returns-in_err-outcome-clause-only g c =
+    let p = err_from_is_err_and c.from_residual.result c.from_residual.ensures.1 in
+    rw (p.1, p.2) c.in_err-outcome.ensures.stores_and_puts.only
+
+pub returns-in_err-outcome-clause-fetch_faults : goal.returns-in_err-outcome-clause-fetch_faults
+returns-in_err-outcome-clause-fetch_faults g c = c.in_err-outcome.ensures.stores_and_puts.fetch_faults
+
+pub returns-in_err-outcome-clause-reliable : goal.returns-in_err-outcome-clause-reliable
+returns-in_err-outcome-clause-reliable g c = c.in_err-outcome.ensures.stores_and_puts.reliable
+
+pub returns-clause-fetch_faults : goal.returns-clause-fetch_faults
+returns-clause-fetch_faults g c = c.in_ok-outcome.ensures.stores_and_puts.fetch_faults
+
+pub returns-clause-reliable : goal.returns-clause-reliable
+returns-clause-reliable g c = c.in_ok-outcome.ensures.stores_and_puts.reliable

@@ -1,11 +1,12 @@
-use Rattle.std.specs.Prelude.{◌≡◌, ℕ, List, Option}
+use Rattle.std.specs.Prelude.{◌≡◌, ℕ, List, Option, Err}
 use Rattle.std.specs.Option.{option_map}
 use Rattle.std.proofs.Common.{refl, subst, ◌∙◌}
 use Rattle.std.proofs.lemmas.Result.{on_err_weaker, on_ok_weaker}
 use Rattle.wav_io.specs.Canonical.{canonical}
 use Rattle.lab_shelf.specs.Files.{Files, IsPartWritten, with_file}
 use Rattle.lab_stop.specs.declared.stop.Stop.TheVariants.{Memory}
-use Rattle.lab_workload.proofs.MemoryStops.{Err-memory, IfErr-memory, OnErr-memory, OnOk-memory, WriteFaults-memory, memory-no_write}
+use Rattle.lab_stop.specs.EffectLaws.{OnlyWrites-memory, OnlyWrites-nothing, OnlyWrites-passed}
+use Rattle.lab_workload.proofs.MemoryStops.{Err-memory, OnErr-memory, OnOk-memory, memory-no_write}
 use Rattle.lab_workload.proofs.store.store_client.Goals as goal
 
 pub returns-clause-part : goal.returns-clause-part
@@ -35,12 +36,6 @@ returns-in_err-name-clause-read g c = OnOk-memory _ _ (Err-memory Memory c.from_
 pub returns-in_err-name-clause-part : goal.returns-in_err-name-clause-part
 returns-in_err-name-clause-part g c = OnErr-memory _ _ _ _ (Err-memory Memory c.from_residual.result c.from_residual.ensures.1 refl)
 
-pub returns-in_err-name-clause-only : goal.returns-in_err-name-clause-only
-returns-in_err-name-clause-only g c = IfErr-memory _ (Err-memory Memory c.from_residual.result c.from_residual.ensures.1 refl)
-
-pub returns-in_err-name-clause-faults : goal.returns-in_err-name-clause-faults
-returns-in_err-name-clause-faults g c = WriteFaults-memory _ _ (Err-memory Memory c.from_residual.result c.from_residual.ensures.1 refl)
-
 pub returns-in_err-bytes-clause-stored : goal.returns-in_err-bytes-clause-stored
 returns-in_err-bytes-clause-stored g c = OnOk-memory _ _ (Err-memory _ c.from_residual-in_err-bytes.result c.from_residual-in_err-bytes.ensures.1 c.in_err-bytes.ensures.only)
 
@@ -50,14 +45,19 @@ returns-in_err-bytes-clause-read g c = OnOk-memory _ _ (Err-memory _ c.from_resi
 pub returns-in_err-bytes-clause-part : goal.returns-in_err-bytes-clause-part
 returns-in_err-bytes-clause-part g c = OnErr-memory _ _ _ _ (Err-memory _ c.from_residual-in_err-bytes.result c.from_residual-in_err-bytes.ensures.1 c.in_err-bytes.ensures.only)
 
-pub returns-in_err-bytes-clause-only : goal.returns-in_err-bytes-clause-only
-returns-in_err-bytes-clause-only g c = IfErr-memory _ (Err-memory _ c.from_residual-in_err-bytes.result c.from_residual-in_err-bytes.ensures.1 c.in_err-bytes.ensures.only)
-
-pub returns-in_err-bytes-clause-faults : goal.returns-in_err-bytes-clause-faults
-returns-in_err-bytes-clause-faults g c = WriteFaults-memory _ _ (Err-memory _ c.from_residual-in_err-bytes.result c.from_residual-in_err-bytes.ensures.1 c.in_err-bytes.ensures.only)
-
 pub returns-in_err-name-clause-never : goal.returns-in_err-name-clause-never
 returns-in_err-name-clause-never g c reliable = memory-no_write _ (Err-memory Memory c.from_residual.result c.from_residual.ensures.1 refl)
 
 pub returns-in_err-bytes-clause-never : goal.returns-in_err-bytes-clause-never
 returns-in_err-bytes-clause-never g c reliable = memory-no_write _ (Err-memory _ c.from_residual-in_err-bytes.result c.from_residual-in_err-bytes.ensures.1 c.in_err-bytes.ensures.only)
+
+pub returns-in_err-name-clause-only_writes : goal.returns-in_err-name-clause-only_writes
+returns-in_err-name-clause-only_writes g c = OnlyWrites-memory g.S.Shelf c.from_residual.result _ c.from_residual.ensures.1
+
+pub returns-in_err-bytes-clause-only_writes : goal.returns-in_err-bytes-clause-only_writes
+returns-in_err-bytes-clause-only_writes g c =
+    OnlyWrites-passed g.S.Shelf c.from_residual-in_err-bytes.result c.in_err-bytes.field-0.0 _ _ c.from_residual-in_err-bytes.ensures.1
+    (OnlyWrites-nothing {X = Unit {0}} g.S.Shelf (Err c.in_err-bytes.field-0.0) _ c.in_err-bytes.ensures.only)
+
+pub returns-clause-only_writes : goal.returns-clause-only_writes
+returns-clause-only_writes g c = c.store.ensures.only_writes

@@ -43,7 +43,7 @@ returns-clause-done g c =
     (λ text. put-all c.args.workload.now (outcome_in c.args.outcome.now) c.summary_of-summary.result c.as_bytes.result.now (g.K.Sink.taken c.args.out.now) (g.K.Sink.taken c.put.new.out)
     (summary-of c.args.workload.now (outcome_in c.args.outcome.now) c.as_slice.result.now c.summary_of-summary.result c.as_slice.ensures.value c.summary_of-summary.ensures)
     (c.as_bytes.ensures.value ∙ c.in_ok-text.ensures.ok) text)
-    c.put.ensures.taken
+    c.put.ensures.puts_text.taken
 
 pub returns-clause-part : goal.returns-clause-part
 returns-clause-part g c =
@@ -51,4 +51,13 @@ returns-clause-part g c =
     (λ text. put-part c.args.workload.now (outcome_in c.args.outcome.now) c.summary_of-summary.result c.as_bytes.result.now (g.K.Sink.taken c.args.out.now) (g.K.Sink.taken c.put.new.out)
     (summary-of c.args.workload.now (outcome_in c.args.outcome.now) c.as_slice.result.now c.summary_of-summary.result c.as_slice.ensures.value c.summary_of-summary.ensures)
     (c.as_bytes.ensures.value ∙ c.in_ok-text.ensures.ok) text)
-    c.put.ensures.text
+    c.put.ensures.puts_text.text
+
+pub returns-clause-only : goal.returns-clause-only
+returns-clause-only g c = c.put.ensures.puts_text.only
+
+pub returns-clause-faults : goal.returns-clause-faults
+returns-clause-faults g c = c.put.ensures.puts_text.faults
+
+pub returns-clause-reliable : goal.returns-clause-reliable
+returns-clause-reliable g c = c.put.ensures.puts_text.reliable

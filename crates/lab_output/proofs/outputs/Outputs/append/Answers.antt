@@ -1,6 +1,7 @@
 use Rattle.std.proofs.Common.{◌≡◌, ◌-◌, ℕ, List, length, get_or, take, drop, arith, ap, ◌∙◌}
 use Rattle.std.proofs.lemmas.List.{get_or_default, take_all, length-drop}
 use Rattle.std.proofs.lemmas.Result.{err_from_is_err_and}
+use Rattle.lab_stop.specs.EffectLaws.{CountsNoFault-writes, OnlyWrites-done, OnlyWrites-passed}
 use Rattle.lab_output.proofs.Going.{append-going_on, append-Changes, append_part-Changes}
 use Rattle.lab_output.proofs.Held.{IsGoingOn-there, file-at, no-write}
 use Rattle.lab_output.proofs.outputs.Outputs.append.Goals as goal
@@ -50,12 +51,11 @@ returns-in_err-append_new-clause-going_on g c before sounds going first =
     let p = err_from_is_err_and c.from_residual.result c.from_residual.ensures.1 in
     rw p.1 tt
 
-pub returns-in_err-append_new-clause-only : goal.returns-in_err-append_new-clause-only
-returns-in_err-append_new-clause-only g c =
-    let p = err_from_is_err_and c.from_residual.result c.from_residual.ensures.1 in
-    rw (p.1, p.2) c.in_err-append_new.ensures.only
+pub returns-in_err-append_new-clause-only_writes : goal.returns-in_err-append_new-clause-only_writes
+returns-in_err-append_new-clause-only_writes g c =
+    OnlyWrites-passed g.S.Shelf c.from_residual.result c.in_err-append_new.field-0.0 _ _ c.from_residual.ensures.1
+    c.in_err-append_new.ensures.only_writes
 
-pub returns-in_err-append_new-clause-faults : goal.returns-in_err-append_new-clause-faults
-returns-in_err-append_new-clause-faults g c =
-    let p = err_from_is_err_and c.from_residual.result c.from_residual.ensures.1 in
-    rw (p.1, p.2) c.in_err-append_new.ensures.faults
+pub returns-clause-only_writes : goal.returns-clause-only_writes
+returns-clause-only_writes g c =
+    OnlyWrites-done g.S.Shelf _ _ _ (CountsNoFault-writes g.S.Shelf _ _ _ c.in_ok-append_new.ensures.only_writes)

@@ -10,3 +10,6 @@ pub returns-clause-changes : goal.returns-clause-changes
 returns-clause-changes g c =
     begin-Changes c.begin_files.result c.as_slice.result.now _ _ _ c.as_slice.ensures.value
     c.begin_files.ensures.opened c.begin_files.ensures.part
+
+pub returns-clause-only_writes : goal.returns-clause-only_writes
+returns-clause-only_writes g c = c.begin_files.ensures.only_writes

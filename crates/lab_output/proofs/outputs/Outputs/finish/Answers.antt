@@ -30,3 +30,6 @@ returns-clause-never g c before sounds going told reliable =
 pub returns-clause-kept : goal.returns-clause-kept
 returns-clause-kept g c before sounds going =
     finish-samples c.finish_files.result _ _ _ _ sounds before _ _ c.requires.outputs.apart going c.finish_files.ensures.closed c.finish_files.ensures.part
+
+pub returns-clause-only_writes : goal.returns-clause-only_writes
+returns-clause-only_writes g c = c.finish_files.ensures.only_writes

@@ -1,0 +1,12 @@
+use Rattle.std.proofs.Common.{sym, ◌∙◌}
+use Rattle.std.proofs.lemmas.Bool.{eqb-true}
+use Rattle.std.proofs.lemmas.List.{nil_from_length}
+use Rattle.lab_stop.specs.EffectLaws.{PutsText-nothing}
+use Rattle.lab_output.proofs.outputs.put_some.Goals as goal
+
+pub returns-then-is_empty : goal.returns-then-is_empty
+returns-then-is_empty g c =
+    PutsText-nothing g.K.Sink c.args.text.now _ _ (nil_from_length _ (eqb-true _ _ (sym c.is_empty.ensures ∙ c.if-is_empty.true)))
+
+pub returns : goal.returns
+returns g c = c.put.ensures.puts_text
