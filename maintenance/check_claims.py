@@ -6,7 +6,10 @@ is named there.
     check_claims.py CRATE..     of these crates alone
 
 An item is `- CALLS; CLAUSES: what they say`. A call is a function of the crate's src, and its clause one of its lines
-`ensures NAME { .. }`; `-` is a clause without a name. A `law` is a `pub NAME :` of the crate's specs, and a `rule` a type of its src.
+`ensures NAME { .. }`; `-` is a clause without a name. Where a clause is a record of specs, `NAME.FIELD` is a field of it, and `FIELD` one
+of a clause without a name; `FIELD.PART` is a field of the record that this field is. A clause is the record at the head of its
+conclusion, by itself or by an abbreviation: what follows its last arrow, so not a premise, and not an argument. A `law` is a `pub NAME :`
+of the crate's specs, and a `rule` a type of its src.
 Each call has to have one of the item's clauses, and each clause to be at one of its calls; and where one of the clauses is at all of the
 calls, each other one is too, so that an item is either of what all its calls say, or of what each says by itself. What a clause says
 isn't checked here: its words are in the source. Each crate of crates.txt has to be named, too.
@@ -17,10 +20,12 @@ clause, a line of its crate has to name it. Crates without a list are left out, 
 """
 from __future__ import annotations
 
+import functools
 import glob
 import os
 import re
 import sys
+import typing
 
 ROOT = os.path.dirname(os.path.dirname(os.path.abspath(__file__)))
 sys.path.insert(0, f"{ROOT}/tools")
@@ -31,6 +36,13 @@ OWNER = re.compile(r"^(?:pub )?(?:impl|trait)\b")
 FUNCTION = re.compile(r'^(\s*)(?:pub(?:\([^)]*\))? )?(?:const )?(?:extern "C" )?fn (\w+)')
 CONTRACT = re.compile(r"^\s*(?:requires|ensures)\*? ")
 CLAUSE = re.compile(r"^\s*ensures\*?(?: (\w+))? \{")
+RECORD = re.compile(r"^pub record (\w+)\b((?:.|\n[ \t])*?)\bwhere\n((?:[ \t].*\n|\n)*)", re.M)
+FIELD = re.compile(r"^ +pub (\w+) : (.*(?:\n(?! +pub | *--|\n).*)*)", re.M)
+ABBREVIATION = re.compile(r"^abbrev pub (\w+) :.*\n(?:[ \t].*\n)*\1\b[^=]*=(.*\n(?:[ \t].*\n)*)(?![ \t]|\1\b)", re.M)
+DEFINED = re.compile(r"^(?:abbrev pub|pub record) (\w+)", re.M)
+USE = re.compile(r"^\s*(?:ghost |pub )?use Rattle\.(\w+)\.specs\.(\S+?)\.\{([^}]*)\}", re.M)
+# what joins two terms, as `×` and `≡`
+SIGN = re.compile(r"[^\w(\[{⊥]+")
 PUBLIC = re.compile(r"^\s*pub (?:const )?fn ")
 # what a static library exports, from whichever file
 FOR_C = re.compile(r'^pub extern "C" fn ')
@@ -57,19 +69,124 @@ def owner_of(head):
     return re.match(r"\w+", words).group(0)
 
 
-def clauses_of(lines, first, indent):
-    """The names of the clauses of a function whose head begins at a line, "-" for one without a name."""
-    names, has_clauses = [], False
+def texts_of(lines, first, indent):
+    """The name and the text of each clause of a function whose head begins at a line; the name is "-" for one without a name."""
+    texts, has_clauses, is_ensured = [], False, False
     for line in lines[first:]:
         if CONTRACT.match(line):
             has_clauses = True
             clause = CLAUSE.match(line)
-            names += [clause.group(1) or "-"] if clause else []
+            is_ensured = bool(clause)
+            texts += [[clause.group(1) or "-"]] if clause else []
         elif re.match(rf"^{indent}[{{}}]", line) or (line.endswith("{") and not has_clauses):
             break
         elif line is not lines[first] and FUNCTION.match(line):
             break
-    return names
+        if is_ensured:
+            texts[-1].append(line.split("//")[0])
+    return [(name, " ".join(parts)) for name, *parts in texts]
+
+
+def clauses_of(lines, first, indent):
+    """The names of the clauses of a function whose head begins at a line, "-" for one without a name."""
+    return [name for name, _ in texts_of(lines, first, indent)]
+
+
+def parts_of(text):
+    """The parts of a text that stand side by side: words, signs, and brackets with what is in them."""
+    parts, depth = [""], 0
+    for letter in text:
+        depth += (letter in "([{") - (letter in ")]}")
+        parts += [""] if letter.isspace() and depth == 0 else []
+        parts[-1] += letter
+    return [part.strip() for part in parts if part.strip()]
+
+
+def conclusion_of(text):
+    """The word at the head of a text's conclusion, which is what follows the last arrow, and its arguments: "" where that is no word,
+    or where a sign, as `×`, joins it with another."""
+    parts = parts_of(text)
+    word, *arguments = parts[len(parts) - parts[::-1].index("→"):] if "→" in parts else parts or [""]
+    if word.startswith("(") and not arguments:
+        return conclusion_of(word[1:-1])
+    is_joined = any(SIGN.fullmatch(part) for part in arguments)
+    return ("", []) if is_joined else (word, [part for part in arguments if not part.startswith("{")])
+
+
+class Record(typing.NamedTuple):
+    """A record of specs: its explicit parameters, the type of each field, and the full name of each word of its file."""
+    parameters: list
+    fields: dict
+    names: dict
+
+
+class Abbreviation(typing.NamedTuple):
+    """An abbreviation of specs: its body, and the full name of each word of its file."""
+    body: str
+    names: dict
+
+
+def imports_of(text):
+    """The full name, with crate and module, of each word that a file imports."""
+    listed = [(f"{crate}.{module}", it.strip().split(" as ")) for crate, module, items in USE.findall(text) for it in items.split(",")]
+    return {words[-1].strip(): f"{module}.{words[0].strip()}" for module, words in listed}
+
+
+def parameters_of(head):
+    """The explicit parameters in the head of a record, as `(s t : Ring)`."""
+    before = parts_of(head)
+    groups = [part[1:-1].split(" :")[0] for part in before[:before.index(":")] if part.startswith("(")]
+    return [name for group in groups for name in group.split()]
+
+
+def definitions_of(module, text):
+    """The records and the abbreviations of a module, by their full names; an abbreviation of several cases is left out."""
+    names = imports_of(text)
+    names.update({name: f"{module}.{name}" for name in DEFINED.findall(text)})
+    found = {f"{module}.{name}": Abbreviation(body, names) for name, body in ABBREVIATION.findall(text)}
+    for name, head, body in RECORD.findall(text):
+        found[f"{module}.{name}"] = Record(parameters_of(head), dict(FIELD.findall(body)), names)
+    return found
+
+
+@functools.lru_cache(maxsize=None)
+def all_definitions():
+    """The records and the abbreviations of all crates' specs."""
+    found = {}
+    for path in glob.glob(f"{ROOT}/crates/*/specs/**/*.antt", recursive=True):
+        crate, _, *folders = os.path.relpath(path, f"{ROOT}/crates")[:-len(".antt")].split("/")
+        found.update(definitions_of(".".join([crate, *folders]), text_of(path)))
+    return found
+
+
+def record_of(text, names, definitions):
+    """The record in which a text concludes, itself or by abbreviations, with its arguments and the names of their words; or None."""
+    word, arguments = conclusion_of(text)
+    found = definitions.get(names.get(word))
+    if isinstance(found, Abbreviation):
+        return record_of(found.body, found.names, definitions)
+    return (found, arguments, names) if found else None
+
+
+def fields_of(text, names, definitions):
+    """The fields of the record in which a text concludes; after each, as `FIELD.PART`, those of the record in which the field's type
+    does, or the argument that is given for this type."""
+    record, arguments, around = record_of(text, names, definitions) or (Record([], {}, {}), [], {})
+    given, fields = dict(zip(record.parameters, arguments)), []
+    for field, kind in record.fields.items():
+        word = conclusion_of(kind)[0]
+        inner = record_of(given[word], around, definitions) if word in given else record_of(kind, record.names, definitions)
+        fields += [field] + [f"{field}.{part}" for part in (inner[0].fields if inner else [])]
+    return fields
+
+
+def with_fields(clauses, names, definitions):
+    """The names of clauses, given with their texts, each followed by the fields of the record that it is."""
+    listed = []
+    for name, text in clauses:
+        body = next(part for part in parts_of(text) if part.startswith("{"))[1:-1]
+        listed += [name] + [field if name == "-" else f"{name}.{field}" for field in fields_of(body, names, definitions)]
+    return listed
 
 
 def functions_of(lines):
@@ -122,13 +239,13 @@ def unlisted_of(crate, listed):
 
 
 def calls_of(crate):
-    """The clauses of each call of a crate, by the call's name as CLAIMS.md writes it."""
+    """The clauses of each call of a crate and their fields, by the call's name as CLAIMS.md writes it."""
     calls = {}
     for path in sorted(glob.glob(f"{ROOT}/crates/{crate}/src/**/*.rt", recursive=True)):
-        lines = text_of(path).split("\n")
+        lines, names = text_of(path).split("\n"), imports_of(text_of(path))
         for owner, name, number, indent in functions_of(lines):
             call = f"{owner}::{name}" if owner else name
-            calls.setdefault(call, []).extend(clauses_of(lines, number, indent))
+            calls.setdefault(call, []).extend(with_fields(texts_of(lines, number, indent), names, all_definitions()))
     return calls
 
 

@@ -75,9 +75,79 @@ class Source(unittest.TestCase):
     def test_a_clause_of_several_lines_doesn_t_end_them(self):
         self.assertEqual(check_claims.clauses_of(SOURCE, 11, "    "), ["ok", "err"])
 
+    def test_a_clause_of_one_line_isn_t_of_the_comment_below_it(self):
+        lines = ["fn few()", "    ensures { Few result }", "", "    // More (of it.", "    ensures more { More result }", "{"]
+        self.assertEqual([name for name, _ in check_claims.texts_of(lines, 0, "")], ["-", "more"])
+        self.assertNotIn("More", check_claims.texts_of(lines, 0, "")[0][1])
+
+    def test_the_text_of_a_clause_goes_on_to_the_next_one(self):
+        names, texts = zip(*check_claims.texts_of(SOURCE, 11, "    "))
+        self.assertEqual(names, ("ok", "err"))
+        self.assertIn("frames = 2", texts[0])
+        self.assertNotIn("Err", texts[0])
+
     def test_the_owner_is_the_type_and_not_the_trait(self):
         self.assertEqual(check_claims.owner_of("impl<'a, P: Port> MixPort for Seat<'a> {"), "Seat")
         self.assertEqual(check_claims.owner_of("pub trait Gate: Sized {"), "Gate")
+
+
+SPECS = """use Rattle.port.specs.Uses.{CanUse, Left as Kept}
+
+-- a call
+pub record Calls {S : Type 0} (s t : Ring) (course : Course (Answered S))
+    (Frame Cause : Type 0) : Type 0 where
+  -- the way
+  pub takes : Takes s t
+  pub ring : t ≡ s
+  pub keeps : Frame
+  -- why
+  pub causes : CanUse s
+      → Cause
+
+pub record Explains (s : Ring) : Type 0 where
+  pub again : s ≡ s
+  pub starts : Starts s × Kept s
+
+-- a drain
+abbrev pub Drains : Ring → Ring
+    → Type 0
+Drains s t = Calls s t (drain_course (P.view s) Nothing)
+    (CanUse s → Kept s) (Explains s)
+
+-- one of two
+abbrev pub Either : Bool → Ring → Type 0
+Either true s = Explains s
+Either false s = Kept s
+"""
+
+USES = """pub record CanUse (s : Ring) : Type 0 where
+  pub newer : s ≡ s
+
+pub record Left (s : Ring) : Type 0 where
+  pub rest : s ≡ s
+"""
+
+
+class Fields(unittest.TestCase):
+    definitions = {**check_claims.definitions_of("ring.Calls", SPECS), **check_claims.definitions_of("port.Uses", USES)}
+    names = check_claims.imports_of("ghost use Rattle.ring.specs.Calls.{Drains, Either, Explains as Why};")
+
+    def fields(self, text, name="-"):
+        return check_claims.with_fields([(name, f"ensures {{ {text} }}")], self.names, self.definitions)[1:]
+
+    def test_a_clause_has_the_fields_of_its_record_and_each_field_those_of_its_own(self):
+        self.assertEqual(self.fields("Drains s t"), ["takes", "ring", "keeps", "keeps.rest", "causes", "causes.again", "causes.starts"])
+        self.assertEqual(self.fields("Why s", "why"), ["why.again", "why.starts"])
+
+    def test_a_field_of_one_record_isn_t_one_of_another_beside_it(self):
+        for name in ("ring.starts", "keeps.newer", "causes.newer", "takes.again", "keeps.again", "again"):
+            self.assertNotIn(name, self.fields("Drains s t"))
+
+    def test_a_premise_and_an_argument_and_a_part_give_no_fields(self):
+        self.assertEqual(self.fields("Why s → (Why t → s ≡ t)"), [])
+        self.assertEqual(self.fields("(n : ℕ) → Why s → Why t"), ["again", "starts"])
+        for text in ("IfOk result (λ s. Why s)", "Why s × Why t", "λ s. Why s", "Either on s", "Explains s", "CanUse s"):
+            self.assertEqual(self.fields(text), [], text)
 
 
 CALLS = """impl<'a> Ring<'a> {
@@ -154,6 +224,15 @@ class Whole(unittest.TestCase):
         self.assertFalse(check_claims.is_there("lap_word", "clamp", "farthest", calls))
         self.assertFalse(check_claims.is_there("mix_core", "law", "no-such-law", {}))
         self.assertTrue(check_claims.is_there("mix_core", "law", "IsReply-one", {}))
+
+    def test_a_field_is_at_the_calls_whose_clause_has_it(self):
+        calls = check_claims.calls_of("dmix_client")
+        for call, clause in (("drain", "causes.starts"), ("pause", "causes.pauses"), ("writei", "starts")):
+            self.assertTrue(check_claims.is_there("dmix_client", f"Client::{call}", clause, calls), clause)
+        for clause in ("ring.starts", "takes.again", "keeps.syncs", "refused.again", "starts"):
+            self.assertFalse(check_claims.is_there("dmix_client", "Client::drain", clause, calls), clause)
+        self.assertFalse(check_claims.is_there("dmix_client", "Client::pause", "keeps.newer", calls))
+        self.assertFalse(check_claims.is_there("lab_input", "read_input", "script.apart", check_claims.calls_of("lab_input")))
 
 
 if __name__ == "__main__":
