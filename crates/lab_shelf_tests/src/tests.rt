@@ -4,23 +4,61 @@ ghost use Rattle.std.specs.Option.{ForSome};
 ghost use Rattle.lab_shelf.specs.Files.{bytes_under};
 
 use lab_shelf::{FileShelf, MemoryShelf, MemorySink, Shelf, ShelfFault, Sink, StdSink};
-use std::alloc::Global;
+use std::alloc::{AllocError, Global};
 use std::io::{Read, Write};
 use std::os::fd::AsRawFd;
-use std::test::Fail;
 use std::{env, fs, io, mem, process};
 
-fn copied(alloc: Global, bytes: &[u8]) -> Result<Vec<u8>, ShelfFault> {
-    Ok(Vec::from_slice(alloc, bytes)?)
+// The file `a`, which holds `hello`.
+fn files_of_one(alloc: Global) -> Result<Vec<(Vec<u8>, Vec<u8>)>, AllocError> {
+    let mut files = Vec::new(alloc);
+    let name = Vec::from_slice(alloc, b"a")?;
+    files.push((name, Vec::from_slice(alloc, b"hello")?))?;
+    Ok(files)
 }
 
 // A shelf that holds `hello` under the name `a`.
-fn one_file(alloc: Global, failing: Vec<u64>) -> Result<MemoryShelf, ShelfFault>
+fn one_file(alloc: Global, failing: Vec<u64>) -> Result<MemoryShelf, AllocError>
     ensures { IfOk result (λ shelf. shelf.failing ≡ failing.items) }
 {
-    let mut files = Vec::new(alloc);
-    files.push((copied(alloc, b"a")?, copied(alloc, b"hello")?))?;
+    let files = files_of_one(alloc)?;
     Ok(MemoryShelf::new(files, failing))
+}
+
+// Whether a call failed by its file or stream, and not for want of memory.
+fn has_failed(answer: Result<(), ShelfFault>) -> bool {
+    answer == Err(ShelfFault::Failed)
+}
+
+// Whether a shelf gives these bytes of a file, from a place on and so many at most.
+fn gives<S: Shelf>(
+    shelf: &mut S,
+    alloc: Global,
+    name: &[u8],
+    from: u64,
+    most: u64,
+    bytes: &[u8],
+) -> bool {
+    match shelf.fetch(alloc, name, from, most) {
+        Ok(found) => found.as_slice() == bytes,
+        Err(_) => false,
+    }
+}
+
+// Whether a shelf fails to give a file from a place on, and not for want of memory.
+fn gives_none<S: Shelf>(shelf: &mut S, alloc: Global, name: &[u8], from: u64) -> bool {
+    match shelf.fetch(alloc, name, from, 9) {
+        Ok(_) => false,
+        Err(fault) => fault == ShelfFault::Failed,
+    }
+}
+
+// Whether a shelf in memory holds a file of these bytes.
+fn holds(shelf: &MemoryShelf, name: &[u8], bytes: &[u8]) -> bool {
+    match shelf.file(name) {
+        Some(held) => held == bytes,
+        None => false,
+    }
 }
 
 // A caller over any reliable shelf and sink: it stores a file under another name, and puts it out.
@@ -43,49 +81,47 @@ fn copy_out<S: Shelf, K: Sink>(
 }
 
 #[test]
-fn reliable_forms_fail_only_for_a_missing_name(rt: HostRuntime) -> Result<(), Fail> {
+fn reliable_forms_fail_only_for_a_missing_name(rt: HostRuntime) -> Result<(), AllocError> {
     let alloc = rt.alloc();
     let mut shelf = one_file(alloc, Vec::new(alloc))?;
     let mut sink = MemorySink::new(alloc, Vec::new(alloc));
-    copy_out(&mut shelf, &mut sink, alloc, b"a", b"b")?;
-    copy_out(&mut shelf, &mut sink, alloc, b"b", b"c")?;
-    assert!(rt;
-        copy_out(&mut shelf, &mut sink, alloc, b"d", b"e").err() == Some(ShelfFault::Failed)
-    );
+    assert!(rt; copy_out(&mut shelf, &mut sink, alloc, b"a", b"b").is_ok());
+    assert!(rt; copy_out(&mut shelf, &mut sink, alloc, b"b", b"c").is_ok());
+    assert!(rt; has_failed(copy_out(&mut shelf, &mut sink, alloc, b"d", b"e")));
     assert!(rt; sink.bytes() == b"hellohello".as_slice());
     Ok(())
 }
 
 #[test]
-fn memory_shelf_fails_listed_calls(rt: HostRuntime) -> Result<(), Fail> {
+fn memory_shelf_fails_listed_calls(rt: HostRuntime) -> Result<(), AllocError> {
     let alloc = rt.alloc();
     let mut shelf = one_file(alloc, vec![in alloc; 2, 5]?)?;
-    assert!(rt; shelf.fetch(alloc, b"a", 1, 3)?.as_slice() == b"ell".as_slice());
-    assert!(rt; shelf.store(b"b", b"new").err() == Some(ShelfFault::Failed));
+    assert!(rt; gives(&mut shelf, alloc, b"a", 1, 3, b"ell"));
+    assert!(rt; has_failed(shelf.store(b"b", b"new")));
     assert!(rt; shelf.file(b"b").is_none());
-    shelf.store(b"b", b"new")?;
-    shelf.store(b"a", b"bye")?;
-    assert!(rt; shelf.fetch(alloc, b"a", 0, 9).err() == Some(ShelfFault::Failed));
-    assert!(rt; shelf.fetch(alloc, b"c", 0, 9).err() == Some(ShelfFault::Failed));
-    assert!(rt; shelf.fetch(alloc, b"a", 0, 9)?.as_slice() == b"bye".as_slice());
-    assert!(rt; shelf.fetch(alloc, b"a", 4, 9)?.len() == 0);
-    assert!(rt; shelf.file(b"b").unwrap_or(&[]) == b"new".as_slice());
+    assert!(rt; shelf.store(b"b", b"new").is_ok());
+    assert!(rt; shelf.store(b"a", b"bye").is_ok());
+    assert!(rt; gives_none(&mut shelf, alloc, b"a", 0));
+    assert!(rt; gives_none(&mut shelf, alloc, b"c", 0));
+    assert!(rt; gives(&mut shelf, alloc, b"a", 0, 9, b"bye"));
+    assert!(rt; gives(&mut shelf, alloc, b"a", 4, 9, b""));
+    assert!(rt; holds(&shelf, b"b", b"new"));
     Ok(())
 }
 
 #[test]
-fn files_in_memory_are_appended_to_and_finished(rt: HostRuntime) -> Result<(), Fail> {
+fn files_in_memory_are_appended_to_and_finished(rt: HostRuntime) -> Result<(), AllocError> {
     let alloc = rt.alloc();
     let mut shelf = one_file(alloc, vec![in alloc; 1, 3, 6]?)?;
-    assert!(rt; shelf.begin(b"b", b"??").err() == Some(ShelfFault::Failed));
-    shelf.begin(b"b", b"??")?;
-    assert!(rt; shelf.append(b"b", b"one").err() == Some(ShelfFault::Failed));
-    shelf.append(b"b", b"one")?;
-    shelf.append(b"b", b"two")?;
-    assert!(rt; shelf.append(b"b", b"six").err() == Some(ShelfFault::Failed));
-    assert!(rt; shelf.append(b"c", b"new").err() == Some(ShelfFault::Failed));
-    assert!(rt; shelf.file(b"b").unwrap_or(&[]) == b"??onetwo".as_slice());
-    assert!(rt; shelf.file(b"a").unwrap_or(&[]) == b"hello".as_slice());
+    assert!(rt; has_failed(shelf.begin(b"b", b"??")));
+    assert!(rt; shelf.begin(b"b", b"??").is_ok());
+    assert!(rt; has_failed(shelf.append(b"b", b"one")));
+    assert!(rt; shelf.append(b"b", b"one").is_ok());
+    assert!(rt; shelf.append(b"b", b"two").is_ok());
+    assert!(rt; has_failed(shelf.append(b"b", b"six")));
+    assert!(rt; has_failed(shelf.append(b"c", b"new")));
+    assert!(rt; holds(&shelf, b"b", b"??onetwo"));
+    assert!(rt; holds(&shelf, b"a", b"hello"));
     assert!(rt; shelf.file(b"c").is_none());
     assert!(rt; shelf.has_room(b"a", b"jelly"));
     assert!(rt; !shelf.has_room(b"a", b"jellyfish"));
@@ -94,54 +130,56 @@ fn files_in_memory_are_appended_to_and_finished(rt: HostRuntime) -> Result<(), F
 }
 
 #[test]
-fn memory_sink_fails_listed_calls(rt: HostRuntime) -> Result<(), Fail> {
+fn memory_sink_fails_listed_calls(rt: HostRuntime) -> Result<(), AllocError> {
     let alloc = rt.alloc();
     let mut sink = MemorySink::new(alloc, vec![in alloc; 2]?);
-    sink.put(b"one ")?;
-    assert!(rt; sink.put(b"two ").err() == Some(ShelfFault::Failed));
-    sink.put(b"three")?;
+    assert!(rt; sink.put(b"one ").is_ok());
+    assert!(rt; has_failed(sink.put(b"two ")));
+    assert!(rt; sink.put(b"three").is_ok());
     assert!(rt; sink.bytes() == b"one three".as_slice());
     Ok(())
 }
 
+// Whether a shelf fails to give a file and to make one of this name.
+fn has_no_file<S: Shelf>(shelf: &mut S, alloc: Global, name: &[u8]) -> bool {
+    gives_none(shelf, alloc, name, 0) && has_failed(shelf.store(name, b"hello"))
+}
+
 #[test]
-fn file_shelf_reads_what_it_wrote(rt: HostRuntime) -> Result<(), Fail> {
+fn file_shelf_reads_what_it_wrote(rt: HostRuntime) -> io::Result<()> {
     let alloc = rt.alloc();
     let folder = env::temp_dir(&rt)?;
     let number = process::id(rt.process());
     let path = format!(in alloc; "{}/lab_shelf-{number}", folder.as_str())?;
     let name = path.as_bytes();
     let mut shelf = FileShelf::new(rt);
-    shelf.store(name, b"hello, world")?;
-    shelf.store(name, b"hello")?;
-    assert!(rt; shelf.fetch(alloc, name, 1, 3)?.as_slice() == b"ell".as_slice());
-    assert!(rt; shelf.fetch(alloc, name, 3, 9)?.as_slice() == b"lo".as_slice());
-    assert!(rt; shelf.fetch(alloc, name, 9, 9)?.len() == 0);
-    shelf.begin(name, b"??")?;
-    shelf.append(name, b"one")?;
-    shelf.append(name, b"two")?;
-    shelf.finish(name, b"ok")?;
-    assert!(rt; shelf.fetch(alloc, name, 0, 99)?.as_slice() == b"okonetwo".as_slice());
+    assert!(rt; shelf.store(name, b"hello, world").is_ok());
+    assert!(rt; shelf.store(name, b"hello").is_ok());
+    assert!(rt; gives(&mut shelf, alloc, name, 1, 3, b"ell"));
+    assert!(rt; gives(&mut shelf, alloc, name, 3, 9, b"lo"));
+    assert!(rt; gives(&mut shelf, alloc, name, 9, 9, b""));
+    assert!(rt; shelf.begin(name, b"??").is_ok());
+    assert!(rt; shelf.append(name, b"one").is_ok());
+    assert!(rt; shelf.append(name, b"two").is_ok());
+    assert!(rt; shelf.finish(name, b"ok").is_ok());
+    assert!(rt; gives(&mut shelf, alloc, name, 0, 99, b"okonetwo"));
     fs::remove_file(&rt, path.as_str())?;
-    assert!(rt; shelf.append(name, b"one").err() == Some(ShelfFault::Failed));
-    assert!(rt; shelf.finish(name, b"ok").err() == Some(ShelfFault::Failed));
-    assert!(rt; shelf.fetch(alloc, name, 0, 9).err() == Some(ShelfFault::Failed));
-    let folder_name = folder.as_str().as_bytes();
-    assert!(rt; shelf.fetch(alloc, folder_name, 0, 9).err() == Some(ShelfFault::Failed));
-    assert!(rt; shelf.store(folder_name, b"hello").err() == Some(ShelfFault::Failed));
-    assert!(rt; shelf.fetch(alloc, b"\xff", 0, 9).err() == Some(ShelfFault::Failed));
-    assert!(rt; shelf.store(b"\xff", b"hello").err() == Some(ShelfFault::Failed));
+    assert!(rt; has_failed(shelf.append(name, b"one")));
+    assert!(rt; has_failed(shelf.finish(name, b"ok")));
+    assert!(rt; gives_none(&mut shelf, alloc, name, 0));
+    assert!(rt; has_no_file(&mut shelf, alloc, folder.as_str().as_bytes()));
+    assert!(rt; has_no_file(&mut shelf, alloc, b"\xff"));
     Ok(())
 }
 
 // The path under which Linux has an open file of this process.
-fn path_of_open<E: AsRawFd>(alloc: Global, end: &E) -> Result<String, ShelfFault> {
+fn path_of_open<E: AsRawFd>(alloc: Global, end: &E) -> Result<String, AllocError> {
     let number = end.as_raw_fd();
-    Ok(format!(in alloc; "/proc/self/fd/{number}")?)
+    format!(in alloc; "/proc/self/fd/{number}")
 }
 
 #[test]
-fn a_pipe_is_read_on_from_where_it_is(rt: HostRuntime) -> Result<(), Fail> {
+fn a_pipe_is_read_on_from_where_it_is(rt: HostRuntime) -> io::Result<()> {
     let alloc = rt.alloc();
     let (reader, mut writer) = io::pipe(&rt)?;
     writer.write_all(b"hello, world")?;
@@ -149,25 +187,25 @@ fn a_pipe_is_read_on_from_where_it_is(rt: HostRuntime) -> Result<(), Fail> {
     let path = path_of_open(alloc, &reader)?;
     let name = path.as_bytes();
     let mut shelf = FileShelf::new(rt);
-    assert!(rt; shelf.fetch(alloc, name, 0, 5)?.as_slice() == b"hello".as_slice());
-    assert!(rt; shelf.fetch(alloc, name, 5, 99)?.as_slice() == b", world".as_slice());
-    assert!(rt; shelf.fetch(alloc, name, 12, 9)?.len() == 0);
-    assert!(rt; shelf.fetch(alloc, name, 5, 9).err() == Some(ShelfFault::Failed));
-    assert!(rt; shelf.fetch(alloc, name, 5, 9).err() == Some(ShelfFault::Failed));
+    assert!(rt; gives(&mut shelf, alloc, name, 0, 5, b"hello"));
+    assert!(rt; gives(&mut shelf, alloc, name, 5, 99, b", world"));
+    assert!(rt; gives(&mut shelf, alloc, name, 12, 9, b""));
+    assert!(rt; gives_none(&mut shelf, alloc, name, 5));
+    assert!(rt; gives_none(&mut shelf, alloc, name, 5));
     Ok(())
 }
 
 #[test]
-fn a_pipe_is_no_file_to_be_written(rt: HostRuntime) -> Result<(), Fail> {
+fn a_pipe_is_no_file_to_be_written(rt: HostRuntime) -> io::Result<()> {
     let alloc = rt.alloc();
     let (mut reader, writer) = io::pipe(&rt)?;
     let path = path_of_open(alloc, &writer)?;
     let name = path.as_bytes();
     let mut shelf = FileShelf::new(rt);
-    assert!(rt; shelf.store(name, b"hello").err() == Some(ShelfFault::Failed));
-    assert!(rt; shelf.begin(name, b"hello").err() == Some(ShelfFault::Failed));
-    assert!(rt; shelf.append(name, b"hello").err() == Some(ShelfFault::Failed));
-    assert!(rt; shelf.finish(name, b"hello").err() == Some(ShelfFault::Failed));
+    assert!(rt; has_failed(shelf.store(name, b"hello")));
+    assert!(rt; has_failed(shelf.begin(name, b"hello")));
+    assert!(rt; has_failed(shelf.append(name, b"hello")));
+    assert!(rt; has_failed(shelf.finish(name, b"hello")));
     mem::drop(writer);
     let mut bytes = Vec::new(alloc);
     assert!(rt; reader.read_to_end(&mut bytes)? == 0);
@@ -193,12 +231,11 @@ impl Write for Narrow {
 }
 
 #[test]
-fn std_sink_takes_all_or_fails(rt: HostRuntime) -> Result<(), Fail> {
+fn std_sink_takes_all_or_fails(rt: HostRuntime) {
     let mut output = StdSink::new(rt.stdout());
-    output.put(b"a line\n")?;
+    assert!(rt; output.put(b"a line\n").is_ok());
     let mut narrow = StdSink::new(Narrow { room: 3 });
-    narrow.put(b"ab")?;
-    assert!(rt; narrow.put(b"cd").err() == Some(ShelfFault::Failed));
-    narrow.put(b"")?;
-    Ok(())
+    assert!(rt; narrow.put(b"ab").is_ok());
+    assert!(rt; has_failed(narrow.put(b"cd")));
+    assert!(rt; narrow.put(b"").is_ok());
 }
