@@ -8,7 +8,6 @@ pub mod Fronts
 pub mod Groups
 pub mod Joined
 pub mod NumberedValues
-pub mod Numerals
 pub mod PartLists
 pub mod Places
 pub mod Puts

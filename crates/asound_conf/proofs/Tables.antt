@@ -21,11 +21,7 @@ use Rattle.asound_conf.specs.declared.cell.Content.TheVariants as contents
 use Rattle.asound_conf.specs.declared.cell.Cell.{Cell}
 use Rattle.asound_conf.specs.Rows.{IsAbsent, IsNode, ConfRow, is_in, no_row, row_at}
 use Rattle.asound_conf.specs.Table.{HasBelow, IsIndexed, IsLink, IsTable, bucket_at, bucket_of, cell_at, content_of, fits, is_live, text_bytes, lacks, name_in, new_row, no_cell, no_number, content_with, parent_of, number_after, cell_row, value_in}
-
--- a conjunction's parts
-both : (a b : Bool) → (a && b) ≡ true → (a ≡ true) × (b ≡ true)
-both true b e = (refl, e)
-both false b e = absurd (false≢true e)
+use Rattle.text_words.proofs.Tests.{both}
 
 -- a group's number is the one that a row names
 is_in-true : (p : ℕ) (o : Option ℕ) → is_in p o ≡ true → o ≡ Some p

@@ -5,7 +5,6 @@ pub mod Grammar
 pub mod Items
 pub mod Key
 pub mod Node
-pub mod Number
 pub mod Opening
 pub mod Parts
 pub mod Place

@@ -9,7 +9,7 @@ use Rattle.asound_conf.specs.declared.cell.ConfText.TheVariants as keys
 use Rattle.asound_conf.specs.declared.cell.Content.{Content}
 use Rattle.asound_conf.specs.declared.cell.Content.TheVariants as contents
 use Rattle.asound_conf.specs.declared.cell.Cell.{Cell}
-use Rattle.asound_conf.specs.Number.{number_named}
+use Rattle.text_words.specs.Word.{decimal_of}
 use Rattle.asound_conf.specs.Rows.{ConfRow, Contents, is_in}
 
 -- the greatest number of a cell's kind
@@ -96,7 +96,7 @@ hash_by p None name = (p + fold hash_with_byte 0 name) % 2 ^ 32
 
 -- the bucket of a group's number and a name, where there are so many
 unfoldable pub bucket_of : ℕ → ℕ → List ℕ → ℕ
-bucket_of buckets p name = bit_and (hash_by p (number_named name) name) (buckets - 1)
+bucket_of buckets p name = bit_and (hash_by p (decimal_of 18446744073709551615 name) name) (buckets - 1)
 
 -- what is beside the cells
 abbrev pub no_cell : Cell

@@ -7,9 +7,10 @@ ghost use Rattle.asound_conf.specs.Table.{IsTable, bucket_of, cell_at, content_o
 
 use crate::cell::{Cell, ConfText, Content, Name, Span};
 use crate::error::ConfWhy;
-use crate::number::{is_decimal, number_named};
+use crate::number::is_decimal;
 use std::alloc::{AllocError, Global};
 use std::marker::Model;
+use text_words::decimal_of;
 
 /// The number of no cell.
 const NO_NUMBER: u32 = 0xFFFF_FFFF;
@@ -73,7 +74,7 @@ fn bucket_of_bytes(buckets: usize, group: u32, name: &[u8]) -> usize
     ensures value { result ≡ bucket_of buckets group name.now }
     ensures within { result < buckets }
 {
-    bucket_by(buckets, hash_by(group, number_named(name), name))
+    bucket_by(buckets, hash_by(group, decimal_of(u64::MAX, name), name))
 }
 
 /// The bucket of a group's number and a name that is the decimal text of a number.

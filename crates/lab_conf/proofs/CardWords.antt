@@ -6,7 +6,7 @@ use Rattle.lab_lines.specs.declared.script.Share.TheVariants as share
 use Rattle.lab_script.specs.Draft.{card_of, divides}
 use Rattle.lab_script.specs.Keys.{key_value}
 use Rattle.lab_script.specs.Reading.{card_line}
-use Rattle.lab_script.specs.Word.{number_of_word}
+use Rattle.text_words.specs.Word.{number_of_word}
 
 -- the words of a card's line, with these words for its channels, rate, period and ring
 abbrev pub words_with : (channels rate period ring : List ℕ) → List (List ℕ)

@@ -1,5 +1,3 @@
-mod LineWords
-mod Numerals
 mod CardWords
 mod CardLines
 mod Devices

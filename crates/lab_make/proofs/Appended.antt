@@ -4,7 +4,8 @@ use Rattle.std.specs.List.{flat_map, range_with_len}
 use Rattle.std.proofs.lemmas.Grind.{flat_map-append}
 use Rattle.std.proofs.lemmas.List.{append-nil}
 use Rattle.std.proofs.lemmas.List.FromFn.{map-range_with_len_more}
-use Rattle.lab_make.specs.Lines.{all_turn_lines, card_words, client_lines, line_text, lines_text, made_text, open_lines}
+use Rattle.lab_make.specs.Lines.{all_turn_lines, card_words, client_lines, made_text, open_lines}
+use Rattle.text_words.specs.Lexing.{line_text, lines_text}
 
 -- one line more
 pub lines_text-push : (f : ℕ → List (List ℕ)) (i : ℕ) (first old new : List ℕ) → old ≡ first ++ lines_text (map f (range_with_len 0 i))

@@ -1,7 +1,6 @@
 pub mod Appended
 pub mod Generator
-pub mod Numerals
-pub mod LineTexts
+pub mod Ranges
 pub mod NumberTests
 pub mod Names
 pub mod Places

@@ -1,9 +1,6 @@
 -- What a reader of scripts makes of one line: of lines of words that it takes.
-use Rattle.std.proofs.Common.{◌≡◌, ℕ, ◌+◌, ◌<◌, ◌==◌, true, false, ◌&&◌, ◌||◌, List, [], ◌∷◌, ◌++◌, length, codes, Option, Some, None, Ok, nat_le, nat_lt, refl, ap, arith}
-use Rattle.std.specs.Option.{option_map_or}
-use Rattle.std.specs.Fmt.{decimal, digits}
-use Rattle.std.proofs.lemmas.Bool.{false≢true}
-use Rattle.std.proofs.lemmas.Bool.Decides.{nat_tests, Decides-eqb}
+use Rattle.std.proofs.Common.{◌≡◌, ℕ, ◌+◌, true, false, ◌&&◌, ◌||◌, List, [], ◌∷◌, ◌++◌, length, codes, Some, None, Ok, nat_le, nat_lt, refl, arith}
+use Rattle.std.proofs.lemmas.Bool.Decides.{nat_tests}
 use Rattle.lab_lines.specs.declared.line.Actor.{Actor}
 use Rattle.lab_lines.specs.declared.line.Actor.TheVariants.{Card, Client}
 use Rattle.lab_lines.specs.declared.line.Item.TheVariants as item
@@ -15,10 +12,9 @@ use Rattle.lab_script.specs.Ops.{op_of}
 use Rattle.lab_script.specs.Reading.{card_line}
 use Rattle.lab_lines.specs.Script.{is_of_card, is_unplug, played_by}
 use Rattle.lab_lines.specs.Names.{is_name, is_file}
-use Rattle.lab_script.specs.Word.{number_of_word}
+use Rattle.text_words.specs.Word.{number_of_word}
 use Rattle.lab_make.specs.Lines.{card_words}
 use Rattle.lab_make.specs.Script.{made_card}
-use Rattle.lab_make.proofs.NumberTests.{below_test}
 
 -- the card's line
 pub card_line-made : card_line 1 card_words ≡ Ok made_card
@@ -75,16 +71,6 @@ pub with_line-plain : (s : State) (n : ℕ) (actor : Actor) (words : List (List 
     })
 unfolding with_line
 with_line-plain s n actor words asked e is = rw (e, is.alone, is.plugged, is.frames, is.laps) refl
-
--- a number that a test finds
-some_equal : (o : Option ℕ) (n : ℕ) → option_map_or (λ m. m == n) o false ≡ true → o ≡ Some n
-some_equal None n e = absurd (false≢true e)
-some_equal (Some m) n e = ap Some ((Decides-eqb m n).0 e)
-
--- the decimal form of a small number
-pub number_of_word-decimal : (n : ℕ) → n < 97 → number_of_word (decimal n) ≡ Some n
-unfolding digits
-number_of_word-decimal n h = some_equal (number_of_word (decimal n)) n (below_test (λ m. option_map_or (λ k. k == m) (number_of_word (decimal m)) false) 97 n refl h)
 
 -- a client writes
 pub op_of-write : (client n : ℕ) (word : List ℕ) → number_of_word word ≡ Some n → nat_le n 4194304 ≡ true → op_of (Client client) (codes "write" ∷ word ∷ []) ≡ Ok (op.Write n)

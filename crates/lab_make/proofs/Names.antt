@@ -1,13 +1,14 @@
 -- The names of clients and files, and the words of their lines.
 use Rattle.std.proofs.Common.{◌≡◌, ℕ, ◌<◌, ◌==◌, true, List, [], ◌∷◌, refl, ap, arith, bytes_eq}
-use Rattle.std.specs.Fmt.{decimal, digits}
+use Rattle.std.specs.Fmt.{digits}
 use Rattle.std.proofs.lemmas.Bool.Decides.{same_from_decides, Decides-eqb}
 use Rattle.std.proofs.lemmas.Slice.Eq.{bytes_eq-Decides}
 use Rattle.std.proofs.lemmas.Fmt.{decimal_injective}
 use Rattle.lab_lines.specs.Names.{is_name, is_file}
 use Rattle.lab_make.specs.Files.{file_name}
 use Rattle.lab_make.specs.Lines.{client_name, client_words, open_words, write_words, frames_written}
-use Rattle.lab_make.proofs.LineTexts.{is_plain_word, is_plain_line}
+use Rattle.text_words.proofs.Decimals.{is_plain_word-decimal}
+use Rattle.text_words.proofs.PlainLines.{is_plain_word, is_plain_line}
 use Rattle.lab_make.proofs.NumberTests.{below_test}
 
 -- the name of a client is a name
@@ -20,30 +21,28 @@ pub file_name-is_file : (k : ℕ) → k < 64 → is_file (file_name k) ≡ true
 unfolding digits
 file_name-is_file k h = below_test (λ j. is_file (file_name j)) 64 k refl h
 
--- the lines of clients
-pub client_words-plain : (k : ℕ) → k < 64 → is_plain_line (client_words k) ≡ true
-unfolding digits
-client_words-plain k h = below_test (λ j. is_plain_line (client_words j)) 64 k refl h
-
-pub open_words-plain : (k : ℕ) → k < 64 → is_plain_line (open_words k) ≡ true
-unfolding digits
-open_words-plain k h = below_test (λ j. is_plain_line (open_words j)) 64 k refl h
-
--- a number of frames is a word
-frames-plain : (n : ℕ) → n < 97 → is_plain_word (decimal n) ≡ true
-unfolding digits
-frames-plain n h = below_test (λ m. is_plain_word (decimal m)) 97 n refl h
-
+-- both are words
 name-plain : (k : ℕ) → k < 64 → is_plain_word (client_name k) ≡ true
 unfolding digits
 name-plain k h = below_test (λ j. is_plain_word (client_name j)) 64 k refl h
+
+file-plain : (k : ℕ) → k < 64 → is_plain_word (file_name k) ≡ true
+unfolding digits
+file-plain k h = below_test (λ j. is_plain_word (file_name j)) 64 k refl h
+
+-- the lines of clients
+pub client_words-plain : (k : ℕ) → k < 64 → is_plain_line (client_words k) ≡ true
+client_words-plain k h = rw (name-plain k h, file-plain k h) refl
+
+pub open_words-plain : (k : ℕ) → k < 64 → is_plain_line (open_words k) ≡ true
+open_words-plain k h = rw (name-plain k h) refl
 
 -- how many frames are written
 pub frames_written-lt : (turn k : ℕ) → frames_written turn k < 97
 frames_written-lt turn k = omega arith
 
 pub write_words-plain : (turn k : ℕ) → k < 64 → is_plain_line (write_words turn k) ≡ true
-write_words-plain turn k h = rw (name-plain k h, frames-plain (frames_written turn k) (frames_written-lt turn k)) refl
+write_words-plain turn k h = rw (name-plain k h, is_plain_word-decimal (frames_written turn k) (omega (arith, frames_written-lt turn k))) refl
 
 -- a list without its first element
 abbrev rest_of : List ℕ → List ℕ

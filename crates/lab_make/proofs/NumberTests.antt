@@ -1,7 +1,7 @@
 -- Tests of the first numbers.
 use Rattle.std.proofs.Common.{◌≡◌, ℕ, zero, suc, ◌+◌, ◌<◌, Bool, true, refl, ap, sym, ◌∙◌, arith, add-zero, zero-add}
 use Rattle.std.specs.List.{list_all, range_with_len}
-use Rattle.lab_make.proofs.LineTexts.{both}
+use Rattle.text_words.proofs.Tests.{both}
 
 -- a test that numbers from one on pass is passed by each
 pub range_test : (p : ℕ → Bool) (a n k : ℕ) → list_all p (range_with_len a n) ≡ true → k < n → p (a + k) ≡ true

@@ -12,12 +12,13 @@ use Rattle.lab_lines.specs.declared.line.Line.{Line}
 use Rattle.lab_lines.specs.declared.line.Op.TheVariants as op
 use Rattle.lab_script.specs.Causes.{◌>>=◌}
 use Rattle.lab_script.specs.Draft.{State, ends_lap, inside, is_beside, is_client, is_reader, keywords, actor_named, or_else, unknown_inside, with_client, with_line, with_words}
-use Rattle.lab_script.specs.Keys.{row_of}
+use Rattle.text_words.specs.Table.{row_of}
 use Rattle.lab_script.specs.Reading.{after, on_line}
 use Rattle.lab_make.specs.Files.{file_name}
 use Rattle.lab_make.specs.Lines.{client_name, client_words, frames_written, open_words, write_words}
 use Rattle.lab_make.specs.Script.{made_card, made_client, made_opening, turn_line, write_line}
-use Rattle.lab_make.proofs.LineSteps.{IsTaken, client_of-plain, number_of_word-decimal, op_of-play, op_of-write, with_line-plain, with_open-plain, with_phase-plain}
+use Rattle.lab_make.proofs.LineSteps.{IsTaken, client_of-plain, op_of-play, op_of-write, with_line-plain, with_open-plain, with_phase-plain}
+use Rattle.text_words.proofs.Decimals.{number_of_word-decimal}
 use Rattle.lab_make.proofs.Names.{client_name-is_name, client_name-same, file_name-is_file, frames_written-lt}
 use Rattle.lab_make.proofs.Places.{position-first, position-none}
 use Rattle.lab_make.proofs.NumberTests.{below_test}
@@ -99,22 +100,27 @@ with_words-client k h =
     ap (λ c. c >>= (λ client. Ok (record s { clients = s.clients ++ client ∷ [] }))) client
     ∙ ap (λ cs. Ok (record s { clients = cs })) (sym (map-range_with_len_more made_client 0 k k (zero-add k)))
 
+-- lines that are taken one after the other
+after-each : (state : ℕ → State) (line : ℕ → ℕ) (words : ℕ → List (List ℕ)) (limit : ℕ) (tail : List (List (List ℕ))) → ((k : ℕ) → line k + 1 ≡ line (k + 1))
+    → ((k : ℕ) → k < limit → with_words (state k) (line k) (words k) ≡ Ok (state (k + 1))) → (j k m : ℕ) → m ≡ line k → k + j ≤ limit
+    → after (state k) (enumerate_from m (map words (range_with_len k j) ++ tail)) ≡ after (state (k + j)) (enumerate_from (m + j) tail)
+after-each state line words limit tail following taken zero k m at within =
+    ap (λ n. after (state n) (enumerate_from m tail)) (sym (add-zero k)) ∙ ap (λ n. after (state (k + 0)) (enumerate_from n tail)) (sym (add-zero m))
+after-each state line words limit tail following taken (suc j) k m at within =
+    let rest = map words (range_with_len (k + 1) j) ++ tail in
+    let here : with_words (state k) m (words k) ≡ Ok (state (k + 1)) = ap (λ n. with_words (state k) n (words k)) at ∙ taken k (omega arith) in
+    let next = after-each state line words limit tail following taken j (k + 1) (m + 1) (ap (λ n. n + 1) at ∙ following k) (omega arith) in
+    let states : k + 1 + j ≡ k + suc j = omega arith in
+    let lines : m + 1 + j ≡ m + suc j = omega arith in
+    after-step (state k) (state (k + 1)) m (words k) (enumerate_from (m + 1) rest) here
+    ∙ next
+    ∙ ap (λ n. after (state n) (enumerate_from (m + 1 + j) tail)) states
+    ∙ ap (λ n. after (state (k + suc j)) (enumerate_from n tail)) lines
+
 -- the lines of clients
 pub after-clients : (j k m : ℕ) (tail : List (List (List ℕ))) → m ≡ k + 2 → k + j ≤ 64
     → after (outside_of k [] 0) (enumerate_from m (map client_words (range_with_len k j) ++ tail)) ≡ after (outside_of (k + j) [] 0) (enumerate_from (m + j) tail)
-after-clients zero k m tail at few =
-    ap (λ n. after (outside_of n [] 0) (enumerate_from m tail)) (sym (add-zero k)) ∙ ap (λ n. after (outside_of (k + 0) [] 0) (enumerate_from n tail)) (sym (add-zero m))
-after-clients (suc j) k m tail at few =
-    let rest = map client_words (range_with_len (k + 1) j) ++ tail in
-    let here : with_words (outside_of k [] 0) m (client_words k) ≡ Ok (outside_of (k + 1) [] 0) =
-    ap (λ n. with_words (outside_of k [] 0) n (client_words k)) at ∙ with_words-client k (omega arith) in
-    let next = after-clients j (k + 1) (m + 1) tail (omega arith) (omega arith) in
-    let clients : k + 1 + j ≡ k + suc j = omega arith in
-    let line : m + 1 + j ≡ m + suc j = omega arith in
-    after-step (outside_of k [] 0) (outside_of (k + 1) [] 0) m (client_words k) (enumerate_from (m + 1) rest) here
-    ∙ next
-    ∙ ap (λ n. after (outside_of n [] 0) (enumerate_from (m + 1 + j) tail)) clients
-    ∙ ap (λ n. after (outside_of (k + suc j) [] 0) (enumerate_from n tail)) line
+after-clients j k m tail at few = after-each (λ n. outside_of n [] 0) (λ n. n + 2) client_words 64 tail (λ n. omega arith) with_words-client j k m at few
 
 -- the openings of the first clients
 abbrev pub openings : ℕ → ℕ → List Item
@@ -133,21 +139,8 @@ with_words-open clients k few h =
 pub after-opens : (clients j k m : ℕ) (tail : List (List (List ℕ))) → m ≡ clients + 2 + k → clients ≤ 64 → k + j ≤ clients
     → after (outside_of clients (openings clients k) 0) (enumerate_from m (map open_words (range_with_len k j) ++ tail))
     ≡ after (outside_of clients (openings clients (k + j)) 0) (enumerate_from (m + j) tail)
-after-opens clients zero k m tail at few within =
-    ap (λ n. after (outside_of clients (openings clients n) 0) (enumerate_from m tail)) (sym (add-zero k))
-    ∙ ap (λ n. after (outside_of clients (openings clients (k + 0)) 0) (enumerate_from n tail)) (sym (add-zero m))
-after-opens clients (suc j) k m tail at few within =
-    let s = outside_of clients (openings clients k) 0 in
-    let t = outside_of clients (openings clients (k + 1)) 0 in
-    let rest = map open_words (range_with_len (k + 1) j) ++ tail in
-    let here : with_words s m (open_words k) ≡ Ok t = ap (λ n. with_words s n (open_words k)) at ∙ with_words-open clients k few (omega arith) in
-    let next = after-opens clients j (k + 1) (m + 1) tail (omega arith) few (omega arith) in
-    let opened : k + 1 + j ≡ k + suc j = omega arith in
-    let line : m + 1 + j ≡ m + suc j = omega arith in
-    after-step s t m (open_words k) (enumerate_from (m + 1) rest) here
-    ∙ next
-    ∙ ap (λ n. after (outside_of clients (openings clients n) 0) (enumerate_from (m + 1 + j) tail)) opened
-    ∙ ap (λ n. after (outside_of clients (openings clients (k + suc j)) 0) (enumerate_from n tail)) line
+after-opens clients j k m tail at few within =
+    after-each (λ n. outside_of clients (openings clients n) 0) (λ n. clients + 2 + n) open_words clients tail (λ n. omega arith) (λ n l. with_words-open clients n few l) j k m at within
 
 -- the lines of the first clients that write in a turn
 abbrev pub written : ℕ → ℕ → ℕ → List Line
@@ -185,7 +178,7 @@ with_words-write clients turn k body phases played few h short =
     let s = inside_of clients body begin (written clients turn k) phases played in
     let n = frames_written turn k in
     let small = frames_written-lt turn k in
-    let asked = op_of-write k n (decimal n) (number_of_word-decimal n small) (nat_le-le n 4194304 (omega arith)) in
+    let asked = op_of-write k n (decimal n) (number_of_word-decimal n (omega (arith, small))) (nat_le-le n 4194304 (omega arith)) in
     let taken : IsTaken s (Client k) (op.Write n) = record {
       alone = is_beside-written clients turn k n;
       plugged = refl;
@@ -202,21 +195,9 @@ pub after-writes : (clients turn : ℕ) (body : List Item) (phases played j k m 
     → clients ≤ 64 → k + j ≤ clients → played ≤ 64000
     → after (inside_of clients body (turn_line clients turn) (written clients turn k) phases played) (enumerate_from m (map (write_words turn) (range_with_len k j) ++ tail))
     ≡ after (inside_of clients body (turn_line clients turn) (written clients turn (k + j)) phases played) (enumerate_from (m + j) tail)
-after-writes clients turn body phases played zero k m tail at few within short =
-    let state : ℕ → State = λ n. inside_of clients body (turn_line clients turn) (written clients turn n) phases played in
-    ap (λ n. after (state n) (enumerate_from m tail)) (sym (add-zero k)) ∙ ap (λ n. after (state (k + 0)) (enumerate_from n tail)) (sym (add-zero m))
-after-writes clients turn body phases played (suc j) k m tail at few within short =
-    let state : ℕ → State = λ n. inside_of clients body (turn_line clients turn) (written clients turn n) phases played in
-    let rest = map (write_words turn) (range_with_len (k + 1) j) ++ tail in
-    let here : with_words (state k) m (write_words turn k) ≡ Ok (state (k + 1)) =
-    ap (λ n. with_words (state k) n (write_words turn k)) at ∙ with_words-write clients turn k body phases played few (omega arith) short in
-    let next = after-writes clients turn body phases played j (k + 1) (m + 1) tail (omega arith) few (omega arith) short in
-    let lines : k + 1 + j ≡ k + suc j = omega arith in
-    let line : m + 1 + j ≡ m + suc j = omega arith in
-    after-step (state k) (state (k + 1)) m (write_words turn k) (enumerate_from (m + 1) rest) here
-    ∙ next
-    ∙ ap (λ n. after (state n) (enumerate_from (m + 1 + j) tail)) lines
-    ∙ ap (λ n. after (state (k + suc j)) (enumerate_from n tail)) line
+after-writes clients turn body phases played j k m tail at few within short =
+    after-each (λ n. inside_of clients body (turn_line clients turn) (written clients turn n) phases played) (λ n. turn_line clients turn + 1 + n) (write_words turn)
+    clients tail (λ n. omega arith) (λ n l. with_words-write clients turn n body phases played few l short) j k m at within
 
 -- a phase begins
 pub with_words-phase : (clients : ℕ) (body : List Item) (phases played n : ℕ) (s : State) → s ≡ record (inside_of clients body 0 [] phases played) { phase = None } → phases < 4096

@@ -3,10 +3,12 @@ use Rattle.std.proofs.Common.{◌≡◌, ℕ, zero, suc, ◌+◌, ◌*◌, ◌<�
 use Rattle.std.specs.List.{flat_map, list_all, range_with_len}
 use Rattle.std.specs.Fmt.{decimal, digits}
 use Rattle.std.proofs.lemmas.Bool.Decides.{nat_tests}
+use Rattle.std.proofs.lemmas.Fmt.{length-decimal-le}
 use Rattle.std.proofs.lemmas.Grind.{flat_map-append}
 use Rattle.std.proofs.lemmas.List.Folds.{list_all-append, list_all-map}
-use Rattle.lab_make.specs.Lines.{all_turn_lines, card_words, client_lines, client_name, client_words, frames_written, line_text, lines_text, made_lines, made_text, open_lines, open_words, play_lines, turn_lines, write_lines, write_words}
-use Rattle.lab_make.proofs.LineTexts.{is_plain_line}
+use Rattle.lab_make.specs.Lines.{all_turn_lines, card_words, client_lines, client_name, client_words, frames_written, made_lines, made_text, open_lines, open_words, play_lines, turn_lines, write_lines, write_words}
+use Rattle.text_words.specs.Lexing.{line_text, lines_text}
+use Rattle.text_words.proofs.PlainLines.{is_plain_line}
 use Rattle.lab_make.proofs.Names.{client_words-plain, frames_written-lt, open_words-plain, write_words-plain}
 use Rattle.lab_make.proofs.NumberTests.{below_test, range_all}
 
@@ -41,17 +43,17 @@ length-client_words : (k : ℕ) → k < 64 → length (line_text (client_words k
 unfolding digits
 length-client_words k h = at_most _ _ (below_test (λ j. nat_le (length (line_text (client_words j))) 23) 64 k refl h)
 
-length-open_words : (k : ℕ) → k < 64 → length (line_text (open_words k)) ≤ 9
-unfolding digits
-length-open_words k h = at_most _ _ (below_test (λ j. nat_le (length (line_text (open_words j))) 9) 64 k refl h)
-
 length-name : (k : ℕ) → k < 64 → length (client_name k) ≤ 3
 unfolding digits
 length-name k h = at_most _ _ (below_test (λ j. nat_le (length (client_name j)) 3) 64 k refl h)
 
+length-open_words : (k : ℕ) → k < 64 → length (line_text (open_words k)) ≤ 9
+length-open_words k h =
+    let name = length-name k h in
+    simp length-append (omega (arith, name))
+
 length-frames : (n : ℕ) → n < 97 → length (decimal n) ≤ 2
-unfolding digits
-length-frames n h = at_most _ _ (below_test (λ m. nat_le (length (decimal m)) 2) 97 n refl h)
+length-frames n h = length-decimal-le 2 n (omega arith) (omega arith) (omega arith)
 
 length-write_words : (turn k : ℕ) → k < 64 → length (line_text (write_words turn k)) ≤ 13
 length-write_words turn k h =

@@ -10,12 +10,12 @@ use Rattle.lab_lines.specs.declared.line.Item.TheVariants as item
 use Rattle.lab_lines.specs.declared.line.Line.{Line}
 use Rattle.lab_lines.specs.declared.line.Op.TheVariants as op
 use Rattle.lab_script.specs.Draft.{State, card_alone}
-use Rattle.lab_script.specs.Lexing.{word_lines}
+use Rattle.text_words.specs.Lexing.{word_lines}
 use Rattle.lab_script.specs.Reading.{after, on_line, refusal_at, script_at, script_of, script_of_lines}
 use Rattle.lab_make.specs.Lines.{all_turn_lines, client_lines, made_lines, made_text, open_lines, play_lines, turn_lines, write_lines}
 use Rattle.lab_make.specs.Script.{made_card, made_client, made_script, turn_items, turn_line}
 use Rattle.lab_make.proofs.LineSteps.{card_line-made, with_end-plain}
-use Rattle.lab_make.proofs.LineTexts.{lines_from-lines_text}
+use Rattle.text_words.proofs.PlainLines.{lines_from-lines_text}
 use Rattle.lab_make.proofs.Reading.{after-clients, after-opens, after-step, after-writes, inside_of, nat_lt-le, openings, outside_of, with_words-phase, with_words-play, written}
 use Rattle.lab_make.proofs.Sizes.{length-made_text, made_lines-plain}
 

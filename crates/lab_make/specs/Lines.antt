@@ -1,7 +1,8 @@
 -- The script of a workload, as its lines, each as its words, and as a text.
 use Rattle.std.specs.Prelude.{ℕ, ◌+◌, ◌%◌, List, [], ◌∷◌, ◌++◌, map, codes}
-use Rattle.std.specs.List.{flat_map, join_with_byte, range_with_len}
+use Rattle.std.specs.List.{flat_map, range_with_len}
 use Rattle.std.specs.Fmt.{decimal}
+use Rattle.text_words.specs.Lexing.{lines_text}
 use Rattle.lab_make.specs.Files.{file_name}
 
 -- the name of the client of this number, counted from 0
@@ -57,14 +58,6 @@ all_turn_lines clients turns = flat_map (turn_lines clients) (range_with_len 1 t
 -- the lines of a workload's script
 abbrev pub made_lines : ℕ → ℕ → List (List (List ℕ))
 made_lines clients turns = card_words ∷ client_lines clients ++ (open_lines clients ++ all_turn_lines clients turns)
-
--- the text of a line: its words, a space between each two, and a line feed
-abbrev pub line_text : List (List ℕ) → List ℕ
-line_text words = join_with_byte 32 words ++ 10 ∷ []
-
--- the text of lines
-abbrev pub lines_text : List (List (List ℕ)) → List ℕ
-lines_text lines = flat_map line_text lines
 
 -- the text of a workload's script
 unfoldable pub made_text : ℕ → ℕ → List ℕ

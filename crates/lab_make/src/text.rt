@@ -1,6 +1,7 @@
 //! The text of a workload's script.
 ghost use Rattle.std.specs.Prelude.{◌≡◌, ◌++◌, ◌<◌, ◌+◌, ◌^◌, IfOk, OnOk, string_bytes};
-ghost use Rattle.lab_make.specs.Lines.{all_turn_lines, client_lines, client_words, frames_written, line_text, lines_text, made_text, open_lines, open_words, turn_lines, write_lines, write_words};
+ghost use Rattle.lab_make.specs.Lines.{all_turn_lines, client_lines, client_words, frames_written, made_text, open_lines, open_words, turn_lines, write_lines, write_words};
+ghost use Rattle.text_words.specs.Lexing.{line_text, lines_text};
 
 use std::alloc::{AllocError, Global};
 

@@ -1,10 +1,9 @@
 //! The size of a workload, as words of a command line give it.
-ghost use Rattle.std.specs.Prelude.{◌≡◌, ◌≤◌, IfOk, IfSome, length, true};
-ghost use Rattle.std.specs.Str.{all_ascii_digits};
-ghost use Rattle.std.specs.Str.Parse.{digits_value};
+ghost use Rattle.std.specs.Prelude.{◌≡◌, ◌≤◌, IfOk, IfSome};
 ghost use Rattle.lab_make.specs.Workload.{IsWorkload, is_numeral, number_in, within, workload_of};
 
 use std::fmt;
+use text_words::{are_digits, checked_value};
 use thiserror::Error;
 
 /// What a workload is made from: the seed of its samples, how many clients it has, and in how many
@@ -47,26 +46,6 @@ impl fmt::Display for WorkloadError {
     }
 }
 
-/// Whether each byte of a word is a decimal digit.
-fn are_digits(word: &[u8]) -> bool
-    ensures { result ≡ all_ascii_digits word.now }
-{
-    word.iter().all(|b| b.is_ascii_digit())
-}
-
-/// The number that at most 20 decimal digits mean.
-fn digits_value(word: &[u8]) -> u128
-    requires most { length word.now ≤ 20 }
-    requires digits { all_ascii_digits word.now ≡ true }
-    ensures { result ≡ digits_value 10 word.now }
-{
-    let mut value = 0;
-    for b in word {
-        value = value * 10 + u128::from(*b - b'0');
-    }
-    value
-}
-
 /// Whether a word has 1 to 20 bytes, each a decimal digit.
 fn is_numeral(word: &[u8]) -> bool
     ensures { result ≡ is_numeral word.now }
@@ -75,11 +54,11 @@ fn is_numeral(word: &[u8]) -> bool
 }
 
 /// A number, where it is in a range.
-fn within(least: u64, most: u64, value: u128) -> Option<u64>
+fn within(least: u64, most: u64, value: u64) -> Option<u64>
     ensures { result ≡ within least most value }
 {
-    if u128::from(least) <= value && value <= u128::from(most) {
-        Some(value as u64)
+    if least <= value && value <= most {
+        Some(value)
     } else {
         None
     }
@@ -92,11 +71,11 @@ fn number_in(least: u64, most: u64, word: &[u8]) -> Option<u64>
     ensures least { IfSome result (λ n. least ≤ n) }
     ensures most { IfSome result (λ n. n ≤ most) }
 {
-    if is_numeral(word) {
-        within(least, most, digits_value(word))
-    } else {
-        None
+    if !is_numeral(word) {
+        return None;
     }
+    let value = checked_value(word)?;
+    within(least, most, value)
 }
 
 /// The workload of three words: the seed, below `2^64`; the number of clients, 1 to 64; and the number

@@ -5,7 +5,7 @@ use Rattle.std.proofs.lemmas.List.{append-nil}
 use Rattle.std.specs.Result.{IsErrAnd}
 use Rattle.lab_script.specs.declared.error.ScriptWhy.{ScriptWhy}
 use Rattle.lab_script.specs.declared.error.ScriptWhy.TheVariants as why
-use Rattle.lab_script.specs.Lexing.{first_and_rest}
+use Rattle.text_words.specs.Lexing.{first_and_rest}
 use Rattle.lab_script.specs.declared.error.ScriptError.{ScriptError}
 use Rattle.lab_refine.specs.declared.request.Ask.{Ask}
 use Rattle.lab_refine.specs.declared.request.Request.{Request}

@@ -3,7 +3,8 @@ use Rattle.std.specs.Prelude.{◌≡◌, ℕ, ◌*◌, ◌%◌, ◌≤◌, Bool,
 use Rattle.std.specs.Str.{bytes_eq}
 use Rattle.lab_script.specs.declared.error.ScriptWhy.{ScriptWhy}
 use Rattle.lab_script.specs.declared.error.ScriptWhy.TheVariants as why
-use Rattle.lab_script.specs.Word.{number_of_word}
+use Rattle.lab_script.specs.Causes.{◌>>=◌, some_or, word_and_rest}
+use Rattle.text_words.specs.Word.{number_of_word}
 use Rattle.hw_space.specs.declared.param.Param.{Param}
 use Rattle.lab_refine.specs.declared.grammar.Verb.{Verb}
 use Rattle.lab_refine.specs.declared.grammar.Verb.TheVariants as verbs
@@ -12,30 +13,14 @@ use Rattle.lab_refine.specs.declared.request.Ask.{Ask}
 use Rattle.lab_refine.specs.declared.request.Ask.TheVariants as asks
 use Rattle.lab_refine.specs.Params.{param_of, is_mask, most_of}
 
--- what follows from a value where there is no cause
-infixl 10 ◌>>=◌
-abbrev pub ◌>>=◌ : {A B : Type 0} → Result A ScriptWhy → (A → Result B ScriptWhy) → Result B ScriptWhy
-(Ok x) >>= f = f x
-(Err cause) >>= f = Err cause
-
 -- a value where a test is passed
 abbrev pub value_if : {A : Type 0} → ScriptWhy → Bool → A → Result A ScriptWhy
 value_if cause test x = if test then Ok x else Err cause
-
--- a value where there is one
-abbrev pub found_or_refused : {A : Type 0} → ScriptWhy → Option A → Result A ScriptWhy
-found_or_refused cause None = Err cause
-found_or_refused cause (Some x) = Ok x
 
 -- a value seen by a view
 abbrev pub result_view : {A B : Type 0} → (A → B) → Result A ScriptWhy → Result B ScriptWhy
 result_view view (Ok x) = Ok (view x)
 result_view view (Err cause) = Err cause
-
--- the word that must follow, and the words after it
-abbrev pub word_and_rest : List (List ℕ) → Result (List ℕ × List (List ℕ)) ScriptWhy
-word_and_rest [] = Err why.Missing
-word_and_rest (word ∷ words) = Ok (word, words)
 
 -- the line's end, where no further word may follow
 abbrev pub end_of_line : ScriptWhy → List (List ℕ) → Result (Unit {0}) ScriptWhy
@@ -46,7 +31,7 @@ end_of_line cause (word ∷ words) = Err cause
 unfoldable pub number_in : ℕ → ℕ → List (List ℕ) → Result (ℕ × List (List ℕ)) ScriptWhy
 number_in least most words = do
   word ← word_and_rest words
-  n ← found_or_refused why.Number (number_of_word word.0)
+  n ← some_or why.Number (number_of_word word.0)
   value_if why.Range (nat_le least n && nat_le n most) (n, word.1)
 
 -- the number after its key, and the words after both
@@ -60,7 +45,7 @@ keyed_in key least most words = do
 unfoldable pub param_in : List (List ℕ) → Result (Param × List (List ℕ)) ScriptWhy
 param_in words = do
   word ← word_and_rest words
-  param ← found_or_refused why.Word (param_of word.0)
+  param ← some_or why.Word (param_of word.0)
   Ok (param, word.1)
 
 -- a parameter that is an interval, and the words after it
@@ -180,7 +165,7 @@ asked_by verbs.Choose words = do
 unfoldable pub ask_of : List (List ℕ) → Result Ask ScriptWhy
 ask_of words = do
   word ← word_and_rest words
-  verb ← found_or_refused (first_word_cause word.0) (verb_of word.0)
+  verb ← some_or (first_word_cause word.0) (verb_of word.0)
   asked_by verb word.1
 
 -- what a line can ask: a mask is only set, to a number below 64, or shown

@@ -3,7 +3,7 @@ use Rattle.std.specs.Prelude.{◌≡◌, ℕ, List, [], ◌∷◌, length, nat_l
 use Rattle.lab_script.specs.declared.error.ScriptError.{ScriptError}
 use Rattle.lab_script.specs.declared.error.ScriptWhy.{ScriptWhy}
 use Rattle.lab_script.specs.declared.error.ScriptWhy.TheVariants as why
-use Rattle.lab_script.specs.Lexing.{word_lines}
+use Rattle.text_words.specs.Lexing.{word_lines}
 use Rattle.lab_refine.specs.declared.request.Ask.{Ask}
 use Rattle.lab_refine.specs.declared.request.Request.{Request}
 use Rattle.lab_refine.specs.Grammar.{slave_of, ask_of}

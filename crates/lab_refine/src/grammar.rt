@@ -1,7 +1,7 @@
 //! What each line of a text says.
 ghost use Rattle.std.specs.Prelude.{◌≡◌, ◌≤◌, IfOk, false};
 ghost use Rattle.lab_refine.specs.Params.{is_mask, most_of};
-ghost use Rattle.lab_script.specs.Lexing.{words_between};
+ghost use Rattle.text_words.specs.Lexing.{words_between};
 ghost use Rattle.lab_refine.specs.Grammar.{IsAsk, IsSlaveLine, ask_of, asked_by, bounded_in, ring_fits, first_word_cause, result_view, slave_keys_in, slave_of, slave_with, valued_in, verb_of, whole_interval_in, whole_param_in};
 
 use crate::params::most_of;

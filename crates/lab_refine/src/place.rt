@@ -1,12 +1,14 @@
 //! What is at one place of a line: a word, a key, a number, a parameter, or the line's end.
 ghost use Rattle.std.specs.Prelude.{◌≡◌, ◌≤◌, IfOk, false};
-ghost use Rattle.lab_script.specs.Lexing.{words_between};
+ghost use Rattle.text_words.specs.Lexing.{words_between};
 ghost use Rattle.lab_refine.specs.Params.{is_mask};
-ghost use Rattle.lab_refine.specs.Grammar.{end_of_line, interval_in, keyed_in, number_in, param_in, result_view, word_and_rest};
+ghost use Rattle.lab_script.specs.Causes.{word_and_rest};
+ghost use Rattle.lab_refine.specs.Grammar.{end_of_line, interval_in, keyed_in, number_in, param_in, result_view};
 
 use crate::params::{is_mask, param_of};
 use hw_space::Param;
-use lab_script::{ScriptWhy, next_word, read_number};
+use lab_script::ScriptWhy;
+use text_words::{next_word, read_number};
 
 /// The word that must follow, and the rest of the line.
 pub(crate) fn word(line: &[u8]) -> Result<(&[u8], &[u8]), ScriptWhy>

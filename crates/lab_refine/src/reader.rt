@@ -2,13 +2,14 @@
 ghost use Rattle.std.specs.Prelude.{◌≡◌, ◌+◌, ◌<◌, ◌^◌, [], ◌∷◌, ◌++◌, length, All, IfErr, IfOk, OnOk};
 ghost use Rattle.lab_script.specs.declared.error.ScriptWhy.TheVariants as whys;
 ghost use Rattle.lab_refine.specs.Grammar.{IsAsk, IsSlaveLine};
-ghost use Rattle.lab_script.specs.Lexing.{lines_from, words_between};
+ghost use Rattle.text_words.specs.Lexing.{lines_from, words_between};
 ghost use Rattle.lab_refine.specs.Reading.{Reads, asked_in, asks_of, on_line, request_of_text};
 
 use crate::grammar::{read_ask, read_slave};
 use crate::request::{Ask, Asks, Request};
-use lab_script::{ScriptError, ScriptWhy, next_line};
+use lab_script::{ScriptError, ScriptWhy};
 use std::alloc::Global;
+use text_words::next_line;
 
 /// The most bytes that a text has.
 const LONGEST: usize = 1_048_576;

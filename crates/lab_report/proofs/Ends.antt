@@ -8,7 +8,8 @@ use Rattle.lab_report.specs.Answers.{answer_at, state_at}
 use Rattle.lab_report.specs.Causes.{◌>>=◌}
 use Rattle.lab_report.specs.Reading.{row_of_line, row_after_front, row_end, client_and_rest, reader_and_rest, segment_at, segment_end, run_at, played_run}
 use Rattle.lab_report.specs.Text.{front_text}
-use Rattle.lab_report.specs.Words.{is_space, space_of, feed_of, next_number, most_frames, number_or_dash_at, expect_words}
+use Rattle.lab_report.specs.Words.{space_of, feed_of, next_number, most_frames, number_or_dash_at, expect_words}
+use Rattle.text_words.specs.Word.{is_space}
 
 -- after a value, what follows may be said in another way
 same_after : {A B : Type 0} (r : Result A ReportWhy) (f g : A → Result B ReportWhy) → ((x : A) → f x ≡ g x) → (r >>= f) ≡ (r >>= g)

@@ -1,20 +1,21 @@
 -- What is printed is read back: words, numbers, and the lines of a text.
-use Rattle.std.proofs.Common.{◌≡◌, ℕ, ◌^◌, ◌≤◌, ◌<◌, ◌==◌, ◌&&◌, Bool, true, false, not, cond, List, [], ◌∷◌, ◌++◌, length, map, take, drop, get_or, refl, ap, sym, subst, ◌∙◌, arith, zero, suc, one-add, append_assoc, Some, None, Ok, codes, bytes_eq}
+use Rattle.std.proofs.Common.{◌≡◌, ℕ, ◌^◌, ◌≤◌, ◌<◌, Bool, true, false, not, List, [], ◌∷◌, ◌++◌, length, map, take, drop, refl, ap, sym, subst, ◌∙◌, arith, one-add, append_assoc, Some, None, Ok, codes, bytes_eq}
 use Rattle.std.specs.List.{AllByRecursion, flat_map, list_all, slice_split, onto_first as piece_first, position_or_len, join_with_byte}
 use Rattle.std.specs.Char.{is_ascii_digit}
 use Rattle.std.specs.Fmt.{decimal}
 use Rattle.std.specs.Str.{all_ascii_digits}
-use Rattle.std.specs.Str.Parse.{digits_value}
 use Rattle.std.proofs.Math.Seq.{take-append_seam}
 use Rattle.std.proofs.lemmas.Bool.Decides.{nat_tests}
-use Rattle.std.proofs.lemmas.Fmt.{digits_value-decimal, digits_decimal, decimal_nonempty, decimal_digit, first_decimal}
+use Rattle.std.proofs.lemmas.Fmt.{digits_decimal}
 use Rattle.std.proofs.lemmas.List.Splits.{length-slice_split, slice_split-cons_yes, slice_split-cons_no, join_with_byte-slice_split}
 use Rattle.std.proofs.lemmas.Slice.Eq.{bytes_eq-Decides}
-use Rattle.std.proofs.lemmas.Str.Parse.{IsNumeralModel, numerals_by_value, tells_all_ascii_digits}
 use Rattle.lab_report.specs.declared.error.ReportWhy.TheVariants as why
 use Rattle.lab_report.specs.Causes.{◌>>=◌, some_or}
-use Rattle.lab_report.specs.Words.{is_feed, is_space, is_end, lines_of, front_word, lacks_leading_zero, within, decimal_of, number_at, most_frames, next_number, dash_or_number, number_or_dash_at, expect_word, expect_words}
-use Rattle.lab_report.proofs.Parts.{all_digits, within-fits}
+use Rattle.lab_report.specs.Words.{is_end, lines_of, front_word, number_at, most_frames, next_number, dash_or_number, number_or_dash_at, expect_word, expect_words}
+use Rattle.text_words.specs.Word.{is_feed, is_space}
+use Rattle.text_words.proofs.Digits.{all_digits, own}
+use Rattle.text_words.proofs.Tests.{both, and_true}
+use Rattle.text_words.proofs.Decimals.{decimal_of-decimal}
 
 -- a byte within a word
 abbrev pub in_word : ℕ → Bool
@@ -27,14 +28,6 @@ in_line b = not (is_feed b)
 is_true : (b : Bool) → not b ≡ true → b ≡ false
 is_true true e = absurd (cc)
 is_true false e = refl
-
-both : (a b : Bool) → (a && b) ≡ true → (a ≡ true) × (b ≡ true)
-both true b e = (refl, e)
-both false b e = absurd (cc)
-
-and_true : (a b : Bool) → a ≡ true → b ≡ true → (a && b) ≡ true
-and_true true b e f = f
-and_true false b e f = absurd (cc)
 
 -- the first end of a word that is followed by one
 position_or_len-word : (w : List ℕ) (e : ℕ) (r : List ℕ) → list_all in_word w ≡ true → is_end e ≡ true → position_or_len is_end (w ++ e ∷ r) ≡ length w
@@ -63,9 +56,6 @@ front_word-printed w e r h t =
     ∙ ap (λ x. Ok (x, drop (length w) (w ++ e ∷ r))) (take-append_seam w (e ∷ r))
     ∙ ap (λ x. Ok (w, x)) (drop-append w (e ∷ r))
 
-own : IsNumeralModel (λ ds. all_ascii_digits ds ≡ true) (digits_value 10)
-own = numerals_by_value _ tells_all_ascii_digits
-
 digit_in_word : (b : ℕ) → is_ascii_digit b ≡ true → in_word b ≡ true
 digit_in_word b e = grind (arith, nat_tests)
 
@@ -78,27 +68,6 @@ digits_in_word (d ∷ ds) e =
 -- a number's decimal form is digits
 pub decimal_in_word : (n : ℕ) → n < 2 ^ 64 → list_all in_word (decimal n) ≡ true
 decimal_in_word n h = digits_in_word (decimal n) (all_digits (decimal n) ∙ digits_decimal own n h)
-
-plain_of : (ds : List ℕ) → 0 < length ds → (get_or ds 0 0 ≡ 48 → length ds ≡ 1) → lacks_leading_zero ds ≡ true
-plain_of [] some h = absurd (omega arith)
-plain_of (b ∷ []) some h = refl
-plain_of (b ∷ c ∷ bs) some h = plain_by b (length bs) (b == 48) refl h
-  where
-    plain_by : (b n : ℕ) (t : Bool) → (b == 48) ≡ t → (b ≡ 48 → suc (suc n) ≡ 1) → not t ≡ true
-    plain_by b n true e h = absurd (let same : b ≡ 48 = grind (arith, nat_tests) in omega (arith, h same))
-    plain_by b n false e h = refl
-
-decimal_plain : (n : ℕ) → n < 2 ^ 64 → lacks_leading_zero (decimal n) ≡ true
-decimal_plain zero h = rw (decimal_digit 0 (omega arith)) refl
-decimal_plain (suc n) h =
-    plain_of (decimal (suc n)) (decimal_nonempty (suc n) h) (λ e. absurd (omega (arith, first_decimal (suc n) (omega arith) h, e)))
-
--- a number's decimal form is read as the number
-pub decimal_of-decimal : (most n : ℕ) → n ≤ most → n < 2 ^ 64 → decimal_of most (decimal n) ≡ Some n
-decimal_of-decimal most n fits h =
-    ap (λ t. cond t (within most (digits_value 10 (decimal n))) None) (and_true (lacks_leading_zero (decimal n)) (all_ascii_digits (decimal n)) (decimal_plain n h) (digits_decimal own n h))
-    ∙ ap (within most) (digits_value-decimal own n h)
-    ∙ sym (within-fits most n fits)
 
 pub number_at-printed : (most n e : ℕ) (r : List ℕ) → n ≤ most → n < 2 ^ 64 → is_end e ≡ true → number_at most (decimal n ++ e ∷ r) ≡ Ok (n, e ∷ r)
 number_at-printed most n e r fits h t =

@@ -1,5 +1,5 @@
 -- A report that is printed is read back.
-use Rattle.std.proofs.Common.{◌≡◌, ◌≢◌, ℕ, ◌≤◌, ◌<◌, ◌&&◌, Bool, true, false, cond, List, [], ◌∷◌, ◌++◌, length, get_or, refl, ap, sym, subst, ◌∙◌, arith, zero, suc, Some, None, Ok, bytes_eq, nat_lt}
+use Rattle.std.proofs.Common.{◌≡◌, ◌≢◌, ℕ, ◌≤◌, ◌<◌, Bool, true, false, cond, List, [], ◌∷◌, ◌++◌, length, get_or, refl, ap, sym, subst, ◌∙◌, arith, zero, suc, Some, None, Ok, bytes_eq, nat_lt}
 use Rattle.std.specs.List.{list_all, slice_get, position, position_or_len}
 use Rattle.std.specs.Fmt.{decimal}
 use Rattle.std.specs.Option.{option_map_or}
@@ -21,14 +21,7 @@ use Rattle.lab_report.specs.Text.{client_name, reader_name}
 use Rattle.lab_report.specs.Words.{most_frames}
 use Rattle.lab_report.proofs.Printed.{in_word, front_word-printed, next_number-printed}
 use Rattle.lab_report.specs.Ranges.{IsWide, IsSegmentInRange}
-
-both : (a b : Bool) → (a && b) ≡ true → (a ≡ true) × (b ≡ true)
-both true b e = (refl, e)
-both false b e = absurd (cc)
-
-and_true : (a b : Bool) → a ≡ true → b ≡ true → (a && b) ≡ true
-and_true true b e f = f
-and_true false b e f = absurd (cc)
+use Rattle.text_words.proofs.Tests.{both, and_true}
 
 name_byte_in_word : (b : ℕ) → is_name_byte b ≡ true → in_word b ≡ true
 name_byte_in_word b e = grind (arith, nat_tests)

@@ -2,10 +2,7 @@
 use Rattle.std.proofs.Common.{◌≡◌, ℕ, ◌^◌, ◌≤◌, ◌<◌, true, List, [], ◌∷◌, ◌++◌, refl, ap, ◌∙◌, arith, append_assoc, Option, Some, None, Ok, codes}
 use Rattle.std.specs.List.{list_all}
 use Rattle.std.specs.Fmt.{decimal}
-use Rattle.std.specs.Str.{all_ascii_digits}
-use Rattle.std.specs.Str.Parse.{digits_value}
 use Rattle.std.proofs.lemmas.Fmt.{digits_decimal}
-use Rattle.std.proofs.lemmas.Str.Parse.{IsNumeralModel, numerals_by_value, tells_all_ascii_digits}
 use Rattle.snd_base.specs.declared.errors.PcmError.TheVariants.{BadState, Xrun, Again, NoDevice, Invalid, Busy, NotSupported, LapEnd, Stopped, Memory}
 use Rattle.snd_base.specs.declared.errors.XrunWhy.{XrunWhy}
 use Rattle.snd_base.specs.declared.errors.XrunWhy.TheVariants.{Empty, Already, Avail, Late, Overtaken}
@@ -13,7 +10,7 @@ use Rattle.pcm_states.specs.declared.states.State.{State as PcmState}
 use Rattle.pcm_states.specs.declared.states.State.TheVariants as state
 use Rattle.pcm_states.specs.States.{state_name}
 use Rattle.lab_lines.specs.declared.script.Script.{Script}
-use Rattle.lab_script.specs.Keys.{row_of}
+use Rattle.text_words.specs.Table.{row_of}
 use Rattle.lab_report.specs.declared.error.ReportWhy.TheVariants as why
 use Rattle.lab_lines.specs.declared.row.Answer.{Answer}
 use Rattle.lab_lines.specs.declared.row.Answer.TheVariants.{Done, Count, Failed}
@@ -25,10 +22,9 @@ use Rattle.lab_report.specs.Reading.{row_of_line}
 use Rattle.lab_lines.specs.Rows.{request_of_row}
 use Rattle.lab_report.specs.Text.{number_or_dash, xrun_text, answer_text, front_text, row_line, HasText, HasXrunText, HasStateText}
 use Rattle.lab_report.specs.Words.{is_end, most_frames, number_or_dash_at}
-use Rattle.lab_report.proofs.Printed.{in_word, in_line, front_word-printed, decimal_in_word, decimal_of-decimal, next_number-printed, not_digits, dash-printed, number-printed, expect_words-printed}
-
-own : IsNumeralModel (λ ds. all_ascii_digits ds ≡ true) (digits_value 10)
-own = numerals_by_value _ tells_all_ascii_digits
+use Rattle.lab_report.proofs.Printed.{in_word, in_line, front_word-printed, decimal_in_word, next_number-printed, not_digits, dash-printed, number-printed, expect_words-printed}
+use Rattle.text_words.proofs.Digits.{own}
+use Rattle.text_words.proofs.Decimals.{decimal_of-decimal}
 
 wide : (n : ℕ) → IsWide n → n ≤ most_frames
 wide n h = omega arith

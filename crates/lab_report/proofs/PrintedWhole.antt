@@ -1,5 +1,5 @@
 -- A report that is printed is read back, line by line.
-use Rattle.std.proofs.Common.{◌≡◌, ℕ, ◌≤◌, ◌<◌, ◌&&◌, Bool, true, false, List, [], ◌∷◌, ◌++◌, length, refl, ◌∙◌, arith, Option, Some, None, codes}
+use Rattle.std.proofs.Common.{◌≡◌, ℕ, ◌≤◌, ◌<◌, true, List, [], ◌∷◌, ◌++◌, length, refl, ◌∙◌, arith, Option, Some, None, codes}
 use Rattle.std.specs.List.{list_all}
 use Rattle.std.specs.Fmt.{decimal}
 use Rattle.std.proofs.lemmas.List.Folds.{list_all-append}
@@ -25,14 +25,7 @@ use Rattle.lab_report.specs.Text.{client_name, reader_name, actor_name, number_o
 use Rattle.lab_report.proofs.Printed.{in_word, in_line, decimal_in_word, IsLineText}
 use Rattle.lab_report.specs.Ranges.{IsWide, IsWideWhere, IsXrunInRange, IsAnswerInRange, IsOpInRange, IsRowInRange, IsSegmentInRange}
 use Rattle.lab_report.proofs.PrintedReport.{client-found, reader-found}
-
-both : (a b : Bool) → (a && b) ≡ true → (a ≡ true) × (b ≡ true)
-both true b e = (refl, e)
-both false b e = absurd (cc)
-
-and_true : (a b : Bool) → a ≡ true → b ≡ true → (a && b) ≡ true
-and_true true b e f = f
-and_true false b e f = absurd (cc)
+use Rattle.text_words.proofs.Tests.{both, and_true}
 
 byte_in_line : (b : ℕ) → in_word b ≡ true → in_line b ≡ true
 byte_in_line b e = grind arith

@@ -13,7 +13,7 @@ use Rattle.snd_base.specs.declared.places.Segment.{Segment}
 use Rattle.pcm_states.specs.declared.states.State.{State as PcmState}
 use Rattle.lab_lines.specs.declared.script.Script.{Script}
 use Rattle.lab_script.specs.Draft.{is_client, is_reader}
-use Rattle.lab_script.specs.Keys.{row_of}
+use Rattle.text_words.specs.Table.{row_of}
 use Rattle.lab_lines.specs.Limits.{IsScript}
 use Rattle.lab_script.proofs.Kept.{RowsHave, row_of-has}
 use Rattle.lab_report.specs.declared.error.ReportError.{ReportError}
@@ -30,7 +30,8 @@ use Rattle.lab_report.specs.Reading.{State, nothing, row_of_line, client_and_res
 use Rattle.lab_report.specs.Requests.{requests_of}
 use Rattle.lab_lines.specs.Rows.{request_of_row}
 use Rattle.lab_report.specs.Text.{HasText, HasXrunText, HasStateText, IsRowOf, IsSegmentOf, IsRunOf, IsReportOf, front_text}
-use Rattle.lab_report.specs.Words.{lines_of, is_space, front_word, space_of, feed_of, next_number, most_frames, number_or_dash_at, decimal_of, expect_word, expect_words}
+use Rattle.lab_report.specs.Words.{lines_of, front_word, space_of, feed_of, next_number, most_frames, number_or_dash_at, expect_word, expect_words}
+use Rattle.text_words.specs.Word.{decimal_of, is_space}
 use Rattle.lab_report.proofs.Actors.{IsAsked, requests_of-asked}
 
 -- what a value after a step says

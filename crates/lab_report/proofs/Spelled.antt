@@ -1,21 +1,17 @@
 -- What is read is spelled so: each word, number, answer and state of a report has one text.
-use Rattle.std.proofs.Common.{◌≡◌, ℕ, ◌^◌, ◌<◌, ◌==◌, ◌&&◌, Bool, true, false, not, cond, List, [], ◌∷◌, ◌++◌, length, take, drop, get_or, refl, ap, sym, ◌∙◌, arith, append_assoc, Option, Some, None, option_map, Result, Ok, Err, codes, bytes_eq}
+use Rattle.std.proofs.Common.{◌≡◌, ℕ, ◌^◌, ◌<◌, Bool, true, false, cond, List, [], ◌∷◌, ◌++◌, length, take, drop, refl, ap, sym, ◌∙◌, arith, append_assoc, Option, Some, None, option_map, Result, Ok, Err, codes, bytes_eq}
 use Rattle.std.specs.List.{slice_split, position_or_len, join_with_byte}
 use Rattle.std.specs.Fmt.{decimal}
-use Rattle.std.specs.Str.{all_ascii_digits}
-use Rattle.std.specs.Str.Parse.{digits_value}
 use Rattle.std.proofs.lemmas.Bool.Decides.{nat_tests}
-use Rattle.std.proofs.lemmas.Fmt.{decimal-digits_value}
 use Rattle.std.proofs.lemmas.List.{take-append-drop}
 use Rattle.std.proofs.lemmas.List.Splits.{length-slice_split, join_with_byte-slice_split}
 use Rattle.std.proofs.lemmas.Slice.Eq.{bytes_eq-Decides}
-use Rattle.std.proofs.lemmas.Str.Parse.{IsNumeralModel, numerals_by_value, tells_all_ascii_digits}
 use Rattle.snd_base.specs.declared.errors.PcmError.TheVariants.{Xrun, Busy}
 use Rattle.snd_base.specs.declared.errors.XrunWhy.{XrunWhy}
 use Rattle.snd_base.specs.declared.errors.XrunWhy.TheVariants.{Empty, Already, Avail, Late, Overtaken}
 use Rattle.pcm_states.specs.declared.states.State.{State as PcmState}
 use Rattle.pcm_states.specs.States.{state_name}
-use Rattle.lab_script.specs.Keys.{row_of}
+use Rattle.text_words.specs.Table.{row_of}
 use Rattle.lab_report.specs.declared.error.ReportWhy.{ReportWhy}
 use Rattle.lab_report.specs.declared.error.ReportWhy.TheVariants as why
 use Rattle.lab_lines.specs.declared.row.Answer.{Answer}
@@ -23,9 +19,10 @@ use Rattle.lab_lines.specs.declared.row.Answer.TheVariants.{Count, Failed}
 use Rattle.lab_report.specs.Answers.{plain_answers, states, frame_and_channel, xrun_by, xrun_of, busy_of, count_and_rest, longer_answer, answer_by, answer_at, state_at}
 use Rattle.lab_report.specs.Causes.{some_or}
 use Rattle.lab_report.specs.Text.{number_or_dash, xrun_text, answer_text}
-use Rattle.lab_report.specs.Words.{is_space, is_feed, is_end, front_word, space_of, feed_of, lacks_leading_zero, is_decimal, within, decimal_of, number_at, most_frames, next_number, dash_or_number, number_or_dash_at, not_word, expect_word, expect_words}
-use Rattle.lab_report.proofs.Parts.{within-some, within-most}
+use Rattle.lab_report.specs.Words.{is_end, front_word, space_of, feed_of, number_at, most_frames, next_number, dash_or_number, number_or_dash_at, not_word, expect_word, expect_words}
+use Rattle.text_words.specs.Word.{decimal_of, is_space, is_feed}
 use Rattle.lab_report.proofs.Read.{bind_ok, some_is}
+use Rattle.text_words.proofs.Decimals.{decimal_of-is}
 
 -- a word and the rest are the text that they were read from
 pub front_word-is : (xs : List ℕ) (y : List ℕ × List ℕ) → front_word xs ≡ Ok y → xs ≡ y.0 ++ y.1
@@ -55,37 +52,6 @@ feed_by b bs u false t e = absurd (cc)
 pub feed_of-is : (xs : List ℕ) (u : Unit {0}) → feed_of xs ≡ Ok u → (bs : List ℕ) × (xs ≡ 10 ∷ bs)
 feed_of-is [] u e = absurd (cc)
 feed_of-is (b ∷ bs) u e = (bs, feed_by b bs u (is_feed b) refl e)
-
-both : (a b : Bool) → (a && b) ≡ true → (a ≡ true) × (b ≡ true)
-both true b e = (refl, e)
-both false b e = absurd (cc)
-
-own : IsNumeralModel (λ ds. all_ascii_digits ds ≡ true) (digits_value 10)
-own = numerals_by_value _ tells_all_ascii_digits
-
-plain_some : (w : List ℕ) → lacks_leading_zero w ≡ true → 0 < length w
-plain_some [] e = absurd (cc)
-plain_some (b ∷ bs) e = omega arith
-
-plain_lead : (w : List ℕ) → lacks_leading_zero w ≡ true → get_or w 0 0 ≡ 48 → length w ≡ 1
-plain_lead [] e h = absurd (cc)
-plain_lead (b ∷ []) e h = refl
-plain_lead (b ∷ c ∷ bs) e h = absurd (not_zero b e h)
-  where
-    not_zero : (b : ℕ) → not (b == 48) ≡ true → b ≡ 48 → ⊥
-    not_zero b e h = grind (arith, nat_tests)
-
-decimal_by : (most n : ℕ) (w : List ℕ) (t : Bool) → most < 2 ^ 64 → is_decimal w ≡ t → cond t (within most (digits_value 10 w)) None ≡ Some n → w ≡ decimal n
-decimal_by most n w true small t e =
-    let parts = both (lacks_leading_zero w) (all_ascii_digits w) t in
-    let same = within-some most (digits_value 10 w) n (sym e) in
-    let fits = within-most most (digits_value 10 w) n (sym e) in
-    sym (ap decimal same ∙ decimal-digits_value own w parts.1 (plain_some w parts.0) (plain_lead w parts.0) (omega (arith, same, fits, small)))
-decimal_by most n w false small t e = absurd (cc)
-
--- a word that is read as a number is its decimal form
-pub decimal_of-is : (most n : ℕ) (w : List ℕ) → most < 2 ^ 64 → decimal_of most w ≡ Some n → w ≡ decimal n
-decimal_of-is most n w small e = decimal_by most n w (is_decimal w) small refl e
 
 same_pair : {A : Type 0} (f : A → List ℕ) (x : A) (r : List ℕ) (y : A × List ℕ) (xs : List ℕ) → ◌≡◌ {A = Result (A × List ℕ) ReportWhy} (Ok (x, r)) (Ok y) → xs ≡ f x ++ r → xs ≡ f y.0 ++ y.1
 same_pair {A = A} f x r y xs e h = let same : ◌≡◌ {A = A × List ℕ} (x, r) y = cc (e) in h ∙ ap (λ p. f p.0 ++ p.1) same

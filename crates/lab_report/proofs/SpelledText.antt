@@ -27,7 +27,8 @@ use Rattle.lab_report.specs.Causes.{some_or}
 use Rattle.lab_report.specs.Reading.{State, nothing, row_of_line, client_and_rest, reader_and_rest, segment_at, run_at, played_run, with_segment, with_run, with_played, tail_by, below_rows, after_head, head_at, version_of, with_line, next_line, report_at, lines_after, report_in_text, Answers}
 use Rattle.lab_report.specs.Requests.{requests_of}
 use Rattle.lab_report.specs.Text.{client_name, reader_name, number_or_dash, answer_text, front_text, row_line, segment_line, run_line, played_line, report_text}
-use Rattle.lab_report.specs.Words.{lines_of, onto_first, is_feed, is_space, front_word, space_of, feed_of, next_number, most_frames, number_or_dash_at, expect_word, expect_words}
+use Rattle.lab_report.specs.Words.{lines_of, onto_first, front_word, space_of, feed_of, next_number, most_frames, number_or_dash_at, expect_word, expect_words}
+use Rattle.text_words.specs.Word.{is_feed, is_space}
 use Rattle.lab_report.proofs.Read.{bind_ok, some_is, past_by, on_line-ok}
 use Rattle.lab_report.proofs.Spelled.{small_frames, small_byte, front_word-is, space_of-is, feed_of-is, next_number-is, number_or_dash_at-is, word_choice, expect_word-is, expect_words-is, answer_at-is, state_at-is}
 

@@ -16,7 +16,8 @@ use Rattle.lab_report.specs.Answers.{answer_at, state_at}
 use Rattle.lab_report.specs.Causes.{◌>>=◌, some_or}
 use Rattle.lab_report.specs.Requests.{requests_of}
 use Rattle.lab_report.specs.Text.{front_text}
-use Rattle.lab_report.specs.Words.{lines_of, is_space, front_word, space_of, feed_of, next_number, most_frames, number_or_dash_at, expect_word, expect_words}
+use Rattle.lab_report.specs.Words.{lines_of, front_word, space_of, feed_of, next_number, most_frames, number_or_dash_at, expect_word, expect_words}
+use Rattle.text_words.specs.Word.{is_space}
 
 -- the lines that are read: the head, the rows, the segments, the runs, what was played, and the end
 pub record State : Type 0 where

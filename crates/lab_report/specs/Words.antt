@@ -1,8 +1,7 @@
 -- The lines of a report's text, and the words, spaces and numbers of a line.
-use Rattle.std.specs.Prelude.{ℕ, ◌==◌, ◌&&◌, ◌||◌, not, Bool, true, false, if◌then◌else◌, List, [], ◌∷◌, drop, codes, bytes_eq, Option, Some, None, option_map, Result, Ok, Err, nat_le, is_some}
+use Rattle.std.specs.Prelude.{ℕ, ◌==◌, ◌&&◌, ◌||◌, not, Bool, if◌then◌else◌, List, [], ◌∷◌, drop, codes, bytes_eq, Option, Some, None, option_map, Result, Ok, Err, is_some}
 use Rattle.std.specs.List.{before_first, position_or_len}
-use Rattle.std.specs.Str.{all_ascii_digits}
-use Rattle.std.specs.Str.Parse.{digits_value}
+use Rattle.text_words.specs.Word.{decimal_of, is_decimal, is_feed, is_space}
 use Rattle.lab_report.specs.declared.error.ReportWhy.{ReportWhy}
 use Rattle.lab_report.specs.declared.error.ReportWhy.TheVariants as why
 use Rattle.lab_report.specs.Causes.{◌>>=◌, some_or}
@@ -16,14 +15,6 @@ onto_first b (line ∷ lines) = (b ∷ line) ∷ lines
 abbrev pub lines_of : List ℕ → List (List ℕ)
 lines_of [] = []
 lines_of (b ∷ bs) = if b == 10 then (b ∷ []) ∷ lines_of bs else onto_first b (lines_of bs)
-
--- a line feed
-abbrev pub is_feed : ℕ → Bool
-is_feed b = b == 10
-
--- a space
-abbrev pub is_space : ℕ → Bool
-is_space b = b == 32
 
 -- the end of a word
 abbrev pub is_end : ℕ → Bool
@@ -43,24 +34,6 @@ space_of (b ∷ bs) = if is_space b then Ok bs else Err why.Word
 abbrev pub feed_of : List ℕ → Result (Unit {0}) ReportWhy
 feed_of [] = Err why.Ended
 feed_of (b ∷ bs) = if is_feed b then Ok tt else Err why.Extra
-
--- a word has a byte, and no leading zero
-abbrev pub lacks_leading_zero : List ℕ → Bool
-lacks_leading_zero [] = false
-lacks_leading_zero (b ∷ []) = true
-lacks_leading_zero (b ∷ c ∷ bs) = not (b == 48)
-
--- the decimal form of a number: digits without leading zeros
-abbrev pub is_decimal : List ℕ → Bool
-is_decimal word = lacks_leading_zero word && all_ascii_digits word
-
--- a number up to a limit
-abbrev pub within : ℕ → ℕ → Option ℕ
-within most n = if nat_le n most then Some n else None
-
--- the number up to a limit whose decimal form a word is
-abbrev pub decimal_of : ℕ → List ℕ → Option ℕ
-decimal_of most word = if is_decimal word then within most (digits_value 10 word) else None
 
 -- a number up to a limit, and the rest
 abbrev pub number_at : ℕ → List ℕ → Result (ℕ × List ℕ) ReportWhy

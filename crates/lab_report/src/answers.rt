@@ -1,16 +1,16 @@
 //! The answers and states of rows, as they are read.
 ghost use Rattle.std.specs.Prelude.{◌≡◌};
-ghost use Rattle.lab_script.specs.Keys.{row_of};
+ghost use Rattle.text_words.specs.Table.{row_of};
 ghost use Rattle.lab_report.specs.Answers.{plain_answers, states, avail_and_rest, frame_and_channel, late_and_rest, overtaken_of, xrun_by, xrun_of, busy_of, count_and_rest, longer_answer, answer_at, state_at};
 ghost use Rattle.lab_report.specs.Causes.{Gives};
 
 use crate::error::ReportWhy;
-use crate::numbers::{decimal_of, next_number, number_or_dash_at};
+use crate::numbers::{next_number, number_or_dash_at};
 use crate::words::{space_of, word_of};
 use lab_lines::Answer;
-use lab_script::row_of;
 use pcm_states::State;
 use snd_base::{PcmError, Why, XrunWhy};
+use text_words::{decimal_of, row_of};
 
 /// The answers of one word.
 const PLAIN_ANSWERS: [(&[u8], Answer); 7] = [

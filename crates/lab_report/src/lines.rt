@@ -1,8 +1,9 @@
 //! The lines of a report's text.
 ghost use Rattle.std.specs.Prelude.{◌≡◌, ◌<◌, ◌==◌, length, option_map, IfSome};
 ghost use Rattle.std.specs.List.{position};
-ghost use Rattle.lab_script.specs.Lexing.{first_and_rest};
-ghost use Rattle.lab_report.specs.Words.{lines_of, is_feed};
+ghost use Rattle.text_words.specs.Lexing.{first_and_rest};
+ghost use Rattle.lab_report.specs.Words.{lines_of};
+ghost use Rattle.text_words.specs.Word.{is_feed};
 
 /// Where a line feed is first.
 fn feed_place(text: &[u8]) -> Option<usize>

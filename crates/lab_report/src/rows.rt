@@ -5,7 +5,8 @@ ghost use Rattle.lab_lines.specs.Limits.{IsActor};
 ghost use Rattle.lab_report.specs.Causes.{Gives};
 ghost use Rattle.lab_report.specs.Reading.{row_after_front, row_of_line, row_end};
 ghost use Rattle.lab_report.specs.Text.{front_text};
-ghost use Rattle.lab_report.specs.Words.{is_space, expect_words};
+ghost use Rattle.lab_report.specs.Words.{expect_words};
+ghost use Rattle.text_words.specs.Word.{is_space};
 
 use crate::answers::{answer_at, state_at};
 use crate::error::ReportWhy;

@@ -2,10 +2,11 @@
 ghost use Rattle.std.specs.Prelude.{◌≡◌, ◌<◌, ◌∷◌, [], length, IfNone, IfSome};
 ghost use Rattle.std.specs.List.{position, slice_split};
 ghost use Rattle.lab_report.specs.Causes.{Gives};
-ghost use Rattle.lab_report.specs.Words.{is_space, is_end, front_word, space_of, feed_of, not_word, expect_word, expect_words};
+ghost use Rattle.lab_report.specs.Words.{is_end, front_word, space_of, feed_of, not_word, expect_word, expect_words};
+ghost use Rattle.text_words.specs.Word.{is_space};
 
 use crate::error::ReportWhy;
-use crate::numbers::{decimal_of, is_decimal};
+use text_words::{decimal_of, is_decimal};
 
 /// Whether a byte ends a word.
 fn is_end(b: u8) -> bool

@@ -13,7 +13,8 @@ use Rattle.lab_lines.specs.declared.script.ClientLine.{ClientLine}
 use Rattle.lab_lines.specs.declared.script.ReaderLine.{ReaderLine}
 use Rattle.lab_script.specs.Causes.{refuse_if, some_or, word_and_rest, end_of}
 use Rattle.lab_script.specs.Draft.{State, card_of, client_of, reader_of, actor_named, divides}
-use Rattle.lab_script.specs.Keys.{row_of, number_in, keys_from, word_after, number_given, small_given, byte_given, name_of, file_of, file_where, bindings_where}
+use Rattle.text_words.specs.Table.{row_of}
+use Rattle.lab_script.specs.Keys.{number_in, keys_from, word_after, number_given, small_given, byte_given, name_of, file_of, file_where, bindings_where}
 use Rattle.lab_lines.specs.Limits.{IsIn, IsCardLine, IsClientLine, IsReaderLine, IsOpOf}
 use Rattle.lab_script.specs.Ops.{ops_of, with_count, op_with, op_of}
 use Rattle.lab_script.proofs.Ranges.{bind_ok, not_refused, some_is, below, number_in-range, given_number, given_where, given_stop, limited_in, name_of-is, file_of-is, file_where-is, bindings_where-is, divides-half, divides-rest}

@@ -1,5 +1,4 @@
 pub mod Words
-pub mod LineWords
 pub mod OpTexts
 pub mod Checks
 pub mod Pairs

@@ -9,7 +9,7 @@ use Rattle.lab_script.specs.declared.keys.Kind.{Kind}
 use Rattle.lab_script.specs.declared.keys.Takes.{Takes}
 use Rattle.lab_script.specs.Causes.{◌>>=◌, Refuses}
 use Rattle.lab_script.specs.Keys.{keys_from, key_value, value_of}
-use Rattle.lab_script.specs.Lexing.{first_and_rest}
+use Rattle.text_words.specs.Lexing.{first_and_rest}
 use Rattle.lab_script.specs.Reading.{refusal_at, on_line, card_line, script_of_lines, RefusesAt}
 
 -- a test over the values of a function

@@ -12,10 +12,11 @@ use Rattle.lab_script.specs.declared.keys.Takes.{Takes}
 use Rattle.lab_script.specs.declared.keys.Takes.TheVariants as takes
 use Rattle.lab_script.specs.Causes.{◌>>=◌, refuse_if, some_or}
 use Rattle.lab_script.specs.Draft.{divides}
-use Rattle.lab_script.specs.Keys.{row_of, keys_of, key_value, keys_from, value_of, check_of, number_in, word_after, number_or_zero, number_given, number_within, small_where, stop_of, stop_given, name_of, file_of, file_where, bindings_where, bound, numbers_of}
+use Rattle.text_words.specs.Table.{row_of}
+use Rattle.lab_script.specs.Keys.{keys_of, key_value, keys_from, value_of, check_of, number_in, word_after, number_or_zero, number_given, number_within, small_where, stop_of, stop_given, name_of, file_of, file_where, bindings_where, bound, numbers_of}
 use Rattle.lab_lines.specs.Limits.{IsIn, IsInWhere, IsStopWhere, IsFileWhere, IsBoundWhere}
 use Rattle.lab_lines.specs.Names.{is_name, is_file}
-use Rattle.lab_script.specs.Word.{number_of_word}
+use Rattle.text_words.specs.Word.{number_of_word}
 
 -- what a value after a step says
 pub bind_ok : {A B : Type 0} (r : Result A ScriptWhy) (f : A → Result B ScriptWhy) (y : B) → (r >>= f) ≡ Ok y → (x : A) × (r ≡ Ok x) × (f x ≡ Ok y)

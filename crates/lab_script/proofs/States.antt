@@ -25,7 +25,7 @@ use Rattle.lab_lines.specs.declared.script.ReaderLine.{ReaderLine}
 use Rattle.lab_lines.specs.declared.script.Script.{Script}
 use Rattle.lab_script.specs.Causes.{refuse_if, some_or, word_and_rest, end_of}
 use Rattle.lab_script.specs.Draft.{State, card_alone, client_of, reader_of, border_of, actor_named, is_client, is_reader, or_else, is_beside, ends_lap, keywords, with_client, with_reader, with_open, with_close, with_phase, with_end, with_line, with_words, outside, inside, unknown_outside, unknown_inside, line_at}
-use Rattle.lab_script.specs.Keys.{row_of}
+use Rattle.text_words.specs.Table.{row_of}
 use Rattle.lab_lines.specs.Limits.{IsCardLine, IsClientLine, IsReaderLine, IsBorder, IsActor, IsLine, IsAlone, IsItem, IsGoneAfter, IsScript}
 use Rattle.lab_script.specs.Ops.{op_of}
 use Rattle.lab_script.specs.Reading.{on_line, card_line, first_by, after, script_at_end, script_at, script_of_lines, Answers}

@@ -17,7 +17,8 @@ use Rattle.lab_lines.specs.declared.script.CardLine.{CardLine}
 use Rattle.lab_lines.specs.declared.script.ClientLine.{ClientLine}
 use Rattle.lab_lines.specs.declared.script.ReaderLine.{ReaderLine}
 use Rattle.lab_script.specs.Causes.{◌>>=◌, refuse_if, some_or, word_and_rest, end_of}
-use Rattle.lab_script.specs.Keys.{row_of, keys_from, word_after, number_given, byte_given, small_given, small_where, stop_given, share_given, name_of, file_of, file_where, bindings_where}
+use Rattle.text_words.specs.Table.{row_of}
+use Rattle.lab_script.specs.Keys.{keys_from, word_after, number_given, byte_given, small_given, small_where, stop_given, share_given, name_of, file_of, file_where, bindings_where}
 use Rattle.lab_script.specs.Ops.{op_of}
 use Rattle.lab_lines.specs.Script.{is_of_card, is_unplug, played_by}
 

@@ -16,7 +16,8 @@ use Rattle.lab_lines.specs.declared.script.Share.TheVariants as share
 use Rattle.lab_lines.specs.declared.script.Stop.{Stop}
 use Rattle.lab_lines.specs.declared.script.Stop.TheVariants as stop
 use Rattle.lab_lines.specs.Names.{is_name, is_file}
-use Rattle.lab_script.specs.Word.{number_of_word, parts_of}
+use Rattle.text_words.specs.Table.{row_of}
+use Rattle.text_words.specs.Word.{number_of_word, parts_of}
 use Rattle.lab_script.specs.Causes.{◌>>=◌, refuse_if, some_or}
 
 -- the keys of the card's line; a period above half the ring is no matter of its range
@@ -56,11 +57,6 @@ abbrev pub keys_of : Kind → List (List ℕ × Takes)
 keys_of kind.Card = card_keys
 keys_of kind.Client = client_keys
 keys_of kind.Reader = reader_keys
-
--- the row of a word in a table
-abbrev pub row_of : {A : Type 0} → List (List ℕ × A) → List ℕ → Option A
-row_of [] word = None
-row_of (row ∷ rows) word = if bytes_eq word row.0 then Some row.1 else row_of rows word
 
 -- a word that must be a number from least to most
 abbrev pub number_in : ℕ → ℕ → List ℕ → Result ℕ ScriptWhy

@@ -1,5 +1,3 @@
-pub mod Word
-pub mod Lexing
 pub mod Causes
 pub mod Keys
 pub mod Ops

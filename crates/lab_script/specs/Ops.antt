@@ -10,7 +10,8 @@ use Rattle.lab_lines.specs.declared.line.Op.TheVariants as op
 use Rattle.lab_script.specs.declared.ops.Form.{Form}
 use Rattle.lab_script.specs.declared.ops.Form.TheVariants.{Plain, Counted}
 use Rattle.lab_script.specs.Causes.{◌>>=◌, some_or, word_and_rest, end_of}
-use Rattle.lab_script.specs.Keys.{row_of, number_in}
+use Rattle.text_words.specs.Table.{row_of}
+use Rattle.lab_script.specs.Keys.{number_in}
 
 -- what the card can be asked for
 abbrev pub card_ops : List (List ℕ × Form)

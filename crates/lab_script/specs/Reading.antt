@@ -8,8 +8,8 @@ use Rattle.lab_script.specs.declared.error.ScriptWhy.TheVariants as why
 use Rattle.lab_lines.specs.declared.script.CardLine.{CardLine}
 use Rattle.lab_lines.specs.declared.script.Script.{Script}
 use Rattle.lab_script.specs.Draft.{State, card_alone, card_of, keywords, with_words}
-use Rattle.lab_script.specs.Keys.{row_of}
-use Rattle.lab_script.specs.Lexing.{word_lines}
+use Rattle.text_words.specs.Table.{row_of}
+use Rattle.text_words.specs.Lexing.{word_lines}
 
 -- the refusal of a line
 abbrev pub refusal_at : ℕ → ScriptWhy → ScriptError

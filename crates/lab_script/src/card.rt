@@ -2,7 +2,7 @@
 ghost use Rattle.std.specs.Prelude.{◌≡◌};
 ghost use Rattle.lab_script.specs.Causes.{Gives};
 ghost use Rattle.lab_script.specs.Draft.{card_of, divides};
-ghost use Rattle.lab_script.specs.Lexing.{words_between};
+ghost use Rattle.text_words.specs.Lexing.{words_between};
 
 use crate::error::ScriptWhy;
 use crate::keys::{Kind, check_keys, given};

@@ -1,10 +1,10 @@
 //! What a word-by-word reading of a line asks for: a word, no word, or that something doesn't hold.
 ghost use Rattle.std.specs.Prelude.{◌≡◌, ◌<◌, Bool, true, false, length, IfOk};
 ghost use Rattle.lab_script.specs.Causes.{refuse_if, some_or, word_and_rest, end_of, Gives};
-ghost use Rattle.lab_script.specs.Lexing.{words_between};
+ghost use Rattle.text_words.specs.Lexing.{words_between};
 
 use crate::error::ScriptWhy;
-use crate::lexing::next_word;
+use text_words::next_word;
 
 /// A cause, where a test holds.
 pub fn refuse_if(test: bool, cause: ScriptWhy) -> Result<(), ScriptWhy>

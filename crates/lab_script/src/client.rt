@@ -2,7 +2,7 @@
 ghost use Rattle.std.specs.Prelude.{◌≡◌, ◌<◌, IfOk, vec_len};
 ghost use Rattle.lab_script.specs.Causes.{Gives};
 ghost use Rattle.lab_script.specs.Draft.{client_of, client_named, client_allowed, client_line, reader_of, reader_named, reader_allowed, reader_line, view};
-ghost use Rattle.lab_script.specs.Lexing.{words_between};
+ghost use Rattle.text_words.specs.Lexing.{words_between};
 
 use crate::causes::{first_of, refuse_if};
 use crate::draft::Draft;

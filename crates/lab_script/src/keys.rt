@@ -3,15 +3,15 @@ ghost use Rattle.std.specs.Prelude.{◌≡◌, ◌<◌, ◌≤◌, [], map, opti
 ghost use Rattle.std.specs.List.{list_any};
 ghost use Rattle.std.specs.Prelude.{bytes_eq};
 ghost use Rattle.lab_script.specs.Causes.{Gives};
-ghost use Rattle.lab_script.specs.Keys.{row_of, keys_of, key_value, keys_from, word_after};
-ghost use Rattle.lab_script.specs.Lexing.{words_between};
+ghost use Rattle.text_words.specs.Table.{row_of};
+ghost use Rattle.lab_script.specs.Keys.{keys_of, key_value, keys_from, word_after};
+ghost use Rattle.text_words.specs.Lexing.{words_between};
 
 use crate::causes::refuse_if;
 use crate::error::ScriptWhy;
-use crate::lexing::next_word;
-use crate::table::row_of;
 use crate::values::check_value;
 use std::alloc::Global;
+use text_words::{next_word, row_of};
 
 /// What follows a key: a number in a range, or `never` in its place; a file's name; the numbers
 /// of channels, joined by commas; `dmix` or `dshare`; or `linear`.

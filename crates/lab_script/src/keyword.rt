@@ -1,9 +1,9 @@
 //! The words that no name is.
 ghost use Rattle.std.specs.Prelude.{◌≡◌};
 ghost use Rattle.lab_script.specs.Draft.{keywords};
-ghost use Rattle.lab_script.specs.Keys.{row_of};
+ghost use Rattle.text_words.specs.Table.{row_of};
 
-use crate::table::row_of;
+use text_words::row_of;
 
 /// The words that no name is.
 #[derive(Clone, Copy)]

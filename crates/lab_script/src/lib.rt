@@ -8,12 +8,10 @@ mod draft;
 mod error;
 mod keys;
 mod keyword;
-mod lexing;
 mod named;
 mod ops;
 mod reader;
 mod steps;
-mod table;
 mod values;
 mod word;
 
@@ -22,8 +20,5 @@ pub use lab_lines::{
     Actor, Body, CardLine, ClientLine, Clients, FileName, Item, Line, Name, Op, Phase, ReaderLine,
     Readers, Script, Share, Stop,
 };
-pub use lexing::{TextLine, next_line, next_word};
 pub use ops::{print_op, push_op};
 pub use reader::read_script;
-pub use table::row_of;
-pub use word::read_number;

@@ -1,18 +1,18 @@
 //! The lines of a phase: what each actor can be asked for, by which words.
 ghost use Rattle.std.specs.Prelude.{◌≡◌, ◌≤◌, ◌++◌, OnOk, string_bytes};
 ghost use Rattle.lab_script.specs.Causes.{Gives};
-ghost use Rattle.lab_script.specs.Keys.{row_of};
-ghost use Rattle.lab_script.specs.Lexing.{words_between};
+ghost use Rattle.text_words.specs.Table.{row_of};
+ghost use Rattle.text_words.specs.Lexing.{words_between};
 ghost use Rattle.lab_lines.specs.Script.{played_by};
 ghost use Rattle.lab_script.specs.Ops.{ops_of, with_count, op_with, op_of, op_word, op_count, count_text, op_text};
 
 use crate::causes::{end_of, first_of};
 use crate::error::ScriptWhy;
-use crate::table::row_of;
 use crate::values::number_in;
 use lab_lines::{Actor, Op};
 use snd_base::PcmError;
 use std::alloc::AllocError;
+use text_words::row_of;
 
 /// What follows an op's word: nothing, or a number up to some limit, which takes the place of
 /// the op's own.

@@ -2,7 +2,7 @@
 ghost use Rattle.std.specs.Prelude.{◌≡◌, ◌≤◌, ◌+◌, ◌^◌, ◌<◌, length, IfOk, Ok};
 ghost use Rattle.lab_script.specs.Causes.{Gives};
 ghost use Rattle.lab_script.specs.Draft.{view, card_alone};
-ghost use Rattle.lab_script.specs.Lexing.{words_between, lines_from};
+ghost use Rattle.text_words.specs.Lexing.{words_between, lines_from};
 ghost use Rattle.lab_lines.specs.Limits.{IsScript};
 ghost use Rattle.lab_script.specs.Reading.{card_line, after, script_at_end, script_at, script_of, script_of_lines, Answers};
 
@@ -10,10 +10,10 @@ use crate::card::read_card;
 use crate::draft::Draft;
 use crate::error::{ScriptError, ScriptWhy};
 use crate::keyword::{Keyword, keyword_of};
-use crate::lexing::{next_line, next_word};
 use crate::steps::add_words;
 use lab_lines::{Body, CardLine, Clients, Readers, Script};
 use std::alloc::Global;
+use text_words::{next_line, next_word};
 
 /// The card's line, of this number.
 fn card_line(alloc: Global, number: u32, words: &[u8]) -> Result<CardLine, ScriptWhy>

@@ -2,22 +2,22 @@
 ghost use Rattle.std.specs.Prelude.{◌≡◌, ◌≤◌, IfOk};
 ghost use Rattle.lab_script.specs.Causes.{Gives};
 ghost use Rattle.lab_script.specs.Draft.{view, with_client, with_reader, border_of, with_open, with_close, with_phase, with_end, line_allowed, with_line, with_words, outside, inside, is_beside, ends_lap};
-ghost use Rattle.lab_script.specs.Keys.{row_of};
+ghost use Rattle.text_words.specs.Table.{row_of};
 ghost use Rattle.lab_script.specs.Draft.{keywords};
 ghost use Rattle.lab_lines.specs.Script.{is_of_card, is_unplug};
-ghost use Rattle.lab_script.specs.Lexing.{words_between};
+ghost use Rattle.text_words.specs.Lexing.{words_between};
 
 use crate::causes::{end_of, first_of, refuse_if};
 use crate::client::{read_client, read_reader};
 use crate::draft::Draft;
 use crate::error::ScriptWhy;
 use crate::keyword::{Keyword, keyword_of};
-use crate::lexing::next_word;
 use crate::named::named;
 use crate::ops::{op_of, played_by};
 use lab_lines::{Actor, CardLine, Item, Line, Op, Phase};
 use std::alloc::Global;
 use std::mem;
+use text_words::next_word;
 
 /// `client NAME FILE KEYS`.
 #[tactic(auto, unfolding(crate::specs::Draft::with_client))]

@@ -4,17 +4,18 @@ ghost use Rattle.std.specs.Option.{option_map_or};
 ghost use Rattle.lab_script.specs.Causes.{Gives};
 ghost use Rattle.lab_script.specs.Keys.{number_in, numbers_of, name_of, file_of, value_of, word_after, number_or_zero, number_given, number_within, byte_given, small_given, small_where, stop_of, stop_given, share_named, share_given, file_where, bindings_where, why_of};
 ghost use Rattle.lab_script.specs.declared.keys.Takes.TheVariants as takes;
-ghost use Rattle.lab_script.specs.Lexing.{words_between};
-ghost use Rattle.lab_script.specs.Word.{parts_of};
+ghost use Rattle.text_words.specs.Lexing.{words_between};
+ghost use Rattle.text_words.specs.Word.{parts_of};
 
 use crate::causes::refuse_if;
 use crate::error::ScriptWhy;
 use crate::keys::{Takes, given};
-use crate::word::{is_file, is_name, read_number, split_part};
+use crate::word::{is_file, is_name};
 use bindings::Bindings;
 use lab_lines::{FileName, Name, Share, Stop};
 use snd_base::Why;
 use std::alloc::{AllocError, Global};
+use text_words::{read_number, split_part};
 
 /// A word that must be a number from least to most.
 pub fn number_in(least: u64, most: u64, word: &[u8]) -> Result<u64, ScriptWhy>

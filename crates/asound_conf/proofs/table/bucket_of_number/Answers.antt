@@ -1,8 +1,8 @@
-use Rattle.std.proofs.Common.{◌-◌, ◌<◌, ◌^◌, Some, ap, sym, ◌∙◌, arith}
+use Rattle.std.proofs.Common.{◌-◌, ◌<◌, ◌≤◌, ◌^◌, Some, ap, sym, ◌∙◌, arith}
 use Rattle.std.specs.Prelude.{bit_and}
 use Rattle.std.specs.Fmt.{decimal}
 use Rattle.asound_conf.specs.Table.{bucket_of, hash_by}
-use Rattle.asound_conf.proofs.Numerals.{number_named-decimal}
+use Rattle.text_words.proofs.Decimals.{decimal_of-decimal}
 use Rattle.asound_conf.proofs.table.bucket_of_number.Goals as goal
 
 pub returns-clause-value : goal.returns-clause-value
@@ -10,6 +10,7 @@ unfolding bucket_of
 returns-clause-value c =
     let number = c.args.number in
     let group = c.args.group in
-    let small : number < 2 ^ 63 = omega arith in
+    let most : number ≤ 18446744073709551615 = omega arith in
+    let small : number < 2 ^ 64 = omega arith in
     c.bucket_by.ensures.value
-    ∙ ap (λ h. bit_and h (c.args.buckets - 1)) (c.hash_by.ensures ∙ ap (λ n. hash_by group (Some n) (decimal number)) c.from.ensures ∙ ap (λ o. hash_by group o (decimal number)) (sym (number_named-decimal number small)))
+    ∙ ap (λ h. bit_and h (c.args.buckets - 1)) (c.hash_by.ensures ∙ ap (λ n. hash_by group (Some n) (decimal number)) c.from.ensures ∙ ap (λ o. hash_by group o (decimal number)) (sym (decimal_of-decimal 18446744073709551615 number most small)))

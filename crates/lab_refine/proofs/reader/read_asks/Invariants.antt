@@ -1,6 +1,6 @@
 use Rattle.std.proofs.Common.{◌≡◌, ◌+◌, ◌<◌, ◌^◌, All, length}
 use Rattle.lab_refine.specs.Grammar.{IsAsk}
-use Rattle.lab_script.specs.Lexing.{lines_from}
+use Rattle.text_words.specs.Lexing.{lines_from}
 use Rattle.lab_refine.specs.Reading.{asks_of}
 use Rattle.lab_refine.proofs.AskLines.{joined}
 use Rattle.lab_refine.proofs.reader.read_asks.Given as goal

@@ -1,6 +1,6 @@
 use Rattle.std.proofs.Common.{◌≡◌, length, map, []}
 use Rattle.lab_script.specs.Keys.{keys_from}
-use Rattle.lab_script.specs.Lexing.{words_between}
+use Rattle.text_words.specs.Lexing.{words_between}
 use Rattle.lab_script.proofs.keys.check_keys.Given as goal
 
 abbrev pub invariant-loop-key : goal.invariant-loop-key

@@ -1,6 +1,6 @@
 use Rattle.std.proofs.Common.{◌≡◌, ◌+◌, ◌^◌, ◌<◌, length}
 use Rattle.lab_script.specs.Draft.{view, card_alone}
-use Rattle.lab_script.specs.Lexing.{lines_from}
+use Rattle.text_words.specs.Lexing.{lines_from}
 use Rattle.lab_script.specs.Reading.{after}
 use Rattle.lab_script.proofs.reader.read_lines.Given as goal
 

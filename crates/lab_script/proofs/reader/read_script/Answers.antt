@@ -1,4 +1,4 @@
-use Rattle.lab_script.specs.Lexing.{lines_from}
+use Rattle.text_words.specs.Lexing.{lines_from}
 use Rattle.lab_script.proofs.States.{answers-valid}
 use Rattle.lab_script.proofs.reader.read_script.Goals as goal
 
