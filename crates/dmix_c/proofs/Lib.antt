@@ -11,7 +11,6 @@ pub mod Opening
 pub mod OpeningDuplex
 pub mod ReaderHandleLaws
 pub mod ReaderMaking
-pub mod ReaderSettingUp
 pub mod ReaderUnstopped
 pub mod Reading
 pub mod Ringed

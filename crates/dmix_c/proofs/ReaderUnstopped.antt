@@ -1,16 +1,14 @@
 -- A reader at the gate that never stops isn't stopped by any call.
-use Rattle.std.proofs.Common.{◌≡◌, ℕ, zero, suc, ◌+◌, ap, refl, ◌∙◌}
-use Rattle.std.specs.Prelude.{◌&&◌, Bool, true, false, if◌then◌else◌, nat_eq, nat_le, nat_lt, ℤ, List, Option, None, Some, Result, Ok, Err, OnErr, OnOk}
+use Rattle.std.proofs.Common.{◌≡◌, ℕ, zero, suc, ◌+◌, refl}
+use Rattle.std.specs.Prelude.{◌&&◌, Bool, true, false, if◌then◌else◌, nat_eq, nat_le, nat_lt, ℤ, List, Option, None, Some, Result, Ok, Err}
 use Rattle.snd_base.specs.declared.errors.PcmError.{PcmError}
 use Rattle.snd_base.specs.declared.errors.PcmError.TheVariants.{Again}
 use Rattle.snd_base.specs.declared.errors.XrunWhy.TheVariants as why
-use Rattle.snd_base.specs.declared.geometry.Geometry.{Geometry}
 use Rattle.mix_core.specs.declared.port.Position.{Position}
 use Rattle.snoop_core.specs.declared.port.Got.{Got}
 use Rattle.snoop_core.specs.declared.port.Got.TheVariants.{Whole, Overtaken, Stopped}
 use Rattle.snoop_table.specs.declared.seats.reader.ReaderSeat.{ReaderSeat}
 use Rattle.course.specs.Course.{Course, ends}
-use Rattle.sw_limits.specs.declared.params.SwParams.{SwParams}
 use Rattle.pcm_states.specs.declared.calls.Call.{Call}
 use Rattle.pcm_states.specs.declared.calls.Call.TheVariants as call
 use Rattle.pcm_states.specs.declared.calls.Outcome.{Outcome}
@@ -19,13 +17,12 @@ use Rattle.pcm_states.specs.Table.{next_of}
 use Rattle.pcm_stream.specs.declared.direction.Direction.TheVariants.{Capture}
 use Rattle.pcm_stream.specs.Status.{refusal_of}
 use Rattle.dsnoop_client.specs.declared.stream.CaptureStream.{CaptureStream}
-use Rattle.dsnoop_client.specs.Calls.{Answered, facts_with, read_after, read_to, seen_at, started_at, taken_of, with_answer, with_avail, with_outcome, with_params}
+use Rattle.dsnoop_client.specs.Calls.{Answered, facts_with, read_after, read_to, seen_at, started_at, taken_of, with_answer, with_avail, with_outcome}
 use Rattle.dsnoop_client.specs.Course.{admitted_by, avail_course, counts, get_on, gets_frames, if_admitted, one_more, read_course, reads_first, reads_on, starts, syncs, transfer_on, transfers}
 use Rattle.dsnoop_client.specs.View.{avail_of, frames_in, is_running}
-use Rattle.dmix_c.specs.declared.params.StreamHwParams.{StreamHwParams}
 use Rattle.dmix_c.specs.declared.reader_calls.ReaderCall.{ReaderCall}
 use Rattle.dmix_c.specs.declared.reader_calls.ReaderCall.TheVariants as asked
-use Rattle.dmix_c.specs.ReaderCalls.{ReaderHasMade, ReaderHasSetUp, ReadsAt, reader_course, reader_done}
+use Rattle.dmix_c.specs.ReaderCalls.{ReaderHasMade, ReadsAt, reader_course, reader_done}
 use Rattle.dmix_c.proofs.Going.{GoesTo, GoesTo-either, GoesTo-read, GoesTo-then}
 
 -- a call leaves a reader stopped, or not
@@ -137,7 +134,7 @@ reader_course-left asked.Start c still = done-left _ (admitted-left c call.Start
 reader_course-left asked.Drop c still = done-left _ (admitted-left c call.Drop _ still (record { still = still }))
 reader_course-left asked.AvailUpdate c still = admitted-left c call.Sync _ still (avail-left c still)
 
--- so a reader that isn't stopped is left so by a call, a read, and by what sets it up
+-- so a reader that isn't stopped is left so by a call, and by a read
 pub made-unstopped : (what : ReaderCall) (s t : ReaderSeat) (c d : CaptureStream) (made : Result ℕ PcmError) → ReaderHasMade what s c t d made → c.status.stopped ≡ false
     → d.status.stopped ≡ false
 made-unstopped what s t c d made has still =
@@ -148,13 +145,3 @@ pub read-unstopped : (s t : ReaderSeat) (c d : CaptureStream) (old new : List �
 read-unstopped s t c d old new made reads still =
     (GoesTo-read (IsReaderLeft false) (s, reads.before) (t, reads.after) (if_admitted c call.Transfer (read_course c (frames_in c old))) (d, made)
     (admitted-left c call.Transfer _ still (read-left c (frames_in c old) still)) reads.takes).still
-
-pub set_up-unstopped : (g : Geometry) (rate : ℕ) (params : StreamHwParams) (list : List ℕ) (c d : CaptureStream) (made : Result ℕ PcmError)
-    → ReaderHasSetUp g rate params list c d made → c.status.stopped ≡ false → d.status.stopped ≡ false
-set_up-unstopped g rate params list c d (Ok n) has still = ap (λ (v : CaptureStream). v.status.stopped) has.done.1.1 ∙ still
-set_up-unstopped g rate params list c d (Err e) has still = ap (λ (v : CaptureStream). v.status.stopped) has.kept ∙ still
-
-pub given-unstopped : (c d : CaptureStream) (p : SwParams) (r : Result (Unit {0}) PcmError) → OnOk r (d ≡ with_params c p) → OnErr r (d ≡ c) → c.status.stopped ≡ false
-    → d.status.stopped ≡ false
-given-unstopped c d p (Ok done) ok err still = ap (λ (v : CaptureStream). v.status.stopped) ok ∙ still
-given-unstopped c d p (Err e) ok err still = ap (λ (v : CaptureStream). v.status.stopped) err ∙ still

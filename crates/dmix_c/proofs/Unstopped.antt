@@ -1,9 +1,8 @@
 -- A client at the gate that never stops isn't stopped by any call.
-use Rattle.std.proofs.Common.{◌≡◌, ℕ, zero, suc, ◌+◌, ap, refl, ◌∙◌}
-use Rattle.std.specs.Prelude.{◌&&◌, Bool, true, false, if◌then◌else◌, min, nat_eq, nat_lt, ℤ, List, [], ◌∷◌, length, Option, None, Some, Result, Ok, Err, OnErr, OnOk}
+use Rattle.std.proofs.Common.{◌≡◌, ℕ, zero, suc, ◌+◌, refl}
+use Rattle.std.specs.Prelude.{◌&&◌, Bool, true, false, if◌then◌else◌, min, nat_eq, nat_lt, ℤ, List, [], ◌∷◌, length, Option, None, Some, Result, Ok, Err}
 use Rattle.snd_base.specs.declared.errors.PcmError.{PcmError}
 use Rattle.snd_base.specs.declared.errors.PcmError.TheVariants.{Again}
-use Rattle.snd_base.specs.declared.geometry.Geometry.{Geometry}
 use Rattle.snd_base.specs.declared.places.Cursor.{Cursor}
 use Rattle.mix_core.specs.declared.marks.Marks.{Marks}
 use Rattle.mix_core.specs.declared.port.Ended.{Ended}
@@ -13,7 +12,6 @@ use Rattle.course.specs.Course.{Course, ends}
 use Rattle.bindings.specs.Bound.{rising}
 use Rattle.sum_table.specs.declared.seats.mix.MixSeat.{MixSeat}
 use Rattle.sum_table.specs.Seats.{seat_view}
-use Rattle.sw_limits.specs.declared.params.SwParams.{SwParams}
 use Rattle.pcm_states.specs.declared.calls.Call.{Call}
 use Rattle.pcm_states.specs.declared.calls.Call.TheVariants as call
 use Rattle.pcm_states.specs.declared.calls.Outcome.{Outcome}
@@ -31,10 +29,8 @@ use Rattle.dmix_client.specs.View.{ClientView, avail_of}
 use Rattle.dmix_client.specs.Writes.{frames_in, starts_with}
 use Rattle.dmix_c.specs.declared.client_calls.ClientCall.{ClientCall}
 use Rattle.dmix_c.specs.declared.client_calls.ClientCall.TheVariants as asked
-use Rattle.dmix_c.specs.declared.params.StreamHwParams.{StreamHwParams}
-use Rattle.dmix_c.specs.ClientCalls.{HasMade, HasSetUp, Writes, call_course, done_course}
+use Rattle.dmix_c.specs.ClientCalls.{HasMade, Writes, call_course, done_course}
 use Rattle.dmix_c.proofs.Going.{GoesTo, GoesTo-either, GoesTo-taken, GoesTo-then}
-use Rattle.dmix_c.proofs.Thresholds.{given}
 
 -- a call leaves a client stopped, or not
 record IsLeft {X : Type 0} (stopped : Bool) (done : PlaybackStream × X) : Type 0 where
@@ -295,7 +291,7 @@ call_course-left asked.Delay c marks still = admitted-left c.stream call.Sync _ 
 call_course-left asked.Rewindable c marks still = admitted-left c.stream call.Transfer _ still (rewindable-left c.stream marks.floor still)
 call_course-left (asked.Rewind n) c marks still = admitted-left c.stream call.Transfer _ still (rewind-left c.stream c.ring marks.floor n still)
 
--- so a client that isn't stopped is left so by a call, a write, and by what sets it up
+-- so a client that isn't stopped is left so by a call, and by a write
 pub made-unstopped : (what : ClientCall) (s t : MixSeat) (c d : ClientView) (made : Result ℕ PcmError) → HasMade what s c t d made → c.stream.status.stopped ≡ false
     → d.stream.status.stopped ≡ false
 made-unstopped what s t c d made has still =
@@ -306,13 +302,3 @@ pub written-unstopped : (s t : MixSeat) (c d : ClientView) (samples : List ℤ) 
 written-unstopped s t c d samples made writes still =
     (GoesTo-taken (IsLeft false) (s, writes.before) (t, writes.after) (if_admitted c.stream call.Transfer (write_course c.stream c.ring samples (seat_view s).marks.cursor)) (d.stream, made)
     (admitted-left c.stream call.Transfer _ still (write-left c.stream c.ring samples (seat_view s).marks.cursor still)) writes.takes).still
-
-pub set_up-unstopped : (g : Geometry) (rate : ℕ) (params : StreamHwParams) (list : List ℕ) (c d : ClientView) (made : Result ℕ PcmError)
-    → HasSetUp g rate params list c d made → c.stream.status.stopped ≡ false → d.stream.status.stopped ≡ false
-set_up-unstopped g rate params list c d (Ok n) has still = ap (λ (v : ClientView). v.stream.status.stopped) has.done.1.1 ∙ still
-set_up-unstopped g rate params list c d (Err e) has still = ap (λ (v : ClientView). v.stream.status.stopped) has.kept ∙ still
-
-pub given-unstopped : (c d : ClientView) (p : SwParams) (r : Result (Unit {0}) PcmError) → OnOk r (d ≡ given c p) → OnErr r (d ≡ c) → c.stream.status.stopped ≡ false
-    → d.stream.status.stopped ≡ false
-given-unstopped c d p (Ok done) ok err still = ap (λ (v : ClientView). v.stream.status.stopped) ok ∙ still
-given-unstopped c d p (Err e) ok err still = ap (λ (v : ClientView). v.stream.status.stopped) err ∙ still

@@ -1,8 +1,6 @@
 -- The calls of a client at its seat: what each does there, step by step, what it answers, and what it leaves.
-use Rattle.std.specs.Prelude.{◌≡◌, ℕ, ◌*◌, ◌⊎◌, Bool, true, false, List, [], length, replicate, pos, ℤ, None, Some, Result, Ok, Err, OnErr, OnOk}
+use Rattle.std.specs.Prelude.{◌≡◌, ℕ, ◌*◌, Bool, true, false, List, [], length, replicate, pos, ℤ, Result, Ok}
 use Rattle.snd_base.specs.declared.errors.PcmError.{PcmError}
-use Rattle.snd_base.specs.declared.errors.PcmError.TheVariants.{Invalid, Memory}
-use Rattle.snd_base.specs.declared.errors.Why.{Why}
 use Rattle.snd_base.specs.declared.geometry.Geometry.{Geometry}
 use Rattle.mix_core.specs.declared.gate.NeverStops.{NeverStops}
 use Rattle.mix_core.specs.declared.marks.Marks.{Marks}
@@ -10,7 +8,6 @@ use Rattle.sum_table.specs.declared.seats.mix.MixSeat.{MixSeat}
 use Rattle.sum_table.specs.Seats.{IsLaterSeat, seat_view}
 use Rattle.course.specs.AtPort.{TakesAt}
 use Rattle.course.specs.Course.{◌>>=◌, Course, ends}
-use Rattle.bindings.specs.Answers.{answer_of}
 use Rattle.pcm_states.specs.declared.calls.Call.TheVariants as call
 use Rattle.pcm_stream.specs.declared.direction.Direction.TheVariants.{Playback}
 use Rattle.pcm_stream.specs.Status.{refusal_of}
@@ -26,8 +23,9 @@ use Rattle.dmix_c.specs.declared.client_calls.ClientCall.{ClientCall}
 use Rattle.dmix_c.specs.declared.client_calls.ClientCall.TheVariants as asked
 use Rattle.dmix_c.specs.Answers.{done_of}
 use Rattle.dmix_c.specs.Backed.{StaysBacked}
-use Rattle.dmix_c.specs.Params.{CanConfigure, config_with}
+use Rattle.dmix_c.specs.Params.{config_with}
 use Rattle.dmix_c.specs.SeatPort.{no_gate, seat_port}
+use Rattle.dmix_c.specs.SettingUp.{SetsUp}
 
 -- a call that gives nothing gives 0
 abbrev pub done_course : Course (Answered (Unit {0})) → Course (Answered ℕ)
@@ -90,12 +88,6 @@ pub record Writes (s : MixSeat) (c : ClientView) (t : MixSeat) (d : ClientView) 
   pub keeps : Keeps seat_port no_gate (s, before) (t, after) c d written (λ all. Follows c.stream all samples (frames_in c.stream samples))
   pub goes : IsLaterSeat s t
 
--- the bindings of a list are those of a stream that can be configured
-pub record CanSetUp (g : Geometry) (rate : ℕ) (params : StreamHwParams) (list : List ℕ) : Type 0 where
-  pub bindings : List ℕ
-  pub bound : answer_of list g.channels ≡ Ok bindings
-  pub runs : CanConfigure rate (length bindings) params
-
 -- a client with a configuration and bindings, prepared, with a silent local ring for the buffer
 abbrev pub set_up_with : ClientView → StreamHwParams → List ℕ → ClientView
 set_up_with c params bindings = record {
@@ -103,11 +95,7 @@ set_up_with c params bindings = record {
   ring = replicate (params.buffer_size * length bindings) (pos 0);
 }
 
--- a client was set up with parameters and bindings, and answers 0; or it refused them: by its state, as invalid exactly where it can't be set
--- up with them, or for memory
-pub record HasSetUp (g : Geometry) (rate : ℕ) (params : StreamHwParams) (list : List ℕ) (c d : ClientView) (made : Result ℕ PcmError) : Type 0 where
-  pub refused : (e : PcmError) → refusal_of Playback c.stream.status call.HwParams ≡ Some e → made ≡ Err e
-  pub invalid : refusal_of Playback c.stream.status call.HwParams ≡ None → (CanSetUp g rate params list → ⊥) → (why : Why) × (made ≡ Err (Invalid why))
-  pub set : refusal_of Playback c.stream.status call.HwParams ≡ None → CanSetUp g rate params list → (made ≡ Ok 0) ⊎ (made ≡ Err Memory)
-  pub done : OnOk made ((made ≡ Ok 0) × ((can : CanSetUp g rate params list) × (d ≡ set_up_with c params can.bindings)))
-  pub kept : OnErr made (d ≡ c)
+-- a client was set up with parameters and bindings, or refused them
+abbrev pub HasSetUp : Geometry → ℕ → StreamHwParams → List ℕ → ClientView → ClientView → Result ℕ PcmError → Type 0
+HasSetUp g rate params list c d made =
+    SetsUp (refusal_of Playback c.stream.status call.HwParams) (set_up_with c params) g rate params list c d made

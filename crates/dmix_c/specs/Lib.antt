@@ -14,5 +14,6 @@ pub mod Readers
 pub mod RingPlaces
 pub mod SamePlace
 pub mod SeatPort
+pub mod SettingUp
 pub mod Stands
 pub mod Ways

@@ -1,8 +1,6 @@
 -- The calls of a reader at its seat: what each does there, step by step, what it answers, and what it leaves.
-use Rattle.std.specs.Prelude.{◌≡◌, ℕ, ◌⊎◌, ℤ, List, None, Some, Result, Ok, Err, OnErr, OnOk}
+use Rattle.std.specs.Prelude.{ℕ, ℤ, List, Result, Ok}
 use Rattle.snd_base.specs.declared.errors.PcmError.{PcmError}
-use Rattle.snd_base.specs.declared.errors.PcmError.TheVariants.{Invalid, Memory}
-use Rattle.snd_base.specs.declared.errors.Why.{Why}
 use Rattle.snd_base.specs.declared.geometry.Geometry.{Geometry}
 use Rattle.mix_core.specs.declared.gate.NeverStops.{NeverStops}
 use Rattle.snoop_table.specs.declared.seats.reader.ReaderSeat.{ReaderSeat}
@@ -25,7 +23,7 @@ use Rattle.dmix_c.specs.Answers.{done_of}
 use Rattle.dmix_c.specs.Params.{config_with}
 use Rattle.dmix_c.specs.ReaderPort.{reader_port}
 use Rattle.dmix_c.specs.SeatPort.{no_gate}
-use Rattle.dmix_c.specs.ClientCalls.{CanSetUp}
+use Rattle.dmix_c.specs.SettingUp.{SetsUp}
 
 -- a call that gives nothing gives 0
 abbrev pub reader_done : Course (Answered (Unit {0})) → Course (Answered ℕ)
@@ -62,11 +60,7 @@ pub record ReadsAt (s : ReaderSeat) (c : CaptureStream) (t : ReaderSeat) (d : Ca
   pub usable : CanUse d (seat_view t)
   pub goes : IsLaterSeat s t
 
--- a reader was set up with parameters and bindings, and answers 0; or it refused them: by its state, as invalid exactly where it can't be set
--- up with them, or for memory
-pub record ReaderHasSetUp (g : Geometry) (rate : ℕ) (params : StreamHwParams) (list : List ℕ) (c d : CaptureStream) (made : Result ℕ PcmError) : Type 0 where
-  pub refused : (e : PcmError) → refusal_of Capture c.status call.HwParams ≡ Some e → made ≡ Err e
-  pub invalid : refusal_of Capture c.status call.HwParams ≡ None → (CanSetUp g rate params list → ⊥) → (why : Why) × (made ≡ Err (Invalid why))
-  pub set : refusal_of Capture c.status call.HwParams ≡ None → CanSetUp g rate params list → (made ≡ Ok 0) ⊎ (made ≡ Err Memory)
-  pub done : OnOk made ((made ≡ Ok 0) × ((can : CanSetUp g rate params list) × (d ≡ configured_with c (config_with params) can.bindings)))
-  pub kept : OnErr made (d ≡ c)
+-- a reader was set up with parameters and bindings, or refused them
+abbrev pub ReaderHasSetUp : Geometry → ℕ → StreamHwParams → List ℕ → CaptureStream → CaptureStream → Result ℕ PcmError → Type 0
+ReaderHasSetUp g rate params list c d made =
+    SetsUp (refusal_of Capture c.status call.HwParams) (configured_with c (config_with params)) g rate params list c d made

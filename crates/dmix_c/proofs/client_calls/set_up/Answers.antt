@@ -1,32 +1,43 @@
-use Rattle.std.proofs.Common.{◌≡◌, ◌*◌, ◌∙◌, length, refl, replicate, subst, sym}
-use Rattle.std.specs.Prelude.{ℕ, OnOk, pos}
+use Rattle.std.proofs.Common.{◌≡◌, ◌*◌, ◌∙◌, [], length, refl, replicate, subst, sym}
+use Rattle.std.specs.Prelude.{ℕ, OnOk, Option, pos}
 use Rattle.std.proofs.lemmas.Bool.{false≢true}
+use Rattle.snd_base.specs.declared.errors.PcmError.{PcmError}
 use Rattle.hw_space.specs.declared.config.Config.{Config}
+use Rattle.pcm_states.specs.declared.calls.Call.TheVariants as call
+use Rattle.pcm_stream.specs.declared.direction.Direction.TheVariants.{Playback}
+use Rattle.pcm_stream.specs.Status.{refusal_of}
 use Rattle.dmix_client.specs.Calls.{configured_with}
 use Rattle.dmix_client.specs.View.{ClientView}
+use Rattle.dmix_c.specs.Backed.{IsBackedSeat}
 use Rattle.dmix_c.specs.Params.{CanConfigure}
-use Rattle.dmix_c.specs.ClientCalls.{CanSetUp}
+use Rattle.dmix_c.specs.ClientCalls.{set_up_with}
+use Rattle.dmix_c.specs.SettingUp.{CanSetUp}
+use Rattle.dmix_c.proofs.Backing.{backed-new}
 use Rattle.pcm_stream.specs.RefusalLaws.{passed-on, refusal-of_err, refusal-of_ok}
-use Rattle.dmix_c.proofs.SettingUp.{HasSetUp-done, HasSetUp-refused, HasSetUp-unbound, HasSetUp-unfit, backed-set_up, refusal}
+use Rattle.dmix_c.proofs.SettingUp.{SetsUp-done, SetsUp-refused, SetsUp-unbound, SetsUp-unfit, kept-by}
 use Rattle.dmix_c.proofs.client_calls.set_up.Goals as goal
+
+-- why a client's state refuses hardware parameters
+abbrev refusal : ClientView → Option PcmError
+refusal v = refusal_of Playback v.stream.status call.HwParams
 
 pub returns-in_err-admit-clause-set_up : goal.returns-in_err-admit-clause-set_up
 returns-in_err-admit-clause-set_up c =
     let v = c.args.client.now in
     let e = c.in_err-admit.field-0.0 in
-    HasSetUp-refused c.args.geometry c.args.rate c.args.params.now c.args.list.now v e c.from_residual.result
+    SetsUp-refused ClientView (refusal v) (set_up_with v c.args.params.now) c.args.geometry c.args.rate c.args.params.now c.args.list.now v e c.from_residual.result
     (refusal-of_err (refusal v) c.admit.result e c.admit.ensures c.in_err-admit.was) (passed-on c.from_residual.result e c.from_residual.ensures.1)
 
 pub returns-in-Err-clause-set_up : goal.returns-in-Err-clause-set_up
 returns-in-Err-clause-set_up c =
     let v = c.args.client.now in
-    HasSetUp-unbound c.args.geometry c.args.rate c.args.params.now c.args.list.now v c.in-Err.why _
+    SetsUp-unbound ClientView (refusal v) (set_up_with v c.args.params.now) c.args.geometry c.args.rate c.args.params.now c.args.list.now v c.in-Err.why _
     (refusal-of_ok (refusal v) c.admit.result c.admit.ensures c.in_ok-admit.was) (sym c.in-Err.ensures.answer) refl
 
 pub returns-then-not-can_configure-clause-set_up : goal.returns-then-not-can_configure-clause-set_up
 returns-then-not-can_configure-clause-set_up c =
     let v = c.args.client.now in
-    HasSetUp-unfit c.args.geometry c.args.rate c.args.params.now c.args.list.now v c.in-Ok.bindings _
+    SetsUp-unfit ClientView (refusal v) (set_up_with v c.args.params.now) c.args.geometry c.args.rate c.args.params.now c.args.list.now v c.in-Ok.bindings _
     (refusal-of_ok (refusal v) c.admit.result c.admit.ensures c.in_ok-admit.was) (sym c.in-Ok.ensures.answer)
     (λ can. false≢true (sym c.if-not-can_configure.true ∙ c.can_configure.ensures.1 (subst (λ (n : ℕ). CanConfigure c.args.rate n c.args.params.now) (sym c.len.ensures.value) can))) refl
 
@@ -40,7 +51,7 @@ returns-clause-set_up c =
       bound = sym c.in-Ok.ensures.answer;
       runs = subst (λ (n : ℕ). CanConfigure c.args.rate n c.args.params.now) c.len.ensures.value (c.can_configure.ensures.0 c.if-not-can_configure.false);
     } in
-    HasSetUp-done c.args.geometry c.args.rate c.args.params.now c.args.list.now v can d c.hw_params.result c.done_of.result
+    SetsUp-done ClientView (refusal v) (set_up_with v c.args.params.now) c.args.geometry c.args.rate c.args.params.now c.args.list.now v can d c.hw_params.result c.done_of.result
     (refusal-of_ok (refusal v) c.admit.result c.admit.ensures c.in_ok-admit.was)
     (subst (λ (x : Config). OnOk c.hw_params.result (d ≡ (let w : ClientView = record { stream = configured_with v.stream x bindings; ring = replicate (x.buffer_size * length bindings) (pos 0) } in w)))
     c.config-config.ensures c.hw_params.ensures.ok)
@@ -51,7 +62,8 @@ returns-clause-backed c s backed =
     let v = c.args.client.now in
     let d = c.hw_params.new.self in
     let bindings = c.in-Ok.bindings in
-    backed-set_up s v d c.args.params.now bindings c.hw_params.result
+    let end = set_up_with v c.args.params.now bindings in
+    kept-by ClientView (IsBackedSeat s) v d end c.hw_params.result
     (subst (λ (x : Config). OnOk c.hw_params.result (d ≡ (let w : ClientView = record { stream = configured_with v.stream x bindings; ring = replicate (x.buffer_size * length bindings) (pos 0) } in w)))
     c.config-config.ensures c.hw_params.ensures.ok)
-    c.hw_params.ensures.err backed
+    c.hw_params.ensures.err (λ has. ∣ ([], backed-new s end refl refl refl []) ∣₁) backed

@@ -1,32 +1,41 @@
 use Rattle.std.proofs.Common.{◌≡◌, ◌∙◌, ◌<◌, ap, arith, refl, subst, sym}
-use Rattle.std.specs.Prelude.{All, ℕ, OnOk}
+use Rattle.std.specs.Prelude.{All, ℕ, OnOk, Option}
 use Rattle.std.proofs.lemmas.Bool.{false≢true}
+use Rattle.snd_base.specs.declared.errors.PcmError.{PcmError}
 use Rattle.snd_base.specs.declared.geometry.Geometry.{Geometry}
 use Rattle.hw_space.specs.declared.config.Config.{Config}
+use Rattle.pcm_states.specs.declared.calls.Call.TheVariants as call
+use Rattle.pcm_stream.specs.declared.direction.Direction.TheVariants.{Capture}
+use Rattle.pcm_stream.specs.Status.{refusal_of}
+use Rattle.dsnoop_client.specs.declared.stream.CaptureStream.{CaptureStream}
 use Rattle.dsnoop_client.specs.Calls.{configured_with}
-use Rattle.dmix_c.specs.Params.{CanConfigure}
-use Rattle.dmix_c.specs.ClientCalls.{CanSetUp}
-use Rattle.dmix_c.proofs.ReaderSettingUp.{ReaderHasSetUp-done, ReaderHasSetUp-refused, ReaderHasSetUp-unbound, ReaderHasSetUp-unfit, refusal}
+use Rattle.dmix_c.specs.Params.{CanConfigure, config_with}
+use Rattle.dmix_c.specs.SettingUp.{CanSetUp}
 use Rattle.pcm_stream.specs.RefusalLaws.{passed-on, refusal-of_err, refusal-of_ok}
+use Rattle.dmix_c.proofs.SettingUp.{SetsUp-done, SetsUp-refused, SetsUp-unbound, SetsUp-unfit}
 use Rattle.dmix_c.proofs.reader_calls.set_up.Goals as goal
+
+-- why a reader's state refuses hardware parameters
+abbrev refusal : CaptureStream → Option PcmError
+refusal v = refusal_of Capture v.status call.HwParams
 
 pub returns-in_err-admit : goal.returns-in_err-admit
 returns-in_err-admit c =
     let v = c.args.reader.now in
     let e = c.in_err-admit.field-0.0 in
-    ReaderHasSetUp-refused c.args.geometry c.args.rate c.args.params.now c.args.list.now v e c.from_residual.result
+    SetsUp-refused CaptureStream (refusal v) (configured_with v (config_with c.args.params.now)) c.args.geometry c.args.rate c.args.params.now c.args.list.now v e c.from_residual.result
     (refusal-of_err (refusal v) c.admit.result e c.admit.ensures c.in_err-admit.was) (passed-on c.from_residual.result e c.from_residual.ensures.1)
 
 pub returns-in-Err : goal.returns-in-Err
 returns-in-Err c =
     let v = c.args.reader.now in
-    ReaderHasSetUp-unbound c.args.geometry c.args.rate c.args.params.now c.args.list.now v c.in-Err.why _
+    SetsUp-unbound CaptureStream (refusal v) (configured_with v (config_with c.args.params.now)) c.args.geometry c.args.rate c.args.params.now c.args.list.now v c.in-Err.why _
     (refusal-of_ok (refusal v) c.admit.result c.admit.ensures c.in_ok-admit.was) (sym c.in-Err.ensures.answer) refl
 
 pub returns-then-not-can_configure : goal.returns-then-not-can_configure
 returns-then-not-can_configure c =
     let v = c.args.reader.now in
-    ReaderHasSetUp-unfit c.args.geometry c.args.rate c.args.params.now c.args.list.now v c.in-Ok.bindings _
+    SetsUp-unfit CaptureStream (refusal v) (configured_with v (config_with c.args.params.now)) c.args.geometry c.args.rate c.args.params.now c.args.list.now v c.in-Ok.bindings _
     (refusal-of_ok (refusal v) c.admit.result c.admit.ensures c.in_ok-admit.was) (sym c.in-Ok.ensures.answer)
     (λ can. false≢true (sym c.if-not-can_configure.true ∙ c.can_configure.ensures.1 (subst (λ (n : ℕ). CanConfigure c.args.rate n c.args.params.now) (sym c.len.ensures.value) can))) refl
 
@@ -51,7 +60,7 @@ returns c =
       bound = sym c.in-Ok.ensures.answer;
       runs = subst (λ (n : ℕ). CanConfigure c.args.rate n c.args.params.now) c.len.ensures.value (c.can_configure.ensures.0 c.if-not-can_configure.false);
     } in
-    ReaderHasSetUp-done c.args.geometry c.args.rate c.args.params.now c.args.list.now v can d c.hw_params.result c.done_of.result
+    SetsUp-done CaptureStream (refusal v) (configured_with v (config_with c.args.params.now)) c.args.geometry c.args.rate c.args.params.now c.args.list.now v can d c.hw_params.result c.done_of.result
     (refusal-of_ok (refusal v) c.admit.result c.admit.ensures c.in_ok-admit.was)
     (subst (λ (x : Config). OnOk c.hw_params.result (d ≡ configured_with v x bindings)) c.config-config.ensures c.hw_params.ensures.ok)
     c.hw_params.ensures.err c.hw_params.ensures.only c.done_of.ensures

@@ -1,9 +1,12 @@
-use Rattle.std.proofs.Common.{◌∙◌, subst}
+use Rattle.std.proofs.Common.{◌≡◌, ◌∙◌, refl, subst}
+use Rattle.std.specs.Prelude.{false}
 use Rattle.snd_base.specs.declared.geometry.Geometry.{Geometry}
 use Rattle.sum_table.specs.Seats.{seat_view}
-use Rattle.dmix_c.specs.ClientCalls.{HasSetUp}
-use Rattle.dmix_c.proofs.SettingUp.{CanUse-set_up}
-use Rattle.dmix_c.proofs.Unstopped.{set_up-unstopped}
+use Rattle.dmix_client.specs.Port.{CanUse}
+use Rattle.dmix_client.specs.View.{ClientView}
+use Rattle.dmix_c.specs.ClientCalls.{HasSetUp, set_up_with}
+use Rattle.dmix_c.proofs.Making.{CanUse-resting}
+use Rattle.dmix_c.proofs.SettingUp.{SetsUp-keeps}
 use Rattle.dmix_c.proofs.playback.Playback.hw_params.Goals as goal
 
 pub set_up-requires : goal.set_up-requires
@@ -17,9 +20,13 @@ returns-clause-set_up c =
 pub invariant_of-self : goal.invariant_of-self
 invariant_of-self c =
     let p = c.args.self.now in
+    let params = c.args.params.now in
     record {
-      unstopped = set_up-unstopped c.geometry-geometry.result p.rate c.args.params.now c.args.list.now p.client c.set_up.new.client c.set_up.result c.set_up.ensures.set_up p.unstopped;
-      usable = CanUse-set_up c.geometry-geometry.result p.rate c.args.params.now c.args.list.now p.client c.set_up.new.client (seat_view p.seat) c.set_up.result c.set_up.ensures.set_up p.usable;
+      unstopped = SetsUp-keeps ClientView _ _ c.geometry-geometry.result p.rate params c.args.list.now p.client (λ (v : ClientView). v.stream.status.stopped ≡ false)
+          c.set_up.new.client c.set_up.result c.set_up.ensures.set_up (λ bindings. p.unstopped) p.unstopped;
+      usable = SetsUp-keeps ClientView _ _ c.geometry-geometry.result p.rate params c.args.list.now p.client (λ (v : ClientView). CanUse v.stream (seat_view p.seat))
+          c.set_up.new.client c.set_up.result c.set_up.ensures.set_up
+          (λ bindings. CanUse-resting p.client.stream (set_up_with p.client params bindings).stream (seat_view p.seat) refl refl p.usable) p.usable;
       backed = c.set_up.ensures.backed p.seat p.backed;
       own_way = p.own_way;
       has_room = p.has_room;

@@ -1,10 +1,13 @@
 use Rattle.std.proofs.Common.{◌≡◌, refl, subst}
-use Rattle.std.specs.Prelude.{OnOk}
+use Rattle.std.specs.Prelude.{false, OnOk}
 use Rattle.pcm_stream.specs.Setup.{Checks}
 use Rattle.sw_limits.specs.declared.params.SwParams.{SwParams}
 use Rattle.sum_table.specs.Seats.{seat_view}
+use Rattle.dmix_client.specs.Port.{CanUse}
+use Rattle.dmix_client.specs.View.{ClientView}
+use Rattle.dmix_c.specs.Backed.{IsBackedSeat}
+use Rattle.dmix_c.proofs.SettingUp.{kept-by}
 use Rattle.dmix_c.proofs.Thresholds.{CanUse-given, backed-given, given}
-use Rattle.dmix_c.proofs.Unstopped.{given-unstopped}
 use Rattle.dmix_c.proofs.playback.Playback.sw_params.Goals as goal
 
 pub returns : goal.returns
@@ -24,11 +27,15 @@ returns c =
 pub invariant_of-self : goal.invariant_of-self
 invariant_of-self c =
     let p = c.args.self.now in
+    let d = c.sw_params.new.self in
+    let end = given p.client c.thresholds.result in
+    let r = c.sw_params.result in
     let ensures = c.sw_params.ensures in
     record {
-      unstopped = given-unstopped p.client c.sw_params.new.self c.thresholds.result c.sw_params.result ensures.ok ensures.err p.unstopped;
-      usable = CanUse-given p.client c.sw_params.new.self c.thresholds.result (seat_view p.seat) c.sw_params.result ensures.ok ensures.err p.usable;
-      backed = backed-given p.seat p.client c.sw_params.new.self c.thresholds.result c.sw_params.result ensures.ok ensures.err p.backed;
+      unstopped = kept-by ClientView (λ (v : ClientView). v.stream.status.stopped ≡ false) p.client d end r ensures.ok ensures.err p.unstopped p.unstopped;
+      usable = kept-by ClientView (λ (v : ClientView). CanUse v.stream (seat_view p.seat)) p.client d end r ensures.ok ensures.err
+          (CanUse-given p.client c.thresholds.result (seat_view p.seat) p.usable) p.usable;
+      backed = kept-by ClientView (IsBackedSeat p.seat) p.client d end r ensures.ok ensures.err (backed-given p.seat p.client c.thresholds.result p.backed) p.backed;
       own_way = p.own_way;
       has_room = p.has_room;
     }

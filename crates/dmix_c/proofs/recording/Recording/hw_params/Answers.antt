@@ -1,9 +1,14 @@
-use Rattle.std.proofs.Common.{◌∙◌, subst}
+use Rattle.std.proofs.Common.{◌≡◌, ◌∙◌, refl, subst}
+use Rattle.std.specs.Prelude.{false}
 use Rattle.snd_base.specs.declared.geometry.Geometry.{Geometry}
 use Rattle.snoop_table.specs.Readers.{seat_view}
+use Rattle.dsnoop_client.specs.declared.stream.CaptureStream.{CaptureStream}
+use Rattle.dsnoop_client.specs.Calls.{configured_with}
+use Rattle.dsnoop_client.specs.View.{CanUse}
+use Rattle.dmix_c.specs.Params.{config_with}
 use Rattle.dmix_c.specs.ReaderCalls.{ReaderHasSetUp}
-use Rattle.dmix_c.proofs.ReaderSettingUp.{CanUse-reader_set_up}
-use Rattle.dmix_c.proofs.ReaderUnstopped.{set_up-unstopped}
+use Rattle.dmix_c.proofs.ReaderMaking.{CanUse-seen}
+use Rattle.dmix_c.proofs.SettingUp.{SetsUp-keeps}
 use Rattle.dmix_c.proofs.recording.Recording.hw_params.Goals as goal
 
 pub set_up-requires : goal.set_up-requires
@@ -17,7 +22,11 @@ returns-clause-set_up c =
 pub invariant_of-self : goal.invariant_of-self
 invariant_of-self c =
     let p = c.args.self.now in
+    let params = c.args.params.now in
     record {
-      unstopped = set_up-unstopped c.geometry-geometry.result p.rate c.args.params.now c.args.list.now p.reader c.set_up.new.reader c.set_up.result c.set_up.ensures p.unstopped;
-      usable = CanUse-reader_set_up c.geometry-geometry.result p.rate c.args.params.now c.args.list.now p.reader c.set_up.new.reader (seat_view p.seat) c.set_up.result c.set_up.ensures p.usable;
+      unstopped = SetsUp-keeps CaptureStream _ _ c.geometry-geometry.result p.rate params c.args.list.now p.reader (λ (v : CaptureStream). v.status.stopped ≡ false)
+          c.set_up.new.reader c.set_up.result c.set_up.ensures (λ bindings. p.unstopped) p.unstopped;
+      usable = SetsUp-keeps CaptureStream _ _ c.geometry-geometry.result p.rate params c.args.list.now p.reader (λ (v : CaptureStream). CanUse v (seat_view p.seat))
+          c.set_up.new.reader c.set_up.result c.set_up.ensures
+          (λ bindings. CanUse-seen p.reader (configured_with p.reader (config_with params) bindings) (seat_view p.seat) refl refl p.usable) p.usable;
     }

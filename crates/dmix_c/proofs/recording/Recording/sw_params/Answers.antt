@@ -1,11 +1,13 @@
 use Rattle.std.proofs.Common.{◌≡◌, refl, subst}
-use Rattle.std.specs.Prelude.{OnOk}
+use Rattle.std.specs.Prelude.{false, OnOk}
 use Rattle.pcm_stream.specs.Setup.{Checks}
 use Rattle.sw_limits.specs.declared.params.SwParams.{SwParams}
 use Rattle.snoop_table.specs.Readers.{seat_view}
 use Rattle.dsnoop_client.specs.Calls.{with_params}
-use Rattle.dmix_c.proofs.ReaderSettingUp.{CanUse-reader_given}
-use Rattle.dmix_c.proofs.ReaderUnstopped.{given-unstopped}
+use Rattle.dsnoop_client.specs.declared.stream.CaptureStream.{CaptureStream}
+use Rattle.dsnoop_client.specs.View.{CanUse}
+use Rattle.dmix_c.proofs.ReaderMaking.{CanUse-seen}
+use Rattle.dmix_c.proofs.SettingUp.{kept-by}
 use Rattle.dmix_c.proofs.recording.Recording.sw_params.Goals as goal
 
 pub returns : goal.returns
@@ -25,8 +27,12 @@ returns c =
 pub invariant_of-self : goal.invariant_of-self
 invariant_of-self c =
     let p = c.args.self.now in
+    let d = c.sw_params.new.self in
+    let end = with_params p.reader c.thresholds.result in
+    let r = c.sw_params.result in
     let ensures = c.sw_params.ensures in
     record {
-      unstopped = given-unstopped p.reader c.sw_params.new.self c.thresholds.result c.sw_params.result ensures.ok ensures.err p.unstopped;
-      usable = CanUse-reader_given p.reader c.sw_params.new.self c.thresholds.result (seat_view p.seat) c.sw_params.result ensures.ok ensures.err p.usable;
+      unstopped = kept-by CaptureStream (λ (v : CaptureStream). v.status.stopped ≡ false) p.reader d end r ensures.ok ensures.err p.unstopped p.unstopped;
+      usable = kept-by CaptureStream (λ (v : CaptureStream). CanUse v (seat_view p.seat)) p.reader d end r ensures.ok ensures.err
+          (CanUse-seen p.reader end (seat_view p.seat) refl refl p.usable) p.usable;
     }
