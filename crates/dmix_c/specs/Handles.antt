@@ -24,49 +24,29 @@ Refuses Idle before after answer = (after ≡ before) × (answer ≡ bad_handle)
 
 -- a call by a handle of a client: a handle that is closed, or stands for something else, is refused
 abbrev pub OnClient : Type 0 → (Playback → Playback → ℤ → Type 0) → Option Opened → Option Opened → ℤ → Type 0
-OnClient Idle Does None after answer = Refuses Idle None after answer
 OnClient Idle Does (Some (Client p)) after answer = (q : Playback) × (after ≡ Some (Client q)) × Does p q answer
-OnClient Idle Does (Some (Ring r)) after answer = Refuses Idle (Some (Ring r)) after answer
-OnClient Idle Does (Some (Reader p)) after answer = Refuses Idle (Some (Reader p)) after answer
-OnClient Idle Does (Some (Card c)) after answer = Refuses Idle (Some (Card c)) after answer
-OnClient Idle Does (Some (Duplex c)) after answer = Refuses Idle (Some (Duplex c)) after answer
+OnClient Idle Does other after answer = Refuses Idle other after answer
 
 -- the same of a reader
 abbrev pub OnReader : Type 0 → (Recording → Recording → ℤ → Type 0) → Option Opened → Option Opened → ℤ → Type 0
-OnReader Idle Does None after answer = Refuses Idle None after answer
 OnReader Idle Does (Some (Reader p)) after answer = (q : Recording) × (after ≡ Some (Reader q)) × Does p q answer
-OnReader Idle Does (Some (Ring r)) after answer = Refuses Idle (Some (Ring r)) after answer
-OnReader Idle Does (Some (Client p)) after answer = Refuses Idle (Some (Client p)) after answer
-OnReader Idle Does (Some (Card c)) after answer = Refuses Idle (Some (Card c)) after answer
-OnReader Idle Does (Some (Duplex c)) after answer = Refuses Idle (Some (Duplex c)) after answer
+OnReader Idle Does other after answer = Refuses Idle other after answer
 
 -- the same of a card that plays alone
 abbrev pub OnCard : Type 0 → (PlayingCard → PlayingCard → ℤ → Type 0) → Option Opened → Option Opened → ℤ → Type 0
-OnCard Idle Does None after answer = Refuses Idle None after answer
 OnCard Idle Does (Some (Card c)) after answer = (d : PlayingCard) × (after ≡ Some (Card d)) × Does c d answer
-OnCard Idle Does (Some (Ring r)) after answer = Refuses Idle (Some (Ring r)) after answer
-OnCard Idle Does (Some (Client p)) after answer = Refuses Idle (Some (Client p)) after answer
-OnCard Idle Does (Some (Reader p)) after answer = Refuses Idle (Some (Reader p)) after answer
-OnCard Idle Does (Some (Duplex c)) after answer = Refuses Idle (Some (Duplex c)) after answer
+OnCard Idle Does other after answer = Refuses Idle other after answer
 
 -- the same of a card that captures and plays
 abbrev pub OnDuplex : Type 0 → (DuplexCard → DuplexCard → ℤ → Type 0) → Option Opened → Option Opened → ℤ → Type 0
-OnDuplex Idle Does None after answer = Refuses Idle None after answer
 OnDuplex Idle Does (Some (Duplex c)) after answer = (d : DuplexCard) × (after ≡ Some (Duplex d)) × Does c d answer
-OnDuplex Idle Does (Some (Ring r)) after answer = Refuses Idle (Some (Ring r)) after answer
-OnDuplex Idle Does (Some (Client p)) after answer = Refuses Idle (Some (Client p)) after answer
-OnDuplex Idle Does (Some (Reader p)) after answer = Refuses Idle (Some (Reader p)) after answer
-OnDuplex Idle Does (Some (Card c)) after answer = Refuses Idle (Some (Card c)) after answer
+OnDuplex Idle Does other after answer = Refuses Idle other after answer
 
 -- the same of a card of either kind
 abbrev pub OnEitherCard : Type 0 → (PlayingCard → PlayingCard → ℤ → Type 0) → (DuplexCard → DuplexCard → ℤ → Type 0)
     → Option Opened → Option Opened → ℤ → Type 0
-OnEitherCard Idle Does DoesDuplex None after answer = Refuses Idle None after answer
-OnEitherCard Idle Does DoesDuplex (Some (Card c)) after answer = (d : PlayingCard) × (after ≡ Some (Card d)) × Does c d answer
-OnEitherCard Idle Does DoesDuplex (Some (Duplex c)) after answer = (d : DuplexCard) × (after ≡ Some (Duplex d)) × DoesDuplex c d answer
-OnEitherCard Idle Does DoesDuplex (Some (Ring r)) after answer = Refuses Idle (Some (Ring r)) after answer
-OnEitherCard Idle Does DoesDuplex (Some (Client p)) after answer = Refuses Idle (Some (Client p)) after answer
-OnEitherCard Idle Does DoesDuplex (Some (Reader p)) after answer = Refuses Idle (Some (Reader p)) after answer
+OnEitherCard Idle Does DoesDuplex (Some (Duplex c)) after answer = OnDuplex Idle DoesDuplex (Some (Duplex c)) after answer
+OnEitherCard Idle Does DoesDuplex other after answer = OnCard Idle Does other after answer
 
 -- of what kind it is that a handle stands for
 abbrev pub is_kind : Kind → Opened → Bool

@@ -1,18 +1,20 @@
 use Rattle.std.proofs.Common.{refl}
 use Rattle.std.specs.Prelude.{⊤, pos}
+use Rattle.dmix_c.specs.declared.opened.Opened.TheVariants.{Card, Duplex}
 use Rattle.dmix_c.specs.Cards.{IsUnplugged}
 use Rattle.dmix_c.specs.Duplex.{IsDuplexUnplugged}
-use Rattle.dmix_c.proofs.Handed.{either-card-called, either-duplex-called}
+use Rattle.dmix_c.specs.Handles.{OnEitherCard}
+use Rattle.dmix_c.proofs.Handed.{called}
 use Rattle.dmix_c.proofs.calls.card.unplug_card.Goals as goal
 
 pub returns-in-Card : goal.returns-in-Card
 returns-in-Card c =
     let gone = c.unplug.ensures in
-    either-card-called ⊤ IsUnplugged IsDuplexUnplugged _ _ _ c.unplug.new.self (pos 0) _ c.in-Card.is refl refl
-    (record { unplugged = gone.unplugged; period = gone.period; answered = refl })
+    called (OnEitherCard ⊤ IsUnplugged IsDuplexUnplugged) _ _ (Card c.in-Card.card) (Card c.unplug.new.self) (pos 0) _ c.in-Card.is refl refl
+    (c.unplug.new.self, refl, record { unplugged = gone.unplugged; period = gone.period; answered = refl })
 
 pub returns-in-Duplex : goal.returns-in-Duplex
 returns-in-Duplex c =
     let gone = c.unplug-in-Duplex.ensures in
-    either-duplex-called ⊤ IsUnplugged IsDuplexUnplugged _ _ _ c.unplug-in-Duplex.new.self (pos 0) _ c.in-Duplex.is refl refl
-    (record { played = gone.played; captured = gone.captured; period = gone.period; answered = refl })
+    called (OnEitherCard ⊤ IsUnplugged IsDuplexUnplugged) _ _ (Duplex c.in-Duplex.card) (Duplex c.unplug-in-Duplex.new.self) (pos 0) _ c.in-Duplex.is refl refl
+    (c.unplug-in-Duplex.new.self, refl, record { played = gone.played; captured = gone.captured; period = gone.period; answered = refl })
