@@ -4,20 +4,22 @@ use Rattle.std.specs.Prelude.{◌⊎◌, ◌↔◌, ◌||◌, Bool, true, false,
 use Rattle.std.specs.Option.{is_some}
 use Rattle.std.proofs.lemmas.Bool.{false≢true}
 use Rattle.snd_base.specs.declared.errors.PcmError.{PcmError}
-use Rattle.snd_base.specs.declared.errors.PcmError.TheVariants.{Again, Memory}
+use Rattle.snd_base.specs.declared.errors.PcmError.TheVariants.{Again, Memory, NotSupported}
 use Rattle.sum_table.specs.Seats.{member_of}
 use Rattle.dmix_c.specs.declared.duplex_card.DuplexCard.{DuplexCard}
 use Rattle.dmix_c.specs.declared.open_ring.OpenRing.{OpenRing}
 use Rattle.dmix_c.specs.declared.opened.Kind.{Kind}
 use Rattle.dmix_c.specs.declared.opened.Opened.{Opened}
-use Rattle.dmix_c.specs.declared.opened.Opened.TheVariants.{Card, Client, Duplex, Ring}
+use Rattle.dmix_c.specs.declared.opened.Opened.TheVariants.{Card, Client, Duplex, Reader, Ring}
 use Rattle.dmix_c.specs.declared.params.RingParams.{RingParams}
 use Rattle.dmix_c.specs.declared.playback.Playback.{Playback}
 use Rattle.dmix_c.specs.declared.playing_card.PlayingCard.{PlayingCard}
+use Rattle.dmix_c.specs.declared.recording.Recording.{Recording}
 use Rattle.dmix_c.specs.Answers.{bad_handle, error_number, handle_in_use}
-use Rattle.dmix_c.specs.Handles.{Closes, Ends, OpensAt, OpensBoth, OpensBy, OpensClient, OpensDuplexBoth, OpensPair, is_kind}
+use Rattle.dmix_c.specs.Handles.{Closes, Ends, OpensAt, OpensBoth, OpensBy, OpensDuplexBoth, OpensPair, OpensReaderAt, OpensStream, is_kind}
 use Rattle.dmix_c.specs.Params.{CanOpen}
-use Rattle.dmix_c.specs.RingPlaces.{GivesNone, GivesPlace, IsNewDuplex, IsNewOpenRing, KeepsRing}
+use Rattle.dmix_c.specs.RingPlaces.{GivesNone, GivesPlace, GivesReader, IsNewDuplex, IsNewOpenRing, KeepsRing}
+use Rattle.dmix_c.proofs.Ringed.{source_of-some}
 
 -- what was taken from a handle, by what was seen of its kind
 kind-seen : (asked : Kind) (taken seen : Opened) (test answer : Bool) → seen ≡ taken → test ≡ is_kind asked seen → test ≡ answer → is_kind asked taken ≡ answer
@@ -50,26 +52,37 @@ pub OpensAt-done : (r t : OpenRing) (client : Option Opened) (p : Playback) (mad
     → made ≡ Client p → client ≡ Some made → answer ≡ pos 0 → OpensAt r t client answer
 OpensAt-done r t client p made answer keeps gives is found done = inl (p, found ∙ ap (λ (o : Opened). Some o) is, keeps, gives, done)
 
+-- a reader that can't be opened, since the ring captures nothing, or there is no memory for the handle; and one that is
+module _ (r t : OpenRing) (reader : Option Opened) (answer : ℤ) (keeps : KeepsRing None r t) where
+  pub OpensReaderAt-failed : (e : PcmError) → reader ≡ None → (e ≡ NotSupported) × (t.capture ≡ None) → answer ≡ error_number e → OpensReaderAt r t reader answer
+  OpensReaderAt-failed e none why is = (keeps, inr (none, inl (why.1, is ∙ ap error_number why.0)))
+
+  pub OpensReaderAt-memory : (p : Recording) → reader ≡ None → GivesReader t p → answer ≡ error_number Memory → OpensReaderAt r t reader answer
+  OpensReaderAt-memory p none gives is = (keeps, inr (none, inr (source_of-some t.capture _ gives.source, is)))
+
+  pub OpensReaderAt-done : (p : Recording) (made : Opened) → GivesReader t p → made ≡ Reader p → reader ≡ Some made → answer ≡ pos 0 → OpensReaderAt r t reader answer
+  OpensReaderAt-done p made gives is found done = (keeps, inl (p, found ∙ ap (λ (o : Opened). Some o) is, gives, done))
+
 -- by the handle of a ring
-pub OpensBy-ring : (before after : Opened) (r t : OpenRing) (client : Option Opened) (answer : ℤ) → before ≡ Ring r → after ≡ Ring t
-    → OpensAt r t client answer → OpensBy (Some before) client (Some after) answer
-OpensBy-ring before after r t client answer is_r is_t opens =
-    subst (λ (o : Opened). OpensBy (Some o) client (Some after) answer) (sym is_r) (t, ap (λ (o : Opened). Some o) is_t, opens)
+pub OpensBy-ring : (At : OpenRing → OpenRing → Option Opened → ℤ → Type 0) (before after : Opened) (r t : OpenRing) (stream : Option Opened) (answer : ℤ)
+    → before ≡ Ring r → after ≡ Ring t → At r t stream answer → OpensBy At (Some before) stream (Some after) answer
+OpensBy-ring At before after r t stream answer is_r is_t opens =
+    subst (λ (o : Opened). OpensBy At (Some o) stream (Some after) answer) (sym is_r) (t, ap (λ (o : Opened). Some o) is_t, opens)
 
 -- a handle that isn't open stands for nothing
 pub closed-none : (handle : Option Opened) (test : Bool) → (IsTrue test ↔ IsSome handle) → test ≡ false → handle ≡ None
 closed-none None test tells shut = refl
 closed-none (Some opened) test tells shut = absurd (false≢true (sym shut ∙ tells.1 refl))
 
--- by the client's own handle: it is open, or it is opened by its ring's
-pub OpensClient-open : (client ring after ring_after : Option Opened) (test : Bool) (answer : ℤ) → (IsTrue test ↔ IsSome client) → test ≡ true
-    → after ≡ client → ring_after ≡ ring → answer ≡ handle_in_use → OpensClient client ring after ring_after answer
-OpensClient-open None ring after ring_after test answer tells is same ring_same used = absurd (false≢true (tells.0 is))
-OpensClient-open (Some opened) ring after ring_after test answer tells is same ring_same used = (same, ring_same, used)
+-- by the stream's own handle: it is open, or it is opened by its ring's
+pub OpensStream-open : (At : OpenRing → OpenRing → Option Opened → ℤ → Type 0) (stream ring after ring_after : Option Opened) (test : Bool) (answer : ℤ)
+    → (IsTrue test ↔ IsSome stream) → test ≡ true → after ≡ stream → ring_after ≡ ring → answer ≡ handle_in_use → OpensStream At stream ring after ring_after answer
+OpensStream-open At None ring after ring_after test answer tells is same ring_same used = absurd (false≢true (tells.0 is))
+OpensStream-open At (Some opened) ring after ring_after test answer tells is same ring_same used = (same, ring_same, used)
 
-pub OpensClient-closed : (client ring after ring_after : Option Opened) (answer : ℤ) → client ≡ None → OpensBy ring after ring_after answer
-    → OpensClient client ring after ring_after answer
-OpensClient-closed client ring after ring_after answer none opens = subst (λ (c : Option Opened). OpensClient c ring after ring_after answer) (sym none) opens
+pub OpensStream-closed : (At : OpenRing → OpenRing → Option Opened → ℤ → Type 0) (stream ring after ring_after : Option Opened) (answer : ℤ) → stream ≡ None
+    → OpensBy At ring after ring_after answer → OpensStream At stream ring after ring_after answer
+OpensStream-closed At stream ring after ring_after answer none opens = subst (λ (c : Option Opened). OpensStream At c ring after ring_after answer) (sym none) opens
 
 -- whether a handle stands for something, by its test
 pub is_some-tested : (handle : Option Opened) (test : Bool) → (IsTrue test ↔ IsSome handle) → is_some handle ≡ test

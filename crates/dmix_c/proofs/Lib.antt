@@ -9,7 +9,6 @@ pub mod Handles
 pub mod Making
 pub mod Opening
 pub mod OpeningDuplex
-pub mod ReaderHandleLaws
 pub mod ReaderMaking
 pub mod ReaderUnstopped
 pub mod Reading

@@ -79,37 +79,27 @@ OpensAt r t client answer =
     ((p : Playback) × (client ≡ Some (Client p)) × KeepsRing (Some (member_of p.seat)) r t × GivesPlace t p × (answer ≡ pos 0))
     ⊎ ((client ≡ None) × OpensNone r t answer)
 
--- a client is opened by two handles, its own and its ring's
-abbrev pub OpensBy : Option Opened → Option Opened → Option Opened → ℤ → Type 0
-OpensBy None client ring answer = (client ≡ None) × Refuses ⊤ None ring answer
-OpensBy (Some (Ring r)) client ring answer = (t : OpenRing) × (ring ≡ Some (Ring t)) × OpensAt r t client answer
-OpensBy (Some (Client p)) client ring answer = (client ≡ None) × Refuses ⊤ (Some (Client p)) ring answer
-OpensBy (Some (Reader p)) client ring answer = (client ≡ None) × Refuses ⊤ (Some (Reader p)) ring answer
-OpensBy (Some (Card c)) client ring answer = (client ≡ None) × Refuses ⊤ (Some (Card c)) ring answer
-OpensBy (Some (Duplex c)) client ring answer = (client ≡ None) × Refuses ⊤ (Some (Duplex c)) ring answer
+-- a reader was opened at the capture ring of a ring, which keeps its places; or there is no capture ring, or no memory
+abbrev pub OpensReaderAt : OpenRing → OpenRing → Option Opened → ℤ → Type 0
+OpensReaderAt r t reader answer = KeepsRing None r t
+    × (((p : Recording) × (reader ≡ Some (Reader p)) × GivesReader t p × (answer ≡ pos 0))
+    ⊎ ((reader ≡ None) × (((t.capture ≡ None) × (answer ≡ error_number NotSupported)) ⊎ (IsSome t.capture × (answer ≡ error_number Memory)))))
+
+-- a client or a reader is opened by the handle of a ring, in one of these two ways
+abbrev pub OpensBy : (OpenRing → OpenRing → Option Opened → ℤ → Type 0) → Option Opened → Option Opened → Option Opened → ℤ → Type 0
+OpensBy At (Some (Ring r)) stream ring answer = (t : OpenRing) × (ring ≡ Some (Ring t)) × At r t stream answer
+OpensBy At other stream ring answer = (stream ≡ None) × Refuses ⊤ other ring answer
+
+-- and by its own handle, which is closed before
+abbrev pub OpensStream : (OpenRing → OpenRing → Option Opened → ℤ → Type 0) → Option Opened → Option Opened → Option Opened → Option Opened → ℤ → Type 0
+OpensStream At (Some opened) ring after ring_after answer = (after ≡ Some opened) × (ring_after ≡ ring) × (answer ≡ handle_in_use)
+OpensStream At None ring after ring_after answer = OpensBy At ring after ring_after answer
 
 abbrev pub OpensClient : Option Opened → Option Opened → Option Opened → Option Opened → ℤ → Type 0
-OpensClient (Some opened) ring after ring_after answer = (after ≡ Some opened) × (ring_after ≡ ring) × (answer ≡ handle_in_use)
-OpensClient None ring after ring_after answer = OpensBy ring after ring_after answer
-
--- a reader was opened at the capture ring of a ring, or there is no such ring, or no memory
-abbrev pub OpensReaderAt : OpenRing → Option Opened → ℤ → Type 0
-OpensReaderAt t reader answer =
-    ((p : Recording) × (reader ≡ Some (Reader p)) × GivesReader t p × (answer ≡ pos 0))
-    ⊎ ((reader ≡ None) × (((t.capture ≡ None) × (answer ≡ error_number NotSupported)) ⊎ (IsSome t.capture × (answer ≡ error_number Memory))))
-
--- a reader is opened by two handles, its own and its ring's
-abbrev pub OpensReaderBy : Option Opened → Option Opened → Option Opened → ℤ → Type 0
-OpensReaderBy None reader ring answer = (reader ≡ None) × Refuses ⊤ None ring answer
-OpensReaderBy (Some (Ring r)) reader ring answer = (t : OpenRing) × (ring ≡ Some (Ring t)) × KeepsRing None r t × OpensReaderAt t reader answer
-OpensReaderBy (Some (Client p)) reader ring answer = (reader ≡ None) × Refuses ⊤ (Some (Client p)) ring answer
-OpensReaderBy (Some (Reader p)) reader ring answer = (reader ≡ None) × Refuses ⊤ (Some (Reader p)) ring answer
-OpensReaderBy (Some (Card c)) reader ring answer = (reader ≡ None) × Refuses ⊤ (Some (Card c)) ring answer
-OpensReaderBy (Some (Duplex c)) reader ring answer = (reader ≡ None) × Refuses ⊤ (Some (Duplex c)) ring answer
+OpensClient = OpensStream OpensAt
 
 abbrev pub OpensReader : Option Opened → Option Opened → Option Opened → Option Opened → ℤ → Type 0
-OpensReader (Some opened) ring after ring_after answer = (after ≡ Some opened) × (ring_after ≡ ring) × (answer ≡ handle_in_use)
-OpensReader None ring after ring_after answer = OpensReaderBy ring after ring_after answer
+OpensReader = OpensStream OpensReaderAt
 
 -- a ring that captures nothing and its card were opened, or there is no memory
 abbrev pub OpensBoth : RingParams → Option Opened → Option Opened → ℤ → Type 0

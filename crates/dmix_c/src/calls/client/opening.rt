@@ -35,7 +35,7 @@ pub extern "C" fn dmix_c_client_open(alloc: Global, client: &mut Handle, ring: &
 
 fn open_by(alloc: Global, client: &mut Handle, opened: &mut Opened) -> i64
     requires { stands_for client.old ≡ None }
-    ensures { OpensBy (Some opened.old) (stands_for client.new) (Some opened.new) result }
+    ensures { OpensBy OpensAt (Some opened.old) (stands_for client.new) (Some opened.new) result }
 {
     match opened {
         Opened::Ring(ring) => open_at(alloc, client, ring),

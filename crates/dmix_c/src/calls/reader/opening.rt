@@ -1,7 +1,6 @@
 //! Readers are opened and closed.
 ghost use Rattle.std.specs.Prelude.{◌≡◌, None, Some};
-ghost use Rattle.dmix_c.specs.Handles.{Closes, OpensReader, OpensReaderAt, OpensReaderBy};
-ghost use Rattle.dmix_c.specs.RingPlaces.{KeepsRing};
+ghost use Rattle.dmix_c.specs.Handles.{Closes, OpensBy, OpensReader, OpensReaderAt};
 ghost use Rattle.dmix_c.specs.Stands.{stands_for};
 ghost use Rattle.dmix_c.specs.declared.opened.Kind.TheVariants as kind;
 
@@ -35,7 +34,8 @@ pub extern "C" fn dmix_c_reader_open(alloc: Global, reader: &mut Handle, ring: &
 
 fn open_by(alloc: Global, reader: &mut Handle, opened: &mut Opened) -> i64
     requires { stands_for reader.old ≡ None }
-    ensures { OpensReaderBy (Some opened.old) (stands_for reader.new) (Some opened.new) result }
+    ensures { OpensBy OpensReaderAt (Some opened.old) (stands_for reader.new) (Some opened.new)
+        result }
 {
     match opened {
         Opened::Ring(ring) => open_at(alloc, reader, ring),
@@ -45,8 +45,7 @@ fn open_by(alloc: Global, reader: &mut Handle, opened: &mut Opened) -> i64
 
 fn open_at(alloc: Global, reader: &mut Handle, ring: &mut OpenRing) -> i64
     requires { stands_for reader.old ≡ None }
-    ensures keeps { KeepsRing None ring.old ring.new }
-    ensures opens { OpensReaderAt ring.new (stands_for reader.new) result }
+    ensures { OpensReaderAt ring.old ring.new (stands_for reader.new) result }
 {
     let recording = match ring.open_reader(alloc) {
         Ok(recording) => recording,

@@ -8,5 +8,5 @@ pub returns-in-Ring : goal.returns-in-Ring
 returns-in-Ring c =
     let t = c.open_at.new.ring in
     let made = stands_for c.open_at.new.client in
-    OpensBy-ring _ _ _ t made _ c.in-Ring.is refl
+    OpensBy-ring OpensAt _ _ _ t made _ c.in-Ring.is refl
     (subst (λ (z : ℤ). OpensAt c.in-Ring.ring t made z) (sym (to_z-of_z {w = w64} {z = c.open_at.result} (record { sfits = c.open_at.type_inv }))) c.open_at.ensures)

@@ -1,15 +1,14 @@
 use Rattle.std.proofs.Common.{ℤ, refl, to_z-of_z, w64}
 use Rattle.std.specs.Prelude.{Option}
 use Rattle.dmix_c.specs.declared.opened.Opened.{Opened}
-use Rattle.dmix_c.specs.Handles.{OpensReaderBy}
+use Rattle.dmix_c.specs.Handles.{OpensReaderAt, OpensBy}
 use Rattle.dmix_c.specs.Stands.{stands_for}
 use Rattle.dmix_c.proofs.Handed.{handed}
-use Rattle.dmix_c.proofs.HandleLaws.{closed-none}
-use Rattle.dmix_c.proofs.ReaderHandleLaws.{OpensReader-closed, OpensReader-open}
+use Rattle.dmix_c.proofs.HandleLaws.{OpensStream-closed, OpensStream-open, closed-none}
 use Rattle.dmix_c.proofs.calls.reader.opening.dmix_c_reader_open.Goals as goal
 
 pub returns-then-is_open : goal.returns-then-is_open
-returns-then-is_open c = OpensReader-open _ _ _ _ c.is_open.result _ c.is_open.ensures c.if-is_open.true refl refl refl
+returns-then-is_open c = OpensStream-open OpensReaderAt _ _ _ _ c.is_open.result _ c.is_open.ensures c.if-is_open.true refl refl refl
 
 pub open_by-answer-requires : goal.open_by-answer-requires
 open_by-answer-requires c = closed-none (stands_for c.args.reader.now) c.is_open.result c.is_open.ensures c.if-is_open.false
@@ -18,6 +17,6 @@ open_by-answer-requires c = closed-none (stands_for c.args.reader.now) c.is_open
 pub returns : goal.returns
 returns c =
     let made = stands_for c.open_by-answer.new.reader in
-    OpensReader-closed (stands_for c.args.reader.now) _ _ _ _ (closed-none (stands_for c.args.reader.now) c.is_open.result c.is_open.ensures c.if-is_open.false)
-    (handed (λ (before after : Option Opened) (z : ℤ). OpensReaderBy before made after z) _ _ _ _ _ c.open_by-answer.result _ c.in-Some.ensures.value c.deref_mut.ensures.value c.put.ensures
+    OpensStream-closed OpensReaderAt (stands_for c.args.reader.now) _ _ _ _ (closed-none (stands_for c.args.reader.now) c.is_open.result c.is_open.ensures c.if-is_open.false)
+    (handed (λ (before after : Option Opened) (z : ℤ). OpensBy OpensReaderAt before made after z) _ _ _ _ _ c.open_by-answer.result _ c.in-Some.ensures.value c.deref_mut.ensures.value c.put.ensures
     (to_z-of_z {w = w64} {z = c.open_by-answer.result} (record { sfits = c.open_by-answer.type_inv })) c.open_by-answer.ensures)

@@ -1,12 +1,12 @@
 use Rattle.std.proofs.Common.{ℤ, refl, subst, sym, to_z-of_z, w64}
 use Rattle.dmix_c.specs.Handles.{OpensReaderAt}
 use Rattle.dmix_c.specs.Stands.{stands_for}
-use Rattle.dmix_c.proofs.ReaderHandleLaws.{OpensReaderBy-ring}
+use Rattle.dmix_c.proofs.HandleLaws.{OpensBy-ring}
 use Rattle.dmix_c.proofs.calls.reader.opening.open_by.Goals as goal
 
 pub returns-in-Ring : goal.returns-in-Ring
 returns-in-Ring c =
     let t = c.open_at.new.ring in
     let made = stands_for c.open_at.new.reader in
-    OpensReaderBy-ring _ _ _ t made _ c.in-Ring.is refl c.open_at.ensures.keeps
-    (subst (λ (z : ℤ). OpensReaderAt t made z) (sym (to_z-of_z {w = w64} {z = c.open_at.result} (record { sfits = c.open_at.type_inv }))) c.open_at.ensures.opens)
+    OpensBy-ring OpensReaderAt _ _ _ t made _ c.in-Ring.is refl
+    (subst (λ (z : ℤ). OpensReaderAt c.in-Ring.ring t made z) (sym (to_z-of_z {w = w64} {z = c.open_at.result} (record { sfits = c.open_at.type_inv }))) c.open_at.ensures)
