@@ -6,19 +6,17 @@ use Rattle.std.proofs.lemmas.Bool.{false≢true}
 use Rattle.snd_base.specs.declared.errors.PcmError.{PcmError}
 use Rattle.snd_base.specs.declared.errors.PcmError.TheVariants.{Again, Memory, NotSupported}
 use Rattle.sum_table.specs.Seats.{member_of}
-use Rattle.dmix_c.specs.declared.duplex_card.DuplexCard.{DuplexCard}
 use Rattle.dmix_c.specs.declared.open_ring.OpenRing.{OpenRing}
 use Rattle.dmix_c.specs.declared.opened.Kind.{Kind}
 use Rattle.dmix_c.specs.declared.opened.Opened.{Opened}
-use Rattle.dmix_c.specs.declared.opened.Opened.TheVariants.{Card, Client, Duplex, Reader, Ring}
+use Rattle.dmix_c.specs.declared.opened.Opened.TheVariants.{Client, Reader, Ring}
 use Rattle.dmix_c.specs.declared.params.RingParams.{RingParams}
 use Rattle.dmix_c.specs.declared.playback.Playback.{Playback}
-use Rattle.dmix_c.specs.declared.playing_card.PlayingCard.{PlayingCard}
 use Rattle.dmix_c.specs.declared.recording.Recording.{Recording}
 use Rattle.dmix_c.specs.Answers.{bad_handle, error_number, handle_in_use}
-use Rattle.dmix_c.specs.Handles.{Closes, Ends, OpensAt, OpensBoth, OpensBy, OpensDuplexBoth, OpensPair, OpensReaderAt, OpensStream, is_kind}
+use Rattle.dmix_c.specs.Handles.{Closes, Ends, OpensAt, OpensBoth, OpensBy, OpensPair, OpensReaderAt, OpensStream, is_kind}
 use Rattle.dmix_c.specs.Params.{CanOpen}
-use Rattle.dmix_c.specs.RingPlaces.{GivesNone, GivesPlace, GivesReader, IsNewDuplex, IsNewOpenRing, KeepsRing}
+use Rattle.dmix_c.specs.RingPlaces.{GivesNone, GivesPlace, GivesReader, IsNewPair, KeepsRing}
 use Rattle.dmix_c.proofs.Ringed.{source_of-some}
 
 -- what was taken from a handle, by what was seen of its kind
@@ -98,23 +96,17 @@ some_or-closed ring card first second tells also shut closed =
     ap (λ (b : Bool). b || is_some card) (is_some-tested ring first tells ∙ shut) ∙ (is_some-tested card second also ∙ closed)
 
 -- a ring and its card are opened by two handles that are closed, of parameters that a ring can have
-pub OpensPair-done : (Opens : Option Opened → Option Opened → ℤ → Type 0) (params : RingParams) (ring card ring_after card_after : Option Opened) (answer : ℤ)
-    → (is_some ring || is_some card) ≡ false → CanOpen params → Opens ring_after card_after answer → OpensPair Opens params ring card ring_after card_after answer
-OpensPair-done Opens params ring card ring_after card_after answer shut can opens = record {
-  in_use = λ used. absurd (false≢true (sym shut ∙ used));
-  invalid = λ other refuses. absurd (refuses can);
-  opened = λ other also. opens;
-}
+module _ (captures : Bool) (params : RingParams) where
+  pub OpensPair-done : (ring card ring_after card_after : Option Opened) (answer : ℤ) → (is_some ring || is_some card) ≡ false → CanOpen params
+      → OpensBoth captures params ring_after card_after answer → OpensPair captures params ring card ring_after card_after answer
+  OpensPair-done ring card ring_after card_after answer shut can opens = record {
+    in_use = λ used. absurd (false≢true (sym shut ∙ used));
+    invalid = λ other refuses. absurd (refuses can);
+    opened = λ other also. opens;
+  }
 
--- a ring that captures nothing and its card, in boxes, by their handles
-module _ (params : RingParams) (ring card : Option Opened) (answer : ℤ) where
-  pub OpensBoth-done : (r : OpenRing) (c : PlayingCard) (made_ring made_card : Opened) → IsNewOpenRing params r c.player → r.capture ≡ None
-      → made_ring ≡ Ring r → made_card ≡ Card c → ring ≡ Some made_ring → card ≡ Some made_card → answer ≡ pos 0 → OpensBoth params ring card answer
-  OpensBoth-done r c made_ring made_card new alone is_ring is_card has_ring has_card done =
-      inl (r, c, has_ring ∙ ap (λ (o : Opened). Some o) is_ring, has_card ∙ ap (λ (o : Opened). Some o) is_card, new, alone, done)
-
-  -- and a ring that captures, with its card
-  pub OpensDuplexBoth-done : (r : OpenRing) (c : DuplexCard) (made_ring made_card : Opened) → IsNewDuplex params r c
-      → made_ring ≡ Ring r → made_card ≡ Duplex c → ring ≡ Some made_ring → card ≡ Some made_card → answer ≡ pos 0 → OpensDuplexBoth params ring card answer
-  OpensDuplexBoth-done r c made_ring made_card new is_ring is_card has_ring has_card done =
+  -- in boxes, by their handles
+  pub OpensBoth-done : (ring card : Option Opened) (answer : ℤ) (r : OpenRing) (c made_ring made_card : Opened) → IsNewPair captures params r c
+      → made_ring ≡ Ring r → made_card ≡ c → ring ≡ Some made_ring → card ≡ Some made_card → answer ≡ pos 0 → OpensBoth captures params ring card answer
+  OpensBoth-done ring card answer r c made_ring made_card new is_ring is_card has_ring has_card done =
       inl (r, c, has_ring ∙ ap (λ (o : Opened). Some o) is_ring, has_card ∙ ap (λ (o : Opened). Some o) is_card, new, done)

@@ -1,6 +1,6 @@
 -- A ring that captures was just opened, with its card; and a reader at a seat that was split from the ring's.
 use Rattle.std.proofs.Common.{◌≡◌, [], Some, ap, subst, sym, ◌∙◌}
-use Rattle.std.specs.Prelude.{None}
+use Rattle.std.specs.Prelude.{Bool, true, false, None}
 use Rattle.snd_base.specs.declared.geometry.Geometry.{Geometry}
 use Rattle.snd_base.specs.declared.places.Cursor.{Cursor}
 use Rattle.card_player.specs.declared.player.CardPlayer.{CardPlayer}
@@ -19,11 +19,13 @@ use Rattle.lobby.specs.declared.lobby.Lobby.{Lobby}
 use Rattle.lobby.specs.Lobbies.{free_seats, key_of_lobby, places_of_lobby, ring_of_lobby}
 use Rattle.dmix_c.specs.declared.duplex_card.DuplexCard.{DuplexCard}
 use Rattle.dmix_c.specs.declared.open_ring.OpenRing.{OpenRing}
+use Rattle.dmix_c.specs.declared.opened.Opened.TheVariants.{Card, Duplex}
 use Rattle.dmix_c.specs.declared.params.RingParams.{RingParams}
+use Rattle.dmix_c.specs.declared.playing_card.PlayingCard.{PlayingCard}
 use Rattle.dmix_c.specs.declared.recording.Recording.{Recording}
 use Rattle.dmix_c.specs.Params.{IsGeometryOf}
 use Rattle.dmix_c.specs.Readers.{IsNewRecording}
-use Rattle.dmix_c.specs.RingPlaces.{GivesReader, IsAtStart, IsFree, IsNewDuplex, IsNewOpenRing, KeepsRing, source_of}
+use Rattle.dmix_c.specs.RingPlaces.{GivesReader, IsAtStart, IsFree, IsNewDuplex, IsNewOpenRing, IsNewPair, KeepsRing, source_of}
 use Rattle.dmix_c.proofs.Ringed.{KeepsRing-lobby}
 
 -- a ring with the same places
@@ -60,6 +62,16 @@ IsNewDuplex-made params g r p w seat card new captures has is_player is_writer p
   stored_none = subst (λ (v : WriterSeat). (writer_track v).stored ≡ []) (sym is_writer) (ap (λ (v : View). (the_track v.track).stored) has.writer);
   run_period = period;
 }
+
+-- by what was asked: a card that plays alone, or one that captures too
+pub IsNewPair-alone : (captures : Bool) (params : RingParams) (r : OpenRing) (p : CardPlayer) (card : PlayingCard) → captures ≡ false → card.player ≡ p
+    → IsNewOpenRing params r p → r.capture ≡ None → IsNewPair captures params r (Card card)
+IsNewPair-alone captures params r p card is same new alone =
+    subst (λ (b : Bool). IsNewPair b params r (Card card)) (sym is) (subst (IsNewOpenRing params r) (sym same) new, alone)
+
+pub IsNewPair-captures : (captures : Bool) (params : RingParams) (r : OpenRing) (card : DuplexCard) → captures ≡ true → IsNewDuplex params r card
+    → IsNewPair captures params r (Duplex card)
+IsNewPair-captures captures params r card is new = subst (λ (b : Bool). IsNewPair b params r (Duplex card)) (sym is) new
 
 -- a ring whose seat was split keeps its places and its capture ring
 pub KeepsRing-split : (r t : OpenRing) (s u new : ReaderSeat) → r.capture ≡ Some s → t.capture ≡ Some u → t.lobby ≡ r.lobby → t.rate ≡ r.rate → t.period ≡ r.period

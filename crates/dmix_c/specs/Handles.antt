@@ -16,7 +16,7 @@ use Rattle.dmix_c.specs.declared.playing_card.PlayingCard.{PlayingCard}
 use Rattle.dmix_c.specs.declared.recording.Recording.{Recording}
 use Rattle.dmix_c.specs.Answers.{bad_handle, error_number, handle_in_use}
 use Rattle.dmix_c.specs.Params.{CanOpen}
-use Rattle.dmix_c.specs.RingPlaces.{GivesNone, GivesPlace, GivesReader, IsNewDuplex, IsNewOpenRing, KeepsRing}
+use Rattle.dmix_c.specs.RingPlaces.{GivesNone, GivesPlace, GivesReader, IsNewPair, KeepsRing}
 
 -- what a handle stands for stays, the answer is -EBADF, and nothing else is done
 abbrev pub Refuses : Type 0 → Option Opened → Option Opened → ℤ → Type 0
@@ -101,30 +101,22 @@ OpensClient = OpensStream OpensAt
 abbrev pub OpensReader : Option Opened → Option Opened → Option Opened → Option Opened → ℤ → Type 0
 OpensReader = OpensStream OpensReaderAt
 
--- a ring that captures nothing and its card were opened, or there is no memory
-abbrev pub OpensBoth : RingParams → Option Opened → Option Opened → ℤ → Type 0
-OpensBoth params ring card answer =
-    ((r : OpenRing) × (c : PlayingCard) × (ring ≡ Some (Ring r)) × (card ≡ Some (Card c))
-    × IsNewOpenRing params r c.player × (r.capture ≡ None) × (answer ≡ pos 0))
+-- a ring and its card were opened, or there is no memory
+abbrev pub OpensBoth : Bool → RingParams → Option Opened → Option Opened → ℤ → Type 0
+OpensBoth captures params ring card answer =
+    ((r : OpenRing) × (c : Opened) × (ring ≡ Some (Ring r)) × (card ≡ Some c) × IsNewPair captures params r c × (answer ≡ pos 0))
     ⊎ ((ring ≡ None) × (card ≡ None) × (answer ≡ error_number Memory))
 
--- a ring that captures and its card were opened, or there is no memory
-abbrev pub OpensDuplexBoth : RingParams → Option Opened → Option Opened → ℤ → Type 0
-OpensDuplexBoth params ring card answer =
-    ((r : OpenRing) × (c : DuplexCard) × (ring ≡ Some (Ring r)) × (card ≡ Some (Duplex c))
-    × IsNewDuplex params r c × (answer ≡ pos 0))
-    ⊎ ((ring ≡ None) × (card ≡ None) × (answer ≡ error_number Memory))
-
--- a ring and its card are opened by two handles, in one of these two ways
-pub record OpensPair (Opens : Option Opened → Option Opened → ℤ → Type 0) (params : RingParams) (ring card ring_after card_after : Option Opened) (answer : ℤ) : Type 0 where
+-- a ring and its card are opened by two handles that are closed, with parameters that a ring can have
+pub record OpensPair (captures : Bool) (params : RingParams) (ring card ring_after card_after : Option Opened) (answer : ℤ) : Type 0 where
   pub in_use : (is_some ring || is_some card) ≡ true
       → (ring_after ≡ ring) × (card_after ≡ card) × (answer ≡ handle_in_use)
   pub invalid : (is_some ring || is_some card) ≡ false → (CanOpen params → ⊥)
       → (ring_after ≡ None) × (card_after ≡ None) × (answer ≡ error_number (Invalid why.Config))
-  pub opened : (is_some ring || is_some card) ≡ false → CanOpen params → Opens ring_after card_after answer
+  pub opened : (is_some ring || is_some card) ≡ false → CanOpen params → OpensBoth captures params ring_after card_after answer
 
 abbrev pub OpensRing : RingParams → Option Opened → Option Opened → Option Opened → Option Opened → ℤ → Type 0
-OpensRing params ring card ring_after card_after answer = OpensPair (OpensBoth params) params ring card ring_after card_after answer
+OpensRing = OpensPair false
 
 abbrev pub OpensDuplex : RingParams → Option Opened → Option Opened → Option Opened → Option Opened → ℤ → Type 0
-OpensDuplex params ring card ring_after card_after answer = OpensPair (OpensDuplexBoth params) params ring card ring_after card_after answer
+OpensDuplex = OpensPair true

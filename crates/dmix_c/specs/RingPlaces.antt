@@ -1,5 +1,5 @@
 -- What is said of an open ring: which places it has, and how it gives them.
-use Rattle.std.specs.Prelude.{◌≡◌, ℕ, ◌<◌, ◌⊎◌, List, [], ◌∷◌, Option, None, Some}
+use Rattle.std.specs.Prelude.{◌≡◌, ℕ, ◌<◌, ◌⊎◌, Bool, true, false, List, [], ◌∷◌, Option, None, Some}
 use Rattle.snd_base.specs.declared.geometry.Geometry.{Geometry}
 use Rattle.snd_base.specs.Places.{first_frame}
 use Rattle.card_player.specs.declared.player.CardPlayer.{CardPlayer}
@@ -17,6 +17,8 @@ use Rattle.snoop_table.specs.Readers as readers
 use Rattle.snoop_table.specs.Writers.{writer_geometry, writer_ring, writer_track}
 use Rattle.dmix_c.specs.declared.duplex_card.DuplexCard.{DuplexCard}
 use Rattle.dmix_c.specs.declared.open_ring.OpenRing.{OpenRing}
+use Rattle.dmix_c.specs.declared.opened.Opened.{Opened}
+use Rattle.dmix_c.specs.declared.opened.Opened.TheVariants.{Card, Duplex}
 use Rattle.dmix_c.specs.declared.params.RingParams.{RingParams}
 use Rattle.dmix_c.specs.declared.playback.Playback.{Playback}
 use Rattle.dmix_c.specs.declared.recording.Recording.{Recording}
@@ -62,6 +64,12 @@ pub record IsNewDuplex (params : RingParams) (r : OpenRing) (card : DuplexCard) 
   pub source : source_of r.capture ≡ Some (writer_ring (runs.writer_of card.card), writer_geometry (runs.writer_of card.card))
   pub stored_none : (writer_track (runs.writer_of card.card)).stored ≡ []
   pub run_period : runs.period_of card.card ≡ params.period_size
+
+-- a ring of these parameters with its card: one that plays alone, and then the ring captures nothing, or one that captures too
+abbrev pub IsNewPair : Bool → RingParams → OpenRing → Opened → Type 0
+IsNewPair false params r (Card c) = IsNewOpenRing params r c.player × (r.capture ≡ None)
+IsNewPair true params r (Duplex c) = IsNewDuplex params r c
+IsNewPair captures params r other = ⊥
 
 -- a seat came back to a ring: it was taken back exactly where its place wasn't free
 abbrev pub Receives : OpenRing → OpenRing → MixSeat → Type 0

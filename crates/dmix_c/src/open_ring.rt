@@ -4,6 +4,7 @@ ghost use Rattle.lobby.specs.Lobbies.{key_of_lobby, places_of_lobby, ring_of_lob
 ghost use Rattle.dmix_c.specs.Ways.{LeadTo};
 
 use crate::duplex_card::DuplexCard;
+use crate::opened::Opened;
 use crate::params::RingParams;
 use crate::playback::Playback;
 use crate::playing_card::PlayingCard;
@@ -52,42 +53,34 @@ impl OpenRing {
     ghost use Rattle.sum_table.specs.Seats.{member_of};
     ghost use Rattle.lobby.specs.Lobbies.{IsSilentSeat, key_of_lobby, places_of_lobby, ring_of_lobby, seen_of_lobby};
     ghost use Rattle.dmix_c.specs.Params.{CanOpen, IsGeometryOf};
-    ghost use Rattle.dmix_c.specs.RingPlaces.{Collects, GivesNone, GivesPlace, GivesReader, IsAtStart, IsHandedOut, IsNewDuplex, IsNewOpenRing, KeepsRing, Receives};
+    ghost use Rattle.dmix_c.specs.RingPlaces.{Collects, GivesNone, GivesPlace, GivesReader, IsAtStart, IsHandedOut, IsNewOpenRing, IsNewPair, KeepsRing, Receives};
     ghost use Rattle.dmix_c.specs.Ways.{IsNewWay, IsOfRing, LeadsTo};
 
-    /// Opens a ring with so many free places as its parameters say, in which nothing is placed, and its card, which plays
-    /// alone, from the first frame of lap 0 on. It refuses, with `Memory`, only where no memory is left. The words of the ring
-    /// stay until the process ends.
+    /// Opens a ring with so many free places as its parameters say, in which nothing is placed, and its card, from the first
+    /// frame of lap 0 on. The card plays alone; or it captures too, and then a capture ring of the same shape is beside the
+    /// ring, in which nothing is stored. It refuses, with `Memory`, only where no memory is left. The words of the rings stay
+    /// until the process ends.
     pub(crate) fn open(
         alloc: Global,
         params: &RingParams,
-    ) -> Result<(OpenRing, PlayingCard), PcmError>
+        captures: bool,
+    ) -> Result<(OpenRing, Opened), PcmError>
         requires { CanOpen params.now }
-        ensures ok { IfOk result (λ opened. IsNewOpenRing params.now opened.0 opened.1.player) }
-        ensures plays_alone { IfOk result (λ opened. opened.0.capture ≡ None) }
-        ensures only_memory { IfErr result (λ e. e ≡ PcmError.Memory) }
-    {
-        let (ring, player) = OpenRing::with_player(alloc, params, params.geometry())?;
-        Ok((ring, PlayingCard::new(player)))
-    }
-
-    /// Opens a ring in the same way, with a capture ring of the same shape beside it, in which nothing is stored, and a card
-    /// of both. The words of both rings stay until the process ends.
-    pub(crate) fn open_duplex(
-        alloc: Global,
-        params: &RingParams,
-    ) -> Result<(OpenRing, DuplexCard), PcmError>
-        requires { CanOpen params.now }
-        ensures ok { IfOk result (λ opened. IsNewDuplex params.now opened.0 opened.1) }
+        ensures ok { IfOk result (λ opened. IsNewPair captures params.now opened.0 opened.1) }
         ensures only_memory { IfErr result (λ e. e ≡ PcmError.Memory) }
     {
         let geometry = params.geometry();
         let (mut ring, player) = OpenRing::with_player(alloc, params, geometry)?;
+        if !captures {
+            let alone = PlayingCard::new(player);
+            return Ok((ring, Opened::Card(alone)));
+        }
         let words = SnoopRing::new(alloc, geometry)?;
         let words: &'static mut SnoopRing = Box::leak(Box::new(alloc, words)?);
         let (writer, seat) = words.seats();
         ring.capture = Some(seat);
-        Ok((ring, DuplexCard::new(player, writer, params.period_size)))
+        let duplex = DuplexCard::new(player, writer, params.period_size);
+        Ok((ring, Opened::Duplex(duplex)))
     }
 
     // A ring of this geometry, and the player of its card.

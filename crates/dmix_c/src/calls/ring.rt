@@ -1,6 +1,6 @@
 //! The calls of a ring.
 ghost use Rattle.std.specs.Prelude.{◌≡◌, None};
-ghost use Rattle.dmix_c.specs.Handles.{Closes, OpensBoth, OpensRing};
+ghost use Rattle.dmix_c.specs.Handles.{Closes, OpensBoth, OpensPair, OpensRing};
 ghost use Rattle.dmix_c.specs.Params.{CanOpen};
 ghost use Rattle.dmix_c.specs.Stands.{stands_for};
 ghost use Rattle.dmix_c.specs.declared.opened.Kind.TheVariants as kind;
@@ -28,29 +28,50 @@ pub extern "C" fn dmix_c_ring_open(
     ensures { OpensRing params.now (stands_for ring.old) (stands_for card.old)
         (stands_for ring.new) (stands_for card.new) result }
 {
+    open_pair(alloc, ring, card, params, false)
+}
+
+/// Opens a ring and its card, which captures too where that is asked, by two handles that are closed. The answers are those of
+/// `dmix_c_ring_open`.
+pub(crate) fn open_pair(
+    alloc: Global,
+    ring: &mut Handle,
+    card: &mut Handle,
+    params: &RingParams,
+    captures: bool,
+) -> i64
+    ensures { OpensPair captures params.now (stands_for ring.old) (stands_for card.old)
+        (stands_for ring.new) (stands_for card.new) result }
+{
     if ring.is_open() || card.is_open() {
         return HANDLE_IN_USE;
     }
     if !params.can_open() {
         return error_number(&PcmError::Invalid(Why::Config));
     }
-    open_both(alloc, ring, card, params)
+    open_both(alloc, ring, card, params, captures)
 }
 
-/// Opens a ring of these parameters and its card.
-fn open_both(alloc: Global, ring: &mut Handle, card: &mut Handle, params: &RingParams) -> i64
+// Opens both, of parameters that a ring can have.
+fn open_both(
+    alloc: Global,
+    ring: &mut Handle,
+    card: &mut Handle,
+    params: &RingParams,
+    captures: bool,
+) -> i64
     requires can { CanOpen params.now }
     requires ring { stands_for ring.old ≡ None }
     requires card { stands_for card.old ≡ None }
-    ensures { OpensBoth params.now (stands_for ring.new) (stands_for card.new) result }
+    ensures { OpensBoth captures params.now (stands_for ring.new) (stands_for card.new) result }
 {
-    let Ok((places, player)) = OpenRing::open(alloc, params) else {
+    let Ok((places, player)) = OpenRing::open(alloc, params, captures) else {
+        return error_number(&PcmError::Memory);
+    };
+    let Ok(player) = Box::new(alloc, player) else {
         return error_number(&PcmError::Memory);
     };
     let Ok(places) = Box::new(alloc, Opened::Ring(places)) else {
-        return error_number(&PcmError::Memory);
-    };
-    let Ok(player) = Box::new(alloc, Opened::Card(player)) else {
         return error_number(&PcmError::Memory);
     };
     ring.put(places);
