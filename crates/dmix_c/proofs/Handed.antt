@@ -19,3 +19,9 @@ called Does before after was given answer said is_was is_given is_said does =
     subst (λ (z : ℤ). Does (Some before) (Some after) z) (sym is_said)
     (subst (λ (o : Opened). Does (Some before) (Some o) answer) (sym is_given)
     (subst (λ (o : Opened). Does (Some o) (Some given) answer) (sym is_was) does))
+
+-- what was asked was answered
+pub answered : {R X : Type 0} (Does : R → X → X → ℤ → Type 0) (asked was : R) (p q : X) (answer said : ℤ) → asked ≡ was → said ≡ answer → Does was p q answer
+    → Does asked p q said
+answered {R} Does asked was p q answer said is is_said does =
+    subst (λ (z : ℤ). Does asked p q z) (sym is_said) (subst (λ (r : R). Does r p q answer) (sym is) does)

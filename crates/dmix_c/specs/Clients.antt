@@ -20,6 +20,8 @@ use Rattle.dmix_c.specs.declared.params.StreamStatus.{StreamStatus}
 use Rattle.dmix_c.specs.declared.playback.Playback.{Playback}
 use Rattle.dmix_c.specs.declared.client_calls.ClientCall.{ClientCall}
 use Rattle.dmix_c.specs.declared.client_calls.ClientCall.TheVariants.{AvailUpdate}
+use Rattle.dmix_c.specs.declared.client_calls.ClientRequest.{ClientRequest}
+use Rattle.dmix_c.specs.declared.client_calls.ClientRequest.TheVariants as request
 use Rattle.dmix_c.specs.Answers.{done_of, number_of}
 use Rattle.dmix_c.specs.Params.{thresholds_of}
 use Rattle.dmix_c.specs.SamePlace.{IsSamePlace}
@@ -84,6 +86,14 @@ pub record HasSwParams (params : StreamSwParams) (p q : Playback) (answer : ℤ)
 pub record HasState (p q : Playback) (answer : ℤ) : Type 0 where
   pub same : q ≡ p
   pub answered : answer ≡ pos (state_number p.client.stream.status.state)
+
+-- a client did what it was asked, and gave what the call answers
+abbrev pub HasAnswered : ClientRequest → Playback → Playback → ℤ → Type 0
+HasAnswered (request.Call asked) = HasCalled asked
+HasAnswered (request.HwParams params list) = HasHwParams params.now list.now
+HasAnswered (request.SwParams params) = HasSwParams params.now
+HasAnswered request.State = HasState
+HasAnswered (request.Write samples) = HasWritten samples.now
 
 -- what a client is after a sync: its state, the frames that a write can take, the frames before the next one that is written, and the
 -- position; where the sync was refused, both numbers of frames are 0

@@ -19,6 +19,8 @@ use Rattle.dmix_c.specs.declared.params.StreamSwParams.{StreamSwParams}
 use Rattle.dmix_c.specs.declared.params.StreamStatus.{StreamStatus}
 use Rattle.dmix_c.specs.declared.reader_calls.ReaderCall.{ReaderCall}
 use Rattle.dmix_c.specs.declared.reader_calls.ReaderCall.TheVariants.{AvailUpdate}
+use Rattle.dmix_c.specs.declared.reader_calls.ReaderRequest.{ReaderRequest}
+use Rattle.dmix_c.specs.declared.reader_calls.ReaderRequest.TheVariants as request
 use Rattle.dmix_c.specs.declared.recording.Recording.{Recording}
 use Rattle.dmix_c.specs.Answers.{done_of, number_of}
 use Rattle.dmix_c.specs.Params.{thresholds_of}
@@ -83,6 +85,13 @@ pub record ReaderHasSwParams (params : StreamSwParams) (p q : Recording) (answer
 pub record ReaderHasState (p q : Recording) (answer : ℤ) : Type 0 where
   pub same : q ≡ p
   pub answered : answer ≡ pos (state_number p.reader.status.state)
+
+-- a reader did what it was asked, and gave what the call answers
+abbrev pub ReaderHasAnswered : ReaderRequest → Recording → Recording → ℤ → Type 0
+ReaderHasAnswered (request.Call asked) = ReaderHasCalled asked
+ReaderHasAnswered (request.HwParams params list) = ReaderHasHwParams params.now list.now
+ReaderHasAnswered (request.SwParams params) = ReaderHasSwParams params.now
+ReaderHasAnswered request.State = ReaderHasState
 
 -- what a reader is after a sync: its state, the frames that a read can give, which are the delay too, and the position; where the sync was
 -- refused, both numbers of frames are 0

@@ -10,7 +10,7 @@ ghost use Rattle.dmix_c.specs.Backed.{IsBackedSeat};
 ghost use Rattle.dmix_c.specs.ClientCalls.{HasMade, HasSetUp, Writes};
 
 use crate::answers::{done_of, frames_of};
-use crate::params::StreamHwParams;
+use crate::params::{StreamHwParams, StreamSwParams};
 use bindings::Bindings;
 use dmix_client::Client;
 use mix_core::NeverStops;
@@ -34,6 +34,16 @@ pub enum ClientCall {
     Delay,
     Rewindable,
     Rewind(u64),
+}
+
+/// What a client is asked: a call, or one that passes parameters or samples.
+#[derive(Clone, Copy)]
+pub enum ClientRequest<'a> {
+    Call(ClientCall),
+    HwParams(&'a StreamHwParams, &'a [u32]),
+    SwParams(&'a StreamSwParams),
+    State,
+    Write(&'a [i16]),
 }
 
 /// Tests whether a client's state admits a call, before the call's arguments are looked at.

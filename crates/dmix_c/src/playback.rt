@@ -6,7 +6,8 @@ ghost use Rattle.dmix_client.specs.Port.{CanUse};
 ghost use Rattle.dmix_c.specs.Backed.{IsBackedSeat};
 ghost use Rattle.dmix_c.specs.SamePlace.{AreOfPlace};
 
-use crate::client_calls::{ClientCall, admit, make_call, set_up, write_frames};
+use crate::answers::{done_of, number_of};
+use crate::client_calls::{ClientCall, ClientRequest, admit, make_call, set_up, write_frames};
 use crate::params::{StreamHwParams, StreamStatus, StreamSwParams};
 use crate::way::WayBack;
 use dmix_client::Client;
@@ -46,7 +47,7 @@ impl Playback {
     ghost use Rattle.std.specs.Prelude.{◌≡◌, ◌+◌, ◌^◌, ◌<◌};
     ghost use Rattle.dmix_client.specs.Calls.{delay_answer};
     ghost use Rattle.dmix_c.specs.Channels.{stream_channels};
-    ghost use Rattle.dmix_c.specs.Clients.{IsNewPlayback, IsStatus, KeepsPlace, SetsSwParams, Written};
+    ghost use Rattle.dmix_c.specs.Clients.{HasAnswered, IsNewPlayback, IsStatus, KeepsPlace, SetsSwParams, Written};
     ghost use Rattle.dmix_c.specs.ClientCalls.{HasMade, HasSetUp};
     ghost use Rattle.dmix_c.specs.declared.client_calls.ClientCall.TheVariants.{AvailUpdate};
 
@@ -71,6 +72,19 @@ impl Playback {
             seat,
             back,
             rate,
+        }
+    }
+
+    /// Does what is asked, and gives what the call answers.
+    pub(crate) fn answer(&mut self, alloc: Global, request: ClientRequest<'_>) -> i64
+        ensures { HasAnswered request.entry self.old self.new result }
+    {
+        match request {
+            ClientRequest::Call(call) => number_of(self.call(call)),
+            ClientRequest::HwParams(params, list) => number_of(self.hw_params(alloc, params, list)),
+            ClientRequest::SwParams(params) => number_of(done_of(self.sw_params(params))),
+            ClientRequest::State => self.state().number() as i64,
+            ClientRequest::Write(samples) => number_of(self.writei(samples)),
         }
     }
 

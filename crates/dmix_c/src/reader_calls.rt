@@ -7,7 +7,7 @@ ghost use Rattle.dsnoop_client.specs.View.{CanRead, CanUse};
 ghost use Rattle.dmix_c.specs.ReaderCalls.{ReaderHasMade, ReaderHasSetUp, ReadsAt};
 
 use crate::answers::{done_of, frames_of};
-use crate::params::StreamHwParams;
+use crate::params::{StreamHwParams, StreamSwParams};
 use bindings::Bindings;
 use dsnoop_client::Reader;
 use mix_core::NeverStops;
@@ -25,6 +25,15 @@ pub enum ReaderCall {
     Start,
     Drop,
     AvailUpdate,
+}
+
+/// What a reader is asked: a call, or one that passes parameters.
+#[derive(Clone, Copy)]
+pub enum ReaderRequest<'a> {
+    Call(ReaderCall),
+    HwParams(&'a StreamHwParams, &'a [u32]),
+    SwParams(&'a StreamSwParams),
+    State,
 }
 
 /// Tests whether a reader's state admits a call, before the call's arguments are looked at.

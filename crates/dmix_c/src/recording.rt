@@ -3,8 +3,9 @@ ghost use Rattle.std.specs.Prelude.{◌≡◌, false};
 ghost use Rattle.snoop_table.specs.Readers.{seat_view};
 ghost use Rattle.dsnoop_client.specs.View.{CanUse};
 
+use crate::answers::{done_of, number_of};
 use crate::params::{StreamHwParams, StreamStatus, StreamSwParams};
-use crate::reader_calls::{ReaderCall, admit, make_call, read_frames, set_up};
+use crate::reader_calls::{ReaderCall, ReaderRequest, admit, make_call, read_frames, set_up};
 use dsnoop_client::Reader;
 use pcm_states::{Call, State};
 use snd_base::{PcmError, Why};
@@ -38,7 +39,7 @@ impl Recording {
     ghost use Rattle.snoop_table.specs.Readers.{geometry_of};
     ghost use Rattle.dmix_c.specs.Channels.{stream_channels};
     ghost use Rattle.dmix_c.specs.ReaderCalls.{ReaderHasMade, ReaderHasSetUp};
-    ghost use Rattle.dmix_c.specs.Readers.{IsNewRecording, IsReaderStatus, KeepsSource, ReaderSetsSwParams, WasRead};
+    ghost use Rattle.dmix_c.specs.Readers.{IsNewRecording, IsReaderStatus, KeepsSource, ReaderHasAnswered, ReaderSetsSwParams, WasRead};
     ghost use Rattle.dmix_c.specs.declared.reader_calls.ReaderCall.TheVariants.{AvailUpdate};
 
     /// A reader in OPEN at a seat.
@@ -47,6 +48,18 @@ impl Recording {
     {
         let reader = Reader::new(alloc, seat.geometry());
         Recording { reader, seat, rate }
+    }
+
+    /// Does what is asked, and gives what the call answers.
+    pub(crate) fn answer(&mut self, alloc: Global, request: ReaderRequest<'_>) -> i64
+        ensures { ReaderHasAnswered request.entry self.old self.new result }
+    {
+        match request {
+            ReaderRequest::Call(call) => number_of(self.call(call)),
+            ReaderRequest::HwParams(params, list) => number_of(self.hw_params(alloc, params, list)),
+            ReaderRequest::SwParams(params) => number_of(done_of(self.sw_params(params))),
+            ReaderRequest::State => self.state().number() as i64,
+        }
     }
 
     /// Makes a call.

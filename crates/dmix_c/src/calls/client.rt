@@ -1,11 +1,11 @@
-//! The calls of a client that pass nothing but the client. Each is refused as the state table says (`snd_pcm_state_t`): with
+//! The calls of a client that pass no parameters, and its writes. Each is refused as the state table says (`snd_pcm_state_t`): with
 //! -ENODEV in DISCONNECTED, with -EPIPE in XRUN where it counts frames or takes some back, and else with -EBADFD. It answers
 //! -EBADF where the handle isn't a client's.
 //!
 //! A call that loads the position answers -ENODEV where the card is gone, and the state is DISCONNECTED then. Where it answers
 //! -EPIPE after a load, the state is XRUN.
 ghost use Rattle.std.specs.Prelude.{◌≡◌, Some, ⊤};
-ghost use Rattle.dmix_c.specs.Clients.{HasCalled};
+ghost use Rattle.dmix_c.specs.Clients.{HasAnswered, HasCalled, HasWritten};
 ghost use Rattle.dmix_c.specs.Handles.{OnClient};
 ghost use Rattle.dmix_c.specs.Stands.{stands_for};
 ghost use Rattle.dmix_c.specs.ClientCalls.{pause_of};
@@ -13,30 +13,30 @@ ghost use Rattle.dmix_c.specs.declared.client_calls.ClientCall.TheVariants as as
 
 mod opening;
 mod params;
-mod samples;
 
-use crate::answers::{BAD_HANDLE, number_of};
-use crate::client_calls::ClientCall;
+use crate::answers::BAD_HANDLE;
+use crate::client_calls::{ClientCall, ClientRequest};
 use crate::handle::Handle;
 use crate::opened::Opened;
 use std::alloc::Global;
 
-fn call_client(alloc: Global, client: &mut Handle, call: ClientCall) -> i64
-    ensures { OnClient ⊤ (HasCalled call) (stands_for client.old) (stands_for client.new) result }
+fn ask_client(alloc: Global, client: &mut Handle, request: ClientRequest<'_>) -> i64
+    ensures { OnClient ⊤ (HasAnswered request.entry) (stands_for client.old) (stands_for client.new)
+        result }
 {
     let Some(mut opened) = client.take(alloc) else {
         return BAD_HANDLE;
     };
-    let answer = call_opened(&mut opened, call);
+    let answer = ask_opened(alloc, &mut opened, request);
     client.put(opened);
     answer
 }
 
-fn call_opened(opened: &mut Opened, call: ClientCall) -> i64
-    ensures { OnClient ⊤ (HasCalled call) (Some opened.old) (Some opened.new) result }
+fn ask_opened(alloc: Global, opened: &mut Opened, request: ClientRequest<'_>) -> i64
+    ensures { OnClient ⊤ (HasAnswered request.entry) (Some opened.old) (Some opened.new) result }
 {
     match opened {
-        Opened::Client(playback) => number_of(playback.call(call)),
+        Opened::Client(playback) => playback.answer(alloc, request),
         _ => BAD_HANDLE,
     }
 }
@@ -47,7 +47,7 @@ pub extern "C" fn dmix_c_hw_free(alloc: Global, client: &mut Handle) -> i64
     ensures { OnClient ⊤ (HasCalled asked.HwFree) (stands_for client.old)
         (stands_for client.new) result }
 {
-    call_client(alloc, client, ClientCall::HwFree)
+    ask_client(alloc, client, ClientRequest::Call(ClientCall::HwFree))
 }
 
 /// Prepares (`snd_pcm_prepare`): PREPARED, from SETUP, PREPARED or XRUN. What is pending is discarded. 0.
@@ -56,7 +56,7 @@ pub extern "C" fn dmix_c_prepare(alloc: Global, client: &mut Handle) -> i64
     ensures { OnClient ⊤ (HasCalled asked.Prepare) (stands_for client.old)
         (stands_for client.new) result }
 {
-    call_client(alloc, client, ClientCall::Prepare)
+    ask_client(alloc, client, ClientRequest::Call(ClientCall::Prepare))
 }
 
 /// Starts (`snd_pcm_start`): RUNNING, from PREPARED, one period of the ring past the card's position, or at the first frame
@@ -67,7 +67,7 @@ pub extern "C" fn dmix_c_start(alloc: Global, client: &mut Handle) -> i64
     ensures { OnClient ⊤ (HasCalled asked.Start) (stands_for client.old)
         (stands_for client.new) result }
 {
-    call_client(alloc, client, ClientCall::Start)
+    ask_client(alloc, client, ClientRequest::Call(ClientCall::Start))
 }
 
 /// Stops (`snd_pcm_drop`): SETUP, from every state but OPEN and DISCONNECTED. What is pending is discarded; unlike ALSA's
@@ -77,7 +77,7 @@ pub extern "C" fn dmix_c_drop(alloc: Global, client: &mut Handle) -> i64
     ensures { OnClient ⊤ (HasCalled asked.Drop) (stands_for client.old)
         (stands_for client.new) result }
 {
-    call_client(alloc, client, ClientCall::Drop)
+    ask_client(alloc, client, ClientRequest::Call(ClientCall::Drop))
 }
 
 /// Plays what is written, and then stops (`snd_pcm_drain` of a stream that doesn't wait). 0 where all is played and the
@@ -88,7 +88,7 @@ pub extern "C" fn dmix_c_drain(alloc: Global, client: &mut Handle) -> i64
     ensures { OnClient ⊤ (HasCalled asked.Drain) (stands_for client.old)
         (stands_for client.new) result }
 {
-    call_client(alloc, client, ClientCall::Drain)
+    ask_client(alloc, client, ClientRequest::Call(ClientCall::Drain))
 }
 
 /// Pauses a client in RUNNING, or resumes it in PAUSED (`snd_pcm_pause`). What was placed is played; what is pending begins
@@ -99,7 +99,7 @@ pub extern "C" fn dmix_c_pause(alloc: Global, client: &mut Handle, enable: bool)
     ensures { OnClient ⊤ (HasCalled (pause_of enable)) (stands_for client.old)
         (stands_for client.new) result }
 {
-    call_client(alloc, client, pause_of(enable))
+    ask_client(alloc, client, ClientRequest::Call(pause_of(enable)))
 }
 
 fn pause_of(enable: bool) -> ClientCall
@@ -121,7 +121,7 @@ pub extern "C" fn dmix_c_avail_update(alloc: Global, client: &mut Handle) -> i64
     ensures { OnClient ⊤ (HasCalled asked.AvailUpdate) (stands_for client.old)
         (stands_for client.new) result }
 {
-    call_client(alloc, client, ClientCall::AvailUpdate)
+    ask_client(alloc, client, ClientRequest::Call(ClientCall::AvailUpdate))
 }
 
 /// Answers how many frames are played before the one that is written next (`snd_pcm_delay`). It loads, places and fails as
@@ -131,7 +131,7 @@ pub extern "C" fn dmix_c_delay(alloc: Global, client: &mut Handle) -> i64
     ensures { OnClient ⊤ (HasCalled asked.Delay) (stands_for client.old)
         (stands_for client.new) result }
 {
-    call_client(alloc, client, ClientCall::Delay)
+    ask_client(alloc, client, ClientRequest::Call(ClientCall::Delay))
 }
 
 /// Answers how many of the last frames `dmix_c_rewind` would take back (`snd_pcm_rewindable`): those that are pending, and the
@@ -143,7 +143,7 @@ pub extern "C" fn dmix_c_rewindable(alloc: Global, client: &mut Handle) -> i64
     ensures { OnClient ⊤ (HasCalled asked.Rewindable) (stands_for client.old)
         (stands_for client.new) result }
 {
-    call_client(alloc, client, ClientCall::Rewindable)
+    ask_client(alloc, client, ClientRequest::Call(ClientCall::Rewindable))
 }
 
 /// Takes back the last frames, as many as are asked for or as `dmix_c_rewindable` would answer, and answers how many
@@ -154,5 +154,24 @@ pub extern "C" fn dmix_c_rewind(alloc: Global, client: &mut Handle, frames: u64)
     ensures { OnClient ⊤ (HasCalled (asked.Rewind frames)) (stands_for client.old)
         (stands_for client.new) result }
 {
-    call_client(alloc, client, ClientCall::Rewind(frames))
+    ask_client(
+        alloc,
+        client,
+        ClientRequest::Call(ClientCall::Rewind(frames)),
+    )
+}
+
+/// Writes interleaved samples, of whole frames (`snd_pcm_writei` of a stream that doesn't wait).
+///
+/// The number of frames that were taken; -EAGAIN exactly where there are frames to write and a running client has no room;
+/// -EPIPE where the client is in XRUN, or gets there: an underrun, or a frame that came too late; -ENODEV where the card is
+/// gone; -EBADFD in another state than PREPARED and RUNNING; -EINVAL where the client could be written to, and the samples are
+/// no whole frames or more than 4,194,304 of them, or 2 to the power 63 frames were taken before; -EBADF where the handle isn't
+/// a client's. A prepared client that is full takes 0.
+#[unsafe(no_mangle)]
+pub extern "C" fn dmix_c_writei(alloc: Global, client: &mut Handle, samples: &[i16]) -> i64
+    ensures { OnClient ⊤ (HasWritten samples.now) (stands_for client.old) (stands_for client.new)
+        result }
+{
+    ask_client(alloc, client, ClientRequest::Write(samples))
 }

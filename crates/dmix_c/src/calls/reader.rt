@@ -1,4 +1,4 @@
-//! The calls of a reader that pass nothing but the reader. Each is refused as the state table says (`snd_pcm_state_t`): with
+//! The calls of a reader that pass no parameters. Each is refused as the state table says (`snd_pcm_state_t`): with
 //! -ENODEV in DISCONNECTED, with -EPIPE in XRUN where it counts frames, and else with -EBADFD. It answers -EBADF where the
 //! handle isn't a reader's.
 //!
@@ -6,7 +6,7 @@
 //! -EPIPE after a load, the state is XRUN.
 ghost use Rattle.std.specs.Prelude.{Some, ⊤};
 ghost use Rattle.dmix_c.specs.Handles.{OnReader};
-ghost use Rattle.dmix_c.specs.Readers.{ReaderHasCalled};
+ghost use Rattle.dmix_c.specs.Readers.{ReaderHasAnswered, ReaderHasCalled};
 ghost use Rattle.dmix_c.specs.Stands.{stands_for};
 ghost use Rattle.dmix_c.specs.declared.reader_calls.ReaderCall.TheVariants as asked;
 
@@ -14,29 +14,29 @@ mod opening;
 mod params;
 mod samples;
 
-use crate::answers::{BAD_HANDLE, number_of};
+use crate::answers::BAD_HANDLE;
 use crate::handle::Handle;
 use crate::opened::Opened;
-use crate::reader_calls::ReaderCall;
+use crate::reader_calls::{ReaderCall, ReaderRequest};
 use std::alloc::Global;
 
-fn call_reader(alloc: Global, reader: &mut Handle, call: ReaderCall) -> i64
-    ensures { OnReader ⊤ (ReaderHasCalled call) (stands_for reader.old) (stands_for reader.new)
-        result }
+fn ask_reader(alloc: Global, reader: &mut Handle, request: ReaderRequest<'_>) -> i64
+    ensures { OnReader ⊤ (ReaderHasAnswered request.entry) (stands_for reader.old)
+        (stands_for reader.new) result }
 {
     let Some(mut opened) = reader.take(alloc) else {
         return BAD_HANDLE;
     };
-    let answer = call_opened(&mut opened, call);
+    let answer = ask_opened(alloc, &mut opened, request);
     reader.put(opened);
     answer
 }
 
-fn call_opened(opened: &mut Opened, call: ReaderCall) -> i64
-    ensures { OnReader ⊤ (ReaderHasCalled call) (Some opened.old) (Some opened.new) result }
+fn ask_opened(alloc: Global, opened: &mut Opened, request: ReaderRequest<'_>) -> i64
+    ensures { OnReader ⊤ (ReaderHasAnswered request.entry) (Some opened.old) (Some opened.new) result }
 {
     match opened {
-        Opened::Reader(recording) => number_of(recording.call(call)),
+        Opened::Reader(recording) => recording.answer(alloc, request),
         _ => BAD_HANDLE,
     }
 }
@@ -47,7 +47,7 @@ pub extern "C" fn dmix_c_reader_hw_free(alloc: Global, reader: &mut Handle) -> i
     ensures { OnReader ⊤ (ReaderHasCalled asked.HwFree) (stands_for reader.old)
         (stands_for reader.new) result }
 {
-    call_reader(alloc, reader, ReaderCall::HwFree)
+    ask_reader(alloc, reader, ReaderRequest::Call(ReaderCall::HwFree))
 }
 
 /// Prepares (`snd_pcm_prepare`): PREPARED, from SETUP, PREPARED or XRUN. 0.
@@ -56,7 +56,7 @@ pub extern "C" fn dmix_c_reader_prepare(alloc: Global, reader: &mut Handle) -> i
     ensures { OnReader ⊤ (ReaderHasCalled asked.Prepare) (stands_for reader.old)
         (stands_for reader.new) result }
 {
-    call_reader(alloc, reader, ReaderCall::Prepare)
+    ask_reader(alloc, reader, ReaderRequest::Call(ReaderCall::Prepare))
 }
 
 /// Starts (`snd_pcm_start`): RUNNING, from PREPARED. The first frame that it reads is the one at the card's position. 0;
@@ -66,7 +66,7 @@ pub extern "C" fn dmix_c_reader_start(alloc: Global, reader: &mut Handle) -> i64
     ensures { OnReader ⊤ (ReaderHasCalled asked.Start) (stands_for reader.old)
         (stands_for reader.new) result }
 {
-    call_reader(alloc, reader, ReaderCall::Start)
+    ask_reader(alloc, reader, ReaderRequest::Call(ReaderCall::Start))
 }
 
 /// Stops (`snd_pcm_drop`): SETUP, from every state but OPEN and DISCONNECTED. 0.
@@ -75,7 +75,7 @@ pub extern "C" fn dmix_c_reader_drop(alloc: Global, reader: &mut Handle) -> i64
     ensures { OnReader ⊤ (ReaderHasCalled asked.Drop) (stands_for reader.old)
         (stands_for reader.new) result }
 {
-    call_reader(alloc, reader, ReaderCall::Drop)
+    ask_reader(alloc, reader, ReaderRequest::Call(ReaderCall::Drop))
 }
 
 /// Answers how many frames can be read (`snd_pcm_avail`): in RUNNING after it loaded the card's position, and 0 in PREPARED,
@@ -85,5 +85,5 @@ pub extern "C" fn dmix_c_reader_avail_update(alloc: Global, reader: &mut Handle)
     ensures { OnReader ⊤ (ReaderHasCalled asked.AvailUpdate) (stands_for reader.old)
         (stands_for reader.new) result }
 {
-    call_reader(alloc, reader, ReaderCall::AvailUpdate)
+    ask_reader(alloc, reader, ReaderRequest::Call(ReaderCall::AvailUpdate))
 }

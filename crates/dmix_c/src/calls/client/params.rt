@@ -5,7 +5,9 @@ ghost use Rattle.dmix_c.specs.Handles.{OnClient};
 ghost use Rattle.dmix_c.specs.Params.{first_channels};
 ghost use Rattle.dmix_c.specs.Stands.{stands_for};
 
-use crate::answers::{BAD_HANDLE, done_of, number_of};
+use super::ask_client;
+use crate::answers::BAD_HANDLE;
+use crate::client_calls::ClientRequest;
 use crate::handle::Handle;
 use crate::opened::Opened;
 use crate::params::{StreamHwParams, StreamStatus, StreamSwParams};
@@ -26,7 +28,11 @@ pub extern "C" fn dmix_c_hw_params(
 {
     let all = [0u32, 1, 2, 3, 4, 5, 6, 7];
     let count = params.channels.min(8) as usize;
-    set_hw_params(alloc, client, params, &all[..count])
+    ask_client(
+        alloc,
+        client,
+        ClientRequest::HwParams(params, &all[..count]),
+    )
 }
 
 /// Sets the hardware parameters in the same way. Channel i of the client goes to the card's channel `bindings[i]`.
@@ -45,29 +51,7 @@ pub extern "C" fn dmix_c_hw_params_bindings(
     ensures { OnClient ⊤ (HasHwParams params.now bindings.now) (stands_for client.old)
         (stands_for client.new) result }
 {
-    set_hw_params(alloc, client, params, bindings)
-}
-
-fn set_hw_params(alloc: Global, client: &mut Handle, params: &StreamHwParams, list: &[u32]) -> i64
-    ensures { OnClient ⊤ (HasHwParams params.now list.now) (stands_for client.old)
-        (stands_for client.new) result }
-{
-    let Some(mut opened) = client.take(alloc) else {
-        return BAD_HANDLE;
-    };
-    let answer = hw_params(alloc, &mut opened, params, list);
-    client.put(opened);
-    answer
-}
-
-fn hw_params(alloc: Global, opened: &mut Opened, params: &StreamHwParams, list: &[u32]) -> i64
-    ensures { OnClient ⊤ (HasHwParams params.now list.now) (Some opened.old) (Some opened.new)
-        result }
-{
-    match opened {
-        Opened::Client(playback) => number_of(playback.hw_params(alloc, params, list)),
-        _ => BAD_HANDLE,
-    }
+    ask_client(alloc, client, ClientRequest::HwParams(params, bindings))
 }
 
 /// Sets the software parameters (`snd_pcm_sw_params`).
@@ -83,21 +67,7 @@ pub extern "C" fn dmix_c_sw_params(
     ensures { OnClient ⊤ (HasSwParams params.now) (stands_for client.old) (stands_for client.new)
         result }
 {
-    let Some(mut opened) = client.take(alloc) else {
-        return BAD_HANDLE;
-    };
-    let answer = sw_params(&mut opened, params);
-    client.put(opened);
-    answer
-}
-
-fn sw_params(opened: &mut Opened, params: &StreamSwParams) -> i64
-    ensures { OnClient ⊤ (HasSwParams params.now) (Some opened.old) (Some opened.new) result }
-{
-    match opened {
-        Opened::Client(playback) => number_of(done_of(playback.sw_params(params))),
-        _ => BAD_HANDLE,
-    }
+    ask_client(alloc, client, ClientRequest::SwParams(params))
 }
 
 /// The state, numbered as `snd_pcm_state_t` (`snd_pcm_state`).
@@ -107,21 +77,7 @@ fn sw_params(opened: &mut Opened, params: &StreamSwParams) -> i64
 pub extern "C" fn dmix_c_state(alloc: Global, client: &mut Handle) -> i64
     ensures { OnClient ⊤ HasState (stands_for client.old) (stands_for client.new) result }
 {
-    let Some(mut opened) = client.take(alloc) else {
-        return BAD_HANDLE;
-    };
-    let answer = tell_state(&mut opened);
-    client.put(opened);
-    answer
-}
-
-fn tell_state(opened: &mut Opened) -> i64
-    ensures { OnClient ⊤ HasState (Some opened.old) (Some opened.new) result }
-{
-    match opened {
-        Opened::Client(playback) => playback.state().number() as i64,
-        _ => BAD_HANDLE,
-    }
+    ask_client(alloc, client, ClientRequest::State)
 }
 
 /// Syncs as `dmix_c_avail_update` does, by at most one load of the position, and tells what the client is then

@@ -5,10 +5,12 @@ ghost use Rattle.dmix_c.specs.Params.{first_channels};
 ghost use Rattle.dmix_c.specs.Readers.{ReaderHasHwParams, ReaderHasState, ReaderHasStatus, ReaderHasSwParams};
 ghost use Rattle.dmix_c.specs.Stands.{stands_for};
 
-use crate::answers::{BAD_HANDLE, done_of, number_of};
+use super::ask_reader;
+use crate::answers::BAD_HANDLE;
 use crate::handle::Handle;
 use crate::opened::Opened;
 use crate::params::{StreamHwParams, StreamStatus, StreamSwParams};
+use crate::reader_calls::ReaderRequest;
 use std::alloc::Global;
 
 /// Sets the hardware parameters (`snd_pcm_hw_params`), takes the memory of one frame, sets the default software parameters and
@@ -26,7 +28,11 @@ pub extern "C" fn dmix_c_reader_hw_params(
 {
     let all = [0u32, 1, 2, 3, 4, 5, 6, 7];
     let count = params.channels.min(8) as usize;
-    set_hw_params(alloc, reader, params, &all[..count])
+    ask_reader(
+        alloc,
+        reader,
+        ReaderRequest::HwParams(params, &all[..count]),
+    )
 }
 
 /// Sets the hardware parameters in the same way. Channel i of the reader is the card's channel `bindings[i]`.
@@ -44,29 +50,7 @@ pub extern "C" fn dmix_c_reader_hw_params_bindings(
     ensures { OnReader ⊤ (ReaderHasHwParams params.now bindings.now) (stands_for reader.old)
         (stands_for reader.new) result }
 {
-    set_hw_params(alloc, reader, params, bindings)
-}
-
-fn set_hw_params(alloc: Global, reader: &mut Handle, params: &StreamHwParams, list: &[u32]) -> i64
-    ensures { OnReader ⊤ (ReaderHasHwParams params.now list.now) (stands_for reader.old)
-        (stands_for reader.new) result }
-{
-    let Some(mut opened) = reader.take(alloc) else {
-        return BAD_HANDLE;
-    };
-    let answer = hw_params(alloc, &mut opened, params, list);
-    reader.put(opened);
-    answer
-}
-
-fn hw_params(alloc: Global, opened: &mut Opened, params: &StreamHwParams, list: &[u32]) -> i64
-    ensures { OnReader ⊤ (ReaderHasHwParams params.now list.now) (Some opened.old)
-        (Some opened.new) result }
-{
-    match opened {
-        Opened::Reader(recording) => number_of(recording.hw_params(alloc, params, list)),
-        _ => BAD_HANDLE,
-    }
+    ask_reader(alloc, reader, ReaderRequest::HwParams(params, bindings))
 }
 
 /// Sets the software parameters (`snd_pcm_sw_params`).
@@ -82,22 +66,7 @@ pub extern "C" fn dmix_c_reader_sw_params(
     ensures { OnReader ⊤ (ReaderHasSwParams params.now) (stands_for reader.old)
         (stands_for reader.new) result }
 {
-    let Some(mut opened) = reader.take(alloc) else {
-        return BAD_HANDLE;
-    };
-    let answer = sw_params(&mut opened, params);
-    reader.put(opened);
-    answer
-}
-
-fn sw_params(opened: &mut Opened, params: &StreamSwParams) -> i64
-    ensures { OnReader ⊤ (ReaderHasSwParams params.now) (Some opened.old) (Some opened.new)
-        result }
-{
-    match opened {
-        Opened::Reader(recording) => number_of(done_of(recording.sw_params(params))),
-        _ => BAD_HANDLE,
-    }
+    ask_reader(alloc, reader, ReaderRequest::SwParams(params))
 }
 
 /// The state, numbered as `snd_pcm_state_t` (`snd_pcm_state`).
@@ -107,21 +76,7 @@ fn sw_params(opened: &mut Opened, params: &StreamSwParams) -> i64
 pub extern "C" fn dmix_c_reader_state(alloc: Global, reader: &mut Handle) -> i64
     ensures { OnReader ⊤ ReaderHasState (stands_for reader.old) (stands_for reader.new) result }
 {
-    let Some(mut opened) = reader.take(alloc) else {
-        return BAD_HANDLE;
-    };
-    let answer = tell_state(&mut opened);
-    reader.put(opened);
-    answer
-}
-
-fn tell_state(opened: &mut Opened) -> i64
-    ensures { OnReader ⊤ ReaderHasState (Some opened.old) (Some opened.new) result }
-{
-    match opened {
-        Opened::Reader(recording) => recording.state().number() as i64,
-        _ => BAD_HANDLE,
-    }
+    ask_reader(alloc, reader, ReaderRequest::State)
 }
 
 /// Syncs as `dmix_c_reader_avail_update` does, by at most one load of the position, and tells what the reader is then
