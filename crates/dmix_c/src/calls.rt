@@ -3,6 +3,5 @@
 mod card;
 mod client;
 mod closing;
-mod duplex;
 mod reader;
 mod ring;

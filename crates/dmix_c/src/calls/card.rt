@@ -1,8 +1,8 @@
-//! The calls of a card that plays alone, and those of every card.
+//! The calls of a card that plays alone, of one that captures too, and of either.
 ghost use Rattle.std.specs.Prelude.{◌≡◌, Some, ⊤};
 ghost use Rattle.dmix_c.specs.Cards.{HasPlayed, IsUnplugged};
-ghost use Rattle.dmix_c.specs.Duplex.{IsDuplexUnplugged};
-ghost use Rattle.dmix_c.specs.Handles.{Closes, OnCard, OnEitherCard};
+ghost use Rattle.dmix_c.specs.Duplex.{HasRunCard, IsDuplexUnplugged};
+ghost use Rattle.dmix_c.specs.Handles.{Closes, OnCard, OnDuplex, OnEitherCard};
 ghost use Rattle.dmix_c.specs.Stands.{stands_for};
 ghost use Rattle.dmix_c.specs.declared.opened.Kind.TheVariants as kind;
 
@@ -35,6 +35,40 @@ fn play_card(opened: &mut Opened, out: &mut [i16]) -> i64
 {
     match opened {
         Opened::Card(card) => number_of(card.play(out)),
+        _ => BAD_HANDLE,
+    }
+}
+
+/// Captures and plays as many frames as both buffers have, interleaved: each captured frame is stored before the mixed one is
+/// taken. The positions of both rings are published at each period and at the end, the mix ring's before the capture ring's.
+///
+/// The number of frames; -EINVAL exactly where the buffers don't have equally many samples, of whole frames, with nothing
+/// changed; -EOVERFLOW exactly where the rings' end comes before, with the frames before it captured and played; -EBADF where
+/// the handle isn't one of a card that captures, with the samples as they were.
+#[unsafe(no_mangle)]
+pub extern "C" fn dmix_c_card_run(
+    alloc: Global,
+    card: &mut Handle,
+    captured: &[i16],
+    out: &mut [i16],
+) -> i64
+    ensures { OnDuplex (out.new ≡ out.old) (HasRunCard captured.now out.old out.new)
+        (stands_for card.old) (stands_for card.new) result }
+{
+    let Some(mut opened) = card.take(alloc) else {
+        return BAD_HANDLE;
+    };
+    let answer = run_card(&mut opened, captured, out);
+    card.put(opened);
+    answer
+}
+
+fn run_card(opened: &mut Opened, captured: &[i16], out: &mut [i16]) -> i64
+    ensures { OnDuplex (out.new ≡ out.old) (HasRunCard captured.now out.old out.new)
+        (Some opened.old) (Some opened.new) result }
+{
+    match opened {
+        Opened::Duplex(card) => number_of(card.run(captured, out)),
         _ => BAD_HANDLE,
     }
 }

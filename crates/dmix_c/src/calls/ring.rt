@@ -1,6 +1,6 @@
 //! The calls of a ring.
 ghost use Rattle.std.specs.Prelude.{◌≡◌, None};
-ghost use Rattle.dmix_c.specs.Handles.{Closes, OpensBoth, OpensPair, OpensRing};
+ghost use Rattle.dmix_c.specs.Handles.{Closes, OpensBoth, OpensDuplex, OpensPair, OpensRing};
 ghost use Rattle.dmix_c.specs.Params.{CanOpen};
 ghost use Rattle.dmix_c.specs.Stands.{stands_for};
 ghost use Rattle.dmix_c.specs.declared.opened.Kind.TheVariants as kind;
@@ -31,9 +31,22 @@ pub extern "C" fn dmix_c_ring_open(
     open_pair(alloc, ring, card, params, false)
 }
 
-/// Opens a ring and its card, which captures too where that is asked, by two handles that are closed. The answers are those of
-/// `dmix_c_ring_open`.
-pub(crate) fn open_pair(
+/// Opens a ring that captures too, and its card, by two handles that are closed. The answers are those of `dmix_c_ring_open`.
+#[unsafe(no_mangle)]
+pub extern "C" fn dmix_c_duplex_open(
+    alloc: Global,
+    ring: &mut Handle,
+    card: &mut Handle,
+    params: &RingParams,
+) -> i64
+    ensures { OpensDuplex params.now (stands_for ring.old) (stands_for card.old)
+        (stands_for ring.new) (stands_for card.new) result }
+{
+    open_pair(alloc, ring, card, params, true)
+}
+
+// Opens a ring and its card, which captures too where that is asked.
+fn open_pair(
     alloc: Global,
     ring: &mut Handle,
     card: &mut Handle,

@@ -3,7 +3,7 @@ use Rattle.dmix_c.specs.declared.opened.Opened.TheVariants.{Reader}
 use Rattle.dmix_c.specs.Handles.{OnReader}
 use Rattle.dmix_c.specs.Readers.{ReaderHasRead}
 use Rattle.dmix_c.proofs.Handed.{called}
-use Rattle.dmix_c.proofs.calls.reader.samples.read_samples.Goals as goal
+use Rattle.dmix_c.proofs.calls.reader.read_samples.Goals as goal
 
 pub returns-in-Reader : goal.returns-in-Reader
 returns-in-Reader c =

@@ -3,7 +3,7 @@ use Rattle.dmix_c.specs.declared.opened.Opened.TheVariants.{Duplex}
 use Rattle.dmix_c.specs.Duplex.{HasRunCard}
 use Rattle.dmix_c.specs.Handles.{OnDuplex}
 use Rattle.dmix_c.proofs.Handed.{called}
-use Rattle.dmix_c.proofs.calls.duplex.run_card.Goals as goal
+use Rattle.dmix_c.proofs.calls.card.run_card.Goals as goal
 
 pub returns-in-Duplex : goal.returns-in-Duplex
 returns-in-Duplex c =
