@@ -38,7 +38,7 @@ impl Held {
         }
     }
 
-    // The address without its type.
+    /// The address of a box without its type.
     fn seal(of: LooseBox<Opened, Global>) -> Held
         ensures { result.value ≡ Some of.value }
     {
@@ -49,7 +49,7 @@ impl Held {
         }
     }
 
-    // The address with its type.
+    /// The address of a box with its type.
     fn unseal(self) -> LooseBox<Opened, Global>
         requires { IsSome self.value }
         ensures { self.value ≡ Some result.value }
@@ -59,21 +59,6 @@ impl Held {
             at: at as *mut Opened,
             alloc,
         }
-    }
-
-    /// What is in a box.
-    fn of(opened: Box<Opened>) -> Held
-        ensures { result.value ≡ Some opened.value }
-    {
-        Held::seal(LooseBox::of(opened))
-    }
-
-    /// The box again.
-    fn into_box(self) -> Box<Opened>
-        requires { IsSome self.value }
-        ensures { self.value ≡ Some result.value }
-    {
-        self.unseal().into_box()
     }
 }
 
@@ -122,7 +107,7 @@ impl Handle {
         if kind == 0 {
             return None;
         }
-        Some(held.into_box())
+        Some(held.unseal().into_box())
     }
 
     /// Makes a closed handle stand for something.
@@ -133,7 +118,7 @@ impl Handle {
         let channels = opened.channels();
         let handle = Handle {
             kind: 1,
-            held: Held::of(opened),
+            held: Held::seal(LooseBox::of(opened)),
             channels,
         };
         // C may pass it to another thread.
