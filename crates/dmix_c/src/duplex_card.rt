@@ -1,6 +1,6 @@
 //! The card's side of both rings: for each frame it stores the captured one, and then takes the mixed one.
-ghost use Rattle.std.specs.Prelude.{◌≡◌, true};
-ghost use Rattle.card_sim.specs.Runs.{records_of};
+ghost use Rattle.std.specs.Prelude.{◌≡◌, ◌≤◌, ◌↔◌, IfErr, IfOk, IsErrOf, IsTrue, true};
+ghost use Rattle.card_sim.specs.Runs.{RunsThrough, period_of, player_of, records_of, writer_of};
 
 use card_player::CardPlayer;
 use card_sim::{Card, NoWatch};
@@ -21,11 +21,9 @@ impl Drop for DuplexCard {
 }
 
 impl DuplexCard {
-    ghost use Rattle.std.specs.Prelude.{◌≡◌, ◌≤◌, ◌↔◌, IfErr, IfOk, IsErrOf, IsTrue};
     ghost use Rattle.sum_table.specs.Players.{HasUnplugged};
     ghost use Rattle.snoop_table.specs.Writers.{HasUnplugged as WriterHasUnplugged, desk_of};
     ghost use Rattle.card_player.specs.Plays.{EndsEarly, frames_in, geometry_of, seat_of};
-    ghost use Rattle.card_sim.specs.Runs.{RunsThrough, period_of, player_of, writer_of};
     ghost use Rattle.card_sim.specs.Steps.{AreInStep, IsAtPublished};
     ghost use Rattle.dmix_c.specs.Duplex.{AreBuffers, RunsBuffers};
 

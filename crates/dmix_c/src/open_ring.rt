@@ -1,7 +1,7 @@
 //! A ring that is open: its places, and the ways on which their seats come back.
-ghost use Rattle.std.specs.Prelude.{◌≡◌, ◌<◌, length};
-ghost use Rattle.lobby.specs.Lobbies.{key_of_lobby, places_of_lobby, ring_of_lobby};
-ghost use Rattle.dmix_c.specs.Ways.{LeadTo};
+ghost use Rattle.std.specs.Prelude.{◌≡◌, ◌⊎◌, ◌<◌, length, IfErr, IfOk, IfSome, MatchResult, None, Some};
+ghost use Rattle.lobby.specs.Lobbies.{IsSilentSeat, key_of_lobby, places_of_lobby, ring_of_lobby, seen_of_lobby};
+ghost use Rattle.dmix_c.specs.Ways.{IsNewWay, IsOfRing, LeadTo, LeadsTo};
 
 use crate::duplex_card::DuplexCard;
 use crate::opened::Opened;
@@ -48,13 +48,10 @@ impl Drop for OpenRing {
 }
 
 impl OpenRing {
-    ghost use Rattle.std.specs.Prelude.{◌≡◌, ◌⊎◌, ◌<◌, IfErr, IfOk, IfSome, MatchResult, None, Some};
     ghost use Rattle.std.specs.List.{slice_index_or};
     ghost use Rattle.sum_table.specs.Seats.{member_of};
-    ghost use Rattle.lobby.specs.Lobbies.{IsSilentSeat, key_of_lobby, places_of_lobby, ring_of_lobby, seen_of_lobby};
     ghost use Rattle.dmix_c.specs.Params.{CanOpen, IsGeometryOf};
     ghost use Rattle.dmix_c.specs.RingPlaces.{Collects, GivesNone, GivesPlace, GivesReader, IsAtStart, IsHandedOut, IsNewOpenRing, IsNewPair, KeepsRing, Receives};
-    ghost use Rattle.dmix_c.specs.Ways.{IsNewWay, IsOfRing, LeadsTo};
 
     /// Opens a ring with so many free places as its parameters say, in which nothing is placed, and its card, from the first
     /// frame of lap 0 on. The card plays alone; or it captures too, and then a capture ring of the same shape is beside the

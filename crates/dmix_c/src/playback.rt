@@ -1,5 +1,5 @@
 //! A client at the seat of its place.
-ghost use Rattle.std.specs.Prelude.{◌≡◌, ◌<◌, false};
+ghost use Rattle.std.specs.Prelude.{◌≡◌, ◌+◌, ◌^◌, ◌<◌, false};
 ghost use Rattle.rtrb.specs.Ring.{known_free, sent};
 ghost use Rattle.sum_table.specs.Seats.{geometry_of, places_of_seat, seat_view};
 ghost use Rattle.dmix_client.specs.Port.{CanUse};
@@ -44,7 +44,6 @@ impl Drop for Playback {
 }
 
 impl Playback {
-    ghost use Rattle.std.specs.Prelude.{◌≡◌, ◌+◌, ◌^◌, ◌<◌};
     ghost use Rattle.dmix_client.specs.Calls.{delay_answer};
     ghost use Rattle.dmix_c.specs.Channels.{stream_channels};
     ghost use Rattle.dmix_c.specs.Clients.{HasAnswered, IsNewPlayback, IsStatus, KeepsPlace, SetsSwParams, Written};

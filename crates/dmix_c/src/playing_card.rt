@@ -1,6 +1,6 @@
 //! The card's side of a ring: it takes whole frames.
-ghost use Rattle.std.specs.Prelude.{◌≡◌};
-ghost use Rattle.card_player.specs.Plays.{IsAtFrame};
+ghost use Rattle.std.specs.Prelude.{◌≡◌, ◌↔◌, IfErr, IfOk, IsErrOf};
+ghost use Rattle.card_player.specs.Plays.{EndsEarly, IsAtFrame, PlaysAndPublishes, frames_in, frames_left, geometry_of, period_of, seat_of};
 
 use card_player::CardPlayer;
 use snd_base::PcmError;
@@ -19,9 +19,7 @@ impl Drop for PlayingCard {
 }
 
 impl PlayingCard {
-    ghost use Rattle.std.specs.Prelude.{◌≡◌, ◌↔◌, IfErr, IfOk, IsErrOf};
     ghost use Rattle.sum_table.specs.Players.{HasUnplugged};
-    ghost use Rattle.card_player.specs.Plays.{EndsEarly, PlaysAndPublishes, frames_in, frames_left, geometry_of, period_of, seat_of};
 
     /// The card of a player that took no part of a frame.
     pub(crate) fn new(player: CardPlayer<'static>) -> PlayingCard

@@ -1,6 +1,6 @@
 //! A reader at its seat.
 ghost use Rattle.std.specs.Prelude.{◌≡◌, false};
-ghost use Rattle.snoop_table.specs.Readers.{seat_view};
+ghost use Rattle.snoop_table.specs.Readers.{geometry_of, seat_view};
 ghost use Rattle.dsnoop_client.specs.View.{CanUse};
 
 use crate::answers::{done_of, number_of};
@@ -35,8 +35,6 @@ impl Drop for Recording {
 }
 
 impl Recording {
-    ghost use Rattle.std.specs.Prelude.{◌≡◌};
-    ghost use Rattle.snoop_table.specs.Readers.{geometry_of};
     ghost use Rattle.dmix_c.specs.Channels.{stream_channels};
     ghost use Rattle.dmix_c.specs.ReaderCalls.{ReaderHasMade, ReaderHasSetUp};
     ghost use Rattle.dmix_c.specs.Readers.{IsNewRecording, IsReaderStatus, KeepsSource, ReaderHasAnswered, ReaderSetsSwParams, WasRead};
