@@ -24,6 +24,9 @@ archive=build/libdmix_c.a built=build/c
 if [ "$backend" != llvm ]; then
   archive=crates/dmix_c/out/libdmix_c.a built=build/c-$backend
   (cd crates/dmix_c && rt lib --backend "$backend")
+elif [ ! -f "$archive" ]; then
+  echo "check_c: there is no $archive yet; make library builds it" >&2
+  exit 2
 fi
 warnings="-Wall -Wextra -Werror -Iinclude"
 cc="${CC:-cc} -std=gnu11 -O2 $warnings -pthread"

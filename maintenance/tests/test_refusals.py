@@ -41,6 +41,7 @@ class Words(unittest.TestCase):
             (("run_tests.py", "--jobs", "0"), "'0' is no number from 1 on"),
             (("build_rules.py", "nope"), "unrecognized arguments: nope"),
             (("check_all.sh", "nope"), "it has no words"),
+            (("check_c.sh", "nope"), "the words are --seconds N, --contend N and --backend NAME"),
             (("install.sh",), "the words are DESTDIR and PREFIX"),
             (("prove_crate.sh", "name"), "the words are NAME MARK WORK WORD.."),
         ]:
@@ -82,6 +83,17 @@ class Outputs(unittest.TestCase):
             ran = ended("check_mixed.py", f"{room}/program", "--runs", "1")
         self.assertEqual((ran.returncode, len(ran.stderr.splitlines())), (REFUSED, 1), ran.stderr)
         self.assertIn("program: Exec format error", ran.stderr)
+
+
+class CheckC(unittest.TestCase):
+    def test_what_isn_t_built_isn_t_tested(self):
+        with tempfile.TemporaryDirectory() as room:
+            os.mkdir(f"{room}/maintenance")
+            shutil.copy(f"{ROOT}/maintenance/check_c.sh", f"{room}/maintenance/check_c.sh")
+            ran = ended(f"{room}/maintenance/check_c.sh")
+            self.assertEqual((ran.returncode, ran.stdout), (REFUSED, ""))
+            self.assertEqual(ran.stderr, "check_c: there is no build/libdmix_c.a yet; make library builds it\n")
+            self.assertFalse(os.path.exists(f"{room}/build"))
 
 
 class Install(unittest.TestCase):
