@@ -135,7 +135,8 @@ impl Client {
     /// In RUNNING it is DRAINING before its load; in PREPARED with frames it makes the start first, so that it loads the
     /// position twice. Then it makes the sync of a stream in DRAINING, which no stop threshold ends. `Ok` says that all is
     /// played and the state is SETUP, `Again` that it is still DRAINING. In SETUP, XRUN and PREPARED without frames it is
-    /// `Ok` and leads to SETUP without a load. In OPEN it is refused with `BadState`, in DISCONNECTED with `NoDevice`.
+    /// `Ok` and leads to SETUP without a load. In OPEN and PAUSED it is refused with `BadState`, in DISCONNECTED with
+    /// `NoDevice`.
     pub fn drain<P: MixPort, G: Gate>(&mut self, port: &mut P, gate: &mut G) -> Result<(), PcmError>
         requires { CanUse self.old.stream (P.view port.old) }
         ensures { Drains P.MixPort G.Gate (port.old, gate.old) (port.new, gate.new) self.old
