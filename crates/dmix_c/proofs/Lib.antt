@@ -11,7 +11,6 @@ pub mod Opening
 pub mod OpeningDuplex
 pub mod ReaderMaking
 pub mod ReaderUnstopped
-pub mod Reading
 pub mod Ringed
 pub mod Running
 pub mod Seated
@@ -19,5 +18,5 @@ pub mod SettingUp
 pub mod Settled
 pub mod Sourced
 pub mod Thresholds
+pub mod Transferring
 pub mod Unstopped
-pub mod Writing

@@ -1,8 +1,6 @@
 -- What a call does to a client that a handle stands for, and what it answers.
 use Rattle.std.specs.Prelude.{◌≡◌, ℕ, ◌+◌, ◌^◌, ◌<◌, ℤ, pos, List, [], Some, None, Result, Ok, Err, OnErr, OnOk, unwrap_or}
 use Rattle.snd_base.specs.declared.errors.PcmError.{PcmError}
-use Rattle.snd_base.specs.declared.errors.PcmError.TheVariants.{Invalid}
-use Rattle.snd_base.specs.declared.errors.Why.TheVariants.{Config}
 use Rattle.sum_table.specs.declared.seats.mix.MixSeat.{MixSeat}
 use Rattle.sum_table.specs.Seats.{geometry_of, member_of}
 use Rattle.pcm_states.specs.declared.calls.Call.TheVariants as call
@@ -26,6 +24,7 @@ use Rattle.dmix_c.specs.Answers.{done_of, number_of}
 use Rattle.dmix_c.specs.Params.{thresholds_of}
 use Rattle.dmix_c.specs.SamePlace.{IsSamePlace}
 use Rattle.dmix_c.specs.ClientCalls.{HasMade, HasSetUp, Writes}
+use Rattle.dmix_c.specs.Transfers.{Transfers}
 
 -- a client keeps its place, and the rate of its ring
 pub record KeepsPlace (p q : Playback) : Type 0 where
@@ -45,13 +44,10 @@ pub record HasCalled (asked : ClientCall) (p q : Playback) (answer : ℤ) : Type
   pub call : HasMade asked p.seat p.client q.seat q.client made
   pub same : KeepsPlace p q
 
--- a client wrote samples, or refused them: by its state, or since they are no whole frames or too many, with nothing changed
+-- a client wrote samples, or refused them with nothing changed
 pub record Written (p q : Playback) (samples : List ℤ) (made : Result ℕ PcmError) : Type 0 where
-  pub refused : (e : PcmError) → refusal_of playback p.client.stream.status call.Transfer ≡ Some e → (made ≡ Err e) × (q ≡ p)
-  pub defect : refusal_of playback p.client.stream.status call.Transfer ≡ None → (IsOffer p.client.stream samples → ⊥)
-      → (made ≡ Err (Invalid Config)) × (q ≡ p)
-  pub writes : refusal_of playback p.client.stream.status call.Transfer ≡ None → IsOffer p.client.stream samples
-      → Writes p.seat p.client q.seat q.client samples made
+  pub moved : Transfers (refusal_of playback p.client.stream.status call.Transfer) (IsOffer p.client.stream samples) (q ≡ p)
+      (Writes p.seat p.client q.seat q.client samples made) made
   pub same : KeepsPlace p q
 
 pub record HasWritten (samples : List ℤ) (p q : Playback) (answer : ℤ) : Type 0 where

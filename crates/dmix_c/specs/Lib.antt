@@ -16,4 +16,5 @@ pub mod SamePlace
 pub mod SeatPort
 pub mod SettingUp
 pub mod Stands
+pub mod Transfers
 pub mod Ways

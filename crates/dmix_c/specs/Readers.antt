@@ -1,8 +1,6 @@
 -- What a call does to a reader that a handle stands for, and what it answers.
 use Rattle.std.specs.Prelude.{◌≡◌, ℕ, ℤ, pos, List, None, Some, Result, Ok, Err, OnErr, OnOk, unwrap_or}
 use Rattle.snd_base.specs.declared.errors.PcmError.{PcmError}
-use Rattle.snd_base.specs.declared.errors.PcmError.TheVariants.{Invalid}
-use Rattle.snd_base.specs.declared.errors.Why.TheVariants.{Config}
 use Rattle.pcm_states.specs.declared.calls.Call.TheVariants as call
 use Rattle.pcm_states.specs.States.{state_number}
 use Rattle.pcm_stream.specs.declared.direction.Direction.TheVariants.{Capture}
@@ -25,6 +23,7 @@ use Rattle.dmix_c.specs.declared.recording.Recording.{Recording}
 use Rattle.dmix_c.specs.Answers.{done_of, number_of}
 use Rattle.dmix_c.specs.Params.{thresholds_of}
 use Rattle.dmix_c.specs.ReaderCalls.{ReaderHasMade, ReaderHasSetUp, ReadsAt}
+use Rattle.dmix_c.specs.Transfers.{Transfers}
 
 -- a reader keeps its ring, and the ring's rate
 pub record KeepsSource (p q : Recording) : Type 0 where
@@ -44,13 +43,10 @@ pub record ReaderHasCalled (asked : ReaderCall) (p q : Recording) (answer : ℤ)
   pub call : ReaderHasMade asked p.seat p.reader q.seat q.reader made
   pub same : KeepsSource p q
 
--- a reader read into some room, or refused it: by its state, or since it isn't of whole frames or is too much, with nothing changed
+-- a reader read into some room, or refused it with nothing changed
 pub record WasRead (p q : Recording) (old new : List ℤ) (made : Result ℕ PcmError) : Type 0 where
-  pub refused : (e : PcmError) → refusal_of Capture p.reader.status call.Transfer ≡ Some e → (made ≡ Err e) × (q ≡ p) × (new ≡ old)
-  pub defect : refusal_of Capture p.reader.status call.Transfer ≡ None → (CanRead p.reader old → ⊥)
-      → (made ≡ Err (Invalid Config)) × (q ≡ p) × (new ≡ old)
-  pub reads : refusal_of Capture p.reader.status call.Transfer ≡ None → CanRead p.reader old
-      → ReadsAt p.seat p.reader q.seat q.reader old new made
+  pub moved : Transfers (refusal_of Capture p.reader.status call.Transfer) (CanRead p.reader old) ((q ≡ p) × (new ≡ old))
+      (ReadsAt p.seat p.reader q.seat q.reader old new made) made
   pub same : KeepsSource p q
 
 pub record ReaderHasRead (old new : List ℤ) (p q : Recording) (answer : ℤ) : Type 0 where

@@ -1,28 +1,49 @@
 use Rattle.std.proofs.Common.{◌∙◌, refl, sym}
+use Rattle.std.specs.Prelude.{Option}
 use Rattle.std.proofs.lemmas.Bool.{false≢true}
+use Rattle.snd_base.specs.declared.errors.PcmError.{PcmError}
+use Rattle.pcm_states.specs.declared.calls.Call.TheVariants as call
+use Rattle.pcm_stream.specs.declared.direction.Direction.TheVariants.{Playback as playback}
+use Rattle.pcm_stream.specs.Status.{refusal_of}
+use Rattle.dmix_c.specs.declared.playback.Playback.{Playback}
 use Rattle.dmix_c.specs.SamePlace.{AreOfPlace-goes}
 use Rattle.pcm_stream.specs.RefusalLaws.{passed-on, refusal-of_err, refusal-of_ok}
+use Rattle.dmix_c.proofs.Seated.{KeepsPlace-later, KeepsPlace-same}
+use Rattle.dmix_c.proofs.Transferring.{Transfers-done, Transfers-invalid, Transfers-refused}
 use Rattle.dmix_c.proofs.Unstopped.{written-unstopped}
-use Rattle.dmix_c.proofs.Writing.{Written-done, Written-invalid, Written-refused, refusal}
 use Rattle.dmix_c.proofs.playback.Playback.writei.Goals as goal
+
+-- why a client's state refuses a write
+abbrev refusal : Playback → Option PcmError
+refusal p = refusal_of playback p.client.stream.status call.Transfer
 
 pub returns-in_err-admit : goal.returns-in_err-admit
 returns-in_err-admit c =
     let p = c.args.self.now in
     let e = c.in_err-admit.field-0.0 in
-    Written-refused p c.args.samples.now e c.from_residual.result (refusal-of_err (refusal p) c.admit.result e c.admit.ensures c.in_err-admit.was) (passed-on c.from_residual.result e c.from_residual.ensures.1)
+    record {
+      moved = Transfers-refused _ _ _ _ _ e (refusal-of_err (refusal p) c.admit.result e c.admit.ensures c.in_err-admit.was)
+          (passed-on c.from_residual.result e c.from_residual.ensures.1) refl;
+      same = KeepsPlace-same p;
+    }
 
 pub returns-then-not-can_offer : goal.returns-then-not-can_offer
 returns-then-not-can_offer c =
     let p = c.args.self.now in
-    Written-invalid p c.args.samples.now _ (refusal-of_ok (refusal p) c.admit.result c.admit.ensures c.in_ok-admit.was)
-    (λ offer. false≢true (sym c.if-not-can_offer.true ∙ c.can_offer.ensures.1 offer)) refl
+    record {
+      moved = Transfers-invalid _ _ _ _ _ (refusal-of_ok (refusal p) c.admit.result c.admit.ensures c.in_ok-admit.was)
+          (λ offer. false≢true (sym c.if-not-can_offer.true ∙ c.can_offer.ensures.1 offer)) refl refl;
+      same = KeepsPlace-same p;
+    }
 
 pub returns : goal.returns
 returns c =
     let p = c.args.self.now in
-    Written-done p _ c.args.samples.now c.write_frames.result (refusal-of_ok (refusal p) c.admit.result c.admit.ensures c.in_ok-admit.was)
-    (c.can_offer.ensures.0 c.if-not-can_offer.false) c.write_frames.ensures.writes refl
+    let writes = c.write_frames.ensures.writes in
+    record {
+      moved = Transfers-done _ _ _ _ _ (refusal-of_ok (refusal p) c.admit.result c.admit.ensures c.in_ok-admit.was) (c.can_offer.ensures.0 c.if-not-can_offer.false) writes;
+      same = KeepsPlace-later p _ writes.goes refl;
+    }
 
 pub invariant_of-self : goal.invariant_of-self
 invariant_of-self c =
