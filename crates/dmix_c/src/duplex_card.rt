@@ -1,11 +1,9 @@
 //! The card's side of both rings: for each frame it stores the captured one, and then takes the mixed one.
-ghost use Rattle.std.specs.Prelude.{◌≡◌, ◌≤◌, ◌↔◌, IfErr, IfOk, IsErrOf, IsTrue, true};
+ghost use Rattle.std.specs.Prelude.{◌≡◌, ◌↔◌, IfErr, IfOk, IsErrOf, IsTrue, true};
 ghost use Rattle.card_sim.specs.Runs.{RunsThrough, period_of, player_of, records_of, writer_of};
 
-use card_player::CardPlayer;
 use card_sim::{Card, NoWatch};
 use snd_base::{PcmError, Why};
-use snoop_table::WriterSeat;
 
 /// A card that captures what it is given, and plays. Both go on by the same frames: so it never plays alone.
 pub struct DuplexCard {
@@ -24,26 +22,7 @@ impl DuplexCard {
     ghost use Rattle.sum_table.specs.Players.{HasUnplugged};
     ghost use Rattle.snoop_table.specs.Writers.{HasUnplugged as WriterHasUnplugged, desk_of};
     ghost use Rattle.card_player.specs.Plays.{EndsEarly, frames_in, geometry_of, seat_of};
-    ghost use Rattle.card_sim.specs.Steps.{AreInStep, IsAtPublished};
     ghost use Rattle.dmix_c.specs.Duplex.{AreBuffers, RunsBuffers};
-
-    /// The card of a player and a writer that are at the same frame, which is published, with a period of so many frames.
-    pub(crate) fn new(
-        player: CardPlayer<'static>,
-        writer: WriterSeat<'static>,
-        period: u32,
-    ) -> DuplexCard
-        requires period { 1 ≤ period }
-        requires in_step { AreInStep player writer }
-        requires published { IsAtPublished player }
-        ensures player { player_of result.card ≡ player.entry }
-        ensures writer { writer_of result.card ≡ writer.entry }
-        ensures period { period_of result.card ≡ period }
-    {
-        DuplexCard {
-            card: Card::new(player, writer, period),
-        }
-    }
 
     /// How many channels the rings have.
     pub(crate) fn channels(&self) -> u64

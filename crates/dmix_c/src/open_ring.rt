@@ -11,6 +11,7 @@ use crate::playing_card::PlayingCard;
 use crate::recording::Recording;
 use crate::way::{Arrivals, WayBack, new_way, no_ways, send_once};
 use card_player::CardPlayer;
+use card_sim::Card;
 use lobby::Lobby;
 use mix_core::MixPort;
 use snd_base::{Geometry, PcmError};
@@ -69,14 +70,15 @@ impl OpenRing {
         let geometry = params.geometry();
         let (mut ring, player) = OpenRing::with_player(alloc, params, geometry)?;
         if !captures {
-            let alone = PlayingCard::new(player);
+            let alone = PlayingCard { player };
             return Ok((ring, Opened::Card(alone)));
         }
         let words = SnoopRing::new(alloc, geometry)?;
         let words: &'static mut SnoopRing = Box::leak(Box::new(alloc, words)?);
         let (writer, seat) = words.seats();
         ring.capture = Some(seat);
-        let duplex = DuplexCard::new(player, writer, params.period_size);
+        let card = Card::new(player, writer, params.period_size);
+        let duplex = DuplexCard { card };
         Ok((ring, Opened::Duplex(duplex)))
     }
 

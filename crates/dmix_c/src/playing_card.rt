@@ -21,14 +21,6 @@ impl Drop for PlayingCard {
 impl PlayingCard {
     ghost use Rattle.sum_table.specs.Players.{HasUnplugged};
 
-    /// The card of a player that took no part of a frame.
-    pub(crate) fn new(player: CardPlayer<'static>) -> PlayingCard
-        requires { IsAtFrame player }
-        ensures { result.player ≡ player.entry }
-    {
-        PlayingCard { player }
-    }
-
     /// How many channels the ring has.
     pub(crate) fn channels(&self) -> u64
         ensures { result ≡ (geometry_of self.now.player).channels }

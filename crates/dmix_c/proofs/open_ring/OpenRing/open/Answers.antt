@@ -5,15 +5,15 @@ use Rattle.snoop_table.specs.Rings.{HasSeats, geometry_of_ring}
 use Rattle.dmix_c.proofs.OpeningDuplex.{AreInStep-new, IsAtPublished-new, IsNewDuplex-made, IsNewOpenRing-same, IsNewPair-alone, IsNewPair-captures}
 use Rattle.dmix_c.proofs.open_ring.OpenRing.open.Goals as goal
 
-pub new-alone-requires : goal.new-alone-requires
-new-alone-requires c = ap (λ (x : Cursor). x.channel) c.in_ok-ring.ensures.at_start.next
+pub invariant_of-alone : goal.invariant_of-alone
+invariant_of-alone c = record { at_frame = ap (λ (x : Cursor). x.channel) c.in_ok-ring.ensures.at_start.next }
 
 pub returns-then-not-captures-clause-ok : goal.returns-then-not-captures-clause-ok
 returns-then-not-captures-clause-ok c =
-    IsNewPair-alone c.args.captures c.args.params.now _ _ c.new-alone.result c.if-not-captures.true c.new-alone.ensures c.in_ok-ring.ensures.ok c.in_ok-ring.ensures.plays_alone
+    IsNewPair-alone c.args.captures c.args.params.now _ _ _ c.if-not-captures.true refl c.in_ok-ring.ensures.ok c.in_ok-ring.ensures.plays_alone
 
-pub new-duplex-requires : goal.new-duplex-requires
-new-duplex-requires c =
+pub new-card-requires : goal.new-card-requires
+new-card-requires c =
     let words = c.leak-words.ensures.value ∙ c.in_ok-new.ensures.ok in
     let start = c.in_ok-ring.ensures.at_start in
     let has = subst (λ (g : Geometry). HasSeats g c.seats-writer.result.0 c.seats-writer.result.1) (ap geometry_of_ring words ∙ c.in_ok-words.ensures.ok.of_geometry) c.seats-writer.ensures in
@@ -27,6 +27,6 @@ pub returns-clause-ok : goal.returns-clause-ok
 returns-clause-ok c =
     let words = c.leak-words.ensures.value ∙ c.in_ok-new.ensures.ok in
     let has = subst (λ (g : Geometry). HasSeats g c.seats-writer.result.0 c.seats-writer.result.1) (ap geometry_of_ring words ∙ c.in_ok-words.ensures.ok.of_geometry) c.seats-writer.ensures in
-    IsNewPair-captures c.args.captures c.args.params.now _ c.new-duplex.result c.if-not-captures.false
-    (IsNewDuplex-made c.args.params.now c.geometry-geometry.result _ _ _ _ c.new-duplex.result (IsNewOpenRing-same c.args.params.now _ _ _ refl refl refl c.in_ok-ring.ensures.ok) refl has
-    c.new-duplex.ensures.player c.new-duplex.ensures.writer c.new-duplex.ensures.period)
+    IsNewPair-captures c.args.captures c.args.params.now _ _ c.if-not-captures.false
+    (IsNewDuplex-made c.args.params.now c.geometry-geometry.result _ _ _ _ _ (IsNewOpenRing-same c.args.params.now _ _ _ refl refl refl c.in_ok-ring.ensures.ok) refl has
+    c.new-card.ensures.player c.new-card.ensures.writer c.new-card.ensures.period)
