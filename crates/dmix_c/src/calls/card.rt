@@ -21,12 +21,7 @@ pub extern "C" fn dmix_c_card_play(alloc: Global, card: &mut Handle, out: &mut [
     ensures { OnCard (out.new ≡ out.old) (HasPlayed out.old out.new) (stands_for card.old)
         (stands_for card.new) result }
 {
-    let Some(mut opened) = card.take(alloc) else {
-        return BAD_HANDLE;
-    };
-    let answer = play_card(&mut opened, out);
-    card.put(opened);
-    answer
+    by_handle!(alloc, card, opened => play_card(&mut opened, out))
 }
 
 fn play_card(opened: &mut Opened, out: &mut [i16]) -> i64
@@ -55,12 +50,7 @@ pub extern "C" fn dmix_c_card_run(
     ensures { OnDuplex (out.new ≡ out.old) (HasRunCard captured.now out.old out.new)
         (stands_for card.old) (stands_for card.new) result }
 {
-    let Some(mut opened) = card.take(alloc) else {
-        return BAD_HANDLE;
-    };
-    let answer = run_card(&mut opened, captured, out);
-    card.put(opened);
-    answer
+    by_handle!(alloc, card, opened => run_card(&mut opened, captured, out))
 }
 
 fn run_card(opened: &mut Opened, captured: &[i16], out: &mut [i16]) -> i64
@@ -81,12 +71,7 @@ pub extern "C" fn dmix_c_card_unplug(alloc: Global, card: &mut Handle) -> i64
     ensures { OnEitherCard ⊤ IsUnplugged IsDuplexUnplugged (stands_for card.old)
         (stands_for card.new) result }
 {
-    let Some(mut opened) = card.take(alloc) else {
-        return BAD_HANDLE;
-    };
-    let answer = unplug_card(&mut opened);
-    card.put(opened);
-    answer
+    by_handle!(alloc, card, opened => unplug_card(&mut opened))
 }
 
 fn unplug_card(opened: &mut Opened) -> i64

@@ -24,12 +24,7 @@ fn ask_client(alloc: Global, client: &mut Handle, request: ClientRequest<'_>) ->
     ensures { OnClient ⊤ (HasAnswered request.entry) (stands_for client.old) (stands_for client.new)
         result }
 {
-    let Some(mut opened) = client.take(alloc) else {
-        return BAD_HANDLE;
-    };
-    let answer = ask_opened(alloc, &mut opened, request);
-    client.put(opened);
-    answer
+    by_handle!(alloc, client, opened => ask_opened(alloc, &mut opened, request))
 }
 
 fn ask_opened(alloc: Global, opened: &mut Opened, request: ClientRequest<'_>) -> i64

@@ -23,12 +23,7 @@ fn ask_reader(alloc: Global, reader: &mut Handle, request: ReaderRequest<'_>) ->
     ensures { OnReader ⊤ (ReaderHasAnswered request.entry) (stands_for reader.old)
         (stands_for reader.new) result }
 {
-    let Some(mut opened) = reader.take(alloc) else {
-        return BAD_HANDLE;
-    };
-    let answer = ask_opened(alloc, &mut opened, request);
-    reader.put(opened);
-    answer
+    by_handle!(alloc, reader, opened => ask_opened(alloc, &mut opened, request))
 }
 
 fn ask_opened(alloc: Global, opened: &mut Opened, request: ReaderRequest<'_>) -> i64
@@ -101,12 +96,7 @@ pub extern "C" fn dmix_c_reader_readi(alloc: Global, reader: &mut Handle, out: &
     ensures { OnReader (out.new ≡ out.old) (ReaderHasRead out.old out.new) (stands_for reader.old)
         (stands_for reader.new) result }
 {
-    let Some(mut opened) = reader.take(alloc) else {
-        return BAD_HANDLE;
-    };
-    let answer = read_samples(&mut opened, out);
-    reader.put(opened);
-    answer
+    by_handle!(alloc, reader, opened => read_samples(&mut opened, out))
 }
 
 fn read_samples(opened: &mut Opened, out: &mut [i16]) -> i64

@@ -25,12 +25,7 @@ pub extern "C" fn dmix_c_client_open(alloc: Global, client: &mut Handle, ring: &
     if client.is_open() {
         return HANDLE_IN_USE;
     }
-    let Some(mut opened) = ring.take(alloc) else {
-        return BAD_HANDLE;
-    };
-    let answer = open_by(alloc, client, &mut opened);
-    ring.put(opened);
-    answer
+    by_handle!(alloc, ring, opened => open_by(alloc, client, &mut opened))
 }
 
 fn open_by(alloc: Global, client: &mut Handle, opened: &mut Opened) -> i64

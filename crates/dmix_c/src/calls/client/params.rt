@@ -93,12 +93,7 @@ pub extern "C" fn dmix_c_status(
     ensures { OnClient (status.new ≡ status.old) (HasStatus status.new) (stands_for client.old)
         (stands_for client.new) result }
 {
-    let Some(mut opened) = client.take(alloc) else {
-        return BAD_HANDLE;
-    };
-    let answer = tell_status(&mut opened, status);
-    client.put(opened);
-    answer
+    by_handle!(alloc, client, opened => tell_status(&mut opened, status))
 }
 
 fn tell_status(opened: &mut Opened, status: &mut StreamStatus) -> i64

@@ -24,12 +24,7 @@ pub extern "C" fn dmix_c_reader_open(alloc: Global, reader: &mut Handle, ring: &
     if reader.is_open() {
         return HANDLE_IN_USE;
     }
-    let Some(mut opened) = ring.take(alloc) else {
-        return BAD_HANDLE;
-    };
-    let answer = open_by(alloc, reader, &mut opened);
-    ring.put(opened);
-    answer
+    by_handle!(alloc, ring, opened => open_by(alloc, reader, &mut opened))
 }
 
 fn open_by(alloc: Global, reader: &mut Handle, opened: &mut Opened) -> i64

@@ -93,12 +93,7 @@ pub extern "C" fn dmix_c_reader_status(
     ensures { OnReader (status.new ≡ status.old) (ReaderHasStatus status.new)
         (stands_for reader.old) (stands_for reader.new) result }
 {
-    let Some(mut opened) = reader.take(alloc) else {
-        return BAD_HANDLE;
-    };
-    let answer = tell_status(&mut opened, status);
-    reader.put(opened);
-    answer
+    by_handle!(alloc, reader, opened => tell_status(&mut opened, status))
 }
 
 fn tell_status(opened: &mut Opened, status: &mut StreamStatus) -> i64
