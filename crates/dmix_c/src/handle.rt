@@ -99,11 +99,7 @@ impl Handle {
             held: Held::empty(alloc),
             channels: 0,
         };
-        let Handle {
-            kind,
-            held,
-            channels: _,
-        } = std::mem::replace(self, closed);
+        let Handle { kind, held, .. } = std::mem::replace(self, closed);
         if kind == 0 {
             return None;
         }
