@@ -24,6 +24,7 @@ use Rattle.dmix_c.specs.Answers.{done_of}
 use Rattle.dmix_c.specs.Backed.{StaysBacked}
 use Rattle.dmix_c.specs.SeatPort.{TakesAt-goes, no_gate, seat_port}
 use Rattle.dmix_c.specs.ClientCalls.{HasMade, call_course, done_course, ring_after}
+use Rattle.dmix_c.proofs.Unstopped.{call-unstopped}
 
 -- a course that gives nothing, with its answer
 pub done-taken : (s t : MixSeat × NeverStops) (m : Course (Answered (Unit {0}))) (d : PlaybackStream) (result : Result (Unit {0}) PcmError) (made : Result ℕ PcmError)
@@ -62,6 +63,7 @@ made-by asked s t g h c d made takes ring usable stays = record {
   after = h;
   takes = takes;
   ring = ring;
+  unstopped = call-unstopped asked (s, g) (t, h) c d.stream (seat_view s).marks made takes;
   usable = usable;
   goes = TakesAt-goes (s, g) (t, h) (call_course asked c (seat_view s).marks) (d.stream, made) takes;
   stays = stays;

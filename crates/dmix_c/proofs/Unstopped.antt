@@ -4,14 +4,15 @@ use Rattle.std.specs.Prelude.{◌&&◌, Bool, true, false, if◌then◌else◌, 
 use Rattle.snd_base.specs.declared.errors.PcmError.{PcmError}
 use Rattle.snd_base.specs.declared.errors.PcmError.TheVariants.{Again}
 use Rattle.snd_base.specs.declared.places.Cursor.{Cursor}
+use Rattle.mix_core.specs.declared.gate.NeverStops.{NeverStops}
 use Rattle.mix_core.specs.declared.marks.Marks.{Marks}
 use Rattle.mix_core.specs.declared.port.Ended.{Ended}
 use Rattle.mix_core.specs.declared.port.Ended.TheVariants.{Whole, Late, Stopped}
 use Rattle.mix_core.specs.declared.port.Position.{Position}
+use Rattle.course.specs.AtPort.{TakesAt}
 use Rattle.course.specs.Course.{Course, ends}
 use Rattle.bindings.specs.Bound.{rising}
 use Rattle.sum_table.specs.declared.seats.mix.MixSeat.{MixSeat}
-use Rattle.sum_table.specs.Seats.{seat_view}
 use Rattle.pcm_states.specs.declared.calls.Call.{Call}
 use Rattle.pcm_states.specs.declared.calls.Call.TheVariants as call
 use Rattle.pcm_states.specs.declared.calls.Outcome.{Outcome}
@@ -29,7 +30,8 @@ use Rattle.dmix_client.specs.View.{ClientView, avail_of}
 use Rattle.dmix_client.specs.Writes.{frames_in, starts_with}
 use Rattle.dmix_c.specs.declared.client_calls.ClientCall.{ClientCall}
 use Rattle.dmix_c.specs.declared.client_calls.ClientCall.TheVariants as asked
-use Rattle.dmix_c.specs.ClientCalls.{HasMade, Writes, call_course, done_course}
+use Rattle.dmix_c.specs.ClientCalls.{call_course, done_course}
+use Rattle.dmix_c.specs.SeatPort.{no_gate, seat_port}
 use Rattle.dmix_c.proofs.Going.{GoesTo, GoesTo-either, GoesTo-taken, GoesTo-then}
 
 -- a call leaves a client stopped, or not
@@ -292,13 +294,13 @@ call_course-left asked.Rewindable c marks still = admitted-left c.stream call.Tr
 call_course-left (asked.Rewind n) c marks still = admitted-left c.stream call.Transfer _ still (rewind-left c.stream c.ring marks.floor n still)
 
 -- so a client that isn't stopped is left so by a call, and by a write
-pub made-unstopped : (what : ClientCall) (s t : MixSeat) (c d : ClientView) (made : Result ℕ PcmError) → HasMade what s c t d made → c.stream.status.stopped ≡ false
-    → d.stream.status.stopped ≡ false
-made-unstopped what s t c d made has still =
-    (GoesTo-taken (IsLeft false) (s, has.before) (t, has.after) (call_course what c (seat_view s).marks) (d.stream, made) (call_course-left what c (seat_view s).marks still) has.takes).still
+pub call-unstopped : (what : ClientCall) (s t : MixSeat × NeverStops) (c : ClientView) (d : PlaybackStream) (marks : Marks) (made : Result ℕ PcmError)
+    → TakesAt seat_port no_gate s (call_course what c marks) t (d, made) → c.stream.status.stopped ≡ false → d.status.stopped ≡ false
+call-unstopped what s t c d marks made takes still = (GoesTo-taken (IsLeft false) s t (call_course what c marks) (d, made) (call_course-left what c marks still) takes).still
 
-pub written-unstopped : (s t : MixSeat) (c d : ClientView) (samples : List ℤ) (made : Result ℕ PcmError) → Writes s c t d samples made → c.stream.status.stopped ≡ false
-    → d.stream.status.stopped ≡ false
-written-unstopped s t c d samples made writes still =
-    (GoesTo-taken (IsLeft false) (s, writes.before) (t, writes.after) (if_admitted c.stream call.Transfer (write_course c.stream c.ring samples (seat_view s).marks.cursor)) (d.stream, made)
-    (admitted-left c.stream call.Transfer _ still (write-left c.stream c.ring samples (seat_view s).marks.cursor still)) writes.takes).still
+pub write-unstopped : (s t : MixSeat × NeverStops) (c : ClientView) (d : PlaybackStream) (samples : List ℤ) (cursor : Cursor) (made : Result ℕ PcmError)
+    → TakesAt seat_port no_gate s (if_admitted c.stream call.Transfer (write_course c.stream c.ring samples cursor)) t (d, made) → c.stream.status.stopped ≡ false
+    → d.status.stopped ≡ false
+write-unstopped s t c d samples cursor made takes still =
+    (GoesTo-taken (IsLeft false) s t (if_admitted c.stream call.Transfer (write_course c.stream c.ring samples cursor)) (d, made)
+    (admitted-left c.stream call.Transfer _ still (write-left c.stream c.ring samples cursor still)) takes).still

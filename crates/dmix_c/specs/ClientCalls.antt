@@ -66,19 +66,21 @@ abbrev pub ring_after : ClientCall → Result ℕ PcmError → List ℤ → List
 ring_after asked.HwFree (Ok done) ring = []
 ring_after other made ring = ring
 
--- a client made a call at its seat, and can use the seat again; its segment is what stands at the end of what the seat placed, by whichever
--- samples it was before
+-- a client made a call at its seat, isn't stopped by it, and can use the seat again; its segment is what stands at the end of what the seat
+-- placed, by whichever samples it was before
 pub record HasMade (asked : ClientCall) (s : MixSeat) (c : ClientView) (t : MixSeat) (d : ClientView) (made : Result ℕ PcmError) : Type 0 where
   pub before : NeverStops
   pub after : NeverStops
   pub takes : TakesAt seat_port no_gate (s, before) (call_course asked c (seat_view s).marks) (t, after) (d.stream, made)
   pub ring : d.ring ≡ ring_after asked made c.ring
+  pub unstopped : c.stream.status.stopped ≡ false → d.stream.status.stopped ≡ false
   pub usable : CanUse d.stream (seat_view t)
   pub goes : IsLaterSeat s t
   pub stays : StaysBacked s c t d
 
 -- a client wrote samples at its seat: it took the course of a write, and for each list of samples that it represents, and that has the
--- offered ones after those which it accepted, its segment grew by exactly what it placed, and it represents the list afterwards
+-- offered ones after those which it accepted, its segment grew by exactly what it placed, and it represents the list afterwards; it isn't
+-- stopped by it
 pub record Writes (s : MixSeat) (c : ClientView) (t : MixSeat) (d : ClientView) (samples : List ℤ) (written : Result ℕ PcmError) : Type 0 where
   pub before : NeverStops
   pub after : NeverStops
@@ -86,6 +88,7 @@ pub record Writes (s : MixSeat) (c : ClientView) (t : MixSeat) (d : ClientView) 
       (if_admitted c.stream call.Transfer (write_course c.stream c.ring samples (seat_view s).marks.cursor))
       (t, after) (d.stream, written)
   pub keeps : Keeps seat_port no_gate (s, before) (t, after) c d written (λ all. Follows c.stream all samples (frames_in c.stream samples))
+  pub unstopped : c.stream.status.stopped ≡ false → d.stream.status.stopped ≡ false
   pub goes : IsLaterSeat s t
 
 -- a client with a configuration and bindings, prepared, with a silent local ring for the buffer

@@ -1,5 +1,5 @@
 -- The calls of a reader at its seat: what each does there, step by step, what it answers, and what it leaves.
-use Rattle.std.specs.Prelude.{ℕ, ℤ, List, Result, Ok}
+use Rattle.std.specs.Prelude.{◌≡◌, ℕ, false, ℤ, List, Result, Ok}
 use Rattle.snd_base.specs.declared.errors.PcmError.{PcmError}
 use Rattle.snd_base.specs.declared.geometry.Geometry.{Geometry}
 use Rattle.mix_core.specs.declared.gate.NeverStops.{NeverStops}
@@ -42,21 +42,23 @@ reader_course asked.Drop c =
 reader_course asked.AvailUpdate c =
     if_admitted c call.Sync (avail_course c)
 
--- a reader made a call at its seat, and can use the seat again
+-- a reader made a call at its seat, isn't stopped by it, and can use the seat again
 pub record ReaderHasMade (asked : ReaderCall) (s : ReaderSeat) (c : CaptureStream) (t : ReaderSeat) (d : CaptureStream) (made : Result ℕ PcmError) : Type 0 where
   pub before : NeverStops
   pub after : NeverStops
   pub takes : TakesAtSnoop reader_port no_gate (s, before) (reader_course asked c) (t, after) (d, made)
+  pub unstopped : c.status.stopped ≡ false → d.status.stopped ≡ false
   pub usable : CanUse d (seat_view t)
   pub goes : IsLaterSeat s t
 
 -- a reader read into some room at its seat: it took the course of a read, and gives the samples of the frames that its seat got, one after the
--- other, through its bindings; and it can use the seat again
+-- other, through its bindings; and it isn't stopped by it, and can use the seat again
 pub record ReadsAt (s : ReaderSeat) (c : CaptureStream) (t : ReaderSeat) (d : CaptureStream) (old new : List ℤ) (made : Result ℕ PcmError) : Type 0 where
   pub before : NeverStops
   pub after : NeverStops
   pub takes : TakesAtSnoop reader_port no_gate (s, before) (if_admitted c call.Transfer (read_course c (frames_in c old))) (t, after) (d, made)
   pub gives : GivesFrames reader_port s t c d old new made
+  pub unstopped : c.status.stopped ≡ false → d.status.stopped ≡ false
   pub usable : CanUse d (seat_view t)
   pub goes : IsLaterSeat s t
 

@@ -7,6 +7,7 @@ use Rattle.dmix_c.specs.declared.reader_calls.ReaderCall.{ReaderCall}
 use Rattle.dmix_c.specs.declared.reader_calls.ReaderCall.TheVariants as asked
 use Rattle.dmix_c.specs.ReaderCalls.{ReaderHasMade}
 use Rattle.dmix_c.proofs.ReaderMaking.{reader-made-by, reader-made-plain, reader_done-taken}
+use Rattle.dmix_c.proofs.ReaderUnstopped.{unstopped-by}
 use Rattle.dmix_c.proofs.reader_calls.make_call.Goals as goal
 
 abbrev gate : NeverStops
@@ -20,7 +21,7 @@ returns-in-HwFree c =
     let d = c.hw_free.new.self in
     subst (λ (named : ReaderCall). ReaderHasMade named s v s d c.done_of.result) (sym c.in-HwFree.is)
     (reader-made-plain asked.HwFree call.HwFree s gate v d (after_hw_free v) c.hw_free.result c.done_of.result
-    refl refl refl c.requires made.refused made.freed c.done_of.ensures)
+    refl refl refl refl c.requires made.refused made.freed c.done_of.ensures)
 
 pub returns-in-Prepare : goal.returns-in-Prepare
 returns-in-Prepare c =
@@ -30,7 +31,7 @@ returns-in-Prepare c =
     let d = c.prepare.new.self in
     subst (λ (named : ReaderCall). ReaderHasMade named s v s d c.done_of-in-Prepare.result) (sym c.in-Prepare.is)
     (reader-made-plain asked.Prepare call.Prepare s gate v d (in_state v state.Prepared) c.prepare.result c.done_of-in-Prepare.result
-    refl refl refl c.requires made.refused made.prepared c.done_of-in-Prepare.ensures)
+    refl refl refl refl c.requires made.refused made.prepared c.done_of-in-Prepare.ensures)
 
 pub returns-in-Start : goal.returns-in-Start
 returns-in-Start c =
@@ -39,7 +40,7 @@ returns-in-Start c =
     let d = c.start.new.self in
     subst (λ (named : ReaderCall). ReaderHasMade named c.args.seat.now v c.start.new.port d c.done_of-in-Start.result) (sym c.in-Start.is)
     (reader-made-by asked.Start c.args.seat.now c.start.new.port _ _ v d c.done_of-in-Start.result
-    (reader_done-taken _ _ _ _ c.start.result c.done_of-in-Start.result made.takes c.done_of-in-Start.ensures) made.keeps.port)
+    (reader_done-taken _ _ _ _ c.start.result c.done_of-in-Start.result made.takes c.done_of-in-Start.ensures) (unstopped-by _ _ _ _ _ made.keeps) made.keeps.port)
 
 pub returns-in-Drop : goal.returns-in-Drop
 returns-in-Drop c =
@@ -49,7 +50,7 @@ returns-in-Drop c =
     let d = c.drop_pending.new.self in
     subst (λ (named : ReaderCall). ReaderHasMade named s v s d c.done_of-in-Drop.result) (sym c.in-Drop.is)
     (reader-made-plain asked.Drop call.Drop s gate v d (in_state v state.Setup) c.drop_pending.result c.done_of-in-Drop.result
-    refl refl refl c.requires made.refused made.dropped c.done_of-in-Drop.ensures)
+    refl refl refl refl c.requires made.refused made.dropped c.done_of-in-Drop.ensures)
 
 pub returns-in-AvailUpdate : goal.returns-in-AvailUpdate
 returns-in-AvailUpdate c =
@@ -57,4 +58,4 @@ returns-in-AvailUpdate c =
     let v = c.args.reader.now in
     let d = c.avail_update.new.self in
     subst (λ (named : ReaderCall). ReaderHasMade named c.args.seat.now v c.avail_update.new.port d c.avail_update.result) (sym c.in-AvailUpdate.is)
-    (reader-made-by asked.AvailUpdate c.args.seat.now c.avail_update.new.port _ _ v d c.avail_update.result made.takes made.keeps.port)
+    (reader-made-by asked.AvailUpdate c.args.seat.now c.avail_update.new.port _ _ v d c.avail_update.result made.takes (unstopped-by _ _ _ _ _ made.keeps) made.keeps.port)

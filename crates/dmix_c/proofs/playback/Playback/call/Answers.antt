@@ -2,7 +2,6 @@ use Rattle.std.proofs.Common.{refl}
 use Rattle.std.proofs.Math.Logic.{∥∥₁_map}
 use Rattle.dmix_c.specs.SamePlace.{AreOfPlace-goes}
 use Rattle.dmix_c.proofs.Seated.{IsSamePlace-later}
-use Rattle.dmix_c.proofs.Unstopped.{made-unstopped}
 use Rattle.dmix_c.proofs.playback.Playback.call.Goals as goal
 
 pub invariant_of-self : goal.invariant_of-self
@@ -10,7 +9,7 @@ invariant_of-self c =
     let p = c.args.self.now in
     let made = c.make_call.ensures in
     record {
-      unstopped = made-unstopped c.args.asked p.seat c.make_call.new.seat p.client c.make_call.new.client c.make_call.result made p.unstopped;
+      unstopped = made.unstopped p.unstopped;
       usable = made.usable;
       backed = λ has. ∥∥₁_map (p.backed (made.stays.configured has)) (λ found. (found.0, made.stays.backed has found.0 found.1));
       own_way = AreOfPlace-goes _ p.seat c.make_call.new.seat made.goes p.own_way;

@@ -10,7 +10,6 @@ use Rattle.dmix_c.specs.SamePlace.{AreOfPlace-goes}
 use Rattle.pcm_stream.specs.RefusalLaws.{passed-on, refusal-of_err, refusal-of_ok}
 use Rattle.dmix_c.proofs.Seated.{KeepsPlace-later, KeepsPlace-same}
 use Rattle.dmix_c.proofs.Transferring.{Transfers-done, Transfers-invalid, Transfers-refused}
-use Rattle.dmix_c.proofs.Unstopped.{written-unstopped}
 use Rattle.dmix_c.proofs.playback.Playback.writei.Goals as goal
 
 -- why a client's state refuses a write
@@ -50,7 +49,7 @@ invariant_of-self c =
     let p = c.args.self.now in
     let writes = c.write_frames.ensures.writes in
     record {
-      unstopped = written-unstopped p.seat c.write_frames.new.seat p.client c.write_frames.new.client c.args.samples.now c.write_frames.result writes p.unstopped;
+      unstopped = writes.unstopped p.unstopped;
       usable = writes.keeps.port;
       backed = c.write_frames.ensures.backed p.backed;
       own_way = AreOfPlace-goes _ p.seat c.write_frames.new.seat writes.goes p.own_way;

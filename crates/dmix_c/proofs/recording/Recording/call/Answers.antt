@@ -1,5 +1,4 @@
 use Rattle.std.proofs.Common.{refl}
-use Rattle.dmix_c.proofs.ReaderUnstopped.{made-unstopped}
 use Rattle.dmix_c.proofs.recording.Recording.call.Goals as goal
 
 pub returns-clause-same : goal.returns-clause-same
@@ -10,6 +9,6 @@ invariant_of-self c =
     let p = c.args.self.now in
     let made = c.make_call.ensures in
     record {
-      unstopped = made-unstopped c.args.asked p.seat c.make_call.new.seat p.reader c.make_call.new.reader c.make_call.result made p.unstopped;
+      unstopped = made.unstopped p.unstopped;
       usable = made.usable;
     }

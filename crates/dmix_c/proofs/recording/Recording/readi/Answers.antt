@@ -6,7 +6,6 @@ use Rattle.pcm_states.specs.declared.calls.Call.TheVariants as call
 use Rattle.pcm_stream.specs.declared.direction.Direction.TheVariants.{Capture}
 use Rattle.pcm_stream.specs.Status.{refusal_of}
 use Rattle.dmix_c.specs.declared.recording.Recording.{Recording}
-use Rattle.dmix_c.proofs.ReaderUnstopped.{read-unstopped}
 use Rattle.pcm_stream.specs.RefusalLaws.{passed-on, refusal-of_err, refusal-of_ok}
 use Rattle.dmix_c.proofs.Sourced.{KeepsSource-later, KeepsSource-same}
 use Rattle.dmix_c.proofs.Transferring.{Transfers-done, Transfers-invalid, Transfers-refused}
@@ -49,6 +48,6 @@ invariant_of-self c =
     let p = c.args.self.now in
     let reads = c.read_frames.ensures in
     record {
-      unstopped = read-unstopped p.seat c.read_frames.new.seat p.reader c.read_frames.new.reader c.args.out.now c.read_frames.new.out c.read_frames.result reads p.unstopped;
+      unstopped = reads.unstopped p.unstopped;
       usable = reads.usable;
     }
