@@ -149,11 +149,8 @@ pub extern "C" fn dmix_c_rewind(alloc: Global, client: &mut Handle, frames: u64)
     ensures { OnClient ⊤ (HasCalled (asked.Rewind frames)) (stands_for client.old)
         (stands_for client.new) result }
 {
-    ask_client(
-        alloc,
-        client,
-        ClientRequest::Call(ClientCall::Rewind(frames)),
-    )
+    let call = ClientCall::Rewind(frames);
+    ask_client(alloc, client, ClientRequest::Call(call))
 }
 
 /// Writes interleaved samples, of whole frames (`snd_pcm_writei` of a stream that doesn't wait).

@@ -27,12 +27,8 @@ pub extern "C" fn dmix_c_hw_params(
         (stands_for client.old) (stands_for client.new) result }
 {
     let all = [0u32, 1, 2, 3, 4, 5, 6, 7];
-    let count = params.channels.min(8) as usize;
-    ask_client(
-        alloc,
-        client,
-        ClientRequest::HwParams(params, &all[..count]),
-    )
+    let list = &all[..params.channels.min(8) as usize];
+    ask_client(alloc, client, ClientRequest::HwParams(params, list))
 }
 
 /// Sets the hardware parameters in the same way. Channel i of the client goes to the card's channel `bindings[i]`.

@@ -27,12 +27,8 @@ pub extern "C" fn dmix_c_reader_hw_params(
         (stands_for reader.old) (stands_for reader.new) result }
 {
     let all = [0u32, 1, 2, 3, 4, 5, 6, 7];
-    let count = params.channels.min(8) as usize;
-    ask_reader(
-        alloc,
-        reader,
-        ReaderRequest::HwParams(params, &all[..count]),
-    )
+    let list = &all[..params.channels.min(8) as usize];
+    ask_reader(alloc, reader, ReaderRequest::HwParams(params, list))
 }
 
 /// Sets the hardware parameters in the same way. Channel i of the reader is the card's channel `bindings[i]`.
