@@ -84,12 +84,12 @@ pub record HasState (p q : Playback) (answer : ℤ) : Type 0 where
   pub answered : answer ≡ pos (state_number p.client.stream.status.state)
 
 -- a client did what it was asked, and gave what the call answers
-abbrev pub HasAnswered : ClientRequest → Playback → Playback → ℤ → Type 0
-HasAnswered (request.Call asked) = HasCalled asked
-HasAnswered (request.HwParams params list) = HasHwParams params.now list.now
-HasAnswered (request.SwParams params) = HasSwParams params.now
-HasAnswered request.State = HasState
-HasAnswered (request.Write samples) = HasWritten samples.now
+abbrev pub HasDone : ClientRequest → Playback → Playback → ℤ → Type 0
+HasDone (request.Call asked) = HasCalled asked
+HasDone (request.HwParams params list) = HasHwParams params.now list.now
+HasDone (request.SwParams params) = HasSwParams params.now
+HasDone request.State = HasState
+HasDone (request.Write samples) = HasWritten samples.now
 
 -- what a client is after a sync: its state, the frames that a write can take, the frames before the next one that is written, and the
 -- position; where the sync was refused, both numbers of frames are 0
