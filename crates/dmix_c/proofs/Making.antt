@@ -1,6 +1,6 @@
 -- A call of a client at its seat, from what the client's own call says.
 use Rattle.std.proofs.Common.{◌≡◌, ℕ, refl, sym, ◌∙◌, ap, subst}
-use Rattle.std.specs.Prelude.{false, Result, Ok, Err, Option, Some, None}
+use Rattle.std.specs.Prelude.{false, ℤ, List, Result, Ok, Err, Option, Some, None}
 use Rattle.std.proofs.lemmas.Bool.{false≢true}
 use Rattle.snd_base.specs.declared.errors.PcmError.{PcmError}
 use Rattle.mix_core.specs.declared.gate.NeverStops.{NeverStops}
@@ -11,6 +11,7 @@ use Rattle.course.specs.AtPort.{LaysAt, LoadsAt, NoGet, TakesAt}
 use Rattle.course.specs.Course.{Course, ends}
 use Rattle.course.specs.CourseLaws.{Takes-map}
 use Rattle.pcm_states.specs.declared.calls.Call.{Call}
+use Rattle.pcm_states.specs.declared.calls.Call.TheVariants as call
 use Rattle.pcm_stream.specs.declared.direction.Direction.TheVariants.{Playback}
 use Rattle.pcm_stream.specs.Status.{is_moving, refusal_of}
 use Rattle.dmix_client.specs.declared.stream.Identity.{Identity}
@@ -18,12 +19,13 @@ use Rattle.dmix_client.specs.declared.stream.PlaybackStream.{PlaybackStream}
 use Rattle.dmix_client.specs.Calls.{Answered}
 use Rattle.dmix_client.specs.Course.{admitted_by, if_admitted}
 use Rattle.dmix_client.specs.Port.{CanUse}
-use Rattle.dmix_client.specs.View.{ClientView}
+use Rattle.dmix_client.specs.View.{ClientView, IsSoundClient}
 use Rattle.dmix_c.specs.declared.client_calls.ClientCall.{ClientCall}
 use Rattle.dmix_c.specs.Answers.{done_of}
-use Rattle.dmix_c.specs.Backed.{StaysBacked}
+use Rattle.dmix_c.specs.Backed.{IsBackedBy, StaysBacked}
 use Rattle.dmix_c.specs.SeatPort.{TakesAt-goes, no_gate, seat_port}
 use Rattle.dmix_c.specs.ClientCalls.{HasMade, call_course, done_course, ring_after}
+use Rattle.dmix_c.proofs.Backing.{still-configured}
 use Rattle.dmix_c.proofs.Unstopped.{call-unstopped}
 
 -- a course that gives nothing, with its answer
@@ -69,21 +71,32 @@ made-by asked s t g h c d made takes ring usable stays = record {
   stays = stays;
 }
 
+-- a call with steps, which gives no configuration, by the samples of its segment
+pub made-stepping : (asked named : ClientCall) (what : Call) (s t : MixSeat) (g h : NeverStops) (c d : ClientView) (made : Result ℕ PcmError) → asked ≡ named
+    → (what ≡ call.HwParams → ⊥) → IsSoundClient c.stream c.ring → ((e : PcmError) → refusal_of Playback c.stream.status what ≡ Some e → d ≡ c)
+    → TakesAt seat_port no_gate (s, g) (call_course named c (seat_view s).marks) (t, h) (d.stream, made)
+    → d.ring ≡ ring_after named made c.ring → CanUse d.stream (seat_view t) → ((samples : List ℤ) → IsBackedBy s c samples → IsBackedBy t d samples)
+    → HasMade asked s c t d made
+made-stepping asked named what s t g h c d made is other sound refused takes ring usable backed =
+    subst (λ (a : ClientCall). HasMade a s c t d made) (sym is) (made-by named s t g h c d made takes ring usable
+    (record { configured = still-configured what c d other sound refused; backed = λ has. backed }))
+
 StaysBacked-same : (s : MixSeat) (c : ClientView) → StaysBacked s c s c
 StaysBacked-same s c = record { configured = λ has. has; backed = λ has samples is. is }
 
 -- a call without steps, which leaves the client as `end`
-pub made-plain : (asked : ClientCall) (what : Call) (s : MixSeat) (g : NeverStops) (c d end : ClientView) (result : Result (Unit {0}) PcmError) (made : Result ℕ PcmError)
-    → call_course asked c (seat_view s).marks ≡ done_course (if_admitted c.stream what (ends (end.stream, Ok tt)))
-    → end.ring ≡ ring_after asked (Ok 0) c.ring → ((e : PcmError) → c.ring ≡ ring_after asked (Err e) c.ring)
+pub made-plain : (asked named : ClientCall) (what : Call) (s : MixSeat) (g : NeverStops) (c d end : ClientView) (result : Result (Unit {0}) PcmError) (made : Result ℕ PcmError)
+    → asked ≡ named → call_course named c (seat_view s).marks ≡ done_course (if_admitted c.stream what (ends (end.stream, Ok tt)))
+    → end.ring ≡ ring_after named (Ok 0) c.ring → ((e : PcmError) → c.ring ≡ ring_after named (Err e) c.ring)
     → end.stream.identity ≡ c.stream.identity → is_moving end.stream.status.state ≡ false → CanUse c.stream (seat_view s)
     → (refusal_of Playback c.stream.status what ≡ None → StaysBacked s c s end)
     → ((e : PcmError) → refusal_of Playback c.stream.status what ≡ Some e → (result ≡ Err e) × (d ≡ c))
     → (refusal_of Playback c.stream.status what ≡ None → (result ≡ Ok tt) × (d ≡ end))
     → made ≡ done_of result → HasMade asked s c s d made
-made-plain asked what s g c d end result made course_is ring_ok ring_err same rests usable stays refused goes is = by_refusal (refusal_of Playback c.stream.status what) refl
+made-plain asked named what s g c d end result made named_is course_is ring_ok ring_err same rests usable stays refused goes is =
+    subst (λ (a : ClientCall). HasMade a s c s d made) (sym named_is) (by_refusal (refusal_of Playback c.stream.status what) refl)
   where
-    takes : TakesAt seat_port no_gate (s, g) (call_course asked c (seat_view s).marks) (s, g) (d.stream, made)
+    takes : TakesAt seat_port no_gate (s, g) (call_course named c (seat_view s).marks) (s, g) (d.stream, made)
     takes = subst (λ (m : Course (Answered ℕ)). TakesAt seat_port no_gate (s, g) m (s, g) (d.stream, made)) (sym course_is)
         (done-taken (s, g) (s, g) (if_admitted c.stream what (ends (end.stream, Ok tt))) d.stream result made
         (admitted-taken (s, g) c.stream d.stream what (end.stream, Ok tt) result
@@ -91,16 +104,16 @@ made-plain asked what s g c d end result made course_is ring_ok ring_err same re
         (λ found. let r = goes found in (r.0, ap (λ (v : ClientView). v.stream) r.1)))
         is)
 
-    by_refusal : (refusal : Option PcmError) → refusal_of Playback c.stream.status what ≡ refusal → HasMade asked s c s d made
+    by_refusal : (refusal : Option PcmError) → refusal_of Playback c.stream.status what ≡ refusal → HasMade named s c s d made
     by_refusal None found =
         let r = goes found in
-        made-by asked s s g g c d made takes
-        (ap (λ (v : ClientView). v.ring) r.1 ∙ (ring_ok ∙ ap (λ (a : Result ℕ PcmError). ring_after asked a c.ring) (sym (is ∙ ap done_of r.0))))
+        made-by named s s g g c d made takes
+        (ap (λ (v : ClientView). v.ring) r.1 ∙ (ring_ok ∙ ap (λ (a : Result ℕ PcmError). ring_after named a c.ring) (sym (is ∙ ap done_of r.0))))
         (subst (λ (v : ClientView). CanUse v.stream (seat_view s)) (sym r.1) (CanUse-resting c.stream end.stream (seat_view s) same rests usable))
         (subst (λ (v : ClientView). StaysBacked s c s v) (sym r.1) (stays found))
     by_refusal (Some e) found =
         let r = refused e found in
-        made-by asked s s g g c d made takes
-        (ap (λ (v : ClientView). v.ring) r.1 ∙ (ring_err e ∙ ap (λ (a : Result ℕ PcmError). ring_after asked a c.ring) (sym (is ∙ ap done_of r.0))))
+        made-by named s s g g c d made takes
+        (ap (λ (v : ClientView). v.ring) r.1 ∙ (ring_err e ∙ ap (λ (a : Result ℕ PcmError). ring_after named a c.ring) (sym (is ∙ ap done_of r.0))))
         (subst (λ (v : ClientView). CanUse v.stream (seat_view s)) (sym r.1) usable)
         (subst (λ (v : ClientView). StaysBacked s c s v) (sym r.1) (StaysBacked-same s c))

@@ -1,11 +1,9 @@
-use Rattle.std.proofs.Common.{refl, subst, sym}
+use Rattle.std.proofs.Common.{refl}
 use Rattle.mix_core.specs.declared.gate.NeverStops.{NeverStops}
 use Rattle.pcm_states.specs.declared.calls.Call.TheVariants as call
 use Rattle.pcm_states.specs.declared.states.State.TheVariants as state
 use Rattle.dsnoop_client.specs.Calls.{after_hw_free, in_state}
-use Rattle.dmix_c.specs.declared.reader_calls.ReaderCall.{ReaderCall}
 use Rattle.dmix_c.specs.declared.reader_calls.ReaderCall.TheVariants as asked
-use Rattle.dmix_c.specs.ReaderCalls.{ReaderHasMade}
 use Rattle.dmix_c.proofs.ReaderMaking.{reader-made-by, reader-made-plain, reader_done-taken}
 use Rattle.dmix_c.proofs.ReaderUnstopped.{unstopped-by}
 use Rattle.dmix_c.proofs.reader_calls.make_call.Goals as goal
@@ -16,46 +14,31 @@ gate = record {}
 pub returns-in-HwFree : goal.returns-in-HwFree
 returns-in-HwFree c =
     let made = c.hw_free.ensures in
-    let s = c.args.seat.now in
     let v = c.args.reader.now in
-    let d = c.hw_free.new.self in
-    subst (λ (named : ReaderCall). ReaderHasMade named s v s d c.done_of.result) (sym c.in-HwFree.is)
-    (reader-made-plain asked.HwFree call.HwFree s gate v d (after_hw_free v) c.hw_free.result c.done_of.result
-    refl refl refl refl c.requires made.refused made.freed c.done_of.ensures)
+    reader-made-plain _ asked.HwFree call.HwFree _ gate v _ (after_hw_free v) c.hw_free.result c.done_of.result c.in-HwFree.is
+    refl refl refl refl c.requires made.refused made.freed c.done_of.ensures
 
 pub returns-in-Prepare : goal.returns-in-Prepare
 returns-in-Prepare c =
     let made = c.prepare.ensures in
-    let s = c.args.seat.now in
     let v = c.args.reader.now in
-    let d = c.prepare.new.self in
-    subst (λ (named : ReaderCall). ReaderHasMade named s v s d c.done_of-in-Prepare.result) (sym c.in-Prepare.is)
-    (reader-made-plain asked.Prepare call.Prepare s gate v d (in_state v state.Prepared) c.prepare.result c.done_of-in-Prepare.result
-    refl refl refl refl c.requires made.refused made.prepared c.done_of-in-Prepare.ensures)
+    reader-made-plain _ asked.Prepare call.Prepare _ gate v _ (in_state v state.Prepared) c.prepare.result c.done_of-in-Prepare.result c.in-Prepare.is
+    refl refl refl refl c.requires made.refused made.prepared c.done_of-in-Prepare.ensures
 
 pub returns-in-Start : goal.returns-in-Start
 returns-in-Start c =
     let made = c.start.ensures in
-    let v = c.args.reader.now in
-    let d = c.start.new.self in
-    subst (λ (named : ReaderCall). ReaderHasMade named c.args.seat.now v c.start.new.port d c.done_of-in-Start.result) (sym c.in-Start.is)
-    (reader-made-by asked.Start c.args.seat.now c.start.new.port _ _ v d c.done_of-in-Start.result
-    (reader_done-taken _ _ _ _ c.start.result c.done_of-in-Start.result made.takes c.done_of-in-Start.ensures) (unstopped-by _ _ _ _ _ made.keeps) made.keeps.port)
+    reader-made-by _ asked.Start _ _ _ _ _ _ c.done_of-in-Start.result c.in-Start.is
+    (reader_done-taken _ _ _ _ c.start.result c.done_of-in-Start.result made.takes c.done_of-in-Start.ensures) (unstopped-by _ _ _ _ _ made.keeps) made.keeps.port
 
 pub returns-in-Drop : goal.returns-in-Drop
 returns-in-Drop c =
     let made = c.drop_pending.ensures in
-    let s = c.args.seat.now in
     let v = c.args.reader.now in
-    let d = c.drop_pending.new.self in
-    subst (λ (named : ReaderCall). ReaderHasMade named s v s d c.done_of-in-Drop.result) (sym c.in-Drop.is)
-    (reader-made-plain asked.Drop call.Drop s gate v d (in_state v state.Setup) c.drop_pending.result c.done_of-in-Drop.result
-    refl refl refl refl c.requires made.refused made.dropped c.done_of-in-Drop.ensures)
+    reader-made-plain _ asked.Drop call.Drop _ gate v _ (in_state v state.Setup) c.drop_pending.result c.done_of-in-Drop.result c.in-Drop.is
+    refl refl refl refl c.requires made.refused made.dropped c.done_of-in-Drop.ensures
 
 pub returns-in-AvailUpdate : goal.returns-in-AvailUpdate
 returns-in-AvailUpdate c =
     let made = c.avail_update.ensures in
-    let v = c.args.reader.now in
-    let d = c.avail_update.new.self in
-    subst (λ (named : ReaderCall). ReaderHasMade named c.args.seat.now v c.avail_update.new.port d c.avail_update.result) (sym c.in-AvailUpdate.is)
-    (reader-made-by asked.AvailUpdate c.args.seat.now c.avail_update.new.port _ _ v d c.avail_update.result made.takes (unstopped-by _ _ _ _ _ made.keeps) made.keeps.port)
+    reader-made-by _ asked.AvailUpdate _ _ _ _ _ _ c.avail_update.result c.in-AvailUpdate.is made.takes (unstopped-by _ _ _ _ _ made.keeps) made.keeps.port
