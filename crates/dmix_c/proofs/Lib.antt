@@ -12,7 +12,6 @@ pub mod OpeningDuplex
 pub mod ReaderMaking
 pub mod ReaderUnstopped
 pub mod Ringed
-pub mod Running
 pub mod Seated
 pub mod SettingUp
 pub mod Settled

@@ -15,14 +15,17 @@ pub record AreBuffers (a : DuplexCard) (captured out : List ℤ) : Type 0 where
   pub same : length captured ≡ length out
   pub whole : length out % (geometry_of (player_of a.card)).channels ≡ 0
 
--- a card ran for as many frames as the buffers hold, and answers how many, or that the rings' end came before; or it refused the buffers, with
--- nothing changed
+-- a card ran for as many frames as buffers hold, and answers how many, or that the rings' end came before
+pub record RunsFrames (captured old new : List ℤ) (a b : DuplexCard) (made : Result ℕ PcmError) : Type 0 where
+  pub runs : RunsThrough a.card b.card captured old new
+  pub count : IfOk made (λ n. n ≡ frames_in (player_of a.card) old)
+  pub lap_end : IsErrOf made LapEnd ↔ EndsEarly (player_of a.card) old
+  pub only : IfErr made (λ e. e ≡ LapEnd)
+
+-- a card ran, or refused the buffers with nothing changed
 pub record RunsBuffers (captured old new : List ℤ) (a b : DuplexCard) (made : Result ℕ PcmError) : Type 0 where
   pub defect : (AreBuffers a captured old → ⊥) → (made ≡ Err (Invalid Config)) × (b ≡ a) × (new ≡ old)
-  pub runs : AreBuffers a captured old → RunsThrough a.card b.card captured old new
-  pub count : AreBuffers a captured old → IfOk made (λ n. n ≡ frames_in (player_of a.card) old)
-  pub lap_end : AreBuffers a captured old → (IsErrOf made LapEnd ↔ EndsEarly (player_of a.card) old)
-  pub only : AreBuffers a captured old → IfErr made (λ e. e ≡ LapEnd)
+  pub ran : AreBuffers a captured old → RunsFrames captured old new a b made
   pub period : period_of b.card ≡ period_of a.card
 
 pub record HasRunCard (captured old new : List ℤ) (a b : DuplexCard) (answer : ℤ) : Type 0 where
