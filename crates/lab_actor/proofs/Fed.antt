@@ -24,7 +24,7 @@ use Rattle.dmix_client.specs.Course.{if_admitted, admitted_by, drain_course, dra
 use Rattle.dmix_client.specs.Rewind.{back_of, back_on, checks, last_channel, last_laid, rewind_left, rewind_course, rewind_on, rewindable_course, rewindable_of, rewinds, after_rewind, take_frames, taken_back, takes_back, without_frames}
 use Rattle.dmix_client.specs.View.{IsSoundClient, avail_of}
 use Rattle.dmix_client.specs.Writes.{frames_in, starts_with}
-use Rattle.lab_actor.proofs.Gives.{Gives, Gives-behind, Gives-then, Gives-weaker}
+use Rattle.course.specs.Gives.{Gives, Gives-behind, Gives-map, Gives-then}
 
 -- a client after a call has accepted at most so many frames
 pub record IsFed {X : Type 0} (limit : ℕ) (done : PlaybackStream × X) : Type 0 where
@@ -194,7 +194,7 @@ rewind_left-few n left channels ended = by_bool (nat_eq left channels)
     by_bool false = omega arith
 
 back_on-few : (end : ℕ × Ended) (n channels : ℕ) (rest : Course Commit) → Gives (λ (left : Commit). left.frames ≤ n) rest → Gives (λ (left : Commit). left.frames ≤ suc n) (back_on end n channels rest)
-back_on-few (left, Whole) n channels rest gives = Gives-weaker (λ (x : Commit). x.frames ≤ n) (λ (x : Commit). x.frames ≤ suc n) rest (λ x few. omega (arith, few)) gives
+back_on-few (left, Whole) n channels rest gives = Gives-map (λ (x : Commit). x.frames ≤ n) (λ (x : Commit). x.frames ≤ suc n) rest gives (λ x few. omega (arith, few))
 back_on-few (left, Late word) n channels rest gives = rewind_left-few n left channels (Late word)
 back_on-few (left, Stopped) n channels rest gives = rewind_left-few n left channels Stopped
 

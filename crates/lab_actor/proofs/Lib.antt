@@ -5,7 +5,6 @@ mod Away
 mod Called
 mod Fed
 mod Gates
-mod Gives
 mod Offering
 mod Parts
 mod Read

@@ -4,6 +4,7 @@ use Rattle.std.specs.Prelude.{Bool, true, false, IfSome}
 use Rattle.snd_base.specs.declared.errors.PcmError.TheVariants as error
 use Rattle.mix_core.specs.declared.marks.Marks.{Marks}
 use Rattle.course.specs.Course.{◌>>=◌, ends}
+use Rattle.course.specs.Gives.{Gives, Gives-taken, Gives-then}
 use Rattle.wav_io.specs.Sound.{Sound}
 use Rattle.dmix_client.specs.declared.stream.PlaybackStream.{PlaybackStream}
 use Rattle.lab_lines.specs.declared.line.Op.{Op}
@@ -17,7 +18,6 @@ use Rattle.lab_run.specs.Rules.{AtPort, MayGet, MayLay, MayLoad, Rules}
 use Rattle.lab_run.specs.Stage.{Setup}
 use Rattle.lab_headline.proofs.LateParts.{Bound, Named, call-named, rewind-named}
 use Rattle.lab_headline.proofs.Stages.{IsKept}
-use Rattle.lab_run.proofs.Results.{All, All-then, Takes-all}
 
 -- ---- a line
 
@@ -32,7 +32,7 @@ IsNamed bindings client answer = IfSome client.own (λ c. Named bindings (c, ans
 pub line-named : (rules : Rules) (phase : ℕ) (wav : Sound) (number : ℕ) (bindings : List ℕ) (a b : AtPort) (client after : Client) (asked : Op) (answer : Answer)
     → HasBindings bindings client.own → is_rewind asked ≡ false → LineMay (client_kind phase wav number) rules (a, client) asked (b, after) answer → IsNamed bindings after answer
 line-named rules phase wav number bindings a b client after asked answer bound not may =
-    Takes-all (MayLoad rules) (MayLay rules) (MayGet rules) (λ x. IsNamed bindings x.0 x.1) (begins client.own asked a) b
+    Gives-taken (MayLoad rules) (MayLay rules) (MayGet rules) (λ x. IsNamed bindings x.0 x.1) (begins client.own asked a) b
     (line_by wav marks client client.own asked) (after, answer) (by_own client.own refl bound) may
   where
     marks : Marks
@@ -44,26 +44,26 @@ line-named rules phase wav number bindings a b client after asked answer bound n
     called : (c : PlaybackStream) (o : Op) (x : PlaybackStream × Answer) → Named bindings x → IsNamed bindings (after_call client c o x).0 (after_call client c o x).1
     called c o (d, given) named = named
 
-    by_call : (c : PlaybackStream) (o : Op) → c.setup.bindings ≡ bindings → is_rewind o ≡ false → All (λ x. IsNamed bindings x.0 x.1) (call_of wav marks c o >>= λ done. ends (after_call client c o done))
-    by_call c o same rewind = All-then (Named bindings) (λ x. IsNamed bindings x.0 x.1) (call_of wav marks c o) (λ done. ends (after_call client c o done))
+    by_call : (c : PlaybackStream) (o : Op) → c.setup.bindings ≡ bindings → is_rewind o ≡ false → Gives (λ x. IsNamed bindings x.0 x.1) (call_of wav marks c o >>= λ done. ends (after_call client c o done))
+    by_call c o same rewind = Gives-then (Named bindings) (λ x. IsNamed bindings x.0 x.1) (call_of wav marks c o) (λ done. ends (after_call client c o done))
         (call-named bindings wav marks c o rewind same) (called c o)
 
-    by_op : (c : PlaybackStream) (o : Op) → client.own ≡ Some c → c.setup.bindings ≡ bindings → is_rewind o ≡ false → All (λ x. IsNamed bindings x.0 x.1) (line_if false wav marks client c o)
+    by_op : (c : PlaybackStream) (o : Op) → client.own ≡ Some c → c.setup.bindings ≡ bindings → is_rewind o ≡ false → Gives (λ x. IsNamed bindings x.0 x.1) (line_if false wav marks client c o)
     by_op c (op.Die k) is same rewind = stays (Some c) Done is (same, tt)
     by_op c other is same rewind = by_call c other same rewind
 
-    by_stop : (c : PlaybackStream) (stopped : Bool) → client.own ≡ Some c → c.setup.bindings ≡ bindings → All (λ x. IsNamed bindings x.0 x.1) (line_if stopped wav marks client c asked)
+    by_stop : (c : PlaybackStream) (stopped : Bool) → client.own ≡ Some c → c.setup.bindings ≡ bindings → Gives (λ x. IsNamed bindings x.0 x.1) (line_if stopped wav marks client c asked)
     by_stop c true is same = stays (Some c) (Failed error.Stopped) is (same, tt)
     by_stop c false is same = by_op c asked is same not
 
-    by_own : (own : Option PlaybackStream) → client.own ≡ own → HasBindings bindings own → All (λ x. IsNamed bindings x.0 x.1) (line_by wav marks client own asked)
+    by_own : (own : Option PlaybackStream) → client.own ≡ own → HasBindings bindings own → Gives (λ x. IsNamed bindings x.0 x.1) (line_by wav marks client own asked)
     by_own None is same = stays None (Failed error.BadState) is tt
     by_own (Some c) is same = by_stop c c.status.stopped is same
 
 rewind-bound : (rules : Rules) (phase : ℕ) (wav : Sound) (number : ℕ) (bindings : List ℕ) (a b : AtPort) (client after : Client) (n : ℕ) (answer : Answer)
     → HasBindings bindings client.own → LineMay (client_kind phase wav number) rules (a, client) (op.Rewind n) (b, after) answer → HasBindings bindings after.own
 rewind-bound rules phase wav number bindings a b client after n answer bound may =
-    Takes-all (MayLoad rules) (MayLay rules) (MayGet rules) (λ (x : Client × Answer). HasBindings bindings x.0.own) (begins client.own (op.Rewind n) a) b
+    Gives-taken (MayLoad rules) (MayLay rules) (MayGet rules) (λ (x : Client × Answer). HasBindings bindings x.0.own) (begins client.own (op.Rewind n) a) b
     (line_by wav marks client client.own (op.Rewind n)) (after, answer) (by_own client.own refl bound) may
   where
     marks : Marks
@@ -76,12 +76,12 @@ rewind-bound rules phase wav number bindings a b client after n answer bound may
     called c (d, given) same = same
 
     by_stop : (c : PlaybackStream) (stopped : Bool) → client.own ≡ Some c → c.setup.bindings ≡ bindings
-        → All (λ (x : Client × Answer). HasBindings bindings x.0.own) (line_if stopped wav marks client c (op.Rewind n))
+        → Gives (λ (x : Client × Answer). HasBindings bindings x.0.own) (line_if stopped wav marks client c (op.Rewind n))
     by_stop c true is same = stays (Some c) is same
-    by_stop c false is same = All-then (Bound bindings) (λ (x : Client × Answer). HasBindings bindings x.0.own) (call_of wav marks c (op.Rewind n))
+    by_stop c false is same = Gives-then (Bound bindings) (λ (x : Client × Answer). HasBindings bindings x.0.own) (call_of wav marks c (op.Rewind n))
         (λ done. ends (after_call client c (op.Rewind n) done)) (rewind-named bindings wav marks c n same) (called c)
 
-    by_own : (own : Option PlaybackStream) → client.own ≡ own → HasBindings bindings own → All (λ (x : Client × Answer). HasBindings bindings x.0.own) (line_by wav marks client own (op.Rewind n))
+    by_own : (own : Option PlaybackStream) → client.own ≡ own → HasBindings bindings own → Gives (λ (x : Client × Answer). HasBindings bindings x.0.own) (line_by wav marks client own (op.Rewind n))
     by_own None is same = stays None is tt
     by_own (Some c) is same = by_stop c c.status.stopped is same
 

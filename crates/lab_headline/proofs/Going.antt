@@ -6,6 +6,7 @@ use Rattle.std.specs.List.{AllByRecursion}
 use Rattle.std.specs.Prelude.{Bool, true, false, ◌&&◌, nat_eq, zero, suc, max, if◌then◌else◌, List, [], ◌∷◌, ◌++◌, IfSome, ⊤, Contains, slice_index_or}
 use Rattle.snd_base.specs.declared.places.Segment.{Segment}
 use Rattle.mix_core.specs.declared.marks.Marks.{Marks}
+use Rattle.course.specs.Gives.{Gives, Gives-taken}
 use Rattle.wav_io.specs.Sound.{Sound}
 use Rattle.dmix_client.specs.declared.stream.PlaybackStream.{PlaybackStream}
 use Rattle.dmix_client.specs.Calls.{segment_of}
@@ -20,7 +21,6 @@ use Rattle.lab_run.specs.Stage.{Session, Stage, no_client}
 use Rattle.lab_headline.proofs.Bound.{HasBindings, line-bound}
 use Rattle.lab_headline.proofs.Onward.{Lies, Onward, begun, end_of, free_frame, high_end}
 use Rattle.lab_headline.proofs.OnwardLines.{After, InOpen, line-after, waits-none}
-use Rattle.lab_run.proofs.Results.{All, Takes-all}
 
 -- the frame of the card after a segment
 abbrev pub seg_end : Segment → ℕ
@@ -138,9 +138,9 @@ open-map F G (Some c) map is = map c is
 pub still-client : (rules : Rules) (phase : ℕ) (wav : Sound) (number : ℕ) (a b : AtPort) (client after : Client) (asked : Op) (answer : Answer) → client.own ≡ None
     → LineMay (client_kind phase wav number) rules (a, client) asked (b, after) answer → after ≡ client
 still-client rules phase wav number a b client after asked answer closed may =
-    Takes-all (MayLoad rules) (MayLay rules) (MayGet rules) (λ (x : Client × Answer). x.0 ≡ client) (begins client.own asked a) b
+    Gives-taken (MayLoad rules) (MayLay rules) (MayGet rules) (λ (x : Client × Answer). x.0 ≡ client) (begins client.own asked a) b
     (line_by wav (begins client.own asked a).marks client client.own asked) (after, answer)
-    (subst (λ own. All (λ (x : Client × Answer). x.0 ≡ client) (line_by wav (begins client.own asked a).marks client own asked)) (sym closed) refl) may
+    (subst (λ own. Gives (λ (x : Client × Answer). x.0 ≡ client) (line_by wav (begins client.own asked a).marks client own asked)) (sym closed) refl) may
 
 module _ (rules : Rules) (p : ℕ) (least : (q : ℕ) → Contains rules.published q → p ≤ q) (bindings : List ℕ) (Old : ℕ → Type 0) (New Settled : Segment → Type 0)
     (is_new : (s : Segment) → ((e : ℕ) → Old e → e ≤ s.card) → s.card < seg_end s → New s) where

@@ -2,6 +2,7 @@
 use Rattle.std.proofs.Common.{◌≡◌, ℕ, ◌+◌, refl, sym, ◌∙◌, ap, subst, arith, List, [], ◌∷◌, Option, Some, None}
 use Rattle.std.specs.Prelude.{Bool, true, false, zero, suc, map, slice_index_or, slice_set, Result, Ok, Err, ⊤}
 use Rattle.snd_base.specs.declared.errors.PcmError.{PcmError}
+use Rattle.course.specs.Gives.{Gives, Gives-taken}
 use Rattle.dmix_client.specs.declared.stream.PlaybackStream as playing
 use Rattle.dsnoop_client.specs.declared.stream.CaptureStream.{CaptureStream}
 use Rattle.lab_lines.specs.declared.line.Actor.TheVariants as actor
@@ -24,7 +25,6 @@ use Rattle.wav_io.specs.Sound.{Sound}
 use Rattle.lab_headline.specs.Recordings.{UnopenedHaveNoRuns}
 use Rattle.lab_headline.proofs.Numbered.{numbered-at}
 use Rattle.lab_run.proofs.OwnReaders.{runs-members}
-use Rattle.lab_run.proofs.Results.{All, Takes-all}
 
 abbrev IsIdle : Reader → Type 0
 IsIdle reader = (reader.own ≡ None) × (reader.frames ≡ [])
@@ -80,9 +80,9 @@ module _ (session : Session) where
     where
       still : Unopened number between
       still none = let idle = is none in
-          Takes-all (MayLoad rules) (MayLay rules) (MayGet rules) (λ (x : Reader × Answer). IsIdle x.0) (begins reader.own asked a) b
+          Gives-taken (MayLoad rules) (MayLay rules) (MayGet rules) (λ (x : Reader × Answer). IsIdle x.0) (begins reader.own asked a) b
           (line_by reader reader.own asked) (between, answer)
-          (subst (λ own. All (λ (x : Reader × Answer). IsIdle x.0) (line_by reader own asked)) (sym idle.0) idle) may
+          (subst (λ own. Gives (λ (x : Reader × Answer). IsIdle x.0) (line_by reader own asked)) (sym idle.0) idle) may
 
   each-unopened : (stage : Stage) (rules : Rules) (ops : ℕ → List Op) (number : ℕ) (actors after : List (AtPort × Reader)) (rows : List Row) → AreUnopened number actors
       → EachMay (reader_kinds stage) rules ops number actors after rows → AreUnopened number after

@@ -16,6 +16,7 @@ use Rattle.pcm_states.specs.declared.states.State.{State}
 use Rattle.pcm_states.specs.declared.states.State.TheVariants.{Draining, Prepared, Running}
 use Rattle.pcm_states.specs.Table.{next_of}
 use Rattle.course.specs.Course.{◌>>=◌, Course, ends}
+use Rattle.course.specs.Gives.{Gives, Gives-behind, Gives-if, Gives-then}
 use Rattle.wav_io.specs.Sound.{Sound}
 use Rattle.dmix_client.specs.declared.commit.Commit.{Commit}
 use Rattle.dmix_client.specs.declared.stream.PlaybackStream.{PlaybackStream}
@@ -33,7 +34,6 @@ use Rattle.lab_lines.specs.declared.row.Answer.{Answer}
 use Rattle.lab_run.specs.Client.{call_answer, call_of, count_answer, done_answer, write_course}
 use Rattle.lab_run.specs.LateRows.{is_rewind}
 use Rattle.lab_run.proofs.LateLaws.{LateAnswer, LateErr, LateIn, LateWhy, next-late, reported-late}
-use Rattle.lab_run.proofs.Results.{All, All-any, All-then}
 
 -- ---- what a commit placed of a frame
 
@@ -44,7 +44,7 @@ WhereLate P (ended.Late word) = P
 WhereLate P ended.Stopped = ⊤
 
 each-short : (member frame : ℕ) (bindings : List ℕ) (sample_of : ℕ → ℤ) (qs : List ℕ)
-    → All (λ (x : ℕ × Ended). WhereLate (x.0 < length qs) x.1) (lay_each member frame bindings sample_of qs)
+    → Gives (λ (x : ℕ × Ended). WhereLate (x.0 < length qs) x.1) (lay_each member frame bindings sample_of qs)
 unfolding lay_each
 each-short member frame bindings sample_of [] = tt
 each-short member frame bindings sample_of (q ∷ qs) = by_end (each-short member frame bindings sample_of qs)
@@ -54,9 +54,9 @@ each-short member frame bindings sample_of (q ∷ qs) = by_end (each-short membe
     further (done, ended.Late word) is = omega (arith, is)
     further (done, ended.Stopped) is = tt
 
-    by_end : All (λ (x : ℕ × Ended). WhereLate (x.0 < length qs) x.1) (lay_each member frame bindings sample_of qs)
-        → (e : Ended) → All (λ (x : ℕ × Ended). WhereLate (x.0 < length (q ∷ qs)) x.1) (lay_on e (lay_each member frame bindings sample_of qs))
-    by_end short ended.Whole = All-then (λ (x : ℕ × Ended). WhereLate (x.0 < length qs) x.1) (λ (x : ℕ × Ended). WhereLate (x.0 < length (q ∷ qs)) x.1)
+    by_end : Gives (λ (x : ℕ × Ended). WhereLate (x.0 < length qs) x.1) (lay_each member frame bindings sample_of qs)
+        → (e : Ended) → Gives (λ (x : ℕ × Ended). WhereLate (x.0 < length (q ∷ qs)) x.1) (lay_on e (lay_each member frame bindings sample_of qs))
+    by_end short ended.Whole = Gives-then (λ (x : ℕ × Ended). WhereLate (x.0 < length qs) x.1) (λ (x : ℕ × Ended). WhereLate (x.0 < length (q ∷ qs)) x.1)
         (lay_each member frame bindings sample_of qs) (λ end. ends (one_more end)) short further
     by_end short (ended.Late word) = omega arith
     by_end short ended.Stopped = tt
@@ -65,33 +65,33 @@ each-short member frame bindings sample_of (q ∷ qs) = by_end (each-short membe
 abbrev Short : List ℕ → Commit → Type 0
 Short b x = WhereLate (x.part < length (rising b)) x.ended
 
-frames-short : (member card : ℕ) (b : List ℕ) (samples : ℕ → ℕ → ℤ) (count first : ℕ) → All (Short b) (lay_frames member card b samples count first)
+frames-short : (member card : ℕ) (b : List ℕ) (samples : ℕ → ℕ → ℤ) (count first : ℕ) → Gives (Short b) (lay_frames member card b samples count first)
 unfolding lay_frames
 frames-short member card b samples zero first = tt
 frames-short member card b samples (suc count) first =
-    All-then (λ (x : ℕ × Ended). WhereLate (x.0 < length (rising b)) x.1) (Short b) (lay_frame member (card + first) b (samples first))
+    Gives-then (λ (x : ℕ × Ended). WhereLate (x.0 < length (rising b)) x.1) (Short b) (lay_frame member (card + first) b (samples first))
     (λ end. go_on end (lay_frames member card b samples count (first + 1))) (each-short member (card + first) b (samples first) (rising b))
     (on (frames-short member card b samples count (first + 1)))
   where
-    on : All (Short b) (lay_frames member card b samples count (first + 1)) → (x : ℕ × Ended) → WhereLate (x.0 < length (rising b)) x.1 → All (Short b) (go_on x (lay_frames member card b samples count (first + 1)))
-    on rest (done, ended.Whole) is = All-then (Short b) (Short b) (lay_frames member card b samples count (first + 1)) (λ commit. ends (one_frame_more commit))
+    on : Gives (Short b) (lay_frames member card b samples count (first + 1)) → (x : ℕ × Ended) → WhereLate (x.0 < length (rising b)) x.1 → Gives (Short b) (go_on x (lay_frames member card b samples count (first + 1)))
+    on rest (done, ended.Whole) is = Gives-then (Short b) (Short b) (lay_frames member card b samples count (first + 1)) (λ commit. ends (one_frame_more commit))
         rest (λ x short. short)
     on rest (done, ended.Late word) is = is
     on rest (done, ended.Stopped) is = tt
 
-commits-short : (b : List ℕ) (c : PlaybackStream) (ring : List ℤ) (count : ℕ) → c.setup.bindings ≡ b → All (Short b) (commits c ring count)
+commits-short : (b : List ℕ) (c : PlaybackStream) (ring : List ℤ) (count : ℕ) → c.setup.bindings ≡ b → Gives (Short b) (commits c ring count)
 commits-short b c ring count is =
-    subst (λ (l : List ℕ). All (Short l) (commits c ring count)) is
+    subst (λ (l : List ℕ). Gives (Short l) (commits c ring count)) is
     (frames-short c.identity.member c.stretch.card c.setup.bindings (ring_sample c ring) count c.stretch.committed)
 
 looks-short : (b : List ℕ) (at : Position → PlaybackStream) (count : Position → ℕ) (ring : List ℤ) → ((p : Position) → (at p).setup.bindings ≡ b)
-    → All (λ (x : Option Position × Commit). Short b x.1) (looks at count ring)
+    → Gives (λ (x : Option Position × Commit). Short b x.1) (looks at count ring)
 unfolding looks ◌>>=◌
 looks-short b at count ring are = by_load
   where
-    by_load : (load : Option Position) → All (λ (x : Option Position × Commit). Short b x.1) (commit_at at count ring load >>= λ commit. ends (load, commit))
+    by_load : (load : Option Position) → Gives (λ (x : Option Position × Commit). Short b x.1) (commit_at at count ring load >>= λ commit. ends (load, commit))
     by_load None = tt
-    by_load (Some p) = All-then (Short b) (λ (x : Option Position × Commit). Short b x.1) (commits (at p) ring (count p)) (λ commit. ends (Some p, commit))
+    by_load (Some p) = Gives-then (Short b) (λ (x : Option Position × Commit). Short b x.1) (commits (at p) ring (count p)) (λ commit. ends (Some p, commit))
         (commits-short b (at p) ring (count p) (are p)) (λ x short. short)
 
 -- ---- a call's parts
@@ -171,87 +171,79 @@ written-kept b c n x is short = by_test (nat_lt 0 n && nat_eq (avail_of c) 0) (i
 
 -- ---- the calls
 
-All-if : {X : Type 0} (Q : X → Type 0) (test : Bool) (m n : Course X) → All Q m → All Q n → All Q (if test then m else n)
-All-if Q true m n one two = one
-All-if Q false m n one two = two
-
--- whatever a course gave, what follows has a fact
-All-after : {X Y : Type 0} (Q : Y → Type 0) (m : Course X) (f : X → Course Y) → ((x : X) → All Q (f x)) → All Q (m >>= f)
-All-after Q m f each = All-then (λ x. ⊤) Q m f (All-any (λ x. ⊤) m (λ x. tt)) (λ x any. each x)
-
-syncs-kept : (b : List ℕ) (c : PlaybackStream) (asked : Call) (ring : List ℤ) → c.setup.bindings ≡ b → All (Kept b) (syncs c asked ring)
+syncs-kept : (b : List ℕ) (c : PlaybackStream) (asked : Call) (ring : List ℤ) → c.setup.bindings ≡ b → Gives (Kept b) (syncs c asked ring)
 unfolding syncs
-syncs-kept b c asked ring is = All-then (λ (x : Option Position × Commit). Short b x.1) (Kept b) (looks (λ position. c) (sync_count c) ring)
+syncs-kept b c asked ring is = Gives-then (λ (x : Option Position × Commit). Short b x.1) (Kept b) (looks (λ position. c) (sync_count c) ring)
     (λ found. ends (after_sync c asked found.0 found.1)) (looks-short b (λ position. c) (sync_count c) ring (λ p. is))
     (λ found short. after_sync-kept b c asked found.0 found.1 is short)
 
-starts-kept : (b : List ℕ) (c : PlaybackStream) (state : State) (cursor : Cursor) (upto : ℕ) (ring : List ℤ) → c.setup.bindings ≡ b → All (Kept b) (starts c state cursor upto ring)
+starts-kept : (b : List ℕ) (c : PlaybackStream) (state : State) (cursor : Cursor) (upto : ℕ) (ring : List ℤ) → c.setup.bindings ≡ b → Gives (Kept b) (starts c state cursor upto ring)
 unfolding starts
-starts-kept b c state cursor upto ring is = All-then (λ (x : Option Position × Commit). Short b x.1) (Kept b)
+starts-kept b c state cursor upto ring is = Gives-then (λ (x : Option Position × Commit). Short b x.1) (Kept b)
     (looks (λ position. started_in c Running position cursor) (λ position. start_count c cursor position upto) ring)
     (λ found. ends (after_start c state cursor found.0 found.1))
     (looks-short b (λ position. started_in c Running position cursor) (λ position. start_count c cursor position upto) ring (λ p. is))
     (λ found short. after_start-kept b c state cursor found.0 found.1 is short)
 
-resumes-kept : (b : List ℕ) (c : PlaybackStream) (cursor : Cursor) (ring : List ℤ) → c.setup.bindings ≡ b → All (Kept b) (resumes c cursor ring)
+resumes-kept : (b : List ℕ) (c : PlaybackStream) (cursor : Cursor) (ring : List ℤ) → c.setup.bindings ≡ b → Gives (Kept b) (resumes c cursor ring)
 unfolding resumes
-resumes-kept b c cursor ring is = All-then (λ (x : Option Position × Commit). Short b x.1) (Kept b)
+resumes-kept b c cursor ring is = Gives-then (λ (x : Option Position × Commit). Short b x.1) (Kept b)
     (looks (λ position. started_in (with_new_base c) Running position cursor) (λ position. start_count (with_new_base c) cursor position (pending_of c)) ring)
     (λ found. ends (after_resume c cursor found.0 found.1))
     (looks-short b (λ position. started_in (with_new_base c) Running position cursor) (λ position. start_count (with_new_base c) cursor position (pending_of c)) ring (λ p. is))
     (λ found short. resumed-kept b c cursor found.0 found.1 is short)
 
-numbered-kept : (b : List ℕ) (number : PlaybackStream → ℕ) (m : Course (Answered (Unit {0}))) → All (Kept b) m → All (Kept b) (course_with_number number m)
+numbered-kept : (b : List ℕ) (number : PlaybackStream → ℕ) (m : Course (Answered (Unit {0}))) → Gives (Kept b) m → Gives (Kept b) (course_with_number number m)
 unfolding course_with_number
-numbered-kept b number m all = All-then (Kept b) (Kept b) m (λ done. ends (with_number number done)) all (number-kept b number)
+numbered-kept b number m all = Gives-then (Kept b) (Kept b) m (λ done. ends (with_number number done)) all (number-kept b number)
 
-write_on-kept : (b : List ℕ) (samples : List ℤ) (n : ℕ) (done : Answered (Unit {0})) → Kept b done → All (Kept b) (write_on [] samples n done)
+write_on-kept : (b : List ℕ) (samples : List ℤ) (n : ℕ) (done : Answered (Unit {0})) → Kept b done → Gives (Kept b) (write_on [] samples n done)
 unfolding takes_more
 write_on-kept b samples n (c, Err e) kept = kept
 write_on-kept b samples n (c, Ok done) kept =
-    All-then (Short b) (Kept b) (commits c (ring_with c [] samples (taken_of c n)) (count_with c (taken_of c n))) (λ last. ends (written_after c n last))
+    Gives-then (Short b) (Kept b) (commits c (ring_with c [] samples (taken_of c n)) (count_with c (taken_of c n))) (λ last. ends (written_after c n last))
     (commits-short b c (ring_with c [] samples (taken_of c n)) (count_with c (taken_of c n)) kept.0) (λ x short. written-kept b c n x kept.0 short)
 
-write-kept : (b : List ℕ) (c : PlaybackStream) (cursor : Cursor) (n : ℕ) → c.setup.bindings ≡ b → All (Kept b) (write_course c cursor n)
+write-kept : (b : List ℕ) (c : PlaybackStream) (cursor : Cursor) (n : ℕ) → c.setup.bindings ≡ b → Gives (Kept b) (write_course c cursor n)
 unfolding writes_on starts_taking
-write-kept b c cursor n is = All-if (Kept b) (is_running c.status.state) (writes_on c [] [] n) (fills c [] [] cursor n)
-    (All-then (Kept b) (Kept b) (syncs c call.Transfer []) (write_on [] [] n) (syncs-kept b c call.Transfer [] is) (write_on-kept b [] n))
-    (All-if (Kept b) (starts_with c n) (starts_taking c (ring_with c [] [] (taken_of c n)) cursor (taken_of c n)) (ends (with_accepted c (taken_of c n), Ok (taken_of c n)))
-    (All-then (Kept b) (Kept b) (starts c Running cursor (c.stretch.written + taken_of c n) (ring_with c [] [] (taken_of c n))) (λ done. ends (accepted_if (taken_of c n) done))
+write-kept b c cursor n is = Gives-if (Kept b) (is_running c.status.state) (writes_on c [] [] n) (fills c [] [] cursor n)
+    (Gives-then (Kept b) (Kept b) (syncs c call.Transfer []) (write_on [] [] n) (syncs-kept b c call.Transfer [] is) (write_on-kept b [] n))
+    (Gives-if (Kept b) (starts_with c n) (starts_taking c (ring_with c [] [] (taken_of c n)) cursor (taken_of c n)) (ends (with_accepted c (taken_of c n), Ok (taken_of c n)))
+    (Gives-then (Kept b) (Kept b) (starts c Running cursor (c.stretch.written + taken_of c n) (ring_with c [] [] (taken_of c n))) (λ done. ends (accepted_if (taken_of c n) done))
     (starts-kept b c Running cursor (c.stretch.written + taken_of c n) (ring_with c [] [] (taken_of c n)) is) (accepted-kept b (taken_of c n)))
     (is, tt))
 
-start-kept : (b : List ℕ) (c : PlaybackStream) (cursor : Cursor) → c.setup.bindings ≡ b → All (Kept b) (start_course c [] cursor)
-start-kept b c cursor is = All-if (Kept b) (nat_eq c.stretch.written 0) (ends (with_outcome c (next_of c.status.state call.Start f))) (starts c Running cursor c.stretch.written [])
+start-kept : (b : List ℕ) (c : PlaybackStream) (cursor : Cursor) → c.setup.bindings ≡ b → Gives (Kept b) (start_course c [] cursor)
+start-kept b c cursor is = Gives-if (Kept b) (nat_eq c.stretch.written 0) (ends (with_outcome c (next_of c.status.state call.Start f))) (starts c Running cursor c.stretch.written [])
     (is, next-late (λ frame channel. c.stretch.part < length (rising b)) c.status.state call.Start f tt) (starts-kept b c Running cursor c.stretch.written [] is)
   where
     f : Facts
     f = record (nothing_found Playback) { queued = 0 }
 
-drain_on-kept : (b : List ℕ) (done : Answered (Unit {0})) → Kept b done → All (Kept b) (drain_on [] done)
+drain_on-kept : (b : List ℕ) (done : Answered (Unit {0})) → Kept b done → Gives (Kept b) (drain_on [] done)
 drain_on-kept b (c, Ok done) kept = syncs-kept b c call.Drain [] kept.0
 drain_on-kept b (c, Err e) kept = kept
 
-drain-kept : (b : List ℕ) (c : PlaybackStream) (cursor : Cursor) → c.setup.bindings ≡ b → All (Kept b) (drain_course c [] cursor)
+drain-kept : (b : List ℕ) (c : PlaybackStream) (cursor : Cursor) → c.setup.bindings ≡ b → Gives (Kept b) (drain_course c [] cursor)
 unfolding drains
-drain-kept b c cursor is = All-if (Kept b) (is_moving c.status.state) (syncs (calls.in_draining c) call.Drain []) _ (syncs-kept b (calls.in_draining c) call.Drain [] is)
-    (All-if (Kept b) (calls.has_frames c) (drains c [] cursor) (ends (after_drop c, Ok tt))
-    (All-then (Kept b) (Kept b) (starts c Draining cursor c.stretch.written []) (drain_on []) (starts-kept b c Draining cursor c.stretch.written [] is) (drain_on-kept b)) (is, tt))
+drain-kept b c cursor is = Gives-if (Kept b) (is_moving c.status.state) (syncs (calls.in_draining c) call.Drain []) _ (syncs-kept b (calls.in_draining c) call.Drain [] is)
+    (Gives-if (Kept b) (calls.has_frames c) (drains c [] cursor) (ends (after_drop c, Ok tt))
+    (Gives-then (Kept b) (Kept b) (starts c Draining cursor c.stretch.written []) (drain_on []) (starts-kept b c Draining cursor c.stretch.written [] is) (drain_on-kept b)) (is, tt))
 
-pause-kept : (b : List ℕ) (on : Bool) (c : PlaybackStream) (cursor : Cursor) → c.setup.bindings ≡ b → All (Kept b) (pause_course on c [] cursor)
-pause-kept b on c cursor is = All-if (Kept b) on (ends (after_pause c, Ok tt)) _ (is, tt)
-    (All-if (Kept b) (nat_eq (pending_of c) 0) (ends (with_new_base c, Ok tt)) (resumes c cursor []) (is, tt) (resumes-kept b c cursor [] is))
+pause-kept : (b : List ℕ) (on : Bool) (c : PlaybackStream) (cursor : Cursor) → c.setup.bindings ≡ b → Gives (Kept b) (pause_course on c [] cursor)
+pause-kept b on c cursor is = Gives-if (Kept b) on (ends (after_pause c, Ok tt)) _ (is, tt)
+    (Gives-if (Kept b) (nat_eq (pending_of c) 0) (ends (with_new_base c, Ok tt)) (resumes c cursor []) (is, tt) (resumes-kept b c cursor [] is))
 
-number_course-kept : (b : List ℕ) (number : PlaybackStream → ℕ) (c : PlaybackStream) → c.setup.bindings ≡ b → All (Kept b) (number_course number c [])
-number_course-kept b number c is = All-if (Kept b) (is_moving c.status.state) (course_with_number number (syncs c call.Sync [])) (ends (c, Ok (number c)))
+number_course-kept : (b : List ℕ) (number : PlaybackStream → ℕ) (c : PlaybackStream) → c.setup.bindings ≡ b → Gives (Kept b) (number_course number c [])
+number_course-kept b number c is = Gives-if (Kept b) (is_moving c.status.state) (course_with_number number (syncs c call.Sync [])) (ends (c, Ok (number c)))
     (numbered-kept b number (syncs c call.Sync []) (syncs-kept b c call.Sync [] is)) (is, tt)
 
-checks-kept : (b : List ℕ) (c : PlaybackStream) → c.setup.bindings ≡ b → All (Kept b) (checks c)
+checks-kept : (b : List ℕ) (c : PlaybackStream) → c.setup.bindings ≡ b → Gives (Kept b) (checks c)
 unfolding checks
 checks-kept b c is = λ load. after_sync-kept b c call.Transfer load nothing is tt
 
-rewindable-kept : (b : List ℕ) (c : PlaybackStream) (floor : Cursor) → c.setup.bindings ≡ b → All (Kept b) (rewindable_course c floor)
-rewindable-kept b c floor is = All-if (Kept b) (is_running c.status.state) (course_with_number (rewindable_of floor) (checks c)) _
+rewindable-kept : (b : List ℕ) (c : PlaybackStream) (floor : Cursor) → c.setup.bindings ≡ b → Gives (Kept b) (rewindable_course c floor)
+rewindable-kept b c floor is = Gives-if (Kept b) (is_running c.status.state) (course_with_number (rewindable_of floor) (checks c)) _
     (numbered-kept b (rewindable_of floor) (checks c) (checks-kept b c is)) (is, tt)
 
 -- a call's refusal isn't late
@@ -273,10 +265,10 @@ refusal-early c asked P = by_stop c.status.stopped
     by_stop true = tt
     by_stop false = by_answer (next_of c.status.state asked (nothing_found Playback)).answer (next-late Q c.status.state asked (nothing_found Playback) tt)
 
-admitted-kept : {T : Type 0} (b : List ℕ) (c : PlaybackStream) (asked : Call) (m : Course (Answered T)) → c.setup.bindings ≡ b → All (Kept b) m → All (Kept b) (if_admitted c asked m)
+admitted-kept : {T : Type 0} (b : List ℕ) (c : PlaybackStream) (asked : Call) (m : Course (Answered T)) → c.setup.bindings ≡ b → Gives (Kept b) m → Gives (Kept b) (if_admitted c asked m)
 admitted-kept {T = T} b c asked m is all = by_refusal (refusal_of Playback c.status asked) (refusal-early c asked (c.stretch.part < length (rising b)))
   where
-    by_refusal : (refusal : Option PcmError) → IfSome refusal (LateErr (λ frame channel. c.stretch.part < length (rising b))) → All (Kept b) (admitted_by refusal c m)
+    by_refusal : (refusal : Option PcmError) → IfSome refusal (LateErr (λ frame channel. c.stretch.part < length (rising b))) → Gives (Kept b) (admitted_by refusal c m)
     by_refusal None late = all
     by_refusal (Some e) late = (is, late)
 
@@ -286,25 +278,25 @@ admitted-kept {T = T} b c asked m is all = by_refusal (refusal_of Playback c.sta
 abbrev pub Named : List ℕ → PlaybackStream × Answer → Type 0
 Named b (d, answer) = (d.setup.bindings ≡ b) × LateAnswer (λ frame channel. d.stretch.part < length (rising b)) answer
 
-done-named : (b : List ℕ) (m : Course (Answered (Unit {0}))) → All (Kept b) m → All (Named b) (call_answer done_answer m)
-done-named b m all = All-then (Kept b) (Named b) m (λ done. ends (done.0, done_answer done.1)) all named
+done-named : (b : List ℕ) (m : Course (Answered (Unit {0}))) → Gives (Kept b) m → Gives (Named b) (call_answer done_answer m)
+done-named b m all = Gives-then (Kept b) (Named b) m (λ done. ends (done.0, done_answer done.1)) all named
   where
     named : (x : Answered (Unit {0})) → Kept b x → Named b (x.0, done_answer x.1)
     named (d, Ok done) kept = (kept.0, tt)
     named (d, Err e) kept = (kept.0, reported-late (λ frame channel. d.stretch.part < length (rising b)) e kept.1)
 
-count-named : (b : List ℕ) (m : Course (Answered ℕ)) → All (Kept b) m → All (Named b) (call_answer count_answer m)
-count-named b m all = All-then (Kept b) (Named b) m (λ done. ends (done.0, count_answer done.1)) all named
+count-named : (b : List ℕ) (m : Course (Answered ℕ)) → Gives (Kept b) m → Gives (Named b) (call_answer count_answer m)
+count-named b m all = Gives-then (Kept b) (Named b) m (λ done. ends (done.0, count_answer done.1)) all named
   where
     named : (x : Answered ℕ) → Kept b x → Named b (x.0, count_answer x.1)
     named (d, Ok n) kept = (kept.0, tt)
     named (d, Err e) kept = (kept.0, reported-late (λ frame channel. d.stretch.part < length (rising b)) e kept.1)
 
-pub call-named : (b : List ℕ) (wav : Sound) (marks : Marks) (c : PlaybackStream) (asked : Op) → is_rewind asked ≡ false → c.setup.bindings ≡ b → All (Named b) (call_of wav marks c asked)
+pub call-named : (b : List ℕ) (wav : Sound) (marks : Marks) (c : PlaybackStream) (asked : Op) → is_rewind asked ≡ false → c.setup.bindings ≡ b → Gives (Named b) (call_of wav marks c asked)
 call-named b wav marks c (op.Write n) not is = count-named b _ (admitted-kept b c call.Transfer _ is (write-kept b c marks.cursor _ is))
 call-named b wav marks c op.Start not is = done-named b _ (admitted-kept b c call.Start _ is (start-kept b c marks.cursor is))
 call-named b wav marks c op.Sync not is = done-named b _ (admitted-kept b c call.Sync _ is
-    (All-if (Kept b) (is_moving c.status.state) (syncs c call.Sync []) (ends (c, Ok tt)) (syncs-kept b c call.Sync [] is) (is, tt)))
+    (Gives-if (Kept b) (is_moving c.status.state) (syncs c call.Sync []) (ends (c, Ok tt)) (syncs-kept b c call.Sync [] is) (is, tt)))
 call-named b wav marks c op.Avail not is = count-named b _ (admitted-kept b c call.Sync _ is (number_course-kept b avail_answer c is))
 call-named b wav marks c op.Delay not is = count-named b _ (admitted-kept b c call.Sync _ is (number_course-kept b delay_answer c is))
 call-named b wav marks c op.Drain not is = done-named b _ (admitted-kept b c call.Drain _ is (drain-kept b c marks.cursor is))
@@ -333,22 +325,22 @@ rewound-bound b c n left is = by_stop (is_stop left.ended)
     by_stop true = is
     by_stop false = by_answer _ _ is
 
-rewind_on-bound : (b : List ℕ) (floor : Cursor) (n : ℕ) (done : Answered (Unit {0})) → Kept b done → All (Bound b) (rewind_on floor [] n done)
+rewind_on-bound : (b : List ℕ) (floor : Cursor) (n : ℕ) (done : Answered (Unit {0})) → Kept b done → Gives (Bound b) (rewind_on floor [] n done)
 unfolding takes_back
-rewind_on-bound b floor n (c, Ok done) kept = All-after (Bound b) (take_frames c.identity.member c.stretch.card c.setup.bindings (ring_sample c [])
+rewind_on-bound b floor n (c, Ok done) kept = Gives-behind (Bound b) (take_frames c.identity.member c.stretch.card c.setup.bindings (ring_sample c [])
     (c.stretch.committed - back_of c (min n (rewindable_of floor c))) (back_of c (min n (rewindable_of floor c))))
     (λ left. ends (after_rewind c (min n (rewindable_of floor c)) left)) (λ left. rewound-bound b c (min n (rewindable_of floor c)) left kept.0)
 rewind_on-bound b floor n (c, Err e) kept = kept.0
 
-rewind-bound : (b : List ℕ) (c : PlaybackStream) (floor : Cursor) (n : ℕ) → c.setup.bindings ≡ b → All (Bound b) (rewind_course c [] floor n)
+rewind-bound : (b : List ℕ) (c : PlaybackStream) (floor : Cursor) (n : ℕ) → c.setup.bindings ≡ b → Gives (Bound b) (rewind_course c [] floor n)
 unfolding rewinds
-rewind-bound b c floor n is = All-if (Bound b) (is_running c.status.state) (rewinds c [] floor n) _
-    (All-then (Kept b) (Bound b) (checks c) (rewind_on floor [] n) (checks-kept b c is) (rewind_on-bound b floor n)) is
+rewind-bound b c floor n is = Gives-if (Bound b) (is_running c.status.state) (rewinds c [] floor n) _
+    (Gives-then (Kept b) (Bound b) (checks c) (rewind_on floor [] n) (checks-kept b c is) (rewind_on-bound b floor n)) is
 
-pub rewind-named : (b : List ℕ) (wav : Sound) (marks : Marks) (c : PlaybackStream) (n : ℕ) → c.setup.bindings ≡ b → All (Bound b) (call_of wav marks c (op.Rewind n))
-rewind-named b wav marks c n is = All-then (Bound b) (Bound b) (if_admitted c call.Transfer (rewind_course c [] marks.floor n)) (λ done. ends (done.0, count_answer done.1))
+pub rewind-named : (b : List ℕ) (wav : Sound) (marks : Marks) (c : PlaybackStream) (n : ℕ) → c.setup.bindings ≡ b → Gives (Bound b) (call_of wav marks c (op.Rewind n))
+rewind-named b wav marks c n is = Gives-then (Bound b) (Bound b) (if_admitted c call.Transfer (rewind_course c [] marks.floor n)) (λ done. ends (done.0, count_answer done.1))
     (by_refusal (refusal_of Playback c.status call.Transfer)) (λ x bound. bound)
   where
-    by_refusal : (refusal : Option PcmError) → All (Bound b) (admitted_by refusal c (rewind_course c [] marks.floor n))
+    by_refusal : (refusal : Option PcmError) → Gives (Bound b) (admitted_by refusal c (rewind_course c [] marks.floor n))
     by_refusal None = rewind-bound b c marks.floor n is
     by_refusal (Some e) = is

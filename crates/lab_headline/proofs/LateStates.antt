@@ -1,6 +1,6 @@
 -- A call that is answered late leaves its client in XRUN.
 use Rattle.std.proofs.Common.{◌≡◌, ℕ, ◌+◌, ◌-◌, refl, sym, subst, Option, Some, None}
-use Rattle.std.specs.Prelude.{Bool, true, false, not, ◌&&◌, nat_eq, nat_lt, if◌then◌else◌, List, [], ◌∷◌, ℤ, Result, Ok, Err, IfSome, min, ⊤}
+use Rattle.std.specs.Prelude.{Bool, true, false, not, ◌&&◌, nat_eq, nat_lt, if◌then◌else◌, List, [], ◌∷◌, ℤ, Result, Ok, Err, IfSome, min}
 use Rattle.std.specs.Option.{option_map}
 use Rattle.snd_base.specs.declared.errors.PcmError.{PcmError}
 use Rattle.snd_base.specs.declared.errors.PcmError.TheVariants as error
@@ -17,6 +17,7 @@ use Rattle.pcm_states.specs.declared.states.State.{State}
 use Rattle.pcm_states.specs.declared.states.State.TheVariants.{Draining, Prepared, Running, Setup}
 use Rattle.pcm_states.specs.Table.{Cell, already, done_in, draining, ebadfd, eio, enodev, filling, first_outcome, if_empty, if_gone, if_late, if_none_left, if_over, if_played, moving, next_of, cell_outcome, resuming, call_row, starting, still_draining, stopped_by, to}
 use Rattle.course.specs.Course.{◌>>=◌, Course, ends}
+use Rattle.course.specs.Gives.{Gives, Gives-behind, Gives-if, Gives-taken, Gives-then}
 use Rattle.wav_io.specs.Sound.{Sound}
 use Rattle.dmix_client.specs.declared.commit.Commit.{Commit}
 use Rattle.dmix_client.specs.declared.stream.PlaybackStream.{PlaybackStream}
@@ -33,10 +34,9 @@ use Rattle.lab_lines.specs.declared.row.Answer.{Answer}
 use Rattle.lab_lines.specs.declared.row.Answer.TheVariants.{Done, Failed}
 use Rattle.lab_run.specs.Client.{Client, after_call, call_answer, begins, call_of, client_kind, count_answer, done_answer, line_by, line_if, write_course}
 use Rattle.lab_run.specs.Rules.{AtPort, MayGet, MayLay, MayLoad, Rules}
-use Rattle.lab_run.proofs.Results.{All, All-any, All-then, Takes-all}
 use Rattle.dmix_client.specs.Rewind.{checks, rewindable_course, rewindable_of, rewind_course, rewind_on, rewinds, after_rewind, take_frames, taken_back, takes_back, without_frames, back_of, last_channel, last_laid}
 use Rattle.dmix_client.specs.View.{ring_sample}
-use Rattle.lab_run.proofs.LateLaws.{All-if, LateAnswer, LateErr, LateIn, reported-late}
+use Rattle.lab_run.proofs.LateLaws.{LateAnswer, LateErr, LateIn, reported-late}
 use Rattle.lab_headline.proofs.LateParts.{refusal-early}
 use Rattle.pcm_states.specs.declared.states.State.TheVariants.{Xrun}
 use Rattle.lab_run.specs.Lines.{LineMay}
@@ -188,96 +188,92 @@ rewound-ends c n left = by_stop (is_stop left.ended)
 
 -- ---- the calls
 
--- whatever a course gave, what follows has a fact
-All-after : {X Y : Type 0} (Q : Y → Type 0) (m : Course X) (f : X → Course Y) → ((x : X) → All Q (f x)) → All Q (m >>= f)
-All-after Q m f each = All-then (λ x. ⊤) Q m f (All-any (λ x. ⊤) m (λ x. tt)) (λ x any. each x)
-
-syncs-ends : (c : PlaybackStream) (asked : Call) (ring : List ℤ) → All EndsLate (syncs c asked ring)
+syncs-ends : (c : PlaybackStream) (asked : Call) (ring : List ℤ) → Gives EndsLate (syncs c asked ring)
 unfolding syncs
-syncs-ends c asked ring = All-after EndsLate (looks (λ position. c) (sync_count c) ring) (λ found. ends (after_sync c asked found.0 found.1))
+syncs-ends c asked ring = Gives-behind EndsLate (looks (λ position. c) (sync_count c) ring) (λ found. ends (after_sync c asked found.0 found.1))
     (λ found. after_sync-ends c asked found.0 found.1)
 
-starts-ends : (c : PlaybackStream) (state : State) (cursor : Cursor) (upto : ℕ) (ring : List ℤ) → All EndsLate (starts c state cursor upto ring)
+starts-ends : (c : PlaybackStream) (state : State) (cursor : Cursor) (upto : ℕ) (ring : List ℤ) → Gives EndsLate (starts c state cursor upto ring)
 unfolding starts
 starts-ends c state cursor upto ring =
-    All-after EndsLate (looks (λ position. started_in c Running position cursor) (λ position. start_count c cursor position upto) ring)
+    Gives-behind EndsLate (looks (λ position. started_in c Running position cursor) (λ position. start_count c cursor position upto) ring)
     (λ found. ends (after_start c state cursor found.0 found.1)) (λ found. after_start-ends c state cursor found.0 found.1)
 
-resumes-ends : (c : PlaybackStream) (cursor : Cursor) (ring : List ℤ) → All EndsLate (resumes c cursor ring)
+resumes-ends : (c : PlaybackStream) (cursor : Cursor) (ring : List ℤ) → Gives EndsLate (resumes c cursor ring)
 unfolding resumes
 resumes-ends c cursor ring =
-    All-after EndsLate (looks (λ position. started_in (with_new_base c) Running position cursor) (λ position. start_count (with_new_base c) cursor position (pending_of c)) ring)
+    Gives-behind EndsLate (looks (λ position. started_in (with_new_base c) Running position cursor) (λ position. start_count (with_new_base c) cursor position (pending_of c)) ring)
     (λ found. ends (after_resume c cursor found.0 found.1)) (λ found. resumed-ends c cursor found.0 found.1)
 
-numbered-ends : (number : PlaybackStream → ℕ) (m : Course (Answered (Unit {0}))) → All EndsLate m → All EndsLate (course_with_number number m)
+numbered-ends : (number : PlaybackStream → ℕ) (m : Course (Answered (Unit {0}))) → Gives EndsLate m → Gives EndsLate (course_with_number number m)
 unfolding course_with_number
-numbered-ends number m all = All-then EndsLate EndsLate m (λ done. ends (with_number number done)) all (number-ends number)
+numbered-ends number m all = Gives-then EndsLate EndsLate m (λ done. ends (with_number number done)) all (number-ends number)
 
-write_on-ends : (ring samples : List ℤ) (n : ℕ) (done : Answered (Unit {0})) → EndsLate done → All EndsLate (write_on ring samples n done)
+write_on-ends : (ring samples : List ℤ) (n : ℕ) (done : Answered (Unit {0})) → EndsLate done → Gives EndsLate (write_on ring samples n done)
 unfolding takes_more
 write_on-ends ring samples n (c, Err e) late = late
 write_on-ends ring samples n (c, Ok done) late =
-    All-after EndsLate (commits c (ring_with c ring samples (taken_of c n)) (count_with c (taken_of c n))) (λ last. ends (written_after c n last)) (written-ends c n)
+    Gives-behind EndsLate (commits c (ring_with c ring samples (taken_of c n)) (count_with c (taken_of c n))) (λ last. ends (written_after c n last)) (written-ends c n)
 
-write-ends : (c : PlaybackStream) (cursor : Cursor) (n : ℕ) → All EndsLate (write_course c cursor n)
+write-ends : (c : PlaybackStream) (cursor : Cursor) (n : ℕ) → Gives EndsLate (write_course c cursor n)
 unfolding writes_on starts_taking
-write-ends c cursor n = All-if EndsLate (is_running c.status.state) (writes_on c [] [] n) (fills c [] [] cursor n)
-    (All-then EndsLate EndsLate (syncs c call.Transfer []) (write_on [] [] n) (syncs-ends c call.Transfer []) (write_on-ends [] [] n))
-    (All-if EndsLate (starts_with c n) (starts_taking c (ring_with c [] [] (taken_of c n)) cursor (taken_of c n)) (ends (with_accepted c (taken_of c n), Ok (taken_of c n)))
-    (All-then EndsLate EndsLate (starts c Running cursor (c.stretch.written + taken_of c n) (ring_with c [] [] (taken_of c n))) (λ done. ends (accepted_if (taken_of c n) done))
+write-ends c cursor n = Gives-if EndsLate (is_running c.status.state) (writes_on c [] [] n) (fills c [] [] cursor n)
+    (Gives-then EndsLate EndsLate (syncs c call.Transfer []) (write_on [] [] n) (syncs-ends c call.Transfer []) (write_on-ends [] [] n))
+    (Gives-if EndsLate (starts_with c n) (starts_taking c (ring_with c [] [] (taken_of c n)) cursor (taken_of c n)) (ends (with_accepted c (taken_of c n), Ok (taken_of c n)))
+    (Gives-then EndsLate EndsLate (starts c Running cursor (c.stretch.written + taken_of c n) (ring_with c [] [] (taken_of c n))) (λ done. ends (accepted_if (taken_of c n) done))
     (starts-ends c Running cursor (c.stretch.written + taken_of c n) (ring_with c [] [] (taken_of c n))) (accepted-ends (taken_of c n)))
     tt)
 
-start-ends : (c : PlaybackStream) (cursor : Cursor) → All EndsLate (start_course c [] cursor)
-start-ends c cursor = All-if EndsLate (nat_eq c.stretch.written 0) (ends (with_outcome c (next_of c.status.state call.Start f))) (starts c Running cursor c.stretch.written [])
+start-ends : (c : PlaybackStream) (cursor : Cursor) → Gives EndsLate (start_course c [] cursor)
+start-ends c cursor = Gives-if EndsLate (nat_eq c.stretch.written 0) (ends (with_outcome c (next_of c.status.state call.Start f))) (starts c Running cursor c.stretch.written [])
     (next-says c.status.state call.Start f) (starts-ends c Running cursor c.stretch.written [])
   where
     f : Facts
     f = record (nothing_found Playback) { queued = 0 }
 
-drain_on-ends : (done : Answered (Unit {0})) → EndsLate done → All EndsLate (drain_on [] done)
+drain_on-ends : (done : Answered (Unit {0})) → EndsLate done → Gives EndsLate (drain_on [] done)
 drain_on-ends (c, Ok done) late = syncs-ends c call.Drain []
 drain_on-ends (c, Err e) late = late
 
-drain-ends : (c : PlaybackStream) (cursor : Cursor) → All EndsLate (drain_course c [] cursor)
+drain-ends : (c : PlaybackStream) (cursor : Cursor) → Gives EndsLate (drain_course c [] cursor)
 unfolding drains
-drain-ends c cursor = All-if EndsLate (is_moving c.status.state) (syncs (calls.in_draining c) call.Drain []) _ (syncs-ends (calls.in_draining c) call.Drain [])
-    (All-if EndsLate (calls.has_frames c) (drains c [] cursor) (ends (after_drop c, Ok tt))
-    (All-then EndsLate EndsLate (starts c Draining cursor c.stretch.written []) (drain_on []) (starts-ends c Draining cursor c.stretch.written []) drain_on-ends) tt)
+drain-ends c cursor = Gives-if EndsLate (is_moving c.status.state) (syncs (calls.in_draining c) call.Drain []) _ (syncs-ends (calls.in_draining c) call.Drain [])
+    (Gives-if EndsLate (calls.has_frames c) (drains c [] cursor) (ends (after_drop c, Ok tt))
+    (Gives-then EndsLate EndsLate (starts c Draining cursor c.stretch.written []) (drain_on []) (starts-ends c Draining cursor c.stretch.written []) drain_on-ends) tt)
 
-pause-ends : (on : Bool) (c : PlaybackStream) (cursor : Cursor) → All EndsLate (pause_course on c [] cursor)
-pause-ends on c cursor = All-if EndsLate on (ends (after_pause c, Ok tt)) _ tt
-    (All-if EndsLate (nat_eq (pending_of c) 0) (ends (with_new_base c, Ok tt)) (resumes c cursor []) tt (resumes-ends c cursor []))
+pause-ends : (on : Bool) (c : PlaybackStream) (cursor : Cursor) → Gives EndsLate (pause_course on c [] cursor)
+pause-ends on c cursor = Gives-if EndsLate on (ends (after_pause c, Ok tt)) _ tt
+    (Gives-if EndsLate (nat_eq (pending_of c) 0) (ends (with_new_base c, Ok tt)) (resumes c cursor []) tt (resumes-ends c cursor []))
 
-number_course-ends : (number : PlaybackStream → ℕ) (c : PlaybackStream) → All EndsLate (number_course number c [])
-number_course-ends number c = All-if EndsLate (is_moving c.status.state) (course_with_number number (syncs c call.Sync [])) (ends (c, Ok (number c)))
+number_course-ends : (number : PlaybackStream → ℕ) (c : PlaybackStream) → Gives EndsLate (number_course number c [])
+number_course-ends number c = Gives-if EndsLate (is_moving c.status.state) (course_with_number number (syncs c call.Sync [])) (ends (c, Ok (number c)))
     (numbered-ends number (syncs c call.Sync []) (syncs-ends c call.Sync [])) tt
 
-checks-ends : (c : PlaybackStream) → All EndsLate (checks c)
+checks-ends : (c : PlaybackStream) → Gives EndsLate (checks c)
 unfolding checks
 checks-ends c = λ load. after_sync-ends c call.Transfer load nothing
 
-rewindable-ends : (c : PlaybackStream) (floor : Cursor) → All EndsLate (rewindable_course c floor)
-rewindable-ends c floor = All-if EndsLate (is_running c.status.state) (course_with_number (rewindable_of floor) (checks c)) _
+rewindable-ends : (c : PlaybackStream) (floor : Cursor) → Gives EndsLate (rewindable_course c floor)
+rewindable-ends c floor = Gives-if EndsLate (is_running c.status.state) (course_with_number (rewindable_of floor) (checks c)) _
     (numbered-ends (rewindable_of floor) (checks c) (checks-ends c)) tt
 
-rewind_on-ends : (floor : Cursor) (n : ℕ) (done : Answered (Unit {0})) → EndsLate done → All EndsLate (rewind_on floor [] n done)
+rewind_on-ends : (floor : Cursor) (n : ℕ) (done : Answered (Unit {0})) → EndsLate done → Gives EndsLate (rewind_on floor [] n done)
 unfolding takes_back
 rewind_on-ends floor n (c, Err e) late = late
 rewind_on-ends floor n (c, Ok done) late =
     let m = min n (rewindable_of floor c) in
-    All-after EndsLate (take_frames c.identity.member c.stretch.card c.setup.bindings (ring_sample c []) (c.stretch.committed - back_of c m) (back_of c m))
+    Gives-behind EndsLate (take_frames c.identity.member c.stretch.card c.setup.bindings (ring_sample c []) (c.stretch.committed - back_of c m) (back_of c m))
     (λ left. ends (after_rewind c m left)) (rewound-ends c m)
 
-rewind-ends : (c : PlaybackStream) (floor : Cursor) (n : ℕ) → All EndsLate (rewind_course c [] floor n)
+rewind-ends : (c : PlaybackStream) (floor : Cursor) (n : ℕ) → Gives EndsLate (rewind_course c [] floor n)
 unfolding rewinds
-rewind-ends c floor n = All-if EndsLate (is_running c.status.state) (rewinds c [] floor n) (ends (without_frames c (min n c.stretch.written), Ok (min n c.stretch.written)))
-    (All-then EndsLate EndsLate (checks c) (rewind_on floor [] n) (checks-ends c) (rewind_on-ends floor n)) tt
+rewind-ends c floor n = Gives-if EndsLate (is_running c.status.state) (rewinds c [] floor n) (ends (without_frames c (min n c.stretch.written), Ok (min n c.stretch.written)))
+    (Gives-then EndsLate EndsLate (checks c) (rewind_on floor [] n) (checks-ends c) (rewind_on-ends floor n)) tt
 
-admitted-ends : {T : Type 0} (c : PlaybackStream) (asked : Call) (m : Course (Answered T)) → All EndsLate m → All EndsLate (if_admitted c asked m)
+admitted-ends : {T : Type 0} (c : PlaybackStream) (asked : Call) (m : Course (Answered T)) → Gives EndsLate m → Gives EndsLate (if_admitted c asked m)
 admitted-ends {T = T} c asked m all = by_refusal (refusal_of Playback c.status asked) (refusal-early c asked (c.status.state ≡ Xrun))
   where
-    by_refusal : (refusal : Option PcmError) → IfSome refusal (LateErr (λ frame channel. c.status.state ≡ Xrun)) → All EndsLate (admitted_by refusal c m)
+    by_refusal : (refusal : Option PcmError) → IfSome refusal (LateErr (λ frame channel. c.status.state ≡ Xrun)) → Gives EndsLate (admitted_by refusal c m)
     by_refusal None late = all
     by_refusal (Some e) late = late
 
@@ -287,24 +283,24 @@ admitted-ends {T = T} c asked m all = by_refusal (refusal_of Playback c.status a
 abbrev Named : PlaybackStream × Answer → Type 0
 Named (d, answer) = LateAnswer (λ frame channel. d.status.state ≡ Xrun) answer
 
-done-named : (m : Course (Answered (Unit {0}))) → All EndsLate m → All Named (call_answer done_answer m)
-done-named m all = All-then EndsLate Named m (λ done. ends (done.0, done_answer done.1)) all named
+done-named : (m : Course (Answered (Unit {0}))) → Gives EndsLate m → Gives Named (call_answer done_answer m)
+done-named m all = Gives-then EndsLate Named m (λ done. ends (done.0, done_answer done.1)) all named
   where
     named : (x : Answered (Unit {0})) → EndsLate x → Named (x.0, done_answer x.1)
     named (d, Ok done) late = tt
     named (d, Err e) late = reported-late (λ frame channel. d.status.state ≡ Xrun) e late
 
-count-named : (m : Course (Answered ℕ)) → All EndsLate m → All Named (call_answer count_answer m)
-count-named m all = All-then EndsLate Named m (λ done. ends (done.0, count_answer done.1)) all named
+count-named : (m : Course (Answered ℕ)) → Gives EndsLate m → Gives Named (call_answer count_answer m)
+count-named m all = Gives-then EndsLate Named m (λ done. ends (done.0, count_answer done.1)) all named
   where
     named : (x : Answered ℕ) → EndsLate x → Named (x.0, count_answer x.1)
     named (d, Ok n) late = tt
     named (d, Err e) late = reported-late (λ frame channel. d.status.state ≡ Xrun) e late
 
-call-named : (wav : Sound) (marks : Marks) (c : PlaybackStream) (asked : Op) → All Named (call_of wav marks c asked)
+call-named : (wav : Sound) (marks : Marks) (c : PlaybackStream) (asked : Op) → Gives Named (call_of wav marks c asked)
 call-named wav marks c (op.Write n) = count-named _ (admitted-ends c call.Transfer _ (write-ends c marks.cursor _))
 call-named wav marks c op.Start = done-named _ (admitted-ends c call.Start _ (start-ends c marks.cursor))
-call-named wav marks c op.Sync = done-named _ (admitted-ends c call.Sync _ (All-if EndsLate (is_moving c.status.state) (syncs c call.Sync []) (ends (c, Ok tt)) (syncs-ends c call.Sync []) tt))
+call-named wav marks c op.Sync = done-named _ (admitted-ends c call.Sync _ (Gives-if EndsLate (is_moving c.status.state) (syncs c call.Sync []) (ends (c, Ok tt)) (syncs-ends c call.Sync []) tt))
 call-named wav marks c op.Avail = count-named _ (admitted-ends c call.Sync _ (number_course-ends avail_answer c))
 call-named wav marks c op.Delay = count-named _ (admitted-ends c call.Sync _ (number_course-ends delay_answer c))
 call-named wav marks c op.Drain = done-named _ (admitted-ends c call.Drain _ (drain-ends c marks.cursor))
@@ -323,7 +319,7 @@ IsEnded (after, answer) = IfSome after.own (λ d. LateAnswer (λ frame channel. 
 pub late-ends : (rules : Rules) (phase : ℕ) (wav : Sound) (number : ℕ) (a b : AtPort) (client after : Client) (asked : Op) (answer : Answer) (frame channel : ℕ)
     → IsLate answer frame channel → LineMay (client_kind phase wav number) rules (a, client) asked (b, after) answer → IfSome after.own (λ d. d.status.state ≡ Xrun)
 late-ends rules phase wav number a b client after asked answer frame channel late may = by_after after.own
-    (Takes-all (MayLoad rules) (MayLay rules) (MayGet rules) IsEnded (begins client.own asked a) b
+    (Gives-taken (MayLoad rules) (MayLay rules) (MayGet rules) IsEnded (begins client.own asked a) b
     (line_by wav marks client client.own asked) (after, answer) (by_own client.own refl) may)
   where
     marks : Marks
@@ -339,17 +335,17 @@ late-ends rules phase wav number a b client after asked answer frame channel lat
     called : (c : PlaybackStream) (o : Op) (x : PlaybackStream × Answer) → Named x → IsEnded (after_call client c o x)
     called c o (d, given) named = named
 
-    by_call : (c : PlaybackStream) (o : Op) → All IsEnded (call_of wav marks c o >>= λ done. ends (after_call client c o done))
-    by_call c o = All-then Named IsEnded (call_of wav marks c o) (λ done. ends (after_call client c o done)) (call-named wav marks c o) (called c o)
+    by_call : (c : PlaybackStream) (o : Op) → Gives IsEnded (call_of wav marks c o >>= λ done. ends (after_call client c o done))
+    by_call c o = Gives-then Named IsEnded (call_of wav marks c o) (λ done. ends (after_call client c o done)) (call-named wav marks c o) (called c o)
 
-    by_op : (c : PlaybackStream) (o : Op) → client.own ≡ Some c → All IsEnded (line_if false wav marks client c o)
+    by_op : (c : PlaybackStream) (o : Op) → client.own ≡ Some c → Gives IsEnded (line_if false wav marks client c o)
     by_op c (op.Die k) is = stays (Some c) Done is tt
     by_op c other is = by_call c other
 
-    by_stop : (c : PlaybackStream) (stopped : Bool) → client.own ≡ Some c → All IsEnded (line_if stopped wav marks client c asked)
+    by_stop : (c : PlaybackStream) (stopped : Bool) → client.own ≡ Some c → Gives IsEnded (line_if stopped wav marks client c asked)
     by_stop c true is = stays (Some c) (Failed error.Stopped) is tt
     by_stop c false is = by_op c asked is
 
-    by_own : (own : Option PlaybackStream) → client.own ≡ own → All IsEnded (line_by wav marks client own asked)
+    by_own : (own : Option PlaybackStream) → client.own ≡ own → Gives IsEnded (line_by wav marks client own asked)
     by_own None is = stays None (Failed error.BadState) is tt
     by_own (Some c) is = by_stop c c.status.stopped is

@@ -5,6 +5,7 @@ use Rattle.std.specs.List.{flat_map}
 use Rattle.std.specs.Prelude.{Bool, true, false, ◌&&◌, nat_eq, if◌then◌else◌, IfSome, slice_get, slice_index, slice_index_or}
 use Rattle.bindings.specs.Bound.{rising}
 use Rattle.mix_core.specs.Laid.{at}
+use Rattle.course.specs.Gives.{Gives, Gives-taken}
 use Rattle.wav_io.specs.Sound.{Sound}
 use Rattle.dmix_client.specs.Calls.{segment_of}
 use Rattle.dmix_client.specs.declared.stream.PlaybackStream.{PlaybackStream}
@@ -24,7 +25,6 @@ use Rattle.lab_headline.proofs.Bound.{IsBound, IsClientBound, clients-bound, lin
 use Rattle.lab_headline.proofs.Expanded.{next-free}
 use Rattle.lab_run.proofs.LateLaws.{LateAnswer}
 use Rattle.lab_headline.proofs.LateParts.{Named}
-use Rattle.lab_run.proofs.Results.{All, Takes-all}
 use Rattle.lab_headline.proofs.Stages.{lines-kept, reached-client}
 
 -- the samples of a stretch
@@ -72,17 +72,17 @@ short-of session number (Some s) rules phase wav a b client after asked answer f
 pub still-closed : (rules : Rules) (phase : ℕ) (wav : Sound) (number : ℕ) (a b : AtPort) (client after : Client) (asked : Op) (answer : Answer) → client.own ≡ None
     → LineMay (client_kind phase wav number) rules (a, client) asked (b, after) answer → after.own ≡ None
 still-closed rules phase wav number a b client after asked answer closed may =
-    Takes-all (MayLoad rules) (MayLay rules) (MayGet rules) (λ (x : Client × Answer). x.0.own ≡ None) (begins client.own asked a) b
+    Gives-taken (MayLoad rules) (MayLay rules) (MayGet rules) (λ (x : Client × Answer). x.0.own ≡ None) (begins client.own asked a) b
     (line_by wav (begins client.own asked a).marks client client.own asked) (after, answer)
-    (subst (λ own. All (λ (x : Client × Answer). x.0.own ≡ None) (line_by wav (begins client.own asked a).marks client own asked)) (sym closed) closed) may
+    (subst (λ own. Gives (λ (x : Client × Answer). x.0.own ≡ None) (line_by wav (begins client.own asked a).marks client own asked)) (sym closed) closed) may
 
 -- its answer isn't late
 closed-early : (rules : Rules) (phase : ℕ) (wav : Sound) (number : ℕ) (a b : AtPort) (client after : Client) (asked : Op) (answer : Answer) (frame channel : ℕ) → client.own ≡ None
     → IsLate answer frame channel → LineMay (client_kind phase wav number) rules (a, client) asked (b, after) answer → ⊥
 closed-early rules phase wav number a b client after asked answer frame channel closed late may =
-    Takes-all (MayLoad rules) (MayLay rules) (MayGet rules) (λ (x : Client × Answer). IsLate x.1 frame channel → ⊥) (begins client.own asked a) b
+    Gives-taken (MayLoad rules) (MayLay rules) (MayGet rules) (λ (x : Client × Answer). IsLate x.1 frame channel → ⊥) (begins client.own asked a) b
     (line_by wav (begins client.own asked a).marks client client.own asked) (after, answer)
-    (subst (λ own. All (λ (x : Client × Answer). IsLate x.1 frame channel → ⊥) (line_by wav (begins client.own asked a).marks client own asked)) (sym closed) (λ is. absurd (cc))) may late
+    (subst (λ own. Gives (λ (x : Client × Answer). IsLate x.1 frame channel → ⊥) (line_by wav (begins client.own asked a).marks client own asked)) (sym closed) (λ is. absurd (cc))) may late
 
 -- a line of an open client
 pub late-missed : (session : Session) (body : List Item) → ((rules : Rules) (phase : ℕ) (wav : Sound) (number : ℕ) → LateRowsNameNext rules phase wav number)

@@ -15,6 +15,7 @@ use Rattle.pcm_states.specs.Table.{next_of}
 use Rattle.pcm_stream.specs.declared.direction.Direction.TheVariants.{Playback}
 use Rattle.pcm_stream.specs.Status.{is_moving, nothing_found, refusal_in, refusal_of}
 use Rattle.course.specs.Course.{◌>>=◌, Course, ends}
+use Rattle.course.specs.Gives.{Gives, Gives-any, Gives-taken, Gives-then}
 use Rattle.wav_io.specs.Sound.{Sound}
 use Rattle.dmix_client.specs.declared.stream.PlaybackStream.{PlaybackStream}
 use Rattle.dmix_client.specs.declared.stream.Stretch.{Stretch}
@@ -27,7 +28,6 @@ use Rattle.lab_lines.specs.declared.row.Row.{Row}
 use Rattle.lab_run.specs.Client.{Client, after_call, call_answer, begins, call_of, client_kind, count_answer, done_answer, ended_by, line_by, line_if, present_of, segments_of, stretch_of}
 use Rattle.lab_run.specs.Lines.{LineMay, LinesMay}
 use Rattle.lab_run.specs.Rules.{AtPort, MayGet, MayLay, MayLoad, Rules}
-use Rattle.lab_run.proofs.Results.{All, All-any, All-then, Takes-all}
 use Rattle.lab_headline.proofs.OnwardCalls.{some-none}
 use Rattle.lab_headline.proofs.OnwardLines.{InOpen, unpaused-ends}
 
@@ -85,40 +85,40 @@ module _ (c : PlaybackStream) (sealed : is_sealed c.status.state ≡ true) where
 
   -- a refused call
   refused-done : (asked : Op) (called : Call) (m : Course (Answered (Unit {0}))) → IsRefused called ≡ true → ((d : PlaybackStream) (given : Answer) → ended_by asked given c d ≡ [])
-      → All (Leaves c asked) (call_answer done_answer (if_admitted c called m))
+      → Gives (Leaves c asked) (call_answer done_answer (if_admitted c called m))
   unfolding ◌>>=◌
   refused-done asked called m refused none = by_refusal (refusal_of Playback c.status called) refl
     where
-      by_refusal : (refusal : Option PcmError) → refusal_of Playback c.status called ≡ refusal → All (Leaves c asked) (call_answer done_answer (admitted_by refusal c m))
+      by_refusal : (refusal : Option PcmError) → refusal_of Playback c.status called ≡ refusal → Gives (Leaves c asked) (call_answer done_answer (admitted_by refusal c m))
       by_refusal None is = absurd (refused-by c.status.stopped c.status.state called sealed refused is)
       by_refusal (Some e) is = still-resume asked (done_answer (Err e)) none
 
   refused-count : (asked : Op) (called : Call) (m : Course (Answered ℕ)) → IsRefused called ≡ true → ((d : PlaybackStream) (given : Answer) → ended_by asked given c d ≡ [])
-      → All (Leaves c asked) (call_answer count_answer (if_admitted c called m))
+      → Gives (Leaves c asked) (call_answer count_answer (if_admitted c called m))
   unfolding ◌>>=◌
   refused-count asked called m refused none = by_refusal (refusal_of Playback c.status called) refl
     where
-      by_refusal : (refusal : Option PcmError) → refusal_of Playback c.status called ≡ refusal → All (Leaves c asked) (call_answer count_answer (admitted_by refusal c m))
+      by_refusal : (refusal : Option PcmError) → refusal_of Playback c.status called ≡ refusal → Gives (Leaves c asked) (call_answer count_answer (admitted_by refusal c m))
       by_refusal None is = absurd (refused-by c.status.stopped c.status.state called sealed refused is)
       by_refusal (Some e) is = still-resume asked (count_answer (Err e)) none
 
-  drop-leaves : (refusal : Option PcmError) → All (Leaves c op.Drop) (call_answer done_answer (admitted_by refusal c (ends (after_drop c, Ok tt))))
+  drop-leaves : (refusal : Option PcmError) → Gives (Leaves c op.Drop) (call_answer done_answer (admitted_by refusal c (ends (after_drop c, Ok tt))))
   unfolding ◌>>=◌
   drop-leaves None = inl (refl, refl, refl)
   drop-leaves (Some e) = inl (refl, refl, sealed)
 
-  prepare-leaves : (refusal : Option PcmError) → All (Leaves c op.Prepare) (call_answer done_answer (admitted_by refusal c (ends (after_prepare c, Ok tt))))
+  prepare-leaves : (refusal : Option PcmError) → Gives (Leaves c op.Prepare) (call_answer done_answer (admitted_by refusal c (ends (after_prepare c, Ok tt))))
   unfolding ◌>>=◌
   prepare-leaves None = inr refl
   prepare-leaves (Some e) = inl (refl, refl, sealed)
 
-  drain-leaves : (marks : Marks) (refusal : Option PcmError) → All (Leaves c op.Drain) (call_answer done_answer (admitted_by refusal c (drain_course c [] marks.cursor)))
+  drain-leaves : (marks : Marks) (refusal : Option PcmError) → Gives (Leaves c op.Drain) (call_answer done_answer (admitted_by refusal c (drain_course c [] marks.cursor)))
   unfolding ◌>>=◌
   drain-leaves marks None =
       let still = sealed-still c.status.state sealed in rw still.0 (rw still.1 (inl (refl, refl, refl)))
   drain-leaves marks (Some e) = inl (refl, refl, sealed)
 
-  call-leaves : (wav : Sound) (marks : Marks) (asked : Op) → All (Leaves c asked) (call_of wav marks c asked)
+  call-leaves : (wav : Sound) (marks : Marks) (asked : Op) → Gives (Leaves c asked) (call_of wav marks c asked)
   call-leaves wav marks (op.Write n) = refused-count (op.Write n) call.Transfer _ refl (λ d given. refl)
   call-leaves wav marks op.Start = refused-done op.Start call.Start _ refl (λ d given. refl)
   call-leaves wav marks op.Sync = refused-done op.Sync call.Sync _ refl (λ d given. refl)
@@ -161,7 +161,7 @@ after-leaves client c d asked answer own (inr is) = rw own (rw is (inl ([], sym 
 sealed-line : (rules : Rules) (phase : ℕ) (wav : Sound) (number : ℕ) (a b : AtPort) (client after : Client) (asked : Op) (answer : Answer)
     → InOpen client.own (λ d. is_sealed d.status.state ≡ true) → LineMay (client_kind phase wav number) rules (a, client) asked (b, after) answer → Over (segments_of client) after
 sealed-line rules phase wav number a b client after asked answer sealed may =
-    Takes-all (MayLoad rules) (MayLay rules) (MayGet rules) Q (begins client.own asked a) b
+    Gives-taken (MayLoad rules) (MayLay rules) (MayGet rules) Q (begins client.own asked a) b
     (line_by wav marks client client.own asked) (after, answer) (by_own client.own refl sealed) may
   where
     Q : Client × Answer → Type 0
@@ -171,22 +171,22 @@ sealed-line rules phase wav number a b client after asked answer sealed may =
     marks = (begins client.own asked a).marks
 
     by_call : (c : PlaybackStream) (o : Op) → client.own ≡ Some c → is_sealed c.status.state ≡ true
-        → All (λ (x : Client × Answer). Over (segments_of client) x.0) (call_of wav marks c o >>= λ done. ends (after_call client c o done))
-    by_call c o own is = All-then (Leaves c o) (λ (x : Client × Answer). Over (segments_of client) x.0) (call_of wav marks c o) (λ done. ends (after_call client c o done))
+        → Gives (λ (x : Client × Answer). Over (segments_of client) x.0) (call_of wav marks c o >>= λ done. ends (after_call client c o done))
+    by_call c o own is = Gives-then (Leaves c o) (λ (x : Client × Answer). Over (segments_of client) x.0) (call_of wav marks c o) (λ done. ends (after_call client c o done))
         (call-leaves c is wav marks o) (λ done leaves. after-leaves client c done.0 o done.1 own leaves)
 
     by_op : (c : PlaybackStream) (o : Op) → client.own ≡ Some c → is_sealed c.status.state ≡ true
-        → All (λ (x : Client × Answer). Over (segments_of client) x.0) (line_if false wav marks client c o)
+        → Gives (λ (x : Client × Answer). Over (segments_of client) x.0) (line_if false wav marks client c o)
     by_op c (op.Die k) own is = inr (refl, sealed)
     by_op c other own is = by_call c other own is
 
     by_stop : (c : PlaybackStream) (stopped : Bool) → client.own ≡ Some c → is_sealed c.status.state ≡ true
-        → All (λ (x : Client × Answer). Over (segments_of client) x.0) (line_if stopped wav marks client c asked)
+        → Gives (λ (x : Client × Answer). Over (segments_of client) x.0) (line_if stopped wav marks client c asked)
     by_stop c true own is = inr (refl, sealed)
     by_stop c false own is = by_op c asked own is
 
     by_own : (own : Option PlaybackStream) → client.own ≡ own → InOpen own (λ d. is_sealed d.status.state ≡ true)
-        → All (λ (x : Client × Answer). Over (segments_of client) x.0) (line_by wav marks client own asked)
+        → Gives (λ (x : Client × Answer). Over (segments_of client) x.0) (line_by wav marks client own asked)
     by_own None own is = absurd is
     by_own (Some c) own is = by_stop c c.status.stopped own is
 
@@ -194,7 +194,7 @@ sealed-line rules phase wav number a b client after asked answer sealed may =
 ended-line : (rules : Rules) (phase : ℕ) (wav : Sound) (number : ℕ) (a b : AtPort) (client after : Client) (asked : Op) (answer : Answer)
     → LineMay (client_kind phase wav number) rules (a, client) asked (b, after) answer → IsStart client.ended after.ended
 ended-line rules phase wav number a b client after asked answer may =
-    Takes-all (MayLoad rules) (MayLay rules) (MayGet rules) (λ (x : Client × Answer). IsStart client.ended x.0.ended) (begins client.own asked a) b
+    Gives-taken (MayLoad rules) (MayLay rules) (MayGet rules) (λ (x : Client × Answer). IsStart client.ended x.0.ended) (begins client.own asked a) b
     (line_by wav marks client client.own asked) (after, answer) (by_own client.own) may
   where
     marks : Marks
@@ -203,19 +203,19 @@ ended-line rules phase wav number a b client after asked answer may =
     same : IsStart client.ended client.ended
     same = ([], sym (append-nil client.ended))
 
-    by_call : (c : PlaybackStream) (o : Op) → All (λ (x : Client × Answer). IsStart client.ended x.0.ended) (call_of wav marks c o >>= λ done. ends (after_call client c o done))
-    by_call c o = All-then (λ x. ⊤) (λ (x : Client × Answer). IsStart client.ended x.0.ended) (call_of wav marks c o) (λ done. ends (after_call client c o done))
-        (All-any (λ x. ⊤) (call_of wav marks c o) (λ x. tt)) (λ done any. (ended_by o done.1 c done.0, refl))
+    by_call : (c : PlaybackStream) (o : Op) → Gives (λ (x : Client × Answer). IsStart client.ended x.0.ended) (call_of wav marks c o >>= λ done. ends (after_call client c o done))
+    by_call c o = Gives-then (λ x. ⊤) (λ (x : Client × Answer). IsStart client.ended x.0.ended) (call_of wav marks c o) (λ done. ends (after_call client c o done))
+        (Gives-any (λ x. ⊤) (call_of wav marks c o) (λ x. tt)) (λ done any. (ended_by o done.1 c done.0, refl))
 
-    by_op : (c : PlaybackStream) (o : Op) → All (λ (x : Client × Answer). IsStart client.ended x.0.ended) (line_if false wav marks client c o)
+    by_op : (c : PlaybackStream) (o : Op) → Gives (λ (x : Client × Answer). IsStart client.ended x.0.ended) (line_if false wav marks client c o)
     by_op c (op.Die k) = same
     by_op c other = by_call c other
 
-    by_stop : (c : PlaybackStream) (stopped : Bool) → All (λ (x : Client × Answer). IsStart client.ended x.0.ended) (line_if stopped wav marks client c asked)
+    by_stop : (c : PlaybackStream) (stopped : Bool) → Gives (λ (x : Client × Answer). IsStart client.ended x.0.ended) (line_if stopped wav marks client c asked)
     by_stop c true = same
     by_stop c false = by_op c asked
 
-    by_own : (own : Option PlaybackStream) → All (λ (x : Client × Answer). IsStart client.ended x.0.ended) (line_by wav marks client own asked)
+    by_own : (own : Option PlaybackStream) → Gives (λ (x : Client × Answer). IsStart client.ended x.0.ended) (line_by wav marks client own asked)
     by_own None = same
     by_own (Some c) = by_stop c c.status.stopped
 

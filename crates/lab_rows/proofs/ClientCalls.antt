@@ -15,6 +15,7 @@ use Rattle.pcm_states.specs.Table.{next_of}
 use Rattle.pcm_stream.specs.declared.direction.Direction.TheVariants.{Playback}
 use Rattle.pcm_stream.specs.Status.{is_moving, nothing_found, refusal_of}
 use Rattle.course.specs.Course.{◌>>=◌, Course, ends}
+use Rattle.course.specs.Gives.{Gives, Gives-behind, Gives-if, Gives-then}
 use Rattle.wav_io.specs.Sound.{Sound}
 use Rattle.dmix_client.specs.declared.commit.Commit.{Commit}
 use Rattle.dmix_client.specs.declared.stream.PlaybackStream.{PlaybackStream}
@@ -29,7 +30,6 @@ use Rattle.lab_lines.specs.declared.line.Op.TheVariants as op
 use Rattle.lab_lines.specs.declared.row.Answer.{Answer}
 use Rattle.lab_report.specs.Text.{HasStateText, HasText}
 use Rattle.lab_run.specs.Client.{Client, after_call, call_answer, call_of, count_answer, done_answer, line_by, line_if, write_course}
-use Rattle.lab_run.proofs.Results.{All, All-any, All-then}
 use Rattle.lab_rows.proofs.TableLaws.{CanReport, CanReportIn, next-reports, refusal-reports, reported-reports}
 
 -- a client's state has a text
@@ -118,104 +118,96 @@ rewound-reports c n left is = by_stop (is_stop left.ended)
 
 -- ---- the calls
 
-pub All-if : {X : Type 0} (Q : X → Type 0) (test : Bool) (m n : Course X) → All Q m → All Q n → All Q (if test then m else n)
-All-if Q true m n one two = one
-All-if Q false m n one two = two
-
--- whatever a course gave, what follows has a fact
-pub All-after : {X Y : Type 0} (Q : Y → Type 0) (m : Course X) (f : X → Course Y) → ((x : X) → All Q (f x)) → All Q (m >>= f)
-All-after Q m f each = All-then (λ x. ⊤) Q m f (All-any (λ x. ⊤) m (λ x. tt)) (λ x any. each x)
-
-syncs-reports : (c : PlaybackStream) (asked : Call) (ring : List ℤ) → HasState c → All Reports (syncs c asked ring)
+syncs-reports : (c : PlaybackStream) (asked : Call) (ring : List ℤ) → HasState c → Gives Reports (syncs c asked ring)
 unfolding syncs
-syncs-reports c asked ring is = All-after Reports (looks (λ position. c) (sync_count c) ring) (λ found. ends (after_sync c asked found.0 found.1))
+syncs-reports c asked ring is = Gives-behind Reports (looks (λ position. c) (sync_count c) ring) (λ found. ends (after_sync c asked found.0 found.1))
     (λ found. after_sync-reports c asked found.0 found.1 is)
 
-starts-reports : (c : PlaybackStream) (s : State) (cursor : Cursor) (upto : ℕ) (ring : List ℤ) → HasState c → HasStateText s → All Reports (starts c s cursor upto ring)
+starts-reports : (c : PlaybackStream) (s : State) (cursor : Cursor) (upto : ℕ) (ring : List ℤ) → HasState c → HasStateText s → Gives Reports (starts c s cursor upto ring)
 unfolding starts
 starts-reports c s cursor upto ring is there =
-    All-after Reports (looks (λ position. started_in c Running position cursor) (λ position. start_count c cursor position upto) ring)
+    Gives-behind Reports (looks (λ position. started_in c Running position cursor) (λ position. start_count c cursor position upto) ring)
     (λ found. ends (after_start c s cursor found.0 found.1)) (λ found. after_start-reports c s cursor found.0 found.1 is there)
 
-resumes-reports : (c : PlaybackStream) (cursor : Cursor) (ring : List ℤ) → HasState c → All Reports (resumes c cursor ring)
+resumes-reports : (c : PlaybackStream) (cursor : Cursor) (ring : List ℤ) → HasState c → Gives Reports (resumes c cursor ring)
 unfolding resumes
 resumes-reports c cursor ring is =
-    All-after Reports (looks (λ position. started_in (with_new_base c) Running position cursor) (λ position. start_count (with_new_base c) cursor position (pending_of c)) ring)
+    Gives-behind Reports (looks (λ position. started_in (with_new_base c) Running position cursor) (λ position. start_count (with_new_base c) cursor position (pending_of c)) ring)
     (λ found. ends (after_resume c cursor found.0 found.1)) (λ found. resumed-reports c cursor found.0 found.1 is)
 
-numbered-reports : (number : PlaybackStream → ℕ) (m : Course (Answered (Unit {0}))) → All Reports m → All Reports (course_with_number number m)
+numbered-reports : (number : PlaybackStream → ℕ) (m : Course (Answered (Unit {0}))) → Gives Reports m → Gives Reports (course_with_number number m)
 unfolding course_with_number
-numbered-reports number m all = All-then Reports Reports m (λ done. ends (with_number number done)) all (number-reports number)
+numbered-reports number m all = Gives-then Reports Reports m (λ done. ends (with_number number done)) all (number-reports number)
 
-write_on-reports : (ring samples : List ℤ) (n : ℕ) (done : Answered (Unit {0})) → Reports done → All Reports (write_on ring samples n done)
+write_on-reports : (ring samples : List ℤ) (n : ℕ) (done : Answered (Unit {0})) → Reports done → Gives Reports (write_on ring samples n done)
 unfolding takes_more
 write_on-reports ring samples n (c, Err e) reports = reports
 write_on-reports ring samples n (c, Ok done) reports =
-    All-after Reports (commits c (ring_with c ring samples (taken_of c n)) (count_with c (taken_of c n))) (λ last. ends (written_after c n last))
+    Gives-behind Reports (commits c (ring_with c ring samples (taken_of c n)) (count_with c (taken_of c n))) (λ last. ends (written_after c n last))
     (λ last. written-reports c n last reports.1)
 
-write-reports : (c : PlaybackStream) (cursor : Cursor) (n : ℕ) → HasState c → All Reports (write_course c cursor n)
+write-reports : (c : PlaybackStream) (cursor : Cursor) (n : ℕ) → HasState c → Gives Reports (write_course c cursor n)
 unfolding writes_on starts_taking
-write-reports c cursor n is = All-if Reports (is_running c.status.state) (writes_on c [] [] n) (fills c [] [] cursor n)
-    (All-then Reports Reports (syncs c call.Transfer []) (write_on [] [] n) (syncs-reports c call.Transfer [] is) (write_on-reports [] [] n))
-    (All-if Reports (starts_with c n) (starts_taking c (ring_with c [] [] (taken_of c n)) cursor (taken_of c n)) (ends (with_accepted c (taken_of c n), Ok (taken_of c n)))
-    (All-then Reports Reports (starts c Running cursor (c.stretch.written + taken_of c n) (ring_with c [] [] (taken_of c n))) (λ done. ends (accepted_if (taken_of c n) done))
+write-reports c cursor n is = Gives-if Reports (is_running c.status.state) (writes_on c [] [] n) (fills c [] [] cursor n)
+    (Gives-then Reports Reports (syncs c call.Transfer []) (write_on [] [] n) (syncs-reports c call.Transfer [] is) (write_on-reports [] [] n))
+    (Gives-if Reports (starts_with c n) (starts_taking c (ring_with c [] [] (taken_of c n)) cursor (taken_of c n)) (ends (with_accepted c (taken_of c n), Ok (taken_of c n)))
+    (Gives-then Reports Reports (starts c Running cursor (c.stretch.written + taken_of c n) (ring_with c [] [] (taken_of c n))) (λ done. ends (accepted_if (taken_of c n) done))
     (starts-reports c Running cursor (c.stretch.written + taken_of c n) (ring_with c [] [] (taken_of c n)) is tt) (accepted-reports (taken_of c n)))
     (tt, is))
 
-start-reports : (c : PlaybackStream) (cursor : Cursor) → HasState c → All Reports (start_course c [] cursor)
-start-reports c cursor is = All-if Reports (nat_eq c.stretch.written 0) (ends (with_outcome c (next_of c.status.state call.Start f))) (starts c Running cursor c.stretch.written [])
+start-reports : (c : PlaybackStream) (cursor : Cursor) → HasState c → Gives Reports (start_course c [] cursor)
+start-reports c cursor is = Gives-if Reports (nat_eq c.stretch.written 0) (ends (with_outcome c (next_of c.status.state call.Start f))) (starts c Running cursor c.stretch.written [])
     (next-reports c.status.state call.Start f is) (starts-reports c Running cursor c.stretch.written [] is tt)
   where
     f : Facts
     f = record (nothing_found Playback) { queued = 0 }
 
-sync-reports : (c : PlaybackStream) → HasState c → All Reports (sync_course c [])
-sync-reports c is = All-if Reports (is_moving c.status.state) (syncs c call.Sync []) (ends (c, Ok tt)) (syncs-reports c call.Sync [] is) (tt, is)
+sync-reports : (c : PlaybackStream) → HasState c → Gives Reports (sync_course c [])
+sync-reports c is = Gives-if Reports (is_moving c.status.state) (syncs c call.Sync []) (ends (c, Ok tt)) (syncs-reports c call.Sync [] is) (tt, is)
 
-drain_on-reports : (done : Answered (Unit {0})) → Reports done → All Reports (drain_on [] done)
+drain_on-reports : (done : Answered (Unit {0})) → Reports done → Gives Reports (drain_on [] done)
 drain_on-reports (c, Ok done) reports = syncs-reports c call.Drain [] reports.1
 drain_on-reports (c, Err e) reports = reports
 
-drain-reports : (c : PlaybackStream) (cursor : Cursor) → HasState c → All Reports (drain_course c [] cursor)
+drain-reports : (c : PlaybackStream) (cursor : Cursor) → HasState c → Gives Reports (drain_course c [] cursor)
 unfolding drains
-drain-reports c cursor is = All-if Reports (is_moving c.status.state) (syncs (calls.in_draining c) call.Drain []) _ (syncs-reports (calls.in_draining c) call.Drain [] tt)
-    (All-if Reports (calls.has_frames c) (drains c [] cursor) (ends (after_drop c, Ok tt))
-    (All-then Reports Reports (starts c Draining cursor c.stretch.written []) (drain_on []) (starts-reports c Draining cursor c.stretch.written [] is tt) drain_on-reports) (tt, tt))
+drain-reports c cursor is = Gives-if Reports (is_moving c.status.state) (syncs (calls.in_draining c) call.Drain []) _ (syncs-reports (calls.in_draining c) call.Drain [] tt)
+    (Gives-if Reports (calls.has_frames c) (drains c [] cursor) (ends (after_drop c, Ok tt))
+    (Gives-then Reports Reports (starts c Draining cursor c.stretch.written []) (drain_on []) (starts-reports c Draining cursor c.stretch.written [] is tt) drain_on-reports) (tt, tt))
 
-pause-reports : (on : Bool) (c : PlaybackStream) (cursor : Cursor) → HasState c → All Reports (pause_course on c [] cursor)
-pause-reports on c cursor is = All-if Reports on (ends (after_pause c, Ok tt)) _ (tt, tt)
-    (All-if Reports (nat_eq (pending_of c) 0) (ends (with_new_base c, Ok tt)) (resumes c cursor []) (tt, tt) (resumes-reports c cursor [] is))
+pause-reports : (on : Bool) (c : PlaybackStream) (cursor : Cursor) → HasState c → Gives Reports (pause_course on c [] cursor)
+pause-reports on c cursor is = Gives-if Reports on (ends (after_pause c, Ok tt)) _ (tt, tt)
+    (Gives-if Reports (nat_eq (pending_of c) 0) (ends (with_new_base c, Ok tt)) (resumes c cursor []) (tt, tt) (resumes-reports c cursor [] is))
 
-number_course-reports : (number : PlaybackStream → ℕ) (c : PlaybackStream) → HasState c → All Reports (number_course number c [])
-number_course-reports number c is = All-if Reports (is_moving c.status.state) (course_with_number number (syncs c call.Sync [])) (ends (c, Ok (number c)))
+number_course-reports : (number : PlaybackStream → ℕ) (c : PlaybackStream) → HasState c → Gives Reports (number_course number c [])
+number_course-reports number c is = Gives-if Reports (is_moving c.status.state) (course_with_number number (syncs c call.Sync [])) (ends (c, Ok (number c)))
     (numbered-reports number (syncs c call.Sync []) (syncs-reports c call.Sync [] is)) (tt, is)
 
-checks-reports : (c : PlaybackStream) → HasState c → All Reports (checks c)
+checks-reports : (c : PlaybackStream) → HasState c → Gives Reports (checks c)
 unfolding checks
 checks-reports c is = λ load. after_sync-reports c call.Transfer load nothing is
 
-rewindable-reports : (c : PlaybackStream) (floor : Cursor) → HasState c → All Reports (rewindable_course c floor)
-rewindable-reports c floor is = All-if Reports (is_running c.status.state) (course_with_number (rewindable_of floor) (checks c)) _
+rewindable-reports : (c : PlaybackStream) (floor : Cursor) → HasState c → Gives Reports (rewindable_course c floor)
+rewindable-reports c floor is = Gives-if Reports (is_running c.status.state) (course_with_number (rewindable_of floor) (checks c)) _
     (numbered-reports (rewindable_of floor) (checks c) (checks-reports c is)) (tt, is)
 
-rewind_on-reports : (floor : Cursor) (n : ℕ) (done : Answered (Unit {0})) → Reports done → All Reports (rewind_on floor [] n done)
+rewind_on-reports : (floor : Cursor) (n : ℕ) (done : Answered (Unit {0})) → Reports done → Gives Reports (rewind_on floor [] n done)
 unfolding takes_back
 rewind_on-reports floor n (c, Err e) reports = reports
 rewind_on-reports floor n (c, Ok done) reports =
     let m = min n (rewindable_of floor c) in
-    All-after Reports (take_frames c.identity.member c.stretch.card c.setup.bindings (ring_sample c []) (c.stretch.committed - back_of c m) (back_of c m))
+    Gives-behind Reports (take_frames c.identity.member c.stretch.card c.setup.bindings (ring_sample c []) (c.stretch.committed - back_of c m) (back_of c m))
     (λ left. ends (after_rewind c m left)) (λ left. rewound-reports c m left reports.1)
 
-rewind-reports : (c : PlaybackStream) (floor : Cursor) (n : ℕ) → HasState c → All Reports (rewind_course c [] floor n)
+rewind-reports : (c : PlaybackStream) (floor : Cursor) (n : ℕ) → HasState c → Gives Reports (rewind_course c [] floor n)
 unfolding rewinds
-rewind-reports c floor n is = All-if Reports (is_running c.status.state) (rewinds c [] floor n) (ends (without_frames c (min n c.stretch.written), Ok (min n c.stretch.written)))
-    (All-then Reports Reports (checks c) (rewind_on floor [] n) (checks-reports c is) (rewind_on-reports floor n)) (tt, is)
+rewind-reports c floor n is = Gives-if Reports (is_running c.status.state) (rewinds c [] floor n) (ends (without_frames c (min n c.stretch.written), Ok (min n c.stretch.written)))
+    (Gives-then Reports Reports (checks c) (rewind_on floor [] n) (checks-reports c is) (rewind_on-reports floor n)) (tt, is)
 
-admitted-reports : {T : Type 0} (c : PlaybackStream) (asked : Call) (m : Course (Answered T)) → HasState c → All Reports m → All Reports (if_admitted c asked m)
+admitted-reports : {T : Type 0} (c : PlaybackStream) (asked : Call) (m : Course (Answered T)) → HasState c → Gives Reports m → Gives Reports (if_admitted c asked m)
 admitted-reports {T = T} c asked m is all = by_refusal (refusal_of Playback c.status asked) (refusal-reports Playback c.status asked is)
   where
-    by_refusal : (refusal : Option PcmError) → IfSome refusal CanReport → All Reports (admitted_by refusal c m)
+    by_refusal : (refusal : Option PcmError) → IfSome refusal CanReport → Gives Reports (admitted_by refusal c m)
     by_refusal None reports = all
     by_refusal (Some e) reports = (reports, is)
 
@@ -225,21 +217,21 @@ admitted-reports {T = T} c asked m is all = by_refusal (refusal_of Playback c.st
 abbrev IsSaid : PlaybackStream × Answer → Type 0
 IsSaid (d, answer) = HasText answer × HasState d
 
-done-said : (c : PlaybackStream) (asked : Call) (m : Course (Answered (Unit {0}))) → HasState c → All Reports m → All IsSaid (call_answer done_answer (if_admitted c asked m))
-done-said c asked m is all = All-then Reports IsSaid (if_admitted c asked m) (λ done. ends (done.0, done_answer done.1)) (admitted-reports c asked m is all) said
+done-said : (c : PlaybackStream) (asked : Call) (m : Course (Answered (Unit {0}))) → HasState c → Gives Reports m → Gives IsSaid (call_answer done_answer (if_admitted c asked m))
+done-said c asked m is all = Gives-then Reports IsSaid (if_admitted c asked m) (λ done. ends (done.0, done_answer done.1)) (admitted-reports c asked m is all) said
   where
     said : (x : Answered (Unit {0})) → Reports x → IsSaid (x.0, done_answer x.1)
     said (d, Ok done) reports = (tt, reports.1)
     said (d, Err e) reports = (reported-reports e reports.0, reports.1)
 
-count-said : (c : PlaybackStream) (asked : Call) (m : Course (Answered ℕ)) → HasState c → All Reports m → All IsSaid (call_answer count_answer (if_admitted c asked m))
-count-said c asked m is all = All-then Reports IsSaid (if_admitted c asked m) (λ done. ends (done.0, count_answer done.1)) (admitted-reports c asked m is all) said
+count-said : (c : PlaybackStream) (asked : Call) (m : Course (Answered ℕ)) → HasState c → Gives Reports m → Gives IsSaid (call_answer count_answer (if_admitted c asked m))
+count-said c asked m is all = Gives-then Reports IsSaid (if_admitted c asked m) (λ done. ends (done.0, count_answer done.1)) (admitted-reports c asked m is all) said
   where
     said : (x : Answered ℕ) → Reports x → IsSaid (x.0, count_answer x.1)
     said (d, Ok n) reports = (tt, reports.1)
     said (d, Err e) reports = (reported-reports e reports.0, reports.1)
 
-call-said : (wav : Sound) (marks : Marks) (c : PlaybackStream) (asked : Op) → HasState c → All IsSaid (call_of wav marks c asked)
+call-said : (wav : Sound) (marks : Marks) (c : PlaybackStream) (asked : Op) → HasState c → Gives IsSaid (call_of wav marks c asked)
 call-said wav marks c (op.Write n) is = count-said c call.Transfer _ is (write-reports c marks.cursor _ is)
 call-said wav marks c op.Start is = done-said c call.Start _ is (start-reports c marks.cursor is)
 call-said wav marks c op.Sync is = done-said c call.Sync _ is (sync-reports c is)
@@ -264,18 +256,18 @@ abbrev pub LineReports : Client × Answer → Type 0
 LineReports (client, answer) = IsReportable client.own × HasText answer
 
 pub client_line-reports : (wav : Sound) (marks : Marks) (client : Client) (own : Option PlaybackStream) (asked : Op) → IsReportable own → IsReportable client.own
-    → All LineReports (line_by wav marks client own asked)
+    → Gives LineReports (line_by wav marks client own asked)
 client_line-reports wav marks client None asked is there = (there, tt)
 client_line-reports wav marks client (Some c) asked is there = by_stop c.status.stopped asked
   where
-    by_call : (o : Op) → All LineReports (call_of wav marks c o >>= λ done. ends (after_call client c o done))
-    by_call o = All-then IsSaid LineReports (call_of wav marks c o) (λ done. ends (after_call client c o done)) (call-said wav marks c o is)
+    by_call : (o : Op) → Gives LineReports (call_of wav marks c o >>= λ done. ends (after_call client c o done))
+    by_call o = Gives-then IsSaid LineReports (call_of wav marks c o) (λ done. ends (after_call client c o done)) (call-said wav marks c o is)
         (λ done said. (said.1, said.0))
 
-    by_op : (o : Op) → All LineReports (line_if false wav marks client c o)
+    by_op : (o : Op) → Gives LineReports (line_if false wav marks client c o)
     by_op (op.Die k) = (there, tt)
     by_op other = by_call other
 
-    by_stop : (stopped : Bool) (o : Op) → All LineReports (line_if stopped wav marks client c o)
+    by_stop : (stopped : Bool) (o : Op) → Gives LineReports (line_if stopped wav marks client c o)
     by_stop true o = (there, tt)
     by_stop false o = by_op o

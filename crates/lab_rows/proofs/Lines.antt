@@ -3,6 +3,7 @@ use Rattle.std.proofs.Common.{◌≡◌, ℕ, ◌+◌, ◌<◌, refl, sym, ◌�
 use Rattle.std.proofs.lemmas.List.{map-append}
 use Rattle.std.proofs.lemmas.List.Elements.{All-append, All-cons, All-head, All-nil, All-tail}
 use Rattle.std.specs.Prelude.{All}
+use Rattle.course.specs.Gives.{Gives, Gives-taken}
 use Rattle.wav_io.specs.Sound.{Sound}
 use Rattle.dmix_client.specs.declared.stream.PlaybackStream.{PlaybackStream}
 use Rattle.dsnoop_client.specs.declared.stream.CaptureStream as reading
@@ -22,8 +23,6 @@ use Rattle.lab_run.specs.Lines.{EachMay, Kind, LinesMay}
 use Rattle.lab_run.specs.Reader.{Reader, reader_kind}
 use Rattle.lab_run.specs.Reader as readers
 use Rattle.lab_run.specs.Rules.{AtPort, MayGet, MayLay, MayLoad, Rules}
-use Rattle.lab_run.proofs.Results.{Takes-all}
-use Rattle.lab_run.proofs.Results as results
 use Rattle.lab_rows.proofs.ClientCalls.{IsReportable, client_line-reports}
 use Rattle.lab_rows.proofs.ReaderCalls as reader_calls
 use Rattle.lab_rows.proofs.ReaderCalls.{reader_line-reports}
@@ -31,7 +30,7 @@ use Rattle.lab_rows.proofs.Requests.{asks, from_place}
 
 -- what the laws need of a kind of actor: each line keeps a property, and has a row of the script
 pub record IsReporting {S : Type 0} (script : Script) (phase : ℕ) (who : Actor) (P : S → Type 0) (kind : Kind S) : Type 0 where
-  pub line : (a : AtPort) (s : S) (asked : Op) → P s → results.All (λ (x : S × Answer). P x.0 × HasText x.1) (kind.course a s asked)
+  pub line : (a : AtPort) (s : S) (asked : Op) → P s → Gives (λ (x : S × Answer). P x.0 × HasText x.1) (kind.course a s asked)
   pub row : (asked : Op) (s : S) (answer : Answer) → P s → HasText answer → IsRowOf script (kind.row asked s answer)
   pub request : (asked : Op) (s : S) (answer : Answer) → request_of_row (kind.row asked s answer) ≡ asks phase who asked
 
@@ -51,7 +50,7 @@ lines-rows script phase who P kind is rules before after [] rows may p = record 
   asked = ap (map request_of_row) may.1;
 }
 lines-rows {S = S} script phase who P kind is rules (a, s) after (asked ∷ more) rows ((b, t), answer, others, one, rest, rows_is) p =
-    let done : P t × HasText answer = Takes-all (MayLoad rules) (MayLay rules) (MayGet rules) (λ (x : S × Answer). P x.0 × HasText x.1)
+    let done : P t × HasText answer = Gives-taken (MayLoad rules) (MayLay rules) (MayGet rules) (λ (x : S × Answer). P x.0 × HasText x.1)
     (kind.begins s asked a) b (kind.course (kind.begins s asked a) s asked) (t, answer) (is.line (kind.begins s asked a) s asked p) one in
     let next = lines-rows script phase who P kind is rules (b, t) after more others rest done.0 in
     record {

@@ -12,6 +12,7 @@ use Rattle.pcm_states.specs.Table.{next_of}
 use Rattle.pcm_stream.specs.declared.direction.Direction.TheVariants.{Capture}
 use Rattle.pcm_stream.specs.Status.{refusal_of}
 use Rattle.course.specs.Course.{◌>>=◌, Course, ends}
+use Rattle.course.specs.Gives.{Gives, Gives-behind, Gives-if, Gives-then}
 use Rattle.snoop_core.specs.declared.port.Got.{Got}
 use Rattle.snoop_core.specs.declared.port.Got.TheVariants as got
 use Rattle.dsnoop_client.specs.declared.stream.CaptureStream.{CaptureStream}
@@ -24,8 +25,6 @@ use Rattle.lab_lines.specs.declared.row.Answer.{Answer}
 use Rattle.lab_report.specs.Text.{HasStateText, HasText}
 use Rattle.lab_run.specs.Client.{count_answer, done_answer}
 use Rattle.lab_run.specs.Reader.{Reader, after_call, call_answer, call_of, line_by, line_if}
-use Rattle.lab_run.proofs.Results.{All, All-then}
-use Rattle.lab_rows.proofs.ClientCalls.{All-after, All-if}
 use Rattle.lab_rows.proofs.TableLaws.{CanReport, CanReportIn, next-reports, refusal-reports, reported-reports}
 
 -- a reader's state has a text
@@ -77,39 +76,39 @@ waits-reports r n is = by_test (nat_eq n 0)
 
 -- ---- the calls
 
-starts-reports : (r : CaptureStream) (asked : Call) → HasState r → All Reports (starts r asked)
+starts-reports : (r : CaptureStream) (asked : Call) → HasState r → Gives Reports (starts r asked)
 unfolding starts
 starts-reports r asked is = λ load. after_start-reports r asked load is
 
-syncs-reports : (r : CaptureStream) (asked : Call) → HasState r → All Reports (syncs r asked)
+syncs-reports : (r : CaptureStream) (asked : Call) → HasState r → Gives Reports (syncs r asked)
 unfolding syncs
 syncs-reports r asked is = λ load. after_sync-reports r asked load is
 
-sync-reports : (r : CaptureStream) → HasState r → All Reports (sync_course r)
-sync-reports r is = All-if Reports (is_running r.status.state) (syncs r call.Sync) (ends (r, Ok tt)) (syncs-reports r call.Sync is) (tt, is)
+sync-reports : (r : CaptureStream) → HasState r → Gives Reports (sync_course r)
+sync-reports r is = Gives-if Reports (is_running r.status.state) (syncs r call.Sync) (ends (r, Ok tt)) (syncs-reports r call.Sync is) (tt, is)
 
-avail_course-reports : (r : CaptureStream) → HasState r → All Reports (avail_course r)
+avail_course-reports : (r : CaptureStream) → HasState r → Gives Reports (avail_course r)
 unfolding counts
-avail_course-reports r is = All-if Reports (is_running r.status.state) (counts (syncs r call.Sync)) (ends (r, Ok 0))
-    (All-then Reports Reports (syncs r call.Sync) (λ done. ends (with_avail done)) (syncs-reports r call.Sync is) avail-reports) (tt, is)
+avail_course-reports r is = Gives-if Reports (is_running r.status.state) (counts (syncs r call.Sync)) (ends (r, Ok 0))
+    (Gives-then Reports Reports (syncs r call.Sync) (λ done. ends (with_avail done)) (syncs-reports r call.Sync is) avail-reports) (tt, is)
 
-transfer_on-reports : (n : ℕ) (done : Answered (Unit {0})) → Reports done → All Reports (transfer_on n done)
+transfer_on-reports : (n : ℕ) (done : Answered (Unit {0})) → Reports done → Gives Reports (transfer_on n done)
 unfolding transfers
 transfer_on-reports n (r, Err e) reports = reports
 transfer_on-reports n (r, Ok done) reports =
-    All-after Reports (gets_frames (taken_of r n) r.next) (λ end. ends (read_after r n end.0 end.1)) (λ end. read-reports r n end.0 end.1 reports.1)
+    Gives-behind Reports (gets_frames (taken_of r n) r.next) (λ end. ends (read_after r n end.0 end.1)) (λ end. read-reports r n end.0 end.1 reports.1)
 
-read_course-reports : (r : CaptureStream) (n : ℕ) → HasState r → All Reports (read_course r n)
+read_course-reports : (r : CaptureStream) (n : ℕ) → HasState r → Gives Reports (read_course r n)
 unfolding reads_on reads_first
-read_course-reports r n is = All-if Reports (is_running r.status.state) (reads_on r n) _
-    (All-then Reports Reports (syncs r call.Transfer) (transfer_on n) (syncs-reports r call.Transfer is) (transfer_on-reports n))
-    (All-if Reports (nat_le r.setup.params.start_threshold n) (reads_first r n) (ends (r, waits n))
-    (All-then Reports Reports (starts r call.Transfer) (transfer_on n) (starts-reports r call.Transfer is) (transfer_on-reports n)) (waits-reports r n is))
+read_course-reports r n is = Gives-if Reports (is_running r.status.state) (reads_on r n) _
+    (Gives-then Reports Reports (syncs r call.Transfer) (transfer_on n) (syncs-reports r call.Transfer is) (transfer_on-reports n))
+    (Gives-if Reports (nat_le r.setup.params.start_threshold n) (reads_first r n) (ends (r, waits n))
+    (Gives-then Reports Reports (starts r call.Transfer) (transfer_on n) (starts-reports r call.Transfer is) (transfer_on-reports n)) (waits-reports r n is))
 
-admitted-reports : {T : Type 0} (r : CaptureStream) (asked : Call) (m : Course (Answered T)) → HasState r → All Reports m → All Reports (if_admitted r asked m)
+admitted-reports : {T : Type 0} (r : CaptureStream) (asked : Call) (m : Course (Answered T)) → HasState r → Gives Reports m → Gives Reports (if_admitted r asked m)
 admitted-reports {T = T} r asked m is all = by_refusal (refusal_of Capture r.status asked) (refusal-reports Capture r.status asked is)
   where
-    by_refusal : (refusal : Option PcmError) → IfSome refusal CanReport → All Reports (admitted_by refusal r m)
+    by_refusal : (refusal : Option PcmError) → IfSome refusal CanReport → Gives Reports (admitted_by refusal r m)
     by_refusal None reports = all
     by_refusal (Some e) reports = (reports, is)
 
@@ -119,21 +118,21 @@ admitted-reports {T = T} r asked m is all = by_refusal (refusal_of Capture r.sta
 abbrev IsSaid : CaptureStream × Answer → Type 0
 IsSaid (d, answer) = HasText answer × HasState d
 
-done-said : (r : CaptureStream) (asked : Call) (m : Course (Answered (Unit {0}))) → HasState r → All Reports m → All IsSaid (call_answer done_answer (if_admitted r asked m))
-done-said r asked m is all = All-then Reports IsSaid (if_admitted r asked m) (λ done. ends (done.0, done_answer done.1)) (admitted-reports r asked m is all) said
+done-said : (r : CaptureStream) (asked : Call) (m : Course (Answered (Unit {0}))) → HasState r → Gives Reports m → Gives IsSaid (call_answer done_answer (if_admitted r asked m))
+done-said r asked m is all = Gives-then Reports IsSaid (if_admitted r asked m) (λ done. ends (done.0, done_answer done.1)) (admitted-reports r asked m is all) said
   where
     said : (x : Answered (Unit {0})) → Reports x → IsSaid (x.0, done_answer x.1)
     said (d, Ok done) reports = (tt, reports.1)
     said (d, Err e) reports = (reported-reports e reports.0, reports.1)
 
-count-said : (r : CaptureStream) (asked : Call) (m : Course (Answered ℕ)) → HasState r → All Reports m → All IsSaid (call_answer count_answer (if_admitted r asked m))
-count-said r asked m is all = All-then Reports IsSaid (if_admitted r asked m) (λ done. ends (done.0, count_answer done.1)) (admitted-reports r asked m is all) said
+count-said : (r : CaptureStream) (asked : Call) (m : Course (Answered ℕ)) → HasState r → Gives Reports m → Gives IsSaid (call_answer count_answer (if_admitted r asked m))
+count-said r asked m is all = Gives-then Reports IsSaid (if_admitted r asked m) (λ done. ends (done.0, count_answer done.1)) (admitted-reports r asked m is all) said
   where
     said : (x : Answered ℕ) → Reports x → IsSaid (x.0, count_answer x.1)
     said (d, Ok n) reports = (tt, reports.1)
     said (d, Err e) reports = (reported-reports e reports.0, reports.1)
 
-call-said : (r : CaptureStream) (asked : Op) → HasState r → All IsSaid (call_of r asked)
+call-said : (r : CaptureStream) (asked : Op) → HasState r → Gives IsSaid (call_of r asked)
 call-said r (op.Read n) is = count-said r call.Transfer _ is (read_course-reports r n is)
 call-said r op.Start is = done-said r call.Start _ is (starts-reports r call.Start is)
 call-said r op.Sync is = done-said r call.Sync _ is (sync-reports r is)
@@ -152,17 +151,17 @@ IsReportable (Some r) = HasState r
 abbrev pub LineReports : Reader × Answer → Type 0
 LineReports (reader, answer) = IsReportable reader.own × HasText answer
 
-pub reader_line-reports : (reader : Reader) (own : Option CaptureStream) (asked : Op) → IsReportable own → IsReportable reader.own → All LineReports (line_by reader own asked)
+pub reader_line-reports : (reader : Reader) (own : Option CaptureStream) (asked : Op) → IsReportable own → IsReportable reader.own → Gives LineReports (line_by reader own asked)
 reader_line-reports reader None asked is there = (there, tt)
 reader_line-reports reader (Some r) asked is there = by_stop r.status.stopped asked
   where
-    by_call : (o : Op) → All LineReports (call_of r o >>= λ done. ends (after_call reader o done))
-    by_call o = All-then IsSaid LineReports (call_of r o) (λ done. ends (after_call reader o done)) (call-said r o is) (λ done said. (said.1, said.0))
+    by_call : (o : Op) → Gives LineReports (call_of r o >>= λ done. ends (after_call reader o done))
+    by_call o = Gives-then IsSaid LineReports (call_of r o) (λ done. ends (after_call reader o done)) (call-said r o is) (λ done said. (said.1, said.0))
 
-    by_op : (o : Op) → All LineReports (line_if false reader r o)
+    by_op : (o : Op) → Gives LineReports (line_if false reader r o)
     by_op (op.Die k) = (there, tt)
     by_op other = by_call other
 
-    by_stop : (stopped : Bool) (o : Op) → All LineReports (line_if stopped reader r o)
+    by_stop : (stopped : Bool) (o : Op) → Gives LineReports (line_if stopped reader r o)
     by_stop true o = (there, tt)
     by_stop false o = by_op o

@@ -19,6 +19,7 @@ use Rattle.pcm_states.specs.declared.states.State.{State}
 use Rattle.pcm_states.specs.declared.states.State.TheVariants.{Draining, Prepared, Running, Setup}
 use Rattle.pcm_states.specs.Table.{Cell, already, done_in, draining, ebadfd, eio, enodev, filling, first_outcome, if_empty, if_gone, if_late, if_none_left, if_over, if_played, moving, next_of, cell_outcome, resuming, call_row, starting, still_draining, stopped_by, to}
 use Rattle.course.specs.Course.{◌>>=◌, Course, ends}
+use Rattle.course.specs.Gives.{Gives, Gives-behind, Gives-if, Gives-taken, Gives-then}
 use Rattle.wav_io.specs.Sound.{Sound}
 use Rattle.dmix_client.specs.declared.commit.Commit.{Commit}
 use Rattle.dmix_client.specs.declared.stream.PlaybackStream.{PlaybackStream}
@@ -37,7 +38,6 @@ use Rattle.lab_lines.specs.declared.row.Answer.TheVariants.{Done, Failed}
 use Rattle.lab_run.specs.Client.{after_call, call_answer, begins, call_of, count_answer, done_answer, line_by, line_if, reported_error, write_course}
 use Rattle.lab_run.specs.LateRows.{IsNextSample, LateRowsNameNext, NamesNext, is_rewind}
 use Rattle.lab_run.specs.Rules.{MayGet, MayLay, MayLoad, Rules}
-use Rattle.lab_run.proofs.Results.{All, All-any, All-then, Takes-all}
 
 -- ---- a fact of the place that an error, an answer or a fact of the table names, if it is late
 
@@ -207,81 +207,73 @@ written-missed c n x = by_test (nat_lt 0 n && nat_eq (avail_of c) 0) (is_stop x.
 
 -- ---- the calls
 
-pub All-if : {X : Type 0} (Q : X → Type 0) (test : Bool) (m n : Course X) → All Q m → All Q n → All Q (if test then m else n)
-All-if Q true m n one two = one
-All-if Q false m n one two = two
-
--- whatever a course gave, what follows has a fact
-All-after : {X Y : Type 0} (Q : Y → Type 0) (m : Course X) (f : X → Course Y) → ((x : X) → All Q (f x)) → All Q (m >>= f)
-All-after Q m f each = All-then (λ x. ⊤) Q m f (All-any (λ x. ⊤) m (λ x. tt)) (λ x any. each x)
-
-syncs-missed : (c : PlaybackStream) (asked : Call) (ring : List ℤ) → All Missed (syncs c asked ring)
+syncs-missed : (c : PlaybackStream) (asked : Call) (ring : List ℤ) → Gives Missed (syncs c asked ring)
 unfolding syncs
-syncs-missed c asked ring = All-after Missed (looks (λ position. c) (sync_count c) ring) (λ found. ends (after_sync c asked found.0 found.1))
+syncs-missed c asked ring = Gives-behind Missed (looks (λ position. c) (sync_count c) ring) (λ found. ends (after_sync c asked found.0 found.1))
     (λ found. after_sync-missed c asked found.0 found.1)
 
-starts-missed : (c : PlaybackStream) (state : State) (cursor : Cursor) (upto : ℕ) (ring : List ℤ) → All Missed (starts c state cursor upto ring)
+starts-missed : (c : PlaybackStream) (state : State) (cursor : Cursor) (upto : ℕ) (ring : List ℤ) → Gives Missed (starts c state cursor upto ring)
 unfolding starts
 starts-missed c state cursor upto ring =
-    All-after Missed (looks (λ position. started_in c Running position cursor) (λ position. start_count c cursor position upto) ring)
+    Gives-behind Missed (looks (λ position. started_in c Running position cursor) (λ position. start_count c cursor position upto) ring)
     (λ found. ends (after_start c state cursor found.0 found.1)) (λ found. after_start-missed c state cursor found.0 found.1)
 
-resumes-missed : (c : PlaybackStream) (cursor : Cursor) (ring : List ℤ) → All Missed (resumes c cursor ring)
+resumes-missed : (c : PlaybackStream) (cursor : Cursor) (ring : List ℤ) → Gives Missed (resumes c cursor ring)
 unfolding resumes
 resumes-missed c cursor ring =
-    All-after Missed (looks (λ position. started_in (with_new_base c) Running position cursor) (λ position. start_count (with_new_base c) cursor position (pending_of c)) ring)
+    Gives-behind Missed (looks (λ position. started_in (with_new_base c) Running position cursor) (λ position. start_count (with_new_base c) cursor position (pending_of c)) ring)
     (λ found. ends (after_resume c cursor found.0 found.1)) (λ found. resumed-missed c cursor found.0 found.1)
 
-numbered-missed : (number : PlaybackStream → ℕ) (m : Course (Answered (Unit {0}))) → All Missed m → All Missed (course_with_number number m)
+numbered-missed : (number : PlaybackStream → ℕ) (m : Course (Answered (Unit {0}))) → Gives Missed m → Gives Missed (course_with_number number m)
 unfolding course_with_number
-numbered-missed number m all = All-then Missed Missed m (λ done. ends (with_number number done)) all (number-missed number)
+numbered-missed number m all = Gives-then Missed Missed m (λ done. ends (with_number number done)) all (number-missed number)
 
-write_on-missed : (ring samples : List ℤ) (n : ℕ) (done : Answered (Unit {0})) → Missed done → All Missed (write_on ring samples n done)
+write_on-missed : (ring samples : List ℤ) (n : ℕ) (done : Answered (Unit {0})) → Missed done → Gives Missed (write_on ring samples n done)
 unfolding takes_more
 write_on-missed ring samples n (c, Err e) late = late
 write_on-missed ring samples n (c, Ok done) late =
-    All-after Missed (commits c (ring_with c ring samples (taken_of c n)) (count_with c (taken_of c n))) (λ last. ends (written_after c n last)) (written-missed c n)
+    Gives-behind Missed (commits c (ring_with c ring samples (taken_of c n)) (count_with c (taken_of c n))) (λ last. ends (written_after c n last)) (written-missed c n)
 
-write-missed : (c : PlaybackStream) (cursor : Cursor) (n : ℕ) → All Missed (write_course c cursor n)
+write-missed : (c : PlaybackStream) (cursor : Cursor) (n : ℕ) → Gives Missed (write_course c cursor n)
 unfolding writes_on starts_taking
-write-missed c cursor n = All-if Missed (is_running c.status.state) (writes_on c [] [] n) (fills c [] [] cursor n)
-    (All-then Missed Missed (syncs c call.Transfer []) (write_on [] [] n) (syncs-missed c call.Transfer []) (write_on-missed [] [] n))
-    (All-if Missed (starts_with c n) (starts_taking c (ring_with c [] [] (taken_of c n)) cursor (taken_of c n)) (ends (with_accepted c (taken_of c n), Ok (taken_of c n)))
-    (All-then Missed Missed (starts c Running cursor (c.stretch.written + taken_of c n) (ring_with c [] [] (taken_of c n))) (λ done. ends (accepted_if (taken_of c n) done))
+write-missed c cursor n = Gives-if Missed (is_running c.status.state) (writes_on c [] [] n) (fills c [] [] cursor n)
+    (Gives-then Missed Missed (syncs c call.Transfer []) (write_on [] [] n) (syncs-missed c call.Transfer []) (write_on-missed [] [] n))
+    (Gives-if Missed (starts_with c n) (starts_taking c (ring_with c [] [] (taken_of c n)) cursor (taken_of c n)) (ends (with_accepted c (taken_of c n), Ok (taken_of c n)))
+    (Gives-then Missed Missed (starts c Running cursor (c.stretch.written + taken_of c n) (ring_with c [] [] (taken_of c n))) (λ done. ends (accepted_if (taken_of c n) done))
     (starts-missed c Running cursor (c.stretch.written + taken_of c n) (ring_with c [] [] (taken_of c n))) (accepted-missed (taken_of c n)))
     tt)
 
-start-missed : (c : PlaybackStream) (cursor : Cursor) → All Missed (start_course c [] cursor)
-start-missed c cursor = All-if Missed (nat_eq c.stretch.written 0) (ends (with_outcome c (next_of c.status.state call.Start f))) (starts c Running cursor c.stretch.written [])
+start-missed : (c : PlaybackStream) (cursor : Cursor) → Gives Missed (start_course c [] cursor)
+start-missed c cursor = Gives-if Missed (nat_eq c.stretch.written 0) (ends (with_outcome c (next_of c.status.state call.Start f))) (starts c Running cursor c.stretch.written [])
     (next-late (IsNextSample c) c.status.state call.Start f tt) (starts-missed c Running cursor c.stretch.written [])
   where
     f : Facts
     f = record (nothing_found Playback) { queued = 0 }
 
-drain_on-missed : (done : Answered (Unit {0})) → Missed done → All Missed (drain_on [] done)
+drain_on-missed : (done : Answered (Unit {0})) → Missed done → Gives Missed (drain_on [] done)
 drain_on-missed (c, Ok done) late = syncs-missed c call.Drain []
 drain_on-missed (c, Err e) late = late
 
-drain-missed : (c : PlaybackStream) (cursor : Cursor) → All Missed (drain_course c [] cursor)
+drain-missed : (c : PlaybackStream) (cursor : Cursor) → Gives Missed (drain_course c [] cursor)
 unfolding drains
-drain-missed c cursor = All-if Missed (is_moving c.status.state) (syncs (calls.in_draining c) call.Drain []) _ (syncs-missed (calls.in_draining c) call.Drain [])
-    (All-if Missed (calls.has_frames c) (drains c [] cursor) (ends (after_drop c, Ok tt))
-    (All-then Missed Missed (starts c Draining cursor c.stretch.written []) (drain_on []) (starts-missed c Draining cursor c.stretch.written []) drain_on-missed) tt)
+drain-missed c cursor = Gives-if Missed (is_moving c.status.state) (syncs (calls.in_draining c) call.Drain []) _ (syncs-missed (calls.in_draining c) call.Drain [])
+    (Gives-if Missed (calls.has_frames c) (drains c [] cursor) (ends (after_drop c, Ok tt))
+    (Gives-then Missed Missed (starts c Draining cursor c.stretch.written []) (drain_on []) (starts-missed c Draining cursor c.stretch.written []) drain_on-missed) tt)
 
-pause-missed : (on : Bool) (c : PlaybackStream) (cursor : Cursor) → All Missed (pause_course on c [] cursor)
-pause-missed on c cursor = All-if Missed on (ends (after_pause c, Ok tt)) _ tt
-    (All-if Missed (nat_eq (pending_of c) 0) (ends (with_new_base c, Ok tt)) (resumes c cursor []) tt (resumes-missed c cursor []))
+pause-missed : (on : Bool) (c : PlaybackStream) (cursor : Cursor) → Gives Missed (pause_course on c [] cursor)
+pause-missed on c cursor = Gives-if Missed on (ends (after_pause c, Ok tt)) _ tt
+    (Gives-if Missed (nat_eq (pending_of c) 0) (ends (with_new_base c, Ok tt)) (resumes c cursor []) tt (resumes-missed c cursor []))
 
-number_course-missed : (number : PlaybackStream → ℕ) (c : PlaybackStream) → All Missed (number_course number c [])
-number_course-missed number c = All-if Missed (is_moving c.status.state) (course_with_number number (syncs c call.Sync [])) (ends (c, Ok (number c)))
+number_course-missed : (number : PlaybackStream → ℕ) (c : PlaybackStream) → Gives Missed (number_course number c [])
+number_course-missed number c = Gives-if Missed (is_moving c.status.state) (course_with_number number (syncs c call.Sync [])) (ends (c, Ok (number c)))
     (numbered-missed number (syncs c call.Sync []) (syncs-missed c call.Sync [])) tt
 
-checks-missed : (c : PlaybackStream) → All Missed (checks c)
+checks-missed : (c : PlaybackStream) → Gives Missed (checks c)
 unfolding checks
 checks-missed c = λ load. after_sync-missed c call.Transfer load nothing
 
-rewindable-missed : (c : PlaybackStream) (floor : Cursor) → All Missed (rewindable_course c floor)
-rewindable-missed c floor = All-if Missed (is_running c.status.state) (course_with_number (rewindable_of floor) (checks c)) _
+rewindable-missed : (c : PlaybackStream) (floor : Cursor) → Gives Missed (rewindable_course c floor)
+rewindable-missed c floor = Gives-if Missed (is_running c.status.state) (course_with_number (rewindable_of floor) (checks c)) _
     (numbered-missed (rewindable_of floor) (checks c) (checks-missed c)) tt
 
 -- a call's refusal isn't late
@@ -303,10 +295,10 @@ refusal-missed c asked = by_stop c.status.stopped
     by_stop true = tt
     by_stop false = by_answer (next_of c.status.state asked (nothing_found Playback)).answer (next-late Q c.status.state asked (nothing_found Playback) tt)
 
-admitted-missed : {T : Type 0} (c : PlaybackStream) (asked : Call) (m : Course (Answered T)) → All Missed m → All Missed (if_admitted c asked m)
+admitted-missed : {T : Type 0} (c : PlaybackStream) (asked : Call) (m : Course (Answered T)) → Gives Missed m → Gives Missed (if_admitted c asked m)
 admitted-missed {T = T} c asked m all = by_refusal (refusal_of Playback c.status asked) (refusal-missed c asked)
   where
-    by_refusal : (refusal : Option PcmError) → IfSome refusal (LateErr (IsNextSample c)) → All Missed (admitted_by refusal c m)
+    by_refusal : (refusal : Option PcmError) → IfSome refusal (LateErr (IsNextSample c)) → Gives Missed (admitted_by refusal c m)
     by_refusal None late = all
     by_refusal (Some e) late = late
 
@@ -316,24 +308,24 @@ admitted-missed {T = T} c asked m all = by_refusal (refusal_of Playback c.status
 abbrev Named : PlaybackStream × Answer → Type 0
 Named (d, answer) = LateAnswer (IsNextSample d) answer
 
-done-named : (m : Course (Answered (Unit {0}))) → All Missed m → All Named (call_answer done_answer m)
-done-named m all = All-then Missed Named m (λ done. ends (done.0, done_answer done.1)) all named
+done-named : (m : Course (Answered (Unit {0}))) → Gives Missed m → Gives Named (call_answer done_answer m)
+done-named m all = Gives-then Missed Named m (λ done. ends (done.0, done_answer done.1)) all named
   where
     named : (x : Answered (Unit {0})) → Missed x → Named (x.0, done_answer x.1)
     named (d, Ok done) late = tt
     named (d, Err e) late = reported-late (IsNextSample d) e late
 
-count-named : (m : Course (Answered ℕ)) → All Missed m → All Named (call_answer count_answer m)
-count-named m all = All-then Missed Named m (λ done. ends (done.0, count_answer done.1)) all named
+count-named : (m : Course (Answered ℕ)) → Gives Missed m → Gives Named (call_answer count_answer m)
+count-named m all = Gives-then Missed Named m (λ done. ends (done.0, count_answer done.1)) all named
   where
     named : (x : Answered ℕ) → Missed x → Named (x.0, count_answer x.1)
     named (d, Ok n) late = tt
     named (d, Err e) late = reported-late (IsNextSample d) e late
 
-call-named : (wav : Sound) (marks : Marks) (c : PlaybackStream) (asked : Op) → is_rewind asked ≡ false → All Named (call_of wav marks c asked)
+call-named : (wav : Sound) (marks : Marks) (c : PlaybackStream) (asked : Op) → is_rewind asked ≡ false → Gives Named (call_of wav marks c asked)
 call-named wav marks c (op.Write n) not = count-named _ (admitted-missed c call.Transfer _ (write-missed c marks.cursor _))
 call-named wav marks c op.Start not = done-named _ (admitted-missed c call.Start _ (start-missed c marks.cursor))
-call-named wav marks c op.Sync not = done-named _ (admitted-missed c call.Sync _ (All-if Missed (is_moving c.status.state) (syncs c call.Sync []) (ends (c, Ok tt)) (syncs-missed c call.Sync []) tt))
+call-named wav marks c op.Sync not = done-named _ (admitted-missed c call.Sync _ (Gives-if Missed (is_moving c.status.state) (syncs c call.Sync []) (ends (c, Ok tt)) (syncs-missed c call.Sync []) tt))
 call-named wav marks c op.Avail not = count-named _ (admitted-missed c call.Sync _ (number_course-missed avail_answer c))
 call-named wav marks c op.Delay not = count-named _ (admitted-missed c call.Sync _ (number_course-missed delay_answer c))
 call-named wav marks c op.Drain not = done-named _ (admitted-missed c call.Drain _ (drain-missed c marks.cursor))
@@ -347,9 +339,9 @@ call-named wav marks c other not = tt
 
 pub late-rows : (rules : Rules) (phase : ℕ) (wav : Sound) (number : ℕ) → LateRowsNameNext rules phase wav number
 late-rows rules phase wav number a b client after c asked answer is not may =
-    Takes-all (MayLoad rules) (MayLay rules) (MayGet rules) (λ x. NamesNext x.0 x.1) (begins client.own asked a) b
+    Gives-taken (MayLoad rules) (MayLay rules) (MayGet rules) (λ x. NamesNext x.0 x.1) (begins client.own asked a) b
     (line_by wav (begins client.own asked a).marks client client.own asked) (after, answer)
-    (subst (λ own. All (λ x. NamesNext x.0 x.1) (line_by wav marks client own asked)) (sym is) (by_stop c.status.stopped asked not)) may
+    (subst (λ own. Gives (λ x. NamesNext x.0 x.1) (line_by wav marks client own asked)) (sym is) (by_stop c.status.stopped asked not)) may
   where
     marks : Marks
     marks = (begins client.own asked a).marks
@@ -360,13 +352,13 @@ late-rows rules phase wav number a b client after c asked answer is not may =
     called : (o : Op) (x : PlaybackStream × Answer) → Named x → NamesNext (after_call client c o x).0 (after_call client c o x).1
     called o (d, given) named = record { own = d; is_own = refl; late = λ frame channel late. subst (LateAnswer (IsNextSample d)) late named }
 
-    by_call : (o : Op) → is_rewind o ≡ false → All (λ x. NamesNext x.0 x.1) (call_of wav marks c o >>= λ done. ends (after_call client c o done))
-    by_call o not = All-then Named (λ x. NamesNext x.0 x.1) (call_of wav marks c o) (λ done. ends (after_call client c o done)) (call-named wav marks c o not) (called o)
+    by_call : (o : Op) → is_rewind o ≡ false → Gives (λ x. NamesNext x.0 x.1) (call_of wav marks c o >>= λ done. ends (after_call client c o done))
+    by_call o not = Gives-then Named (λ x. NamesNext x.0 x.1) (call_of wav marks c o) (λ done. ends (after_call client c o done)) (call-named wav marks c o not) (called o)
 
-    by_op : (o : Op) → is_rewind o ≡ false → All (λ x. NamesNext x.0 x.1) (line_if false wav marks client c o)
+    by_op : (o : Op) → is_rewind o ≡ false → Gives (λ x. NamesNext x.0 x.1) (line_if false wav marks client c o)
     by_op (op.Die k) not = stays Done tt
     by_op other not = by_call other not
 
-    by_stop : (stopped : Bool) (o : Op) → is_rewind o ≡ false → All (λ x. NamesNext x.0 x.1) (line_if stopped wav marks client c o)
+    by_stop : (stopped : Bool) (o : Op) → is_rewind o ≡ false → Gives (λ x. NamesNext x.0 x.1) (line_if stopped wav marks client c o)
     by_stop true o not = stays (Failed error.Stopped) tt
     by_stop false o not = by_op o not

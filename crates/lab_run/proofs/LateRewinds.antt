@@ -13,6 +13,7 @@ use Rattle.pcm_states.specs.declared.calls.Facts.{Facts}
 use Rattle.pcm_states.specs.declared.states.State.TheVariants.{Running}
 use Rattle.pcm_states.specs.Table.{next_of}
 use Rattle.course.specs.Course.{Course, ends}
+use Rattle.course.specs.Gives.{Gives, Gives-if, Gives-taken, Gives-then}
 use Rattle.wav_io.specs.Sound.{Sound}
 use Rattle.pcm_stream.specs.declared.direction.Direction.TheVariants.{Playback}
 use Rattle.pcm_stream.specs.Status.{is_refusal, nothing_found, refusal_in, refusal_of}
@@ -28,8 +29,7 @@ use Rattle.lab_lines.specs.declared.row.Answer.{Answer}
 use Rattle.lab_run.specs.Client.{after_call, begins, call_of, count_answer, line_by, line_if}
 use Rattle.lab_run.specs.LateRows.{IsLastSample, LateRewindsNameLast, NamesLast}
 use Rattle.lab_run.specs.Rules.{MayGet, MayLay, MayLoad, Rules}
-use Rattle.lab_run.proofs.LateLaws.{All-if, LateAnswer, LateErr, LateIn, LateWhy, next-late, reported-late}
-use Rattle.lab_run.proofs.Results.{All, All-then, Takes-all}
+use Rattle.lab_run.proofs.LateLaws.{LateAnswer, LateErr, LateIn, LateWhy, next-late, reported-late}
 
 -- a call of a client, after which it is so
 abbrev Kept : {T : Type 0} → Answered T → Type 0
@@ -47,12 +47,12 @@ HasLeft left = HasSome left.ended (left.frames + left.part)
 abbrev IsLeftOf : ℕ × Ended → Type 0
 IsLeftOf (left, how) = HasSome how left
 
-each-left : (member frame : ℕ) (bindings : List ℕ) (sample_of : ℕ → ℤ) (n : ℕ) → All IsLeftOf (take_each member frame bindings sample_of n)
+each-left : (member frame : ℕ) (bindings : List ℕ) (sample_of : ℕ → ℤ) (n : ℕ) → Gives IsLeftOf (take_each member frame bindings sample_of n)
 unfolding take_each
 each-left member frame bindings sample_of zero = tt
 each-left member frame bindings sample_of (suc n) = by_end (each-left member frame bindings sample_of n)
   where
-    by_end : All IsLeftOf (take_each member frame bindings sample_of n) → (how : Ended) → All IsLeftOf (take_on how (suc n) (take_each member frame bindings sample_of n))
+    by_end : Gives IsLeftOf (take_each member frame bindings sample_of n) → (how : Ended) → Gives IsLeftOf (take_on how (suc n) (take_each member frame bindings sample_of n))
     by_end rest ended.Whole = rest
     by_end rest (ended.Late word) = omega arith
     by_end rest ended.Stopped = tt
@@ -74,15 +74,15 @@ rewind_left-some n left channels ended.Stopped some = by_test (nat_eq left chann
     by_test true = tt
     by_test false = tt
 
-frames-left : (member card : ℕ) (bindings : List ℕ) (samples : ℕ → ℕ → ℤ) (first n : ℕ) → All HasLeft (take_frames member card bindings samples first n)
+frames-left : (member card : ℕ) (bindings : List ℕ) (samples : ℕ → ℕ → ℤ) (first n : ℕ) → Gives HasLeft (take_frames member card bindings samples first n)
 unfolding take_frames
 frames-left member card bindings samples first zero = tt
 frames-left member card bindings samples first (suc n) =
-    All-then IsLeftOf HasLeft (take_each member (card + (first + n)) bindings (samples (first + n)) (length bindings))
+    Gives-then IsLeftOf HasLeft (take_each member (card + (first + n)) bindings (samples (first + n)) (length bindings))
     (λ end. back_on end n (length bindings) (take_frames member card bindings samples first n))
     (each-left member (card + (first + n)) bindings (samples (first + n)) (length bindings)) (by_end (frames-left member card bindings samples first n))
   where
-    by_end : All HasLeft (take_frames member card bindings samples first n) → (end : ℕ × Ended) → IsLeftOf end → All HasLeft (back_on end n (length bindings) (take_frames member card bindings samples first n))
+    by_end : Gives HasLeft (take_frames member card bindings samples first n) → (end : ℕ × Ended) → IsLeftOf end → Gives HasLeft (back_on end n (length bindings) (take_frames member card bindings samples first n))
     by_end rest (left, ended.Whole) some = rest
     by_end rest (left, ended.Late word) some = rewind_left-some n left (length bindings) (ended.Late word) some
     by_end rest (left, ended.Stopped) some = rewind_left-some n left (length bindings) ended.Stopped some
@@ -115,24 +115,24 @@ after_sync-kept c None = tt
 after_sync-kept c (Some p) = next-late (IsLastSample (committed_by (seen_at c p) nothing)) c.status.state call.Transfer
     (facts_of (committed_by (seen_at c p) nothing) p (over_of (seen_at c p) p) None) tt
 
-rewind_on-kept : (floor : Cursor) (n : ℕ) (done : Answered (Unit {0})) → Kept done → All Kept (rewind_on floor [] n done)
+rewind_on-kept : (floor : Cursor) (n : ℕ) (done : Answered (Unit {0})) → Kept done → Gives Kept (rewind_on floor [] n done)
 unfolding takes_back
 rewind_on-kept floor n (c, Err e) late = late
 rewind_on-kept floor n (c, Ok done) late =
     let m = min n (rewindable_of floor c) in
-    All-then HasLeft Kept (take_frames c.identity.member c.stretch.card c.setup.bindings (ring_sample c []) (c.stretch.committed - back_of c m) (back_of c m))
+    Gives-then HasLeft Kept (take_frames c.identity.member c.stretch.card c.setup.bindings (ring_sample c []) (c.stretch.committed - back_of c m) (back_of c m))
     (λ left. ends (after_rewind c m left))
     (frames-left c.identity.member c.stretch.card c.setup.bindings (ring_sample c []) (c.stretch.committed - back_of c m) (back_of c m))
     (λ left some. rewound-kept c m left some)
 
-checks-kept : (c : PlaybackStream) → All Kept (checks c)
+checks-kept : (c : PlaybackStream) → Gives Kept (checks c)
 unfolding checks
 checks-kept c = λ load. after_sync-kept c load
 
-rewind-kept : (c : PlaybackStream) (floor : Cursor) (n : ℕ) → All Kept (rewind_course c [] floor n)
+rewind-kept : (c : PlaybackStream) (floor : Cursor) (n : ℕ) → Gives Kept (rewind_course c [] floor n)
 unfolding rewinds
-rewind-kept c floor n = All-if Kept (is_running c.status.state) (rewinds c [] floor n) (ends (without_frames c (min n c.stretch.written), Ok (min n c.stretch.written)))
-    (All-then Kept Kept (checks c) (rewind_on floor [] n) (checks-kept c) (rewind_on-kept floor n)) tt
+rewind-kept c floor n = Gives-if Kept (is_running c.status.state) (rewinds c [] floor n) (ends (without_frames c (min n c.stretch.written), Ok (min n c.stretch.written)))
+    (Gives-then Kept Kept (checks c) (rewind_on floor [] n) (checks-kept c) (rewind_on-kept floor n)) tt
 
 -- a refusal isn't late
 refusal-kept : (c : PlaybackStream) → IfSome (refusal_of Playback c.status call.Transfer) (LateErr (IsLastSample c))
@@ -153,18 +153,18 @@ refusal-kept c = by_stop c.status.stopped
     by_stop true = tt
     by_stop false = by_answer (next_of c.status.state call.Transfer (nothing_found Playback)).answer (next-late Q c.status.state call.Transfer (nothing_found Playback) tt)
 
-admitted-kept : (c : PlaybackStream) (m : Course (Answered ℕ)) → All Kept m → All Kept (if_admitted c call.Transfer m)
+admitted-kept : (c : PlaybackStream) (m : Course (Answered ℕ)) → Gives Kept m → Gives Kept (if_admitted c call.Transfer m)
 admitted-kept c m all = by_refusal (refusal_of Playback c.status call.Transfer) (refusal-kept c)
   where
-    by_refusal : (refusal : Option PcmError) → IfSome refusal (LateErr (IsLastSample c)) → All Kept (admitted_by refusal c m)
+    by_refusal : (refusal : Option PcmError) → IfSome refusal (LateErr (IsLastSample c)) → Gives Kept (admitted_by refusal c m)
     by_refusal None late = all
     by_refusal (Some e) late = late
 
 abbrev Named : PlaybackStream × Answer → Type 0
 Named (d, answer) = LateAnswer (IsLastSample d) answer
 
-call-named : (wav : Sound) (marks : Marks) (c : PlaybackStream) (n : ℕ) → All Named (call_of wav marks c (op.Rewind n))
-call-named wav marks c n = All-then Kept Named (if_admitted c call.Transfer (rewind_course c [] marks.floor n)) (λ done. ends (done.0, count_answer done.1))
+call-named : (wav : Sound) (marks : Marks) (c : PlaybackStream) (n : ℕ) → Gives Named (call_of wav marks c (op.Rewind n))
+call-named wav marks c n = Gives-then Kept Named (if_admitted c call.Transfer (rewind_course c [] marks.floor n)) (λ done. ends (done.0, count_answer done.1))
     (admitted-kept c _ (rewind-kept c marks.floor n)) named
   where
     named : (x : Answered ℕ) → Kept x → Named (x.0, count_answer x.1)
@@ -173,9 +173,9 @@ call-named wav marks c n = All-then Kept Named (if_admitted c call.Transfer (rew
 
 pub late-rewinds : (rules : Rules) (phase : ℕ) (wav : Sound) (number : ℕ) → LateRewindsNameLast rules phase wav number
 late-rewinds rules phase wav number a b client after c n answer is may =
-    Takes-all (MayLoad rules) (MayLay rules) (MayGet rules) (λ x. NamesLast x.0 x.1) (begins client.own asked a) b
+    Gives-taken (MayLoad rules) (MayLay rules) (MayGet rules) (λ x. NamesLast x.0 x.1) (begins client.own asked a) b
     (line_by wav marks client client.own asked) (after, answer)
-    (subst (λ own. All (λ x. NamesLast x.0 x.1) (line_by wav marks client own asked)) (sym is) (by_stop c.status.stopped)) may
+    (subst (λ own. Gives (λ x. NamesLast x.0 x.1) (line_by wav marks client own asked)) (sym is) (by_stop c.status.stopped)) may
   where
     asked : Op
     asked = op.Rewind n
@@ -186,6 +186,6 @@ late-rewinds rules phase wav number a b client after c n answer is may =
     called : (x : PlaybackStream × Answer) → Named x → NamesLast (after_call client c asked x).0 (after_call client c asked x).1
     called (d, given) named = record { own = d; is_own = refl; late = λ frame channel late. subst (LateAnswer (IsLastSample d)) late named }
 
-    by_stop : (stopped : Bool) → All (λ x. NamesLast x.0 x.1) (line_if stopped wav marks client c asked)
+    by_stop : (stopped : Bool) → Gives (λ x. NamesLast x.0 x.1) (line_if stopped wav marks client c asked)
     by_stop true = record { own = c; is_own = is; late = λ frame channel late. subst (LateAnswer (IsLastSample c)) late tt }
-    by_stop false = All-then Named (λ x. NamesLast x.0 x.1) (call_of wav marks c asked) (λ done. ends (after_call client c asked done)) (call-named wav marks c n) called
+    by_stop false = Gives-then Named (λ x. NamesLast x.0 x.1) (call_of wav marks c asked) (λ done. ends (after_call client c asked done)) (call-named wav marks c n) called

@@ -31,7 +31,6 @@ pub mod ReportSizes
 pub mod ReportedWords
 pub mod RewindLeads
 pub mod RewindRows
-pub mod Results
 pub mod RowsGrow
 pub mod RunExists
 pub mod RunGoesOn

@@ -13,6 +13,7 @@ use Rattle.pcm_states.specs.Table.{next_of}
 use Rattle.snoop_core.specs.declared.port.Got.{Got}
 use Rattle.snoop_core.specs.declared.port.Got.TheVariants as got
 use Rattle.course.specs.Course.{◌>>=◌, Course, ends}
+use Rattle.course.specs.Gives.{Gives, Gives-any, Gives-map, Gives-taken, Gives-then}
 use Rattle.dsnoop_client.specs.declared.stream.CaptureStream.{CaptureStream}
 use Rattle.dsnoop_client.specs.Calls.{Answered, facts_with, over_of, read_after, read_to, seen_at, with_outcome, after_sync, taken_of, with_avail}
 use Rattle.dsnoop_client.specs.View.{avail_of}
@@ -25,7 +26,6 @@ use Rattle.lab_run.specs.Client.{count_answer, done_answer, reported_error}
 use Rattle.lab_run.specs.Reader.{after_call, call_answer, begins, call_of, frames_by, line_by, line_if}
 use Rattle.lab_run.specs.Rules.{MayGet, MayLay, MayLoad, Rules}
 use Rattle.lab_run.specs.Slices.{GetsSlice, LinesGetSlices, ReadersReadOn, ReadsOn, ends_by, ends_stretch}
-use Rattle.lab_run.proofs.Results.{All, All-any, All-map, All-then, Takes-all}
 
 -- a reader that runs, and that its gate didn't stop
 abbrev going : CaptureStream → CaptureStream
@@ -47,7 +47,7 @@ record Syncs (r : CaptureStream) (x : Answered (Unit {0})) : Type 0 where
   next : x.0.next ≡ r.next
   goes : GoesBy x.1 x.0
 
-syncs-on : (r : CaptureStream) (asked : Call) → (asked ≡ call.Transfer) ⊎ (asked ≡ call.Sync) → All (Syncs r) (syncs (going r) asked)
+syncs-on : (r : CaptureStream) (asked : Call) → (asked ≡ call.Transfer) ⊎ (asked ≡ call.Sync) → Gives (Syncs r) (syncs (going r) asked)
 unfolding syncs
 syncs-on r asked which = by_load
   where
@@ -89,31 +89,31 @@ frames-on r d n done ended same runs = by_test (nat_lt 0 n && nat_eq (avail_of d
     by_test false = by_end ended
 
 -- a call's answer
-answers-on : {X : Type 0} (r : CaptureStream) (asked : Op) (answer : Result X PcmError → Answer) (m : Course (Answered X)) → All (λ x. GoesOn r asked (x.0, answer x.1)) m
-    → All (GoesOn r asked) (call_answer answer m)
-answers-on r asked answer m all = All-then (λ x. GoesOn r asked (x.0, answer x.1)) (GoesOn r asked) m (λ done. ends (done.0, answer done.1)) all (λ x is. is)
+answers-on : {X : Type 0} (r : CaptureStream) (asked : Op) (answer : Result X PcmError → Answer) (m : Course (Answered X)) → Gives (λ x. GoesOn r asked (x.0, answer x.1)) m
+    → Gives (GoesOn r asked) (call_answer answer m)
+answers-on r asked answer m all = Gives-then (λ x. GoesOn r asked (x.0, answer x.1)) (GoesOn r asked) m (λ done. ends (done.0, answer done.1)) all (λ x is. is)
 
-read-on : (r : CaptureStream) (n : ℕ) → All (λ x. GoesOn r (op.Read n) (x.0, count_answer x.1)) (reads_on (going r) n)
+read-on : (r : CaptureStream) (n : ℕ) → Gives (λ x. GoesOn r (op.Read n) (x.0, count_answer x.1)) (reads_on (going r) n)
 unfolding reads_on transfers
-read-on r n = All-then (Syncs r) _ (syncs (going r) call.Transfer) (transfer_on n) (syncs-on r call.Transfer (inl refl)) transfer
+read-on r n = Gives-then (Syncs r) _ (syncs (going r) call.Transfer) (transfer_on n) (syncs-on r call.Transfer (inl refl)) transfer
   where
-    transfer : (x : Answered (Unit {0})) → Syncs r x → All (λ x. GoesOn r (op.Read n) (x.0, count_answer x.1)) (transfer_on n x)
-    transfer (d, Ok done) is = All-then (λ x. ⊤) _ (gets_frames (taken_of d n) d.next) (λ end. ends (read_after d n end.0 end.1))
-        (All-any (λ x. ⊤) (gets_frames (taken_of d n) d.next) (λ x. tt)) (λ x any. frames-on r d n x.0 x.1 is.next is.goes)
+    transfer : (x : Answered (Unit {0})) → Syncs r x → Gives (λ x. GoesOn r (op.Read n) (x.0, count_answer x.1)) (transfer_on n x)
+    transfer (d, Ok done) is = Gives-then (λ x. ⊤) _ (gets_frames (taken_of d n) d.next) (λ end. ends (read_after d n end.0 end.1))
+        (Gives-any (λ x. ⊤) (gets_frames (taken_of d n) d.next) (λ x. tt)) (λ x any. frames-on r d n x.0 x.1 is.next is.goes)
     transfer (d, Err e) is = nothing-got r d (op.Read n) _ refl is.next is.goes
 
 -- each call
-calls-on : (r : CaptureStream) (asked : Op) → All (GoesOn r asked) (call_of (going r) asked)
+calls-on : (r : CaptureStream) (asked : Op) → Gives (GoesOn r asked) (call_of (going r) asked)
 unfolding ◌>>=◌ counts
 calls-on r (op.Read n) = answers-on r (op.Read n) count_answer _ (read-on r n)
 calls-on r op.Start = nothing-got r _ op.Start _ refl refl (inl refl)
-calls-on r op.Sync = answers-on r op.Sync done_answer _ (All-map (Syncs r) _ (syncs (going r) call.Sync) (syncs-on r call.Sync (inr refl)) by_sync)
+calls-on r op.Sync = answers-on r op.Sync done_answer _ (Gives-map (Syncs r) _ (syncs (going r) call.Sync) (syncs-on r call.Sync (inr refl)) by_sync)
   where
     by_sync : (x : Answered (Unit {0})) → Syncs r x → GoesOn r op.Sync (x.0, done_answer x.1)
     by_sync (d, Ok done) is = nothing-got r d op.Sync _ refl is.next (inl is.goes)
     by_sync (d, Err e) is = nothing-got r d op.Sync _ refl is.next is.goes
 calls-on r op.Avail = answers-on r op.Avail count_answer _
-    (All-then (Syncs r) _ (syncs (going r) call.Sync) (λ done. ends (with_avail done)) (syncs-on r call.Sync (inr refl)) by_sync)
+    (Gives-then (Syncs r) _ (syncs (going r) call.Sync) (λ done. ends (with_avail done)) (syncs-on r call.Sync (inr refl)) by_sync)
   where
     by_sync : (x : Answered (Unit {0})) → Syncs r x → GoesOn r op.Avail (let y = with_avail x in (y.0, count_answer y.1))
     by_sync (d, Ok done) is = nothing-got r d op.Avail _ refl is.next (inl is.goes)
@@ -125,8 +125,8 @@ calls-on r other = nothing-got r _ other _ refl refl (inl refl)
 
 pub readers-read_on : (rules : Rules) (phase number : ℕ) → ReadersReadOn rules phase number
 readers-read_on rules phase number a b reader after r asked answer is runs may =
-    Takes-all (MayLoad rules) (MayLay rules) (MayGet rules) (λ x. ReadsOn reader r asked x.0 x.1) (begins reader.own asked a) b (line_by reader reader.own asked) (after, answer)
-    (subst (λ own. All (λ x. ReadsOn reader r asked x.0 x.1) (line_by reader own asked)) (sym is) (by_stop r.status.stopped refl)) may
+    Gives-taken (MayLoad rules) (MayLay rules) (MayGet rules) (λ x. ReadsOn reader r asked x.0 x.1) (begins reader.own asked a) b (line_by reader reader.own asked) (after, answer)
+    (subst (λ own. Gives (λ x. ReadsOn reader r asked x.0 x.1) (line_by reader own asked)) (sym is) (by_stop r.status.stopped refl)) may
   where
     stays : (o : Op) (answer : Answer) → ReadsOn reader r o reader answer
     stays o answer = record { own = r; is_own = is; count = 0; frames = sym (append-nil reader.frames); next = omega arith; goes = inl runs }
@@ -138,21 +138,21 @@ readers-read_on rules phase number a b reader after r asked answer is runs may =
     called o (d, given) goes =
         record { own = d; is_own = refl; count = goes.count; frames = ap (λ frames. reader.frames ++ frames) goes.frames; next = goes.next; goes = goes.goes }
 
-    by_call : r.status.stopped ≡ false → (o : Op) → All (λ x. ReadsOn reader r o x.0 x.1) (call_of r o >>= λ done. ends (after_call reader o done))
-    by_call goes o = All-then (GoesOn r o) (λ x. ReadsOn reader r o x.0 x.1) (call_of r o) (λ done. ends (after_call reader o done))
-        (subst (λ q. All (GoesOn r o) (call_of q o)) (sym (same goes)) (calls-on r o)) (called o)
+    by_call : r.status.stopped ≡ false → (o : Op) → Gives (λ x. ReadsOn reader r o x.0 x.1) (call_of r o >>= λ done. ends (after_call reader o done))
+    by_call goes o = Gives-then (GoesOn r o) (λ x. ReadsOn reader r o x.0 x.1) (call_of r o) (λ done. ends (after_call reader o done))
+        (subst (λ q. Gives (GoesOn r o) (call_of q o)) (sym (same goes)) (calls-on r o)) (called o)
 
-    by_op : r.status.stopped ≡ false → (o : Op) → All (λ x. ReadsOn reader r o x.0 x.1) (line_if false reader r o)
+    by_op : r.status.stopped ≡ false → (o : Op) → Gives (λ x. ReadsOn reader r o x.0 x.1) (line_if false reader r o)
     by_op goes (op.Die k) = stays (op.Die k) Done
     by_op goes other = by_call goes other
 
-    by_stop : (stopped : Bool) → r.status.stopped ≡ stopped → All (λ x. ReadsOn reader r asked x.0 x.1) (line_if stopped reader r asked)
+    by_stop : (stopped : Bool) → r.status.stopped ≡ stopped → Gives (λ x. ReadsOn reader r asked x.0 x.1) (line_if stopped reader r asked)
     by_stop true stopped = stays asked (Failed error.Stopped)
     by_stop false goes = by_op goes asked
 
 pub lines-get_slices : (rules : Rules) (phase number : ℕ) → LinesGetSlices rules phase number
 lines-get_slices rules phase number a b reader after asked answer may =
-    Takes-all (MayLoad rules) (MayLay rules) (MayGet rules) (λ x. GetsSlice reader x.0) (begins reader.own asked a) b (line_by reader reader.own asked) (after, answer)
+    Gives-taken (MayLoad rules) (MayLay rules) (MayGet rules) (λ x. GetsSlice reader x.0) (begins reader.own asked a) b (line_by reader reader.own asked) (after, answer)
     (by_own reader.own) may
   where
     stays : GetsSlice reader reader
@@ -167,18 +167,18 @@ lines-get_slices rules phase number a b reader after asked answer may =
     called o (d, given) = let got = gets o given d in
         record { first = got.0; count = got.1; frames = ap (λ frames. reader.frames ++ frames) got.2 }
 
-    by_call : (r : CaptureStream) (o : Op) → All (λ x. GetsSlice reader x.0) (call_of r o >>= λ done. ends (after_call reader o done))
-    by_call r o = All-then (λ x. ⊤) (λ x. GetsSlice reader x.0) (call_of r o) (λ done. ends (after_call reader o done))
-        (All-any (λ x. ⊤) (call_of r o) (λ x. tt)) (λ x any. called o x)
+    by_call : (r : CaptureStream) (o : Op) → Gives (λ x. GetsSlice reader x.0) (call_of r o >>= λ done. ends (after_call reader o done))
+    by_call r o = Gives-then (λ x. ⊤) (λ x. GetsSlice reader x.0) (call_of r o) (λ done. ends (after_call reader o done))
+        (Gives-any (λ x. ⊤) (call_of r o) (λ x. tt)) (λ x any. called o x)
 
-    by_op : (r : CaptureStream) (o : Op) → All (λ x. GetsSlice reader x.0) (line_if false reader r o)
+    by_op : (r : CaptureStream) (o : Op) → Gives (λ x. GetsSlice reader x.0) (line_if false reader r o)
     by_op r (op.Die k) = stays
     by_op r other = by_call r other
 
-    by_stop : (r : CaptureStream) (stopped : Bool) → All (λ x. GetsSlice reader x.0) (line_if stopped reader r asked)
+    by_stop : (r : CaptureStream) (stopped : Bool) → Gives (λ x. GetsSlice reader x.0) (line_if stopped reader r asked)
     by_stop r true = stays
     by_stop r false = by_op r asked
 
-    by_own : (own : Option CaptureStream) → All (λ x. GetsSlice reader x.0) (line_by reader own asked)
+    by_own : (own : Option CaptureStream) → Gives (λ x. GetsSlice reader x.0) (line_by reader own asked)
     by_own None = stays
     by_own (Some r) = by_stop r r.status.stopped

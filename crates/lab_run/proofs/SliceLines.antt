@@ -19,6 +19,7 @@ use Rattle.pcm_stream.specs.Status.{nothing_found, refusal_in}
 use Rattle.snoop_core.specs.declared.port.Got.{Got}
 use Rattle.snoop_core.specs.declared.port.Got.TheVariants as got
 use Rattle.course.specs.Course.{◌>>=◌, Course, ends}
+use Rattle.course.specs.Gives.{Gives, Gives-any, Gives-map, Gives-taken, Gives-then}
 use Rattle.dsnoop_client.specs.declared.stream.CaptureStream.{CaptureStream}
 use Rattle.dsnoop_client.specs.Calls.{Answered, facts_with, over_of, read_after, read_to, seen_at, with_outcome, after_start, started_at, after_sync, taken_of, waits, with_avail}
 use Rattle.dsnoop_client.specs.View.{avail_of, is_running}
@@ -33,7 +34,6 @@ use Rattle.lab_run.specs.Lines.{LineMay, LinesMay}
 use Rattle.lab_run.specs.Reader.{Reader, after_call, call_answer, begins, call_of, frames_by, line_by, line_if, reader_kind, row_by}
 use Rattle.lab_run.specs.Rules.{AtPort, MayGet, MayLay, MayLoad, Rules}
 use Rattle.lab_run.specs.Stretches.{AreSlices, IsFirstOf, ends_by_row, goes_on_after, got_by}
-use Rattle.lab_run.proofs.Results.{All, All-any, All-map, All-then, Takes-all}
 
 -- a reader that wasn't stopped and runs, or whose card is gone
 abbrev IsOn : CaptureStream → Type 0
@@ -101,7 +101,7 @@ record Syncs (r : CaptureStream) (x : Answered (Unit {0})) : Type 0 where
   next : x.0.next ≡ r.next
   stays : StaysBy x.1 x.0
 
-syncs-on : (r : CaptureStream) (asked : Call) → (asked ≡ call.Transfer) ⊎ (asked ≡ call.Sync) → All (Syncs r) (syncs (going r) asked)
+syncs-on : (r : CaptureStream) (asked : Call) → (asked ≡ call.Transfer) ⊎ (asked ≡ call.Sync) → Gives (Syncs r) (syncs (going r) asked)
 unfolding syncs
 syncs-on r asked which = by_load
   where
@@ -149,9 +149,9 @@ frames-on r d n done ended same on = by_test (nat_lt 0 n && nat_eq (avail_of d) 
     by_test true = nothing r d (op.Read n) _ refl refl same (inl (open-of d on))
     by_test false = by_end ended
 
-answers-on : {X : Type 0} (at : Option ℕ) (asked : Op) (answer : Result X PcmError → Answer) (m : Course (Answered X)) → All (λ x. Gets at asked (x.0, answer x.1)) m
-    → All (Gets at asked) (call_answer answer m)
-answers-on at asked answer m all = All-then (λ x. Gets at asked (x.0, answer x.1)) (Gets at asked) m (λ done. ends (done.0, answer done.1)) all (λ x is. is)
+answers-on : {X : Type 0} (at : Option ℕ) (asked : Op) (answer : Result X PcmError → Answer) (m : Course (Answered X)) → Gives (λ x. Gets at asked (x.0, answer x.1)) m
+    → Gives (Gets at asked) (call_answer answer m)
+answers-on at asked answer m all = Gives-then (λ x. Gets at asked (x.0, answer x.1)) (Gets at asked) m (λ done. ends (done.0, answer done.1)) all (λ x is. is)
 
 -- an error of a sync
 stays-on : (d : CaptureStream) (asked : Op) (e : PcmError) → ((w : XrunWhy) → ends_by_row asked (Failed (error.Xrun w)) ≡ true) → ends_by_row asked (Failed error.Stopped) ≡ true
@@ -159,26 +159,26 @@ stays-on : (d : CaptureStream) (asked : Op) (e : PcmError) → ((w : XrunWhy) �
 stays-on d asked e xrun stop (inl is) = inl is
 stays-on d asked e xrun stop (inr is) = inr (ends-reported (λ answer. ends_by_row asked answer) xrun stop e is)
 
-read-on : (r : CaptureStream) (n : ℕ) → All (λ x. Gets (Some r.next) (op.Read n) (x.0, count_answer x.1)) (reads_on (going r) n)
+read-on : (r : CaptureStream) (n : ℕ) → Gives (λ x. Gets (Some r.next) (op.Read n) (x.0, count_answer x.1)) (reads_on (going r) n)
 unfolding reads_on transfers
-read-on r n = All-then (Syncs r) _ (syncs (going r) call.Transfer) (transfer_on n) (syncs-on r call.Transfer (inl refl)) transfer
+read-on r n = Gives-then (Syncs r) _ (syncs (going r) call.Transfer) (transfer_on n) (syncs-on r call.Transfer (inl refl)) transfer
   where
-    transfer : (x : Answered (Unit {0})) → Syncs r x → All (λ x. Gets (Some r.next) (op.Read n) (x.0, count_answer x.1)) (transfer_on n x)
-    transfer (d, Ok done) is = All-then (λ x. ⊤) _ (gets_frames (taken_of d n) d.next) (λ end. ends (read_after d n end.0 end.1))
-        (All-any (λ x. ⊤) (gets_frames (taken_of d n) d.next) (λ x. tt)) (λ x any. frames-on r d n x.0 x.1 is.next is.stays)
+    transfer : (x : Answered (Unit {0})) → Syncs r x → Gives (λ x. Gets (Some r.next) (op.Read n) (x.0, count_answer x.1)) (transfer_on n x)
+    transfer (d, Ok done) is = Gives-then (λ x. ⊤) _ (gets_frames (taken_of d n) d.next) (λ end. ends (read_after d n end.0 end.1))
+        (Gives-any (λ x. ⊤) (gets_frames (taken_of d n) d.next) (λ x. tt)) (λ x any. frames-on r d n x.0 x.1 is.next is.stays)
     transfer (d, Err e) is = nothing r d (op.Read n) _ refl refl is.next (stays-on d (op.Read n) e (λ w. refl) refl is.stays)
 
-calls-on : (r : CaptureStream) (asked : Op) → All (Gets (Some r.next) asked) (call_of (going r) asked)
+calls-on : (r : CaptureStream) (asked : Op) → Gives (Gets (Some r.next) asked) (call_of (going r) asked)
 unfolding ◌>>=◌ counts
 calls-on r (op.Read n) = answers-on (Some r.next) (op.Read n) count_answer _ (read-on r n)
 calls-on r op.Start = nothing r _ op.Start _ refl refl refl (inl (refl, inl refl))
-calls-on r op.Sync = answers-on (Some r.next) op.Sync done_answer _ (All-map (Syncs r) _ (syncs (going r) call.Sync) (syncs-on r call.Sync (inr refl)) by_sync)
+calls-on r op.Sync = answers-on (Some r.next) op.Sync done_answer _ (Gives-map (Syncs r) _ (syncs (going r) call.Sync) (syncs-on r call.Sync (inr refl)) by_sync)
   where
     by_sync : (x : Answered (Unit {0})) → Syncs r x → Gets (Some r.next) op.Sync (x.0, done_answer x.1)
     by_sync (d, Ok done) is = nothing r d op.Sync _ refl refl is.next (inl (open-of d is.stays))
     by_sync (d, Err e) is = nothing r d op.Sync _ refl refl is.next (stays-on d op.Sync e (λ w. refl) refl is.stays)
 calls-on r op.Avail = answers-on (Some r.next) op.Avail count_answer _
-    (All-then (Syncs r) _ (syncs (going r) call.Sync) (λ done. ends (with_avail done)) (syncs-on r call.Sync (inr refl)) by_sync)
+    (Gives-then (Syncs r) _ (syncs (going r) call.Sync) (λ done. ends (with_avail done)) (syncs-on r call.Sync (inr refl)) by_sync)
   where
     by_sync : (x : Answered (Unit {0})) → Syncs r x → Gets (Some r.next) op.Avail (let y = with_avail x in (y.0, count_answer y.1))
     by_sync (d, Ok done) is = nothing r d op.Avail _ refl refl is.next (inl (open-of d is.stays))
@@ -189,7 +189,7 @@ calls-on r op.Pause = nothing r _ op.Pause _ refl refl refl (inl (refl, inl refl
 calls-on r other = nothing r _ other _ refl refl refl (inl (refl, inl refl))
 
 -- a reader whose card is gone gets nothing
-calls-gone : (r : CaptureStream) (asked : Op) → All (Gets (Some r.next) asked) (call_of (gone r) asked)
+calls-gone : (r : CaptureStream) (asked : Op) → Gives (Gets (Some r.next) asked) (call_of (gone r) asked)
 unfolding ◌>>=◌
 calls-gone r (op.Read n) = nothing r _ (op.Read n) _ refl refl refl (inl (refl, inr refl))
 calls-gone r op.Start = nothing r _ op.Start _ refl refl refl (inl (refl, inr refl))
@@ -222,13 +222,13 @@ well-read d n done ended on = by_test (nat_lt 0 n && nat_eq (avail_of d) 0)
     by_test true = tt
     by_test false = by_end ended
 
-transfer-well : (n : ℕ) (x : Answered (Unit {0})) → Opens x → All ReadsWell (transfer_on n x)
+transfer-well : (n : ℕ) (x : Answered (Unit {0})) → Opens x → Gives ReadsWell (transfer_on n x)
 unfolding transfers
-transfer-well n (d, Ok done) on = All-then (λ x. ⊤) ReadsWell (gets_frames (taken_of d n) d.next) (λ end. ends (read_after d n end.0 end.1))
-    (All-any (λ x. ⊤) (gets_frames (taken_of d n) d.next) (λ x. tt)) (λ x any. well-read d n x.0 x.1 on)
+transfer-well n (d, Ok done) on = Gives-then (λ x. ⊤) ReadsWell (gets_frames (taken_of d n) d.next) (λ end. ends (read_after d n end.0 end.1))
+    (Gives-any (λ x. ⊤) (gets_frames (taken_of d n) d.next) (λ x. tt)) (λ x any. well-read d n x.0 x.1 on)
 transfer-well n (d, Err e) on = tt
 
-starts-well : (r : CaptureStream) → r.status.stopped ≡ false → All Opens (starts r call.Transfer)
+starts-well : (r : CaptureStream) → r.status.stopped ≡ false → Gives Opens (starts r call.Transfer)
 unfolding starts
 starts-well r goes = by_load
   where
@@ -253,9 +253,9 @@ starts-well r goes = by_load
     by_load None = tt
     by_load (Some p) = by_state r.status.state (started_at r p) p.gone (at-start p p.gone)
 
-syncs-well : (r : CaptureStream) → r.status.stopped ≡ false → r.status.state ≡ Running → All Opens (syncs r call.Transfer)
-syncs-well r goes runs = subst (λ q. All Opens (syncs q call.Transfer)) (sym same)
-    (All-map (Syncs r) Opens (syncs (going r) call.Transfer) (syncs-on r call.Transfer (inl refl)) well)
+syncs-well : (r : CaptureStream) → r.status.stopped ≡ false → r.status.state ≡ Running → Gives Opens (syncs r call.Transfer)
+syncs-well r goes runs = subst (λ q. Gives Opens (syncs q call.Transfer)) (sym same)
+    (Gives-map (Syncs r) Opens (syncs (going r) call.Transfer) (syncs-on r call.Transfer (inl refl)) well)
   where
     same : r ≡ going r
     same = λ i. record r { status = record { state = runs i; stopped = goes i } }
@@ -264,7 +264,7 @@ syncs-well r goes runs = subst (λ q. All Opens (syncs q call.Transfer)) (sym sa
     well (d, Ok done) is = is.stays
     well (d, Err e) is = tt
 
-reads-well : (r : CaptureStream) (n : ℕ) → r.status.stopped ≡ false → All ReadsWell (read_course r n)
+reads-well : (r : CaptureStream) (n : ℕ) → r.status.stopped ≡ false → Gives ReadsWell (read_course r n)
 unfolding reads_on reads_first
 reads-well r n goes = by_running (is_running r.status.state) (runs-of r.status.state)
   where
@@ -276,24 +276,24 @@ reads-well r n goes = by_running (is_running r.status.state) (runs-of r.status.s
     waits-well true = inl refl
     waits-well false = tt
 
-    by_start : (b : Bool) → All ReadsWell (if b then reads_first r n else ends (r, waits n))
-    by_start true = All-then Opens ReadsWell (starts r call.Transfer) (transfer_on n) (starts-well r goes) (transfer-well n)
+    by_start : (b : Bool) → Gives ReadsWell (if b then reads_first r n else ends (r, waits n))
+    by_start true = Gives-then Opens ReadsWell (starts r call.Transfer) (transfer_on n) (starts-well r goes) (transfer-well n)
     by_start false = waits-well (nat_eq n 0)
 
     by_running : (b : Bool) → (b ≡ true → r.status.state ≡ Running)
-        → All ReadsWell (if b then reads_on r n else (if nat_le r.setup.params.start_threshold n then reads_first r n else ends (r, waits n)))
-    by_running true runs = All-then Opens ReadsWell (syncs r call.Transfer) (transfer_on n) (syncs-well r goes (runs refl)) (transfer-well n)
+        → Gives ReadsWell (if b then reads_on r n else (if nat_le r.setup.params.start_threshold n then reads_first r n else ends (r, waits n)))
+    by_running true runs = Gives-then Opens ReadsWell (syncs r call.Transfer) (transfer_on n) (syncs-well r goes (runs refl)) (transfer-well n)
     by_running false runs = by_start (nat_le r.setup.params.start_threshold n)
 
-admitted-well : (r : CaptureStream) (n : ℕ) → All ReadsWell (if_admitted r call.Transfer (read_course r n))
+admitted-well : (r : CaptureStream) (n : ℕ) → Gives ReadsWell (if_admitted r call.Transfer (read_course r n))
 admitted-well r n = by_stop r.status.stopped refl
   where
-    by_refusal : (refusal : Option PcmError) → r.status.stopped ≡ false → All ReadsWell (admitted_by refusal r (read_course r n))
+    by_refusal : (refusal : Option PcmError) → r.status.stopped ≡ false → Gives ReadsWell (admitted_by refusal r (read_course r n))
     by_refusal None goes = reads-well r n goes
     by_refusal (Some e) goes = tt
 
     by_stop : (stopped : Bool) → r.status.stopped ≡ stopped
-        → All ReadsWell (admitted_by (if stopped then Some error.Stopped else refusal_in (next_of r.status.state call.Transfer (nothing_found Capture)).answer) r (read_course r n))
+        → Gives ReadsWell (admitted_by (if stopped then Some error.Stopped else refusal_in (next_of r.status.state call.Transfer (nothing_found Capture)).answer) r (read_course r n))
     by_stop true is = tt
     by_stop false is = by_refusal (refusal_in (next_of r.status.state call.Transfer (nothing_found Capture)).answer) is
 
@@ -305,8 +305,8 @@ idle d asked answer no_frames none = record {
   goes = subst (λ n. IsGoing (goes_on_after (ends_by_row asked answer) None 0 n) (Some d)) (sym none) (none-goes (ends_by_row asked answer) 0 (Some d));
 }
 
-calls-first : (r : CaptureStream) (asked : Op) → All (Gets None asked) (call_of r asked)
-calls-first r (op.Read n) = answers-on None (op.Read n) count_answer _ (All-map ReadsWell _ (if_admitted r call.Transfer (read_course r n)) (admitted-well r n) by_read)
+calls-first : (r : CaptureStream) (asked : Op) → Gives (Gets None asked) (call_of r asked)
+calls-first r (op.Read n) = answers-on None (op.Read n) count_answer _ (Gives-map ReadsWell _ (if_admitted r call.Transfer (read_course r n)) (admitted-well r n) by_read)
   where
     goes : (d : CaptureStream) (count : ℕ) → (count ≡ 0) ⊎ ((count ≤ d.next) × IsOn d) → IsGoing (goes_on_after false None (d.next - count) count) (Some d)
     goes d zero well = tt
@@ -316,22 +316,22 @@ calls-first r (op.Read n) = answers-on None (op.Read n) count_answer _ (All-map 
     by_read : (x : Answered ℕ) → ReadsWell x → Gets None (op.Read n) (x.0, count_answer x.1)
     by_read (d, Ok count) well = record { first = d.next - count; begins = tt; frames = refl; goes = goes d count well }
     by_read (d, Err e) well = idle d (op.Read n) (Failed (reported_error e)) refl refl
-calls-first r op.Start = All-any _ (call_of r op.Start) (λ x. idle x.0 op.Start x.1 refl refl)
-calls-first r op.Sync = All-any _ (call_of r op.Sync) (λ x. idle x.0 op.Sync x.1 refl refl)
-calls-first r op.Avail = All-any _ (call_of r op.Avail) (λ x. idle x.0 op.Avail x.1 refl refl)
-calls-first r op.Drop = All-any _ (call_of r op.Drop) (λ x. idle x.0 op.Drop x.1 refl refl)
-calls-first r op.Prepare = All-any _ (call_of r op.Prepare) (λ x. idle x.0 op.Prepare x.1 refl refl)
-calls-first r other = All-any _ (call_of r other) (λ x. idle x.0 other x.1 refl refl)
+calls-first r op.Start = Gives-any _ (call_of r op.Start) (λ x. idle x.0 op.Start x.1 refl refl)
+calls-first r op.Sync = Gives-any _ (call_of r op.Sync) (λ x. idle x.0 op.Sync x.1 refl refl)
+calls-first r op.Avail = Gives-any _ (call_of r op.Avail) (λ x. idle x.0 op.Avail x.1 refl refl)
+calls-first r op.Drop = Gives-any _ (call_of r op.Drop) (λ x. idle x.0 op.Drop x.1 refl refl)
+calls-first r op.Prepare = Gives-any _ (call_of r op.Prepare) (λ x. idle x.0 op.Prepare x.1 refl refl)
+calls-first r other = Gives-any _ (call_of r other) (λ x. idle x.0 other x.1 refl refl)
 
-calls-get : (at : Option ℕ) (r : CaptureStream) (asked : Op) → IsGoing at (Some r) → All (Gets at asked) (call_of r asked)
+calls-get : (at : Option ℕ) (r : CaptureStream) (asked : Op) → IsGoing at (Some r) → Gives (Gets at asked) (call_of r asked)
 calls-get None r asked goes = calls-first r asked
-calls-get (Some next) r asked (same, (goes, inl runs)) = subst (λ k. All (Gets (Some k) asked) (call_of r asked)) same
-    (subst (λ q. All (Gets (Some r.next) asked) (call_of q asked)) (sym is) (calls-on r asked))
+calls-get (Some next) r asked (same, (goes, inl runs)) = subst (λ k. Gives (Gets (Some k) asked) (call_of r asked)) same
+    (subst (λ q. Gives (Gets (Some r.next) asked) (call_of q asked)) (sym is) (calls-on r asked))
   where
     is : r ≡ going r
     is = λ i. record r { status = record { state = runs i; stopped = goes i } }
-calls-get (Some next) r asked (same, (goes, inr lost)) = subst (λ k. All (Gets (Some k) asked) (call_of r asked)) same
-    (subst (λ q. All (Gets (Some r.next) asked) (call_of q asked)) (sym is) (calls-gone r asked))
+calls-get (Some next) r asked (same, (goes, inr lost)) = subst (λ k. Gives (Gets (Some k) asked) (call_of r asked)) same
+    (subst (λ q. Gives (Gets (Some r.next) asked) (call_of q asked)) (sym is) (calls-gone r asked))
   where
     is : r ≡ gone r
     is = λ i. record r { status = record { state = lost i; stopped = goes i } }
@@ -365,7 +365,7 @@ unchanged at reader asked answer none goes = record {
 line-gets : (rules : Rules) (phase number : ℕ) (a b : AtPort) (reader after : Reader) (asked : Op) (answer : Answer) (at : Option ℕ) → IsGoing at reader.own
     → LineMay (reader_kind phase number) rules (a, reader) asked (b, after) answer → LineGets at reader after asked answer
 line-gets rules phase number a b reader after asked answer at goes may =
-    Takes-all (MayLoad rules) (MayLay rules) (MayGet rules) (λ x. LineGets at reader x.0 asked x.1) (begins reader.own asked a) b (line_by reader reader.own asked) (after, answer)
+    Gives-taken (MayLoad rules) (MayLay rules) (MayGet rules) (λ x. LineGets at reader x.0 asked x.1) (begins reader.own asked a) b (line_by reader reader.own asked) (after, answer)
     (by_own reader.own refl goes) may
   where
     fails : (e : PcmError) → LineGets at reader reader asked (Failed e)
@@ -374,18 +374,18 @@ line-gets rules phase number a b reader after asked answer at goes may =
     called : (o : Op) (x : CaptureStream × Answer) → Gets at o x → LineGets at reader (after_call reader o x).0 o (after_call reader o x).1
     called o (d, given) gets = record { first = gets.first; begins = gets.begins; frames = ap (λ frames. reader.frames ++ frames) gets.frames; goes = gets.goes }
 
-    by_call : (r : CaptureStream) (o : Op) → IsGoing at (Some r) → All (λ x. LineGets at reader x.0 o x.1) (call_of r o >>= λ done. ends (after_call reader o done))
-    by_call r o is = All-then (Gets at o) (λ x. LineGets at reader x.0 o x.1) (call_of r o) (λ done. ends (after_call reader o done)) (calls-get at r o is) (called o)
+    by_call : (r : CaptureStream) (o : Op) → IsGoing at (Some r) → Gives (λ x. LineGets at reader x.0 o x.1) (call_of r o >>= λ done. ends (after_call reader o done))
+    by_call r o is = Gives-then (Gets at o) (λ x. LineGets at reader x.0 o x.1) (call_of r o) (λ done. ends (after_call reader o done)) (calls-get at r o is) (called o)
 
-    by_op : (r : CaptureStream) (o : Op) → IsGoing at (Some r) → All (λ x. LineGets at reader x.0 o x.1) (line_if false reader r o)
+    by_op : (r : CaptureStream) (o : Op) → IsGoing at (Some r) → Gives (λ x. LineGets at reader x.0 o x.1) (line_if false reader r o)
     by_op r (op.Die k) is = unchanged at reader (op.Die k) Done refl goes
     by_op r other is = by_call r other is
 
-    by_stop : (r : CaptureStream) (stopped : Bool) → IsGoing at (Some r) → All (λ x. LineGets at reader x.0 asked x.1) (line_if stopped reader r asked)
+    by_stop : (r : CaptureStream) (stopped : Bool) → IsGoing at (Some r) → Gives (λ x. LineGets at reader x.0 asked x.1) (line_if stopped reader r asked)
     by_stop r true is = fails error.Stopped
     by_stop r false is = by_op r asked is
 
-    by_own : (own : Option CaptureStream) → reader.own ≡ own → IsGoing at own → All (λ x. LineGets at reader x.0 asked x.1) (line_by reader own asked)
+    by_own : (own : Option CaptureStream) → reader.own ≡ own → IsGoing at own → Gives (λ x. LineGets at reader x.0 asked x.1) (line_by reader own asked)
     by_own None same is = fails error.BadState
     by_own (Some r) same is = by_stop r r.status.stopped is
 

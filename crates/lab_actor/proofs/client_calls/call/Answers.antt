@@ -9,7 +9,7 @@ use Rattle.lab_actor.specs.ClientLines.{HasClientCalled, IsFew}
 use Rattle.lab_actor.proofs.Gates.{both}
 use Rattle.lab_actor.proofs.Called.{answer-taken, called-back, called-drop, called-keeps, called-pause, called-prepare, called-refused, called-resume}
 use Rattle.lab_actor.proofs.Fed.{IsFed, IsSame, drain-fed, number-fed, pause-fed, resume-fed, rewind-fed, rewindable-fed, start-fed, sync-fed}
-use Rattle.lab_actor.proofs.Gives.{Gives-taken}
+use Rattle.course.specs.Gives.{Gives-taken}
 use Rattle.dmix_client.specs.Calls.{avail_answer, delay_answer}
 use Rattle.lab_actor.proofs.client_calls.call.Goals as goal
 

@@ -10,7 +10,7 @@ use Rattle.lab_lines.specs.declared.line.Op.TheVariants as op
 use Rattle.lab_run.specs.Client.{count_answer, frames_of}
 use Rattle.lab_actor.proofs.Called.{answer-taken, called-keeps}
 use Rattle.lab_actor.proofs.Fed.{IsFed, write-fed}
-use Rattle.lab_actor.proofs.Gives.{Gives-taken}
+use Rattle.course.specs.Gives.{Gives-taken}
 use Rattle.lab_actor.proofs.Offering.{Offers, Offers-Follows, Offers-IsOffer, slice-Offers}
 use Rattle.lab_actor.proofs.Gates.{both}
 use Rattle.lab_actor.proofs.client_calls.write.Goals as goal
