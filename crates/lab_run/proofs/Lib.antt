@@ -8,6 +8,7 @@ pub mod ClientRows
 pub mod CourseExists
 pub mod CourseUnique
 pub mod EachLaws
+pub mod EachLine
 pub mod LateLaws
 pub mod LateRewinds
 pub mod Leads
