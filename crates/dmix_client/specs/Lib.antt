@@ -4,6 +4,7 @@ pub mod Calls
 pub mod Causes
 pub mod Course
 pub mod CourseLaws
+pub mod EachCall
 pub mod Expansion
 pub mod ExpansionLaws
 pub mod Growth
