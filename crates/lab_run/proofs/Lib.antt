@@ -7,6 +7,7 @@ pub mod ClientLeads
 pub mod ClientRows
 pub mod CourseExists
 pub mod CourseUnique
+pub mod EachCall
 pub mod EachLaws
 pub mod EachLine
 pub mod LateLaws
