@@ -104,8 +104,8 @@ outcome-kept : (b : List ℕ) (c : PlaybackStream) (x : Commit) (s : State) (ask
     → LateIn (λ frame channel. x.part < length (rising b)) (next_of s asked f).answer
 outcome-kept b c x s asked f short same = facts-late (λ frame channel. x.part < length (rising b)) s asked f (late_of c x) same (late-short b c x short)
 
-kept : (b : List ℕ) → Leaves (λ c. c.setup.bindings ≡ b) (Short b) (Kept b)
-kept b = record {
+leaves-kept : (b : List ℕ) → Leaves (λ c. c.setup.bindings ≡ b) (Short b) (Kept b)
+leaves-kept b = record {
   goes = λ c done is. is.0;
   same = λ c is. (is, tt);
   seen = λ c p is. is;
@@ -155,7 +155,7 @@ count-named b (d, Ok n) is = (is.0, tt)
 count-named b (d, Err e) is = (is.0, reported-late (λ frame channel. d.stretch.part < length (rising b)) e is.1)
 
 pub call-named : (b : List ℕ) (wav : Sound) (marks : Marks) (c : PlaybackStream) (asked : Op) → is_rewind asked ≡ false → c.setup.bindings ≡ b → Gives (Named b) (call_of wav marks c asked)
-call-named b wav marks c asked not is = call_of-gives (kept b) (counts-kept b) (writes-kept b) (Named b) (done-named b) (count-named b) (λ d same. (same, tt)) wav marks c asked is
+call-named b wav marks c asked not is = call_of-gives (leaves-kept b) (counts-kept b) (writes-kept b) (Named b) (done-named b) (count-named b) (λ d same. (same, tt)) wav marks c asked is
     (λ n rewind. absurd (false≢true (sym not ∙ ap is_rewind rewind)))
 
 -- ---- a rewind keeps the bindings
@@ -169,7 +169,7 @@ number-bound b number (c, Err e) is = is
 
 rewinds-bound : (b : List ℕ) → Rewinds (λ c. c.setup.bindings ≡ b) (λ x. ⊤) (Kept b) (Bound b)
 rewinds-bound b = record {
-  checked = λ c is. checks-done (kept b) c is;
+  checked = λ c is. checks-done (leaves-kept b) c is;
   goes = λ c done is. is.0;
   fails = λ c e is. is.0;
   refused = λ c e is refusal. is;

@@ -116,8 +116,8 @@ number-ends : (number : PlaybackStream → ℕ) (done : Answered (Unit {0})) →
 number-ends number (c, Ok done) late = tt
 number-ends number (c, Err e) late = late
 
-ends-late : Leaves (λ c. ⊤) (λ x. ⊤) EndsLate
-ends-late = record {
+leaves-late : Leaves (λ c. ⊤) (λ x. ⊤) EndsLate
+leaves-late = record {
   goes = λ c done late. tt;
   same = λ c any. tt;
   seen = λ c p any. tt;
@@ -152,7 +152,7 @@ writes-late n = record {
 
 rewinds-late : Rewinds (λ c. ⊤) (λ x. ⊤) EndsLate EndsLate
 rewinds-late = record {
-  checked = λ c any. checks-done ends-late c any;
+  checked = λ c any. checks-done leaves-late c any;
   goes = λ c done late. tt;
   fails = λ c e late. late;
   refused = λ c e any is. refused-late (λ frame channel. c.status.state ≡ Xrun) c call.Transfer e is;
@@ -177,7 +177,7 @@ count-named (d, Ok n) late = tt
 count-named (d, Err e) late = reported-late (λ frame channel. d.status.state ≡ Xrun) e late
 
 call-named : (wav : Sound) (marks : Marks) (c : PlaybackStream) (asked : Op) → Gives Named (call_of wav marks c asked)
-call-named wav marks c asked = call_of-gives ends-late counts-late writes-late Named done-named count-named (λ d any. tt) wav marks c asked tt
+call-named wav marks c asked = call_of-gives leaves-late counts-late writes-late Named done-named count-named (λ d any. tt) wav marks c asked tt
     (λ n is. count_answer-gives EndsLate Named _ count-named (rewind-counted rewinds-late c [] marks.floor n tt))
 
 -- an open client after a line that was late

@@ -175,8 +175,8 @@ going_on-missed c state refused (Ok done) late = tt
 going_on-missed c state refused (Err e) late = late
 
 -- nothing need be known of the client as the call goes on
-missed : Leaves (λ c. ⊤) (λ x. ⊤) Missed
-missed = record {
+leaves-missed : Leaves (λ c. ⊤) (λ x. ⊤) Missed
+leaves-missed = record {
   goes = λ c done late. tt;
   same = λ c any. tt;
   seen = λ c p any. tt;
@@ -226,7 +226,7 @@ count-named (d, Ok n) late = tt
 count-named (d, Err e) late = reported-late (IsNextSample d) e late
 
 call-named : (wav : Sound) (marks : Marks) (c : PlaybackStream) (asked : Op) → is_rewind asked ≡ false → Gives Named (call_of wav marks c asked)
-call-named wav marks c asked not = call_of-gives missed counts-missed writes-missed Named done-named count-named (λ d any. tt) wav marks c asked tt
+call-named wav marks c asked not = call_of-gives leaves-missed counts-missed writes-missed Named done-named count-named (λ d any. tt) wav marks c asked tt
     (λ n is. absurd (false≢true (sym not ∙ ap is_rewind is)))
 
 pub late-rows : (rules : Rules) (phase : ℕ) (wav : Sound) (number : ℕ) → LateRowsNameNext rules phase wav number
