@@ -2,7 +2,7 @@
 use Rattle.std.proofs.Common.{◌≡◌, ℕ, ◌⊎◌, inl, inr, refl, sym, ◌∙◌, ap, subst, List, [], ◌∷◌, ◌++◌, Option, Some, None}
 use Rattle.std.proofs.lemmas.Bool.{false≢true}
 use Rattle.std.proofs.lemmas.List.{append-nil, append_assoc}
-use Rattle.std.specs.Prelude.{Bool, true, false, ◌&&◌, nat_eq, if◌then◌else◌, Ok, Err, ⊤}
+use Rattle.std.specs.Prelude.{Bool, true, false, ◌&&◌, nat_eq, if◌then◌else◌, Ok, Err}
 use Rattle.snd_base.specs.declared.errors.PcmError.{PcmError}
 use Rattle.snd_base.specs.declared.errors.PcmError.TheVariants as error
 use Rattle.snd_base.specs.declared.places.Segment.{Segment}
@@ -15,7 +15,7 @@ use Rattle.pcm_states.specs.Table.{next_of}
 use Rattle.pcm_stream.specs.declared.direction.Direction.TheVariants.{Playback}
 use Rattle.pcm_stream.specs.Status.{is_moving, nothing_found, refusal_in, refusal_of}
 use Rattle.course.specs.Course.{◌>>=◌, Course, ends}
-use Rattle.course.specs.Gives.{Gives, Gives-any, Gives-taken, Gives-then}
+use Rattle.course.specs.Gives.{Gives, Gives-any, Gives-map}
 use Rattle.wav_io.specs.Sound.{Sound}
 use Rattle.dmix_client.specs.declared.stream.PlaybackStream.{PlaybackStream}
 use Rattle.dmix_client.specs.declared.stream.Stretch.{Stretch}
@@ -25,9 +25,10 @@ use Rattle.lab_lines.specs.declared.line.Op.{Op}
 use Rattle.lab_lines.specs.declared.line.Op.TheVariants as op
 use Rattle.lab_lines.specs.declared.row.Answer.{Answer}
 use Rattle.lab_lines.specs.declared.row.Row.{Row}
-use Rattle.lab_run.specs.Client.{Client, after_call, call_answer, begins, call_of, client_kind, count_answer, done_answer, ended_by, line_by, line_if, present_of, segments_of, stretch_of}
+use Rattle.lab_run.specs.Client.{Client, after_call, call_answer, call_of, client_kind, count_answer, done_answer, ended_by, present_of, segments_of, stretch_of}
 use Rattle.lab_run.specs.Lines.{LineMay, LinesMay}
-use Rattle.lab_run.specs.Rules.{AtPort, MayGet, MayLay, MayLoad, Rules}
+use Rattle.lab_run.specs.Rules.{AtPort, Rules}
+use Rattle.lab_run.proofs.EachLine.{client-line}
 use Rattle.lab_headline.proofs.OnwardCalls.{some-none}
 use Rattle.lab_headline.proofs.OnwardLines.{InOpen, unpaused-ends}
 
@@ -161,63 +162,22 @@ after-leaves client c d asked answer own (inr is) = rw own (rw is (inl ([], sym 
 sealed-line : (rules : Rules) (phase : ℕ) (wav : Sound) (number : ℕ) (a b : AtPort) (client after : Client) (asked : Op) (answer : Answer)
     → InOpen client.own (λ d. is_sealed d.status.state ≡ true) → LineMay (client_kind phase wav number) rules (a, client) asked (b, after) answer → Over (segments_of client) after
 sealed-line rules phase wav number a b client after asked answer sealed may =
-    Gives-taken (MayLoad rules) (MayLay rules) (MayGet rules) Q (begins client.own asked a) b
-    (line_by wav marks client client.own asked) (after, answer) (by_own client.own refl sealed) may
-  where
-    Q : Client × Answer → Type 0
-    Q x = Over (segments_of client) x.0
-
-    marks : Marks
-    marks = (begins client.own asked a).marks
-
-    by_call : (c : PlaybackStream) (o : Op) → client.own ≡ Some c → is_sealed c.status.state ≡ true
-        → Gives (λ (x : Client × Answer). Over (segments_of client) x.0) (call_of wav marks c o >>= λ done. ends (after_call client c o done))
-    by_call c o own is = Gives-then (Leaves c o) (λ (x : Client × Answer). Over (segments_of client) x.0) (call_of wav marks c o) (λ done. ends (after_call client c o done))
-        (call-leaves c is wav marks o) (λ done leaves. after-leaves client c done.0 o done.1 own leaves)
-
-    by_op : (c : PlaybackStream) (o : Op) → client.own ≡ Some c → is_sealed c.status.state ≡ true
-        → Gives (λ (x : Client × Answer). Over (segments_of client) x.0) (line_if false wav marks client c o)
-    by_op c (op.Die k) own is = inr (refl, sealed)
-    by_op c other own is = by_call c other own is
-
-    by_stop : (c : PlaybackStream) (stopped : Bool) → client.own ≡ Some c → is_sealed c.status.state ≡ true
-        → Gives (λ (x : Client × Answer). Over (segments_of client) x.0) (line_if stopped wav marks client c asked)
-    by_stop c true own is = inr (refl, sealed)
-    by_stop c false own is = by_op c asked own is
-
-    by_own : (own : Option PlaybackStream) → client.own ≡ own → InOpen own (λ d. is_sealed d.status.state ≡ true)
-        → Gives (λ (x : Client × Answer). Over (segments_of client) x.0) (line_by wav marks client own asked)
-    by_own None own is = absurd is
-    by_own (Some c) own is = by_stop c c.status.stopped own is
+    client-line (λ (x : Client × Answer). Over (segments_of client) x.0) rules phase wav number a b client after asked answer
+    (λ none. inr (refl, sealed)) (λ c own. inr (refl, sealed)) (λ c own. inr (refl, sealed))
+    (λ c own marks. Gives-map (Leaves c asked) (λ (x : PlaybackStream × Answer). Over (segments_of client) (after_call client c asked x).0) (call_of wav marks c asked)
+    (call-leaves c (subst (λ (o : Option PlaybackStream). InOpen o (λ d. is_sealed d.status.state ≡ true)) own sealed) wav marks asked)
+    (λ done leaves. after-leaves client c done.0 asked done.1 own leaves)) may
 
 -- no line takes back what ended
 ended-line : (rules : Rules) (phase : ℕ) (wav : Sound) (number : ℕ) (a b : AtPort) (client after : Client) (asked : Op) (answer : Answer)
     → LineMay (client_kind phase wav number) rules (a, client) asked (b, after) answer → IsStart client.ended after.ended
 ended-line rules phase wav number a b client after asked answer may =
-    Gives-taken (MayLoad rules) (MayLay rules) (MayGet rules) (λ (x : Client × Answer). IsStart client.ended x.0.ended) (begins client.own asked a) b
-    (line_by wav marks client client.own asked) (after, answer) (by_own client.own) may
+    client-line (λ (x : Client × Answer). IsStart client.ended x.0.ended) rules phase wav number a b client after asked answer (λ none. same) (λ c own. same) (λ c own. same)
+    (λ c own marks. Gives-any (λ (x : PlaybackStream × Answer). IsStart client.ended (after_call client c asked x).0.ended) (call_of wav marks c asked)
+    (λ x. (ended_by asked x.1 c x.0, refl))) may
   where
-    marks : Marks
-    marks = (begins client.own asked a).marks
-
     same : IsStart client.ended client.ended
     same = ([], sym (append-nil client.ended))
-
-    by_call : (c : PlaybackStream) (o : Op) → Gives (λ (x : Client × Answer). IsStart client.ended x.0.ended) (call_of wav marks c o >>= λ done. ends (after_call client c o done))
-    by_call c o = Gives-then (λ x. ⊤) (λ (x : Client × Answer). IsStart client.ended x.0.ended) (call_of wav marks c o) (λ done. ends (after_call client c o done))
-        (Gives-any (λ x. ⊤) (call_of wav marks c o) (λ x. tt)) (λ done any. (ended_by o done.1 c done.0, refl))
-
-    by_op : (c : PlaybackStream) (o : Op) → Gives (λ (x : Client × Answer). IsStart client.ended x.0.ended) (line_if false wav marks client c o)
-    by_op c (op.Die k) = same
-    by_op c other = by_call c other
-
-    by_stop : (c : PlaybackStream) (stopped : Bool) → Gives (λ (x : Client × Answer). IsStart client.ended x.0.ended) (line_if stopped wav marks client c asked)
-    by_stop c true = same
-    by_stop c false = by_op c asked
-
-    by_own : (own : Option PlaybackStream) → Gives (λ (x : Client × Answer). IsStart client.ended x.0.ended) (line_by wav marks client own asked)
-    by_own None = same
-    by_own (Some c) = by_stop c c.status.stopped
 
 over-line : (list : List Segment) (rules : Rules) (phase : ℕ) (wav : Sound) (number : ℕ) (a b : AtPort) (client after : Client) (asked : Op) (answer : Answer)
     → Over list client → LineMay (client_kind phase wav number) rules (a, client) asked (b, after) answer → Over list after
