@@ -8,10 +8,8 @@ use Rattle.snd_base.specs.declared.errors.PcmError.{PcmError}
 use Rattle.snd_base.specs.declared.errors.PcmError.TheVariants.{BadState, Stopped}
 use Rattle.snd_base.specs.declared.geometry.Geometry.{Geometry}
 use Rattle.snd_base.specs.declared.places.Segment.{Segment}
-use Rattle.mix_core.specs.declared.marks.Marks.{Marks}
 use Rattle.wav_io.specs.Sound.{Sound}
-use Rattle.course.specs.Course.{◌>>=◌, ends}
-use Rattle.course.specs.Gives.{Gives, Gives-any, Gives-taken, Gives-then}
+use Rattle.course.specs.Gives.{Gives-any}
 use Rattle.dmix_client.specs.declared.stream.PlaybackStream.{PlaybackStream}
 use Rattle.dmix_client.specs.Calls.{is_paused}
 use Rattle.dsnoop_client.specs.declared.stream.CaptureStream.{CaptureStream}
@@ -19,7 +17,6 @@ use Rattle.lab_lines.specs.declared.line.Actor.{Actor}
 use Rattle.lab_lines.specs.declared.line.Actor.TheVariants as actor
 use Rattle.lab_lines.specs.declared.line.Item.{Item}
 use Rattle.lab_lines.specs.declared.line.Item.TheVariants as item
-use Rattle.lab_lines.specs.declared.line.Line.{Line}
 use Rattle.lab_lines.specs.declared.line.Op.{Op}
 use Rattle.lab_lines.specs.declared.line.Op.TheVariants as op
 use Rattle.lab_lines.specs.Script.{is_of_card}
@@ -30,15 +27,16 @@ use Rattle.lab_run.specs.Claims.{claim_refusal}
 use Rattle.lab_run.specs.Client.{Client, ended_by, present_of, segments_of, stretch_of}
 use Rattle.lab_run.specs.Client as clients
 use Rattle.lab_run.specs.Items.{ItemMay, ItemsMay, client_kinds, is_reader_stopped, is_stopped, no_sound, reader_kinds, reaped_client, reaped_client_if, reaped_reader, reaped_reader_if, rules_of}
-use Rattle.lab_run.specs.LabRun.{all_runs, all_segments, joined_runs, runs_of, with_numbers}
+use Rattle.lab_run.specs.LabRun.{joined_runs, runs_of, with_numbers}
 use Rattle.lab_run.specs.Lines.{EachMay, Kind, LineMay, LinesMay}
 use Rattle.lab_run.specs.Phases.{card_rows, is_client, is_reader, ops_by}
 use Rattle.lab_run.specs.Places.{Lobby, after_attach}
 use Rattle.lab_run.specs.Reader.{Reader, frames_by}
 use Rattle.lab_run.specs.Reader as readers
 use Rattle.lab_run.specs.ReportSize.{IsWithinRows}
-use Rattle.lab_run.specs.Rules.{AtPort, MayGet, MayLay, MayLoad, Rules}
+use Rattle.lab_run.specs.Rules.{AtPort, Rules}
 use Rattle.lab_run.specs.Stage.{Session, Setup, Stage, after_close, after_open, attached_client, claimed_client, client_at, close_client, close_reader, first_stage, no_client, no_reader, open_client, open_client_with, open_reader, open_reader_with, reader_at}
+use Rattle.lab_run.proofs.EachLine.{client-line, reader-line}
 use Rattle.lab_run.proofs.RowsGrow.{HasMore, close-more, open-more}
 
 -- ---- a part of a report that each actor has a list of
@@ -137,30 +135,13 @@ FewSegments before (client, answer) = length (segments_of client) ≤ length (se
 
 line-segments : (phase : ℕ) (wav : Sound) (number : ℕ) (rules : Rules) → LinesAdd segments-at (clients.client_kind phase wav number) rules
 line-segments phase wav number rules (a, client) (b, after) asked answer may =
-    Gives-taken (MayLoad rules) (MayLay rules) (MayGet rules) (FewSegments client) (clients.begins client.own asked a) b
-    (clients.line_by wav (clients.begins client.own asked a).marks client client.own asked) (after, answer) (by_own client.own refl) may
+    client-line (FewSegments client) rules phase wav number a b client after asked answer (λ none. same (Failed BadState)) (λ c is. same (Failed Stopped)) (λ c is. same Done)
+    (λ c is marks. Gives-any (λ (x : PlaybackStream × Answer). FewSegments client (clients.after_call client c asked x)) (clients.call_of wav marks c asked)
+    (λ x. subst (λ (own : Option PlaybackStream). length ((client.ended ++ ended_by asked x.1 c x.0) ++ stretch_of x.0) ≤ length (client.ended ++ present_of own) + 1) (sym is)
+    (call-few client.ended c x.0 asked x.1))) may
   where
     same : (given : Answer) → FewSegments client (client, given)
     same given = omega arith
-
-    by_call : (c : PlaybackStream) (o : Op) → client.own ≡ Some c → Gives (FewSegments client) (clients.call_of wav (clients.begins client.own asked a).marks c o >>= λ done. ends (clients.after_call client c o done))
-    by_call c o is = Gives-then (λ done. FewSegments client (clients.after_call client c o done)) (FewSegments client) (clients.call_of wav (clients.begins client.own asked a).marks c o) (λ done. ends (clients.after_call client c o done))
-        (Gives-any _ (clients.call_of wav (clients.begins client.own asked a).marks c o)
-        (λ done. subst (λ (own : Option PlaybackStream). length ((client.ended ++ ended_by o done.1 c done.0) ++ stretch_of done.0) ≤ length (client.ended ++ present_of own) + 1) (sym is)
-        (call-few client.ended c done.0 o done.1)))
-        (λ done few. few)
-
-    by_op : (c : PlaybackStream) (o : Op) → client.own ≡ Some c → Gives (FewSegments client) (clients.line_if false wav (clients.begins client.own asked a).marks client c o)
-    by_op c (op.Die k) is = same Done
-    by_op c other is = by_call c other is
-
-    by_stop : (c : PlaybackStream) (stopped : Bool) → client.own ≡ Some c → Gives (FewSegments client) (clients.line_if stopped wav (clients.begins client.own asked a).marks client c asked)
-    by_stop c true is = same (Failed Stopped)
-    by_stop c false is = by_op c asked is
-
-    by_own : (own : Option PlaybackStream) → client.own ≡ own → Gives (FewSegments client) (clients.line_by wav (clients.begins client.own asked a).marks client own asked)
-    by_own None is = same (Failed BadState)
-    by_own (Some c) is = by_stop c c.status.stopped is
 
 -- the segments of a client that ends
 ended-segments : (client : Client) → length (segments_of client ++ []) ≤ length (segments_of client)
@@ -258,27 +239,12 @@ FewRuns before (reader, answer) = length (runs_of reader.frames) ≤ length (run
 
 line-runs : (phase number : ℕ) (rules : Rules) → LinesAdd runs-at (readers.reader_kind phase number) rules
 line-runs phase number rules (a, reader) (b, after) asked answer may =
-    Gives-taken (MayLoad rules) (MayLay rules) (MayGet rules) (FewRuns reader) (readers.begins reader.own asked a) b
-    (readers.line_by reader reader.own asked) (after, answer) (by_own reader.own) may
+    reader-line (FewRuns reader) rules phase number a b reader after asked answer (λ none. same (Failed BadState)) (λ r is. same (Failed Stopped)) (λ r is. same Done)
+    (λ r is. Gives-any (λ (x : CaptureStream × Answer). FewRuns reader (readers.after_call reader asked x)) (readers.call_of r asked)
+    (λ x. call-runs reader.frames asked x.1 x.0)) may
   where
     same : (given : Answer) → FewRuns reader (reader, given)
     same given = omega arith
-
-    by_call : (r : CaptureStream) (o : Op) → Gives (FewRuns reader) (readers.call_of r o >>= λ done. ends (readers.after_call reader o done))
-    by_call r o = Gives-then (λ done. FewRuns reader (readers.after_call reader o done)) (FewRuns reader) (readers.call_of r o) (λ done. ends (readers.after_call reader o done))
-        (Gives-any _ (readers.call_of r o) (λ done. call-runs reader.frames o done.1 done.0)) (λ done few. few)
-
-    by_op : (r : CaptureStream) (o : Op) → Gives (FewRuns reader) (readers.line_if false reader r o)
-    by_op r (op.Die k) = same Done
-    by_op r other = by_call r other
-
-    by_stop : (r : CaptureStream) (stopped : Bool) → Gives (FewRuns reader) (readers.line_if stopped reader r asked)
-    by_stop r true = same (Failed Stopped)
-    by_stop r false = by_op r asked
-
-    by_own : (own : Option CaptureStream) → Gives (FewRuns reader) (readers.line_by reader own asked)
-    by_own None = same (Failed BadState)
-    by_own (Some r) = by_stop r r.status.stopped
 
 reaped-runs : (ring : Geometry) (x : AtPort × Reader) → length (runs-at (reaped_reader ring x)) ≤ length (runs-at x)
 reaped-runs ring (a, reader) = by_test (is_reader_stopped reader.own)
