@@ -232,7 +232,7 @@ call-named wav marks c asked not = call_of-gives leaves-missed counts-missed wri
 pub late-rows : (rules : Rules) (phase : ℕ) (wav : Sound) (number : ℕ) → LateRowsNameNext rules phase wav number
 late-rows rules phase wav number a b client after c asked answer is not may =
     open_client-line (λ x. NamesNext x.0 x.1) rules phase wav number a b client after c asked answer is (stays (Failed error.Stopped) tt) (stays Done tt)
-    (λ marks. Gives-map Named (λ x. NamesNext (after_call client c asked x).0 (after_call client c asked x).1) (call_of wav marks c asked) (call-named wav marks c asked not) called) may
+    (λ going marks. Gives-map Named (λ x. NamesNext (after_call client c asked x).0 (after_call client c asked x).1) (call_of wav marks c asked) (call-named wav marks c asked not) called) may
   where
     stays : (given : Answer) → LateAnswer (IsNextSample c) given → NamesNext client given
     stays given named = record { own = c; is_own = is; late = λ frame channel late. subst (LateAnswer (IsNextSample c)) late named }

@@ -140,7 +140,7 @@ call-named wav marks c n = count_answer-gives Kept Named _ count-named (rewind-c
 pub late-rewinds : (rules : Rules) (phase : ℕ) (wav : Sound) (number : ℕ) → LateRewindsNameLast rules phase wav number
 late-rewinds rules phase wav number a b client after c n answer is may =
     open_client-line (λ x. NamesLast x.0 x.1) rules phase wav number a b client after c asked answer is (stays (Failed error.Stopped) tt) (stays Done tt)
-    (λ marks. Gives-map Named (λ x. NamesLast (after_call client c asked x).0 (after_call client c asked x).1) (call_of wav marks c asked) (call-named wav marks c n) called) may
+    (λ going marks. Gives-map Named (λ x. NamesLast (after_call client c asked x).0 (after_call client c asked x).1) (call_of wav marks c asked) (call-named wav marks c n) called) may
   where
     asked : Op
     asked = op.Rewind n

@@ -13,7 +13,7 @@ use Rattle.pcm_states.specs.Table.{next_of}
 use Rattle.snoop_core.specs.declared.port.Got.{Got}
 use Rattle.snoop_core.specs.declared.port.Got.TheVariants as got
 use Rattle.course.specs.Course.{◌>>=◌, Course, ends}
-use Rattle.course.specs.Gives.{Gives, Gives-any, Gives-map, Gives-taken, Gives-then}
+use Rattle.course.specs.Gives.{Gives, Gives-any, Gives-map, Gives-then}
 use Rattle.dsnoop_client.specs.declared.stream.CaptureStream.{CaptureStream}
 use Rattle.dsnoop_client.specs.Calls.{Answered, facts_with, over_of, read_after, read_to, seen_at, with_outcome, after_sync, taken_of, with_avail}
 use Rattle.dsnoop_client.specs.View.{avail_of}
@@ -23,9 +23,10 @@ use Rattle.lab_lines.specs.declared.line.Op.TheVariants as op
 use Rattle.lab_lines.specs.declared.row.Answer.{Answer}
 use Rattle.lab_lines.specs.declared.row.Answer.TheVariants.{Count, Done, Failed}
 use Rattle.lab_run.specs.Client.{count_answer, done_answer, reported_error}
-use Rattle.lab_run.specs.Reader.{after_call, call_answer, begins, call_of, frames_by, line_by, line_if}
-use Rattle.lab_run.specs.Rules.{MayGet, MayLay, MayLoad, Rules}
+use Rattle.lab_run.specs.Reader.{after_call, call_answer, call_of, frames_by}
+use Rattle.lab_run.specs.Rules.{Rules}
 use Rattle.lab_run.specs.Slices.{GetsSlice, LinesGetSlices, ReadersReadOn, ReadsOn, ends_by, ends_stretch}
+use Rattle.lab_run.proofs.EachLine.{open_reader-line, reader-line}
 
 -- a reader that runs, and that its gate didn't stop
 abbrev going : CaptureStream → CaptureStream
@@ -125,35 +126,24 @@ calls-on r other = nothing-got r _ other _ refl refl (inl refl)
 
 pub readers-read_on : (rules : Rules) (phase number : ℕ) → ReadersReadOn rules phase number
 readers-read_on rules phase number a b reader after r asked answer is runs may =
-    Gives-taken (MayLoad rules) (MayLay rules) (MayGet rules) (λ x. ReadsOn reader r asked x.0 x.1) (begins reader.own asked a) b (line_by reader reader.own asked) (after, answer)
-    (subst (λ own. Gives (λ x. ReadsOn reader r asked x.0 x.1) (line_by reader own asked)) (sym is) (by_stop r.status.stopped refl)) may
+    open_reader-line (λ x. ReadsOn reader r asked x.0 x.1) rules phase number a b reader after r asked answer is (stays (Failed error.Stopped)) (stays Done)
+    (λ goes. Gives-map (GoesOn r asked) (λ x. ReadsOn reader r asked (after_call reader asked x).0 (after_call reader asked x).1) (call_of r asked)
+    (subst (λ q. Gives (GoesOn r asked) (call_of q asked)) (sym (same goes)) (calls-on r asked)) called) may
   where
-    stays : (o : Op) (answer : Answer) → ReadsOn reader r o reader answer
-    stays o answer = record { own = r; is_own = is; count = 0; frames = sym (append-nil reader.frames); next = omega arith; goes = inl runs }
+    stays : (given : Answer) → ReadsOn reader r asked reader given
+    stays given = record { own = r; is_own = is; count = 0; frames = sym (append-nil reader.frames); next = omega arith; goes = inl runs }
 
     same : r.status.stopped ≡ false → r ≡ going r
     same goes = λ i. record r { status = record { state = runs i; stopped = goes i } }
 
-    called : (o : Op) (x : CaptureStream × Answer) → GoesOn r o x → ReadsOn reader r o (after_call reader o x).0 (after_call reader o x).1
-    called o (d, given) goes =
+    called : (x : CaptureStream × Answer) → GoesOn r asked x → ReadsOn reader r asked (after_call reader asked x).0 (after_call reader asked x).1
+    called (d, given) goes =
         record { own = d; is_own = refl; count = goes.count; frames = ap (λ frames. reader.frames ++ frames) goes.frames; next = goes.next; goes = goes.goes }
-
-    by_call : r.status.stopped ≡ false → (o : Op) → Gives (λ x. ReadsOn reader r o x.0 x.1) (call_of r o >>= λ done. ends (after_call reader o done))
-    by_call goes o = Gives-then (GoesOn r o) (λ x. ReadsOn reader r o x.0 x.1) (call_of r o) (λ done. ends (after_call reader o done))
-        (subst (λ q. Gives (GoesOn r o) (call_of q o)) (sym (same goes)) (calls-on r o)) (called o)
-
-    by_op : r.status.stopped ≡ false → (o : Op) → Gives (λ x. ReadsOn reader r o x.0 x.1) (line_if false reader r o)
-    by_op goes (op.Die k) = stays (op.Die k) Done
-    by_op goes other = by_call goes other
-
-    by_stop : (stopped : Bool) → r.status.stopped ≡ stopped → Gives (λ x. ReadsOn reader r asked x.0 x.1) (line_if stopped reader r asked)
-    by_stop true stopped = stays asked (Failed error.Stopped)
-    by_stop false goes = by_op goes asked
 
 pub lines-get_slices : (rules : Rules) (phase number : ℕ) → LinesGetSlices rules phase number
 lines-get_slices rules phase number a b reader after asked answer may =
-    Gives-taken (MayLoad rules) (MayLay rules) (MayGet rules) (λ x. GetsSlice reader x.0) (begins reader.own asked a) b (line_by reader reader.own asked) (after, answer)
-    (by_own reader.own) may
+    reader-line (λ x. GetsSlice reader x.0) rules phase number a b reader after asked answer (λ none. stays) (λ r is. stays) (λ r is. stays)
+    (λ r is. Gives-any (λ (x : CaptureStream × Answer). GetsSlice reader (after_call reader asked x).0) (call_of r asked) called) may
   where
     stays : GetsSlice reader reader
     stays = record { first = 0; count = 0; frames = sym (append-nil reader.frames) }
@@ -163,22 +153,6 @@ lines-get_slices rules phase number a b reader after asked answer may =
     gets (op.Read n) (Count count) d = (d.next - count, count, refl)
     gets other given d = (0, 0, refl)
 
-    called : (o : Op) (x : CaptureStream × Answer) → GetsSlice reader (after_call reader o x).0
-    called o (d, given) = let got = gets o given d in
+    called : (x : CaptureStream × Answer) → GetsSlice reader (after_call reader asked x).0
+    called (d, given) = let got = gets asked given d in
         record { first = got.0; count = got.1; frames = ap (λ frames. reader.frames ++ frames) got.2 }
-
-    by_call : (r : CaptureStream) (o : Op) → Gives (λ x. GetsSlice reader x.0) (call_of r o >>= λ done. ends (after_call reader o done))
-    by_call r o = Gives-then (λ x. ⊤) (λ x. GetsSlice reader x.0) (call_of r o) (λ done. ends (after_call reader o done))
-        (Gives-any (λ x. ⊤) (call_of r o) (λ x. tt)) (λ x any. called o x)
-
-    by_op : (r : CaptureStream) (o : Op) → Gives (λ x. GetsSlice reader x.0) (line_if false reader r o)
-    by_op r (op.Die k) = stays
-    by_op r other = by_call r other
-
-    by_stop : (r : CaptureStream) (stopped : Bool) → Gives (λ x. GetsSlice reader x.0) (line_if stopped reader r asked)
-    by_stop r true = stays
-    by_stop r false = by_op r asked
-
-    by_own : (own : Option CaptureStream) → Gives (λ x. GetsSlice reader x.0) (line_by reader own asked)
-    by_own None = stays
-    by_own (Some r) = by_stop r r.status.stopped

@@ -19,7 +19,7 @@ use Rattle.pcm_stream.specs.Status.{nothing_found, refusal_in}
 use Rattle.snoop_core.specs.declared.port.Got.{Got}
 use Rattle.snoop_core.specs.declared.port.Got.TheVariants as got
 use Rattle.course.specs.Course.{◌>>=◌, Course, ends}
-use Rattle.course.specs.Gives.{Gives, Gives-any, Gives-map, Gives-taken, Gives-then}
+use Rattle.course.specs.Gives.{Gives, Gives-any, Gives-map, Gives-then}
 use Rattle.dsnoop_client.specs.declared.stream.CaptureStream.{CaptureStream}
 use Rattle.dsnoop_client.specs.Calls.{Answered, facts_with, over_of, read_after, read_to, seen_at, with_outcome, after_start, started_at, after_sync, taken_of, waits, with_avail}
 use Rattle.dsnoop_client.specs.View.{avail_of, is_running}
@@ -31,9 +31,10 @@ use Rattle.lab_lines.specs.declared.row.Answer.TheVariants.{Done, Failed}
 use Rattle.lab_lines.specs.declared.row.Row.{Row}
 use Rattle.lab_run.specs.Client.{count_answer, done_answer, reported_error}
 use Rattle.lab_run.specs.Lines.{LineMay, LinesMay}
-use Rattle.lab_run.specs.Reader.{Reader, after_call, call_answer, begins, call_of, frames_by, line_by, line_if, reader_kind, row_by}
-use Rattle.lab_run.specs.Rules.{AtPort, MayGet, MayLay, MayLoad, Rules}
+use Rattle.lab_run.specs.Reader.{Reader, after_call, call_answer, call_of, frames_by, reader_kind, row_by}
+use Rattle.lab_run.specs.Rules.{AtPort, Rules}
 use Rattle.lab_run.specs.Stretches.{AreSlices, IsFirstOf, ends_by_row, goes_on_after, got_by}
+use Rattle.lab_run.proofs.EachLine.{reader-line}
 
 -- a reader that wasn't stopped and runs, or whose card is gone
 abbrev IsOn : CaptureStream → Type 0
@@ -68,6 +69,10 @@ still-goes false next first d same (inr ends_so) = absurd (cc)
 got-failed : (asked : Op) (e : PcmError) → got_by asked (Failed e) ≡ 0
 got-failed (op.Read n) e = refl
 got-failed other e = refl
+
+got-done : (asked : Op) → got_by asked Done ≡ 0
+got-done (op.Read n) = refl
+got-done other = refl
 
 -- ---- the errors that end a stretch
 
@@ -365,29 +370,16 @@ unchanged at reader asked answer none goes = record {
 line-gets : (rules : Rules) (phase number : ℕ) (a b : AtPort) (reader after : Reader) (asked : Op) (answer : Answer) (at : Option ℕ) → IsGoing at reader.own
     → LineMay (reader_kind phase number) rules (a, reader) asked (b, after) answer → LineGets at reader after asked answer
 line-gets rules phase number a b reader after asked answer at goes may =
-    Gives-taken (MayLoad rules) (MayLay rules) (MayGet rules) (λ x. LineGets at reader x.0 asked x.1) (begins reader.own asked a) b (line_by reader reader.own asked) (after, answer)
-    (by_own reader.own refl goes) may
+    reader-line (λ x. LineGets at reader x.0 asked x.1) rules phase number a b reader after asked answer (λ none. fails error.BadState) (λ r is. fails error.Stopped)
+    (λ r is. unchanged at reader asked Done (got-done asked) goes)
+    (λ r is. Gives-map (Gets at asked) (λ x. LineGets at reader (after_call reader asked x).0 asked (after_call reader asked x).1) (call_of r asked)
+    (calls-get at r asked (subst (λ (own : Option CaptureStream). IsGoing at own) is goes)) called) may
   where
     fails : (e : PcmError) → LineGets at reader reader asked (Failed e)
     fails e = unchanged at reader asked (Failed e) (got-failed asked e) goes
 
-    called : (o : Op) (x : CaptureStream × Answer) → Gets at o x → LineGets at reader (after_call reader o x).0 o (after_call reader o x).1
-    called o (d, given) gets = record { first = gets.first; begins = gets.begins; frames = ap (λ frames. reader.frames ++ frames) gets.frames; goes = gets.goes }
-
-    by_call : (r : CaptureStream) (o : Op) → IsGoing at (Some r) → Gives (λ x. LineGets at reader x.0 o x.1) (call_of r o >>= λ done. ends (after_call reader o done))
-    by_call r o is = Gives-then (Gets at o) (λ x. LineGets at reader x.0 o x.1) (call_of r o) (λ done. ends (after_call reader o done)) (calls-get at r o is) (called o)
-
-    by_op : (r : CaptureStream) (o : Op) → IsGoing at (Some r) → Gives (λ x. LineGets at reader x.0 o x.1) (line_if false reader r o)
-    by_op r (op.Die k) is = unchanged at reader (op.Die k) Done refl goes
-    by_op r other is = by_call r other is
-
-    by_stop : (r : CaptureStream) (stopped : Bool) → IsGoing at (Some r) → Gives (λ x. LineGets at reader x.0 asked x.1) (line_if stopped reader r asked)
-    by_stop r true is = fails error.Stopped
-    by_stop r false is = by_op r asked is
-
-    by_own : (own : Option CaptureStream) → reader.own ≡ own → IsGoing at own → Gives (λ x. LineGets at reader x.0 asked x.1) (line_by reader own asked)
-    by_own None same is = fails error.BadState
-    by_own (Some r) same is = by_stop r r.status.stopped is
+    called : (x : CaptureStream × Answer) → Gets at asked x → LineGets at reader (after_call reader asked x).0 asked (after_call reader asked x).1
+    called (d, given) gets = record { first = gets.first; begins = gets.begins; frames = ap (λ frames. reader.frames ++ frames) gets.frames; goes = gets.goes }
 
 -- lines: the frames that their rows got
 pub record LinesGet (at : Option ℕ) (reader after : Reader) (rows : List Row) : Type 0 where
