@@ -1,5 +1,5 @@
 -- What a line of a reader is answered has a text in a report, and its state afterwards.
-use Rattle.std.proofs.Common.{ℕ, ◌+◌, Option, Some, None}
+use Rattle.std.proofs.Common.{ℕ, ◌+◌, subst, Option, Some, None}
 use Rattle.std.specs.Prelude.{Bool, true, false, ◌&&◌, nat_eq, nat_le, nat_lt, if◌then◌else◌, Ok, Err, IfSome, ⊤}
 use Rattle.snd_base.specs.declared.errors.PcmError.{PcmError}
 use Rattle.snd_base.specs.declared.errors.PcmError.TheVariants as error
@@ -11,8 +11,8 @@ use Rattle.pcm_states.specs.declared.states.State.TheVariants.{Prepared, Running
 use Rattle.pcm_states.specs.Table.{next_of}
 use Rattle.pcm_stream.specs.declared.direction.Direction.TheVariants.{Capture}
 use Rattle.pcm_stream.specs.Status.{refusal_of}
-use Rattle.course.specs.Course.{◌>>=◌, Course, ends}
-use Rattle.course.specs.Gives.{Gives, Gives-behind, Gives-if, Gives-then}
+use Rattle.course.specs.Course.{Course, ends}
+use Rattle.course.specs.Gives.{Gives, Gives-behind, Gives-if, Gives-map, Gives-then}
 use Rattle.snoop_core.specs.declared.port.Got.{Got}
 use Rattle.snoop_core.specs.declared.port.Got.TheVariants as got
 use Rattle.dsnoop_client.specs.declared.stream.CaptureStream.{CaptureStream}
@@ -24,7 +24,8 @@ use Rattle.lab_lines.specs.declared.line.Op.TheVariants as op
 use Rattle.lab_lines.specs.declared.row.Answer.{Answer}
 use Rattle.lab_report.specs.Text.{HasStateText, HasText}
 use Rattle.lab_run.specs.Client.{count_answer, done_answer}
-use Rattle.lab_run.specs.Reader.{Reader, after_call, call_answer, call_of, line_by, line_if}
+use Rattle.lab_run.specs.Reader.{Reader, after_call, call_answer, call_of, line_by}
+use Rattle.lab_run.proofs.EachLine.{reader_line-gives}
 use Rattle.lab_rows.proofs.TableLaws.{CanReport, CanReportIn, next-reports, refusal-reports, reported-reports}
 
 -- a reader's state has a text
@@ -152,16 +153,6 @@ abbrev pub LineReports : Reader × Answer → Type 0
 LineReports (reader, answer) = IsReportable reader.own × HasText answer
 
 pub reader_line-reports : (reader : Reader) (own : Option CaptureStream) (asked : Op) → IsReportable own → IsReportable reader.own → Gives LineReports (line_by reader own asked)
-reader_line-reports reader None asked is there = (there, tt)
-reader_line-reports reader (Some r) asked is there = by_stop r.status.stopped asked
-  where
-    by_call : (o : Op) → Gives LineReports (call_of r o >>= λ done. ends (after_call reader o done))
-    by_call o = Gives-then IsSaid LineReports (call_of r o) (λ done. ends (after_call reader o done)) (call-said r o is) (λ done said. (said.1, said.0))
-
-    by_op : (o : Op) → Gives LineReports (line_if false reader r o)
-    by_op (op.Die k) = (there, tt)
-    by_op other = by_call other
-
-    by_stop : (stopped : Bool) (o : Op) → Gives LineReports (line_if stopped reader r o)
-    by_stop true o = (there, tt)
-    by_stop false o = by_op o
+reader_line-reports reader own asked is there =
+    reader_line-gives LineReports reader own asked (λ none. (there, tt)) (λ r same. (there, tt)) (λ r same. (there, tt))
+    (λ r same. Gives-map IsSaid (λ x. LineReports (after_call reader asked x)) (call_of r asked) (call-said r asked (subst IsReportable same is)) (λ x said. (said.1, said.0)))
