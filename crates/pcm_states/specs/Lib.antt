@@ -1,2 +1,3 @@
 pub mod States
 pub mod Table
+pub mod TableLaws
