@@ -1,8 +1,6 @@
 -- Whatever a call of a stream answers, a report can have its error and the stream's state.
-use Rattle.std.proofs.Common.{ℕ, Option, Some, None}
-use Rattle.std.specs.Prelude.{Bool, true, false, not, ◌&&◌, nat_eq, if◌then◌else◌, List, [], ◌∷◌, Result, Ok, Err, IfSome, ⊤}
-use Rattle.std.specs.Option.{option_map}
-use Rattle.std.proofs.Common.{refl}
+use Rattle.std.proofs.Common.{refl, subst, Option, Some, None}
+use Rattle.std.specs.Prelude.{Bool, true, false, if◌then◌else◌, Result, Ok, Err, IfSome, ⊤}
 use Rattle.snd_base.specs.declared.errors.PcmError.{PcmError}
 use Rattle.snd_base.specs.declared.errors.PcmError.TheVariants as error
 use Rattle.snd_base.specs.declared.errors.XrunWhy.{XrunWhy}
@@ -13,7 +11,8 @@ use Rattle.pcm_states.specs.declared.calls.Facts.{Facts}
 use Rattle.pcm_states.specs.declared.calls.Outcome.{Outcome}
 use Rattle.pcm_states.specs.declared.states.State.{State}
 use Rattle.pcm_states.specs.declared.states.State.TheVariants as state
-use Rattle.pcm_states.specs.Table.{Cell, already, done_in, draining, ebadfd, eio, enodev, filling, first_outcome, if_empty, if_gone, if_late, if_none_left, if_over, if_played, moving, next_of, cell_outcome, resuming, call_row, starting, still_draining, stopped_by, to}
+use Rattle.pcm_states.specs.Table.{Cell, call_row, next_of, stopped_by, to}
+use Rattle.pcm_states.specs.TableLaws.{Cases, next_of-holds}
 use Rattle.pcm_stream.specs.Status.{is_refusal, nothing_found, refusal_in, refusal_of}
 use Rattle.pcm_stream.specs.declared.direction.Direction.{Direction}
 use Rattle.pcm_stream.specs.declared.status.Status.{Status}
@@ -46,27 +45,26 @@ reported-reports other reports = tt
 abbrev pub IsOutcome : Outcome → Type 0
 IsOutcome o = CanReportIn o.answer × HasStateText o.state
 
-first-case : (o : Option Outcome) (rest : List (Option Outcome)) (d : Outcome) → IfSome o IsOutcome → IsOutcome (first_outcome rest d)
-    → IsOutcome (first_outcome (o ∷ rest) d)
-first-case None rest d here there = there
-first-case (Some x) rest d here there = here
-
--- an outcome that a test allows
-test-case : (test : Bool) (x : Outcome) → IsOutcome x → IfSome (if test then Some x else None) IsOutcome
-test-case true x is = is
-test-case false x is = tt
-
-over-case : (o : Option (ℕ × ℕ)) (f : Facts) → (let g : Facts = record f { over = o } in IfSome (if_over g) IsOutcome)
-over-case None f = tt
-over-case (Some (avail, seen)) f = (tt, tt)
-
-late-case : (l : Option XrunWhy) → IfSome (option_map stopped_by l) IsOutcome
+late-case : (l : Option XrunWhy) → IfSome l (λ (w : XrunWhy). IsOutcome (stopped_by w))
 late-case None = tt
 late-case (Some w) = (tt, tt)
 
-still : (c : Call) → IsOutcome (still_draining c)
-still call.Drain = (tt, tt)
-still other = (tt, tt)
+cases-report : (s : State) (f : Facts) → HasStateText s → Cases IsOutcome s f
+cases-report s f is = record {
+  bad_state = (tt, is);
+  no_device = (tt, is);
+  not_supported = (tt, is);
+  already_over = (tt, is);
+  empty = (tt, tt);
+  gone = (tt, tt);
+  over = λ avail seen. (tt, tt);
+  late = late-case f.late;
+  running = (tt, tt);
+  prepared = (tt, tt);
+  set_up = (tt, tt);
+  drains = (tt, tt);
+  drains_on = (tt, tt);
+}
 
 -- what a cell leads to
 abbrev LeadsTo : Cell → Type 0
@@ -80,33 +78,8 @@ leads false call.HwParams state.Open is = tt
 leads capture c state.Suspended is = absurd is
 leads capture c s is = tt
 
-cell-reports : (cell : Cell) (s : State) (c : Call) (f : Facts) → LeadsTo cell → HasStateText s → IsOutcome (cell_outcome cell s c f)
-cell-reports (to t) s c f leads is = (tt, leads)
-cell-reports ebadfd s c f leads is = (tt, is)
-cell-reports enodev s c f leads is = (tt, is)
-cell-reports eio s c f leads is = (tt, is)
-cell-reports already s c f leads is = (tt, is)
-cell-reports starting s c f leads is =
-    first-case (if_empty f) _ _ (test-case (not f.capture && nat_eq f.queued 0) _ (tt, tt))
-    (first-case (if_gone f) _ _ (test-case f.gone _ (tt, tt)) (first-case (if_late f) _ _ (late-case f.late) (tt, tt)))
-cell-reports filling s c f leads is = by_start f.starts
-  where
-    by_start : (b : Bool) → IsOutcome (if b then first_outcome (if_gone f ∷ if_late f ∷ []) (done_in state.Running) else done_in state.Prepared)
-    by_start true = first-case (if_gone f) (if_late f ∷ []) (done_in state.Running) (test-case f.gone _ (tt, tt))
-        (first-case (if_late f) [] (done_in state.Running) (late-case f.late) (tt, tt))
-    by_start false = (tt, tt)
-cell-reports moving s c f leads is =
-    first-case (if_gone f) _ _ (test-case f.gone _ (tt, tt))
-    (first-case (if_over f) _ _ (over-case f.over f) (first-case (if_late f) _ _ (late-case f.late) (tt, tt)))
-cell-reports draining s c f leads is =
-    first-case (if_gone f) _ _ (test-case f.gone _ (tt, tt))
-    (first-case (if_late f) _ _ (late-case f.late) (first-case (if_played f) _ _ (test-case (nat_eq f.queued 0) _ (tt, tt)) (still c)))
-cell-reports resuming s c f leads is =
-    first-case (if_none_left f) _ _ (test-case (nat_eq f.queued 0) _ (tt, tt))
-    (first-case (if_gone f) _ _ (test-case f.gone _ (tt, tt)) (first-case (if_late f) _ _ (late-case f.late) (tt, tt)))
-
 pub next-reports : (s : State) (c : Call) (f : Facts) → HasStateText s → IsOutcome (next_of s c f)
-next-reports s c f is = cell-reports (call_row f.capture c s) s c f (leads f.capture c s is) is
+next-reports s c f is = next_of-holds IsOutcome s c f (cases-report s f is) (λ t to_it. (tt, subst LeadsTo to_it (leads f.capture c s is)))
 
 -- ---- what a call is refused by before it does anything
 
