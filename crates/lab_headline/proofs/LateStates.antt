@@ -1,7 +1,6 @@
 -- A call that is answered late leaves its client in XRUN.
 use Rattle.std.proofs.Common.{◌≡◌, ℕ, refl, sym, subst, Option, Some, None}
-use Rattle.std.specs.Prelude.{Bool, true, false, not, ◌&&◌, nat_eq, if◌then◌else◌, List, [], ◌∷◌, Result, Ok, Err, IfSome, ⊤}
-use Rattle.std.specs.Option.{option_map}
+use Rattle.std.specs.Prelude.{[], Result, Ok, Err, IfSome, ⊤}
 use Rattle.snd_base.specs.declared.errors.PcmError.{PcmError}
 use Rattle.snd_base.specs.declared.errors.PcmError.TheVariants as error
 use Rattle.snd_base.specs.declared.errors.XrunWhy.{XrunWhy}
@@ -12,8 +11,9 @@ use Rattle.pcm_states.specs.declared.calls.Call.TheVariants as call
 use Rattle.pcm_states.specs.declared.calls.Facts.{Facts}
 use Rattle.pcm_states.specs.declared.calls.Outcome.{Outcome}
 use Rattle.pcm_states.specs.declared.states.State.{State}
-use Rattle.pcm_states.specs.declared.states.State.TheVariants.{Prepared, Running, Setup, Xrun}
-use Rattle.pcm_states.specs.Table.{Cell, already, done_in, draining, ebadfd, eio, enodev, filling, first_outcome, if_empty, if_gone, if_late, if_none_left, if_over, if_played, moving, next_of, cell_outcome, resuming, call_row, starting, still_draining, stopped_by, to}
+use Rattle.pcm_states.specs.declared.states.State.TheVariants.{Prepared, Running, Xrun}
+use Rattle.pcm_states.specs.Table.{next_of, stopped_by}
+use Rattle.pcm_states.specs.TableLaws.{Cases, next_of-holds}
 use Rattle.course.specs.Gives.{Gives, Gives-any, Gives-map}
 use Rattle.wav_io.specs.Sound.{Sound}
 use Rattle.dmix_client.specs.declared.stream.PlaybackStream.{PlaybackStream}
@@ -37,70 +37,30 @@ use Rattle.lab_headline.specs.Late.{IsLate}
 abbrev Says : Outcome → Type 0
 Says o = LateIn (λ frame channel. o.state ≡ Xrun) o.answer
 
-first-case : (o : Option Outcome) (rest : List (Option Outcome)) (d : Outcome) → IfSome o Says → Says (first_outcome rest d) → Says (first_outcome (o ∷ rest) d)
-first-case None rest d here there = there
-first-case (Some x) rest d here there = here
+late-says : (l : Option XrunWhy) → IfSome l (λ (w : XrunWhy). Says (stopped_by w))
+late-says None = tt
+late-says (Some (why.Late frame channel word)) = refl
+late-says (Some other) = tt
 
-empty-case : (f : Facts) → IfSome (if_empty f) Says
-empty-case f = by_test (not f.capture && nat_eq f.queued 0)
-  where
-    by_test : (b : Bool) → IfSome (if b then Some (record { state = Prepared; answer = Err (error.Xrun why.Empty) }) else None) Says
-    by_test true = tt
-    by_test false = tt
-
-gone-case : (f : Facts) → IfSome (if_gone f) Says
-gone-case f = by_test f.gone
-  where
-    by_test : (b : Bool) → (let g : Facts = record f { gone = b } in IfSome (if_gone g) Says)
-    by_test true = tt
-    by_test false = tt
-
-over-case : (f : Facts) → IfSome (if_over f) Says
-over-case f = by_over f.over
-  where
-    by_over : (o : Option (ℕ × ℕ)) → (let g : Facts = record f { over = o } in IfSome (if_over g) Says)
-    by_over None = tt
-    by_over (Some (avail, seen)) = tt
-
-late-case : (f : Facts) → IfSome (if_late f) Says
-late-case f = by_late f.late
-  where
-    by_late : (l : Option XrunWhy) → IfSome (option_map stopped_by l) Says
-    by_late None = tt
-    by_late (Some (why.Late frame channel word)) = refl
-    by_late (Some other) = tt
-
-zero-case : (n : ℕ) (s : State) → IfSome (if nat_eq n 0 then Some (done_in s) else None) Says
-zero-case n s = by_test (nat_eq n 0)
-  where
-    by_test : (b : Bool) → IfSome (if b then Some (done_in s) else None) Says
-    by_test true = tt
-    by_test false = tt
-
-still : (c : Call) → Says (still_draining c)
-still call.Drain = tt
-still other = tt
-
-cell-says : (cell : Cell) (s : State) (c : Call) (f : Facts) → Says (cell_outcome cell s c f)
-cell-says (to t) s c f = tt
-cell-says ebadfd s c f = tt
-cell-says enodev s c f = tt
-cell-says eio s c f = tt
-cell-says already s c f = tt
-cell-says starting s c f = first-case (if_empty f) _ _ (empty-case f) (first-case (if_gone f) _ _ (gone-case f) (first-case (if_late f) _ _ (late-case f) tt))
-cell-says filling s c f = by_start f.starts
-  where
-    by_start : (b : Bool) → Says (if b then first_outcome (if_gone f ∷ if_late f ∷ []) (done_in Running) else done_in Prepared)
-    by_start true = first-case (if_gone f) (if_late f ∷ []) (done_in Running) (gone-case f) (first-case (if_late f) [] (done_in Running) (late-case f) tt)
-    by_start false = tt
-cell-says moving s c f = first-case (if_gone f) _ _ (gone-case f) (first-case (if_over f) _ _ (over-case f) (first-case (if_late f) _ _ (late-case f) tt))
-cell-says draining s c f =
-    first-case (if_gone f) _ _ (gone-case f) (first-case (if_late f) _ _ (late-case f) (first-case (if_played f) _ _ (zero-case f.queued Setup) (still c)))
-cell-says resuming s c f =
-    first-case (if_none_left f) _ _ (zero-case f.queued Prepared) (first-case (if_gone f) _ _ (gone-case f) (first-case (if_late f) _ _ (late-case f) tt))
+cases-say : (s : State) (f : Facts) → Cases Says s f
+cases-say s f = record {
+  bad_state = tt;
+  no_device = tt;
+  not_supported = tt;
+  already_over = tt;
+  empty = tt;
+  gone = tt;
+  over = λ avail seen. tt;
+  late = late-says f.late;
+  running = tt;
+  prepared = tt;
+  set_up = tt;
+  drains = tt;
+  drains_on = tt;
+}
 
 next-says : (s : State) (c : Call) (f : Facts) → Says (next_of s c f)
-next-says s c f = cell-says (call_row f.capture c s) s c f
+next-says s c f = next_of-holds Says s c f (cases-say s f) (λ t is. tt)
 
 -- ---- a call's parts
 
