@@ -2,7 +2,6 @@
 use Rattle.std.proofs.Common.{◌≡◌, ℕ, ◌+◌, ◌<◌, ◌≤◌, ◌⊎◌, inl, inr, refl, sym, ◌∙◌, arith, Option, Some, None}
 use Rattle.std.proofs.lemmas.Bool.{false≢true}
 use Rattle.std.proofs.lemmas.Bool.Decides.{nat_tests}
-use Rattle.std.specs.Option.{option_map}
 use Rattle.std.specs.Prelude.{Bool, true, false, nat_eq, nat_lt, if◌then◌else◌, List, [], ◌∷◌, length, ℤ, Result, Ok, Err, IfOk, IfSome, zero, suc, max, slice_index}
 use Rattle.snd_base.specs.declared.errors.PcmError.{PcmError}
 use Rattle.snd_base.specs.declared.geometry.Geometry.{Geometry}
@@ -21,8 +20,9 @@ use Rattle.pcm_states.specs.declared.calls.Call.TheVariants as call
 use Rattle.pcm_states.specs.declared.calls.Facts.{Facts}
 use Rattle.pcm_states.specs.declared.calls.Outcome.{Outcome}
 use Rattle.pcm_states.specs.declared.states.State.{State}
-use Rattle.pcm_states.specs.declared.states.State.TheVariants.{Disconnected, Draining, Prepared, Running, Setup, Xrun}
+use Rattle.pcm_states.specs.declared.states.State.TheVariants.{Draining, Prepared, Running}
 use Rattle.pcm_states.specs.Table.{done_in, first_outcome, if_gone, if_late, if_over, if_played, next_of, still_draining, stopped_by}
+use Rattle.pcm_states.specs.TableLaws.{draining-holds, moving-holds}
 use Rattle.pcm_stream.specs.Status.{is_moving}
 use Rattle.snd_base.specs.declared.errors.XrunWhy.{XrunWhy}
 use Rattle.snoop_core.specs.declared.port.Got.{Got}
@@ -288,54 +288,22 @@ moving-begun p x y m c moves (inr waits) = absurd (false≢true (sym waits.still
 
 -- ---- the state table
 
-module _ (P : State → Type 0) where
-  pub first-state : (o : Option Outcome) (rest : List (Option Outcome)) (d : Outcome) → IfSome o (λ (x : Outcome). P x.state) → P (first_outcome rest d).state
-      → P (first_outcome (o ∷ rest) d).state
-  first-state None rest d here there = there
-  first-state (Some x) rest d here there = here
-
-  pub gone-state : (f : Facts) → P Disconnected → IfSome (if_gone f) (λ (x : Outcome). P x.state)
-  gone-state f is = by_test f.gone
-    where
-      by_test : (b : Bool) → (let g : Facts = record f { gone = b } in IfSome (if_gone g) (λ (x : Outcome). P x.state))
-      by_test true = is
-      by_test false = tt
-
-  pub over-state : (f : Facts) → P Xrun → IfSome (if_over f) (λ (x : Outcome). P x.state)
-  over-state f is = by_over f.over
-    where
-      by_over : (o : Option (ℕ × ℕ)) → (let g : Facts = record f { over = o } in IfSome (if_over g) (λ (x : Outcome). P x.state))
-      by_over None = tt
-      by_over (Some (avail, seen)) = is
-
-  pub late-state : (f : Facts) → P Xrun → IfSome (if_late f) (λ (x : Outcome). P x.state)
-  late-state f is = by_late f.late
-    where
-      by_late : (l : Option XrunWhy) → IfSome (option_map stopped_by l) (λ (x : Outcome). P x.state)
-      by_late None = tt
-      by_late (Some w) = is
-
-  pub played-state : (n : ℕ) (s : State) → P s → IfSome (if nat_eq n 0 then Some (done_in s) else None) (λ (x : Outcome). P x.state)
-  played-state n s is = by_test (nat_eq n 0)
-    where
-      by_test : (b : Bool) → IfSome (if b then Some (done_in s) else None) (λ (x : Outcome). P x.state)
-      by_test true = is
-      by_test false = tt
-
 abbrev pub Unprepared : State → Type 0
 Unprepared s = is_prepared s ≡ false
 
-pub still-draining : (asked : Call) → Unprepared (still_draining asked).state
+still-draining : (asked : Call) → Unprepared (still_draining asked).state
 still-draining call.Drain = refl
 still-draining other = refl
 
-pub moving-unprepared : (f : Facts) → Unprepared (first_outcome (if_gone f ∷ if_over f ∷ if_late f ∷ []) (done_in Running)).state
-moving-unprepared f = first-state Unprepared (if_gone f) _ _ (gone-state Unprepared f refl)
-    (first-state Unprepared (if_over f) _ _ (over-state Unprepared f refl) (first-state Unprepared (if_late f) _ _ (late-state Unprepared f refl) refl))
+late-unprepared : (l : Option XrunWhy) → IfSome l (λ (w : XrunWhy). Unprepared (stopped_by w).state)
+late-unprepared None = tt
+late-unprepared (Some w) = refl
 
-pub draining-unprepared : (f : Facts) (asked : Call) → Unprepared (first_outcome (if_gone f ∷ if_late f ∷ if_played f ∷ []) (still_draining asked)).state
-draining-unprepared f asked = first-state Unprepared (if_gone f) _ _ (gone-state Unprepared f refl)
-    (first-state Unprepared (if_late f) _ _ (late-state Unprepared f refl) (first-state Unprepared (if_played f) _ _ (played-state Unprepared f.queued Setup refl) (still-draining asked)))
+pub moving-unprepared : (f : Facts) → Unprepared (first_outcome (if_gone f ∷ if_over f ∷ if_late f ∷ []) (done_in Running)).state
+moving-unprepared f = moving-holds (λ (o : Outcome). Unprepared o.state) f refl (λ avail seen. refl) (late-unprepared f.late) refl
+
+draining-unprepared : (f : Facts) (asked : Call) → Unprepared (first_outcome (if_gone f ∷ if_late f ∷ if_played f ∷ []) (still_draining asked)).state
+draining-unprepared f asked = draining-holds (λ (o : Outcome). Unprepared o.state) f asked refl (late-unprepared f.late) refl (still-draining asked)
 
 -- a step of a stream that moves frames leads to no prepared one
 pub stepped-unprepared : (s : State) (asked : Call) (f : Facts) → IsFrameStep s asked → f.capture ≡ false → Unprepared (next_of s asked f).state
