@@ -25,13 +25,14 @@ use Rattle.lab_run.specs.Stage.{Session, Setup, opened_client}
 use Rattle.lab_headline.specs.Segments.{IsOfFrames}
 use Rattle.lab_headline.proofs.Bound.{HasBindings, line-bound}
 use Rattle.lab_headline.proofs.FileCalls.{FileAfter, IsOfFile, admitted-after, answered-after, drain-after, idle-goes, in-state, number_course-after, prepared-anew, resume-after, rewind-after, rewindable-after, start_course-after, sync-after, write-after}
-use Rattle.lab_headline.proofs.Going.{still-client}
+use Rattle.lab_headline.proofs.Going.{still-client, in-open}
 use Rattle.lab_headline.proofs.NumberedStages.{IsKeptBy}
 use Rattle.lab_headline.proofs.Onward.{Channels, begun}
 use Rattle.lab_headline.proofs.OnwardCalls.{starts-prepared}
 use Rattle.lab_headline.proofs.OnwardLines.{InOpen}
 use Rattle.lab_headline.proofs.PlayedCalls.{admitted-going}
 use Rattle.lab_headline.proofs.PlayedCourses.{From, From-then, Takes-from}
+use Rattle.lab_headline.proofs.Lists.{each-append}
 
 -- ---- a line of an open client
 
@@ -127,10 +128,6 @@ pub record HoldsFile (p limit : ℕ) (bindings : List ℕ) (client : Client) : T
   pub bound : HasBindings bindings client.own
   pub ended : AllByRecursion (IsOfFrames p (length bindings) limit) client.ended
 
-pub each-append : {X : Type 0} (P : X → Type 0) (xs ys : List X) → AllByRecursion P xs → AllByRecursion P ys → AllByRecursion P (xs ++ ys)
-each-append P [] ys one other = other
-each-append P (x ∷ xs) ys one other = (one.0, each-append P xs ys one.1 other)
-
 -- the segment of a stretch
 segment-right : (p limit : ℕ) (bindings : List ℕ) (c : PlaybackStream) → IsOfFile p limit c → c.setup.bindings ≡ bindings → 0 < c.stretch.committed + c.stretch.part
     → IsOfFrames p (length bindings) limit (segment_of c)
@@ -192,10 +189,6 @@ abbrev pub IsFileClient : Session → ℕ → Client → Type 0
 IsFileClient session number client = (setup : Setup) → slice_index_or session.clients number None ≡ Some setup → Channels setup.bindings
     → HoldsFile (first_frame session.card) (frames_of (slice_index_or session.sounds number no_sound)) setup.bindings client
 
-in-some : (F : PlaybackStream → Type 0) (own : Option PlaybackStream) → InOpen own F → IfSome own F
-in-some F None is = absurd is
-in-some F (Some c) is = is
-
 module _ (session : Session) where
   line-holds : (rules : Rules) → ((q : ℕ) → Contains rules.published q → first_frame session.card ≤ q) → (phase number : ℕ) (a b : AtPort) (client after : Client)
       (asked : Op) (answer : Answer) → IsFileClient session number client
@@ -227,7 +220,7 @@ module _ (session : Session) where
           let same : c.setup.bindings ≡ setup.bindings = subst (HasBindings setup.bindings) own_is holds.bound in
           let left = done-leaves rules (first_frame session.card) least phase (slice_index_or session.sounds number no_sound) number a b client after asked answer c own_is is may in
           record {
-            own = in-some (IsOfFile (first_frame session.card) (frames_of (slice_index_or session.sounds number no_sound))) after.own left.0;
+            own = in-open (IsOfFile (first_frame session.card) (frames_of (slice_index_or session.sounds number no_sound))) after.own left.0;
             bound = bound;
             ended = by_ended c is same left.1;
           }

@@ -19,7 +19,8 @@ use Rattle.lab_run.specs.Stage.{Session, Setup}
 use Rattle.lab_headline.specs.OneSample.{AreBound}
 use Rattle.lab_headline.specs.Segments.{AreOfClients, IsOfClient, IsOfFrames}
 use Rattle.lab_headline.proofs.BoundChannels.{script-bound, setup-channels}
-use Rattle.lab_headline.proofs.FileLines.{IsFileClient, clients-hold, each-append, segments-right}
+use Rattle.lab_headline.proofs.FileLines.{IsFileClient, clients-hold, segments-right}
+use Rattle.lab_headline.proofs.Lists.{each-append}
 use Rattle.lab_headline.proofs.FromFiles.{IsUsed, clients-used, idle-segments, opened-at}
 use Rattle.lab_headline.proofs.NumberedStages.{AreSoBy, numbered-so}
 use Rattle.lab_headline.proofs.Onward.{Channels}

@@ -127,11 +127,11 @@ pub record Going (p : ℕ) (bindings : List ℕ) (Old : ℕ → Type 0) (New Set
   pub new : AllByRecursion New x.1.ended
   pub settled : AllByRecursion (λ s. Settled s ⊎ InOpen x.1.own (λ c. Onward p 0 (seg_end s) x.0.marks c)) x.1.ended
 
-in-open : (F : PlaybackStream → Type 0) (own : Option PlaybackStream) → InOpen own F → IfSome own F
+pub in-open : (F : PlaybackStream → Type 0) (own : Option PlaybackStream) → InOpen own F → IfSome own F
 in-open F None is = tt
 in-open F (Some c) is = is
 
-open-map : (F G : PlaybackStream → Type 0) (own : Option PlaybackStream) → ((c : PlaybackStream) → F c → G c) → InOpen own F → InOpen own G
+pub open-map : (F G : PlaybackStream → Type 0) (own : Option PlaybackStream) → ((c : PlaybackStream) → F c → G c) → InOpen own F → InOpen own G
 open-map F G None map is = is
 open-map F G (Some c) map is = map c is
 

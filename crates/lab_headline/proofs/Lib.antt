@@ -15,6 +15,7 @@ mod IdleReaders
 mod LateParts
 mod LateStates
 mod Listed
+mod Lists
 mod Missed
 mod Mixes
 mod Numbered

@@ -1,35 +1,17 @@
 -- Lists of what each of several members has, with the members' numbers.
-use Rattle.std.proofs.Common.{◌≡◌, ℕ, ◌<◌, ◌≤◌, ◌+◌, refl, sym, ◌∙◌, ap, arith, subst, List, [], ◌∷◌, ◌++◌, length}
+use Rattle.std.proofs.Common.{◌≡◌, ℕ, ◌≤◌, ◌+◌, refl, sym, ◌∙◌, ap, arith, subst, List, [], ◌∷◌, ◌++◌, length}
 use Rattle.std.proofs.lemmas.Bool.{eq-eqb}
 use Rattle.std.proofs.lemmas.Bool.Decides.{nat_tests}
-use Rattle.std.proofs.lemmas.List.{append-nil, map-append}
+use Rattle.std.proofs.lemmas.List.{append-nil}
 use Rattle.std.proofs.lemmas.List.Concat.{flat_map-append}
-use Rattle.std.proofs.lemmas.List.Elements.{filter-append}
 use Rattle.std.specs.List.{flat_map, range_with_len}
-use Rattle.std.specs.Prelude.{false, zero, suc, nat_eq, filter, map, slice_index_or}
+use Rattle.std.specs.Prelude.{false, zero, suc, nat_eq, map, slice_index_or}
 use Rattle.lab_run.specs.LabRun.{with_numbers}
-
--- what the member of a number has
-abbrev pub members_of : {Y : Type 0} → ℕ → List (ℕ × Y) → List Y
-members_of {Y = Y} number pairs = map (λ (pair : ℕ × Y). pair.1) (filter (λ (pair : ℕ × Y). nat_eq pair.0 number) pairs)
-
-members-append : {Y : Type 0} (n : ℕ) (xs ys : List (ℕ × Y)) → members_of n (xs ++ ys) ≡ members_of n xs ++ members_of n ys
-members-append n xs ys = ap (map (λ pair. pair.1)) (filter-append _ xs ys) ∙ map-append (λ pair. pair.1) (filter _ xs) (filter _ ys)
+use Rattle.lab_run.proofs.OwnLines.{members-append, members-other, members_of, numbered-past}
 
 members-own : {Y : Type 0} (n : ℕ) (ys : List Y) → members_of n (map (λ y. (n, y)) ys) ≡ ys
 members-own n [] = refl
 members-own n (y ∷ ys) = rw (eq-eqb n n refl) (ap (λ zs. y ∷ zs) (members-own n ys))
-
-members-other : {Y : Type 0} (n m : ℕ) (ys : List Y) → nat_eq m n ≡ false → members_of n (map (λ y. (m, y)) ys) ≡ []
-members-other n m [] is = refl
-members-other n m (y ∷ ys) is = rw is (members-other n m ys is)
-
-numbered-past : {X Y : Type 0} (of : X → List Y) (n number : ℕ) (xs : List X) → n < number → members_of n (with_numbers of number xs) ≡ []
-numbered-past of n number [] low = refl
-numbered-past of n number (x ∷ xs) low =
-    members-append n (map (λ y. (number, y)) (of x)) (with_numbers of (number + 1) xs)
-    ∙ ap (λ r. r ++ members_of n (with_numbers of (number + 1) xs)) (members-other n number (of x) (grind (arith, nat_tests)))
-    ∙ ap (λ r. [] ++ r) (numbered-past of n (number + 1) xs (omega arith))
 
 -- two functions that agree from a number on
 from-range : {A : Type 0} (f g : ℕ → List A) (first n : ℕ) → ((m : ℕ) → first ≤ m → f m ≡ g m)

@@ -23,7 +23,8 @@ use Rattle.lab_run.specs.Stage.{Session, Setup}
 use Rattle.lab_headline.specs.Mix.{IsMixOf, placed_entries}
 use Rattle.lab_headline.specs.OneSample.{AreBound, AreSamples, PlaysOneSample, only_of}
 use Rattle.lab_headline.proofs.Mixes.{LabRun-mix}
-use Rattle.lab_headline.proofs.OneSample.{LabRun-once, append-all}
+use Rattle.lab_headline.proofs.Lists.{each-append}
+use Rattle.lab_headline.proofs.OneSample.{LabRun-once}
 
 -- a sample isn't saturated
 sample-clamp : (x : ℤ) → IsSample x → clamp_of x ≡ x
@@ -39,7 +40,7 @@ AreEntries es = AllByRecursion (λ (e : Entry). IsSample (value_of e)) es
 
 flat-entries : {X : Type 0} (f : X → List Entry) (xs : List X) → ((x : X) → AreEntries (f x)) → AreEntries (flat_map f xs)
 flat-entries f [] each = tt
-flat-entries f (x ∷ xs) each = append-all (λ (e : Entry). IsSample (value_of e)) (f x) (flat_map f xs) (each x) (flat-entries f xs each)
+flat-entries f (x ∷ xs) each = each-append (λ (e : Entry). IsSample (value_of e)) (f x) (flat_map f xs) (each x) (flat-entries f xs each)
 
 -- the first of some of them
 only-sample : (test : Entry → Bool) (es : List Entry) → AreEntries es → IsSample (only_of (map value_of (filter test es)))
@@ -72,7 +73,7 @@ frame-samples member bindings sample_of n card each = by_list (take n (rising bi
 
 expand-samples : (member : ℕ) (segment : Segment) (samples : List ℤ) (bindings : List ℕ) → AllByRecursion IsSample samples → AreEntries (expand member segment samples bindings)
 expand-samples member segment samples bindings each =
-    append-all (λ (e : Entry). IsSample (value_of e)) (flat_map (λ j. frame_entries member bindings (of_file j) (length bindings) (segment.card + j)) (range_with_len 0 segment.whole)) _
+    each-append (λ (e : Entry). IsSample (value_of e)) (flat_map (λ j. frame_entries member bindings (of_file j) (length bindings) (segment.card + j)) (range_with_len 0 segment.whole)) _
     (flat-entries (λ j. frame_entries member bindings (of_file j) (length bindings) (segment.card + j)) (range_with_len 0 segment.whole)
     (λ j. frame-samples member bindings (of_file j) (length bindings) (segment.card + j) (sampled j)))
     (frame-samples member bindings (of_file (0 + segment.whole)) segment.part (segment.card + (0 + segment.whole)) (sampled (0 + segment.whole)))

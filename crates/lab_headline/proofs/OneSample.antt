@@ -42,6 +42,7 @@ use Rattle.lab_headline.proofs.AtMostOne.{frames-past, segment-once}
 use Rattle.lab_headline.proofs.Expanded.{AreOther, other-channels, other-frame, whole-before}
 use Rattle.lab_headline.proofs.Going.{Ascends, each-map, seg_end}
 use Rattle.lab_headline.proofs.Sole.{Clear, Meets, bound_of}
+use Rattle.lab_headline.proofs.Lists.{each-append}
 
 -- ---- where a segment has no sample
 
@@ -138,10 +139,6 @@ module _ (member : ℕ) (segment : Segment) (samples : List ℤ) (bindings : Lis
 -- a numbered segment
 abbrev pub Part : Type 0
 Part = ℕ × Segment
-
-pub append-all : {X : Type 0} (P : X → Type 0) (xs ys : List X) → AllByRecursion P xs → AllByRecursion P ys → AllByRecursion P (xs ++ ys)
-append-all P [] ys one two = two
-append-all P (x ∷ xs) ys one two = (one.0, append-all P xs ys one.1 two)
 
 -- segments with a number
 numbers-all : (n : ℕ) (P : ℕ × Segment → Type 0) (segments : List Segment) → AllByRecursion (λ s. P (n, s)) segments → AllByRecursion P (map (λ s. (n, s)) segments)
@@ -240,7 +237,7 @@ module _ (session : Session) where
 
   pairs-append : (xs ys : List Part) → Pairs xs → Pairs ys → AllByRecursion (λ x. AllByRecursion (Pair x) ys) xs → Pairs (xs ++ ys)
   pairs-append [] ys one two cross = two
-  pairs-append (x ∷ xs) ys one two cross = (append-all (Pair x) xs ys one.0 cross.0, pairs-append xs ys one.1 two cross.1)
+  pairs-append (x ∷ xs) ys one two cross = (each-append (Pair x) xs ys one.0 cross.0, pairs-append xs ys one.1 two cross.1)
 
   own-pairs : (n : ℕ) (segments : List Segment) → Ascends segments → Pairs (map (λ s. (n, s)) segments)
   own-pairs n [] ascends = tt
@@ -260,7 +257,7 @@ module _ (session : Session) where
         → ((k : ℕ) → (n ≡ k → ⊥) → Meets session n k → AllByRecursion (Clear s) (at_number k))
         → AllByRecursion (Pair (n, s)) (with_numbers (λ (x : AtPort × Client). segments_of x.1) number xs)
     later-clear n s number [] before are each = tt
-    later-clear n s number (x ∷ xs) before are each = append-all (Pair (n, s)) (map (λ t. (number, t)) (segments_of x.1)) (with_numbers (λ (y : AtPort × Client). segments_of y.1) (number + 1) xs)
+    later-clear n s number (x ∷ xs) before are each = each-append (Pair (n, s)) (map (λ t. (number, t)) (segments_of x.1)) (with_numbers (λ (y : AtPort × Client). segments_of y.1) (number + 1) xs)
         (subst (λ (l : List Segment). AllByRecursion (Pair (n, s)) (map (λ t. (number, t)) l)) (sym are.0)
         (numbers-all number (Pair (n, s)) (at_number number) (pair-all n s number (at_number number) (each number (λ same. irreflexive n number before same)))))
         (later-clear n s (number + 1) xs (omega (arith, before)) are.1 each)

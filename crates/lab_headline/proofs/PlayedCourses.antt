@@ -17,7 +17,8 @@ use Rattle.dmix_client.specs.declared.stream.PlaybackStream.{PlaybackStream}
 use Rattle.dmix_client.specs.Course.{commits, go_on, lay_each, lay_frame, lay_frames, looks, nothing, one_frame_more, one_more}
 use Rattle.dmix_client.specs.Rewind.{back_on, rewind_left, take_each, take_frames}
 use Rattle.dmix_client.specs.View.{ring_sample}
-use Rattle.lab_run.specs.Rules.{AtPort, May, Rules, lets_pass, with_asks, with_stop, with_stop_by}
+use Rattle.lab_run.specs.Rules.{AtPort, May, Rules, with_asks}
+use Rattle.lab_run.proofs.RunGoesOn.{stop-seen}
 use Rattle.lab_headline.proofs.Onward.{Channels, channels-rise}
 
 -- ---- courses
@@ -94,14 +95,6 @@ From-keeps p s Q (lays e next) keeps = (
 From-keeps p s Q (gets frame next) keeps = absurd keeps
 
 -- ---- a course that is taken
-
--- no step but a load changes the position that was seen
-stop-seen : (a : AtPort) → (with_stop a).seen ≡ a.seen
-stop-seen a = by_test (lets_pass 1 a.left)
-  where
-    by_test : (test : Bool) → (with_stop_by test a).seen ≡ a.seen
-    by_test true = refl
-    by_test false = refl
 
 module _ (rules : Rules) (p : ℕ) (least : (q : ℕ) → Contains rules.published q → p ≤ q) where
   pub Takes-from : {X : Type 0} (Q : X → Type 0) (s : ℕ) (a b : AtPort) (course : Course X) (x : X) → From p (λ t y. Q y) s course → s ≤ a.seen

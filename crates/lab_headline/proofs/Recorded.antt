@@ -19,7 +19,8 @@ use Rattle.lab_run.specs.Rules.{AtPort}
 use Rattle.lab_run.specs.Stage.{Session, Setup}
 use Rattle.lab_run.specs.Stretches.{AreSlices, ReadersReadInSlices, ReadsInSlices}
 use Rattle.lab_headline.specs.Recordings.{AreRecordingsOf, IsRecordingOf, bindings_at, frames_in_runs, frames_of_runs, recording_of, ReadersAreBound}
-use Rattle.lab_headline.proofs.Sizes.{map-size, run-size}
+use Rattle.lab_run.proofs.OwnLines.{map-size}
+use Rattle.lab_headline.proofs.Sizes.{run-size}
 
 -- the frames of the runs of some frames are these frames
 joined-frames : (frame : ℕ) (runs : List (ℕ × ℕ)) → frames_of_runs (joined_runs frame runs) ≡ frame ∷ frames_of_runs runs

@@ -41,12 +41,7 @@ use Rattle.lab_headline.proofs.Sealed.{IsStart, Over, over-lines}
 use Rattle.snd_base.specs.declared.places.Segment.{Segment}
 use Rattle.lab_lines.specs.declared.report.Report.{Report}
 use Rattle.lab_run.specs.OwnRows.{segments_by}
-
--- ---- lists
-
-rows-append : {X : Type 0} (P : X → Type 0) (xs ys : List X) → AllByRecursion P xs → AllByRecursion P ys → AllByRecursion P (xs ++ ys)
-rows-append P [] ys one other = other
-rows-append P (x ∷ xs) ys one other = (one.0, rows-append P xs ys one.1 other)
+use Rattle.lab_headline.proofs.Lists.{each-append}
 
 -- one line more, and one item more
 LinesMay-more : {S : Type 0} (kind : Kind S) (rules : Rules) (x before between : AtPort × S) (early : List Op) (asked : Op) (answer : Answer) (rows : List Row)
@@ -221,7 +216,7 @@ module _ (session : Session) (body : List Item) (report : Report) (late : LateLi
       → EachMay (reader_kinds stage) rules ops number actors after rows → AllByRecursion P rows
   reader-rows stage rules ops number [] after rows (same, none) = rw none tt
   reader-rows stage rules ops number (x ∷ actors) after rows (own, others, own_rows, other_rows, may, rest, same, are) =
-      rw are (rows-append P own_rows other_rows (reader-lines rules (stage.phases + 1) number x own (ops number) own_rows may)
+      rw are (each-append P own_rows other_rows (reader-lines rules (stage.phases + 1) number x own (ops number) own_rows may)
       (reader-rows stage rules ops (number + 1) actors others other_rows rest))
 
   -- the row of a client's line
@@ -337,7 +332,7 @@ module _ (session : Session) (body : List Item) (report : Report) (late : LateLi
   client-rows lines stage phase number (x ∷ actors) after rows at lists (own, others, own_rows, other_rows, may, rest, same, are) =
       let here : number + 0 ≡ number = omega arith in
       let is : client_at session stage number ≡ x = ap (client_at session stage) (sym here) ∙ sym (at 0) in
-      rw are (rows-append P own_rows other_rows
+      rw are (each-append P own_rows other_rows
       (client-lines lines stage phase number x own [] (ops_by (is_client number) lines) [] own_rows
       (subst (λ k. ListsOf k own) here (subst (λ (xs : List (AtPort × Client)). ListsOf (number + 0) (slice_index_or xs 0 (no_client session.ring))) same (lists 0))) refl (sym is, refl) may)
       (client-rows lines stage phase (number + 1) actors others other_rows
@@ -349,7 +344,7 @@ module _ (session : Session) (body : List Item) (report : Report) (late : LateLi
   -- ---- rows of openings and closings
 
   one-more : (rows : List Row) (row : Row) → AllByRecursion P rows → P row → AllByRecursion P (rows ++ row ∷ [])
-  one-more rows row are is = rows-append P rows (row ∷ []) are (is, tt)
+  one-more rows row are is = each-append P rows (row ∷ []) are (is, tt)
 
   open-rows : (stage : Stage) (n : ℕ) (x : AtPort × Client) (own : Option PlaybackStream) → AllByRecursion P stage.rows → AllByRecursion P (open_client session stage n x own).rows
   open-rows stage n x (Some c) are = one-more stage.rows _ are (answered-other _ (λ frame channel is. absurd (cc)))
@@ -404,9 +399,9 @@ module _ (session : Session) (body : List Item) (report : Report) (late : LateLi
       let zero_more : (i : ℕ) → slice_index_or stage.clients i (no_client session.ring) ≡ client_at session stage (0 + i) =
       λ i. let same : i ≡ 0 + i = omega arith in ap (client_at session stage) same in
       let at_end : ListsAt (phase_end session stage lines (may.clients, may.client_rows) (may.readers, may.reader_rows)) = subst ListsAt may.is lists in
-      rw may.is (rows-append P (stage.rows ++ cards ++ may.client_rows) may.reader_rows
-      (rows-append P (stage.rows ++ cards) may.client_rows
-      (rows-append P stage.rows cards are (cards-P (stage.phases + 1) stage.position (ops_by is_of_card lines)))
+      rw may.is (each-append P (stage.rows ++ cards ++ may.client_rows) may.reader_rows
+      (each-append P (stage.rows ++ cards) may.client_rows
+      (each-append P stage.rows cards are (cards-P (stage.phases + 1) stage.position (ops_by is_of_card lines)))
       (client-rows lines stage phase 0 stage.clients may.clients may.client_rows zero_more
       (λ i list over. let same : i ≡ 0 + i = omega arith in subst (λ k. Lists k list) same (at_end i list (reaped-over session list i i may.clients over))) may.clients_may))
       (reader-rows stage (rules_of session stage lines) (λ n. ops_by (is_reader n) lines) 0 stage.readers may.readers may.reader_rows may.readers_may))

@@ -1,7 +1,7 @@
 -- A run keeps the number of its clients and of its readers.
 use Rattle.std.proofs.Common.{◌≡◌, ℕ, ◌+◌, refl, ◌∙◌, ap, List, [], ◌∷◌, length, Option, Some, None}
 use Rattle.std.proofs.lemmas.List.{length-set}
-use Rattle.std.specs.Prelude.{map, suc, slice_index_or, slice_set, Result, Ok, Err}
+use Rattle.std.specs.Prelude.{suc, slice_index_or, slice_set, Result, Ok, Err}
 use Rattle.snd_base.specs.declared.errors.PcmError.{PcmError}
 use Rattle.dmix_client.specs.declared.stream.PlaybackStream.{PlaybackStream}
 use Rattle.dsnoop_client.specs.declared.stream.CaptureStream as reading
@@ -19,10 +19,7 @@ use Rattle.lab_run.specs.Places.{Lobby, after_attach}
 use Rattle.lab_run.specs.Reader.{Reader}
 use Rattle.lab_run.specs.Rules.{AtPort, Rules}
 use Rattle.lab_run.specs.Stage.{Session, Setup, Stage, attached_client, claimed_client, client_at, close_client, close_reader, first_stage, no_client, no_reader, open_client, open_client_with, open_reader, open_reader_with, reader_at}
-
-pub map-size : {A B : Type 0} (f : A → B) (xs : List A) → length (map f xs) ≡ length xs
-map-size f [] = refl
-map-size f (x ∷ xs) = ap suc (map-size f xs)
+use Rattle.lab_run.proofs.OwnLines.{map-size}
 
 -- as many clients and readers as before
 pub record AreAsMany (stage after : Stage) : Type 0 where

@@ -35,10 +35,11 @@ use Rattle.lab_run.specs.Stage.{Session, Setup, Stage, attached_client, claimed_
 use Rattle.lab_headline.specs.Shares.{channels_of_client}
 use Rattle.lab_headline.proofs.Apart.{Shares, free-unowned, item-shares, reaped-at, set-client}
 use Rattle.lab_headline.proofs.Bound.{HasBindings}
-use Rattle.lab_headline.proofs.Going.{Ascends, Going, IsPlaced, ascends-more, each-both, each-going, each-map, each-more, onward-less, placed-past, placed-some, seg_end, still-client}
+use Rattle.lab_headline.proofs.Going.{Ascends, Going, IsPlaced, ascends-more, each-both, each-going, each-map, each-more, onward-less, placed-past, placed-some, seg_end, still-client, open-map}
 use Rattle.lab_headline.proofs.Onward.{Channels, Onward, end_of, free_frame, high_end}
 use Rattle.lab_headline.proofs.OnwardCalls.{reached}
 use Rattle.lab_headline.proofs.OnwardLines.{InOpen, ends-reached, waits-none}
+use Rattle.lab_headline.proofs.Lists.{each-append}
 
 -- ---- what a phase publishes isn't before it
 
@@ -54,17 +55,13 @@ filter-each P test (x ∷ xs) each = by_test (test x) (filter-each P test xs eac
     by_test true rest = (each.0, rest)
     by_test false rest = rest
 
-append-each : {X : Type 0} (P : X → Type 0) (xs ys : List X) → AllByRecursion P xs → AllByRecursion P ys → AllByRecursion P (xs ++ ys)
-append-each P [] ys one two = two
-append-each P (x ∷ xs) ys one two = (one.0, append-each P xs ys one.1 two)
-
 way-least : (period least from frames : ℕ) → least ≤ from → AllByRecursion (λ q. least ≤ q) (on_the_way period from frames)
-way-least period least from frames is = append-each (λ q. least ≤ q) (filter (λ q. q % period == 0) (range_with_len (from + 1) frames)) ((from + frames) ∷ [])
+way-least period least from frames is = each-append (λ q. least ≤ q) (filter (λ q. q % period == 0) (range_with_len (from + 1) frames)) ((from + frames) ∷ [])
     (filter-each (λ q. least ≤ q) (λ q. q % period == 0) (range_with_len (from + 1) frames) (range-least least (from + 1) frames (omega (arith, is)))) (omega (arith, is), tt)
 
 lines-least : (period least from : ℕ) (lines : List Line) → least ≤ from → AllByRecursion (λ q. least ≤ q) (published_by period from lines)
 lines-least period least from [] is = tt
-lines-least period least from (line ∷ lines) is = append-each (λ q. least ≤ q) (on_the_way period from (played_at line)) (published_by period (from + played_at line) lines)
+lines-least period least from (line ∷ lines) is = each-append (λ q. least ≤ q) (on_the_way period from (played_at line)) (published_by period (from + played_at line) lines)
     (way-least period least from (played_at line) is) (lines-least period least (from + played_at line) lines (omega (arith, is)))
 
 each-at : (P : ℕ → Type 0) (xs : List ℕ) (k d : ℕ) → k < length xs → AllByRecursion P xs → P (slice_index_or xs k d)
@@ -156,10 +153,6 @@ if-map : (F G : PlaybackStream → Type 0) (own : Option PlaybackStream) → ((c
 if-map F G None map is = tt
 if-map F G (Some c) map is = map c is
 
-in-map : (F G : PlaybackStream → Type 0) (own : Option PlaybackStream) → ((c : PlaybackStream) → F c → G c) → InOpen own F → InOpen own G
-in-map F G None map is = is
-in-map F G (Some c) map is = map c is
-
 -- an open client has its channels
 pub open-has : (bindings : List ℕ) (own : Option PlaybackStream) (c : PlaybackStream) (channel : ℕ) → own ≡ Some c → HasBindings bindings own → has_channel bindings channel ≡ true
     → has_channel (channels_of_client own) channel ≡ true
@@ -249,7 +242,7 @@ module _ (session : Session) (stage : Stage) (shares : Shares session stage) (so
       later-settled : (n : ℕ) (s : Segment) → Settled session claims n s ⊎ InOpen (at session clients n).1.own (λ c. Onward stage.position 0 (seg_end s) (at session clients n).0.marks c)
           → Settled session claims n s ⊎ InOpen (at session clients n).1.own (λ c. Onward position 0 (seg_end s) (at session clients n).0.marks c)
       later-settled n s (inl is) = inl is
-      later-settled n s (inr is) = inr (in-map _ _ (at session clients n).1.own (later-on n 0 (seg_end s)) is)
+      later-settled n s (inr is) = inr (open-map _ _ (at session clients n).1.own (later-on n 0 (seg_end s)) is)
 
 -- ---- claims
 

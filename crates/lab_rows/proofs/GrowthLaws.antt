@@ -1,7 +1,7 @@
 -- An item of a body leaves the rows and each reader's frames, with some more after them; an opening or a closing leaves the frames alone.
 use Rattle.std.proofs.Common.{◌≡◌, ℕ, ◌+◌, refl, sym, ◌∙◌, ap, subst, append_assoc, List, [], ◌∷◌, ◌++◌, map, zero, suc, Option, Some, None}
 use Rattle.std.proofs.lemmas.List.{append-nil}
-use Rattle.std.specs.Prelude.{Bool, true, false, drop, slice_index_or, slice_set, Result, Ok, Err}
+use Rattle.std.specs.Prelude.{drop, slice_index_or, slice_set, Result, Ok, Err}
 use Rattle.std.specs.List.{range_with_len}
 use Rattle.snd_base.specs.declared.errors.PcmError.{PcmError}
 use Rattle.snd_base.specs.declared.geometry.Geometry.{Geometry}
@@ -16,7 +16,7 @@ use Rattle.lab_lines.specs.declared.line.Op.{Op}
 use Rattle.lab_lines.specs.declared.row.Row.{Row}
 use Rattle.lab_run.specs.Claims.{claim_refusal}
 use Rattle.lab_run.specs.Client.{Client}
-use Rattle.lab_run.specs.Items.{ItemMay, PhaseMay, is_reader_stopped, reader_kinds, reaped_reader, reaped_reader_if, rules_of}
+use Rattle.lab_run.specs.Items.{ItemMay, PhaseMay, reader_kinds, reaped_reader, rules_of}
 use Rattle.lab_run.specs.Lines.{EachMay, LinesMay}
 use Rattle.lab_run.specs.Phases.{is_reader, ops_by}
 use Rattle.lab_run.specs.Places.{Lobby, after_attach}
@@ -24,6 +24,7 @@ use Rattle.lab_run.specs.Reader.{Reader, reader_kind}
 use Rattle.lab_run.specs.Rules.{AtPort, Rules}
 use Rattle.lab_run.specs.Stage.{Session, Setup, Stage, after_close, after_open, attached_client, claimed_client, client_at, close_client, close_reader, no_reader, open_client, open_client_with, open_reader, open_reader_with, reader_at}
 use Rattle.lab_run.proofs.RowsGrow.{HasMore, items-more}
+use Rattle.lab_run.proofs.SliceItems.{reaped-frames}
 use Rattle.lab_run.proofs.SliceLaws.{lines-get_slices}
 use Rattle.lab_rows.specs.Growth.{AreGrown, BordersKeepFrames, IsGrownReader, StagesGrow, frames_of_readers}
 
@@ -48,13 +49,6 @@ each-grow stage rules ops number (x ∷ before) after rows (y, others, own_rows,
     (lines-grow rules (stage.phases + 1) number x y (ops number) own_rows one, each-grow stage rules ops (number + 1) before others other_rows more)
 
 -- a reader that is reaped keeps its frames
-reaped-frames : (ring : Geometry) (x : AtPort × Reader) → (reaped_reader ring x).1.frames ≡ x.1.frames
-reaped-frames ring (a, reader) = by_stop (is_reader_stopped reader.own)
-  where
-    by_stop : (stopped : Bool) → (reaped_reader_if stopped ring (a, reader)).1.frames ≡ reader.frames
-    by_stop true = refl
-    by_stop false = refl
-
 reaped-grow : (ring : Geometry) (xs ys : List (AtPort × Reader)) → AreGrown xs ys → AreGrown xs (map (reaped_reader ring) ys)
 reaped-grow ring [] [] grown = tt
 reaped-grow ring (x ∷ xs) (y ∷ ys) ((more, is), others) = ((more, reaped-frames ring y ∙ is), reaped-grow ring xs ys others)

@@ -1,6 +1,6 @@
 -- What all results of a course have, by the last position that is known when it ends.
 use Rattle.std.proofs.Common.{◌≡◌, ℕ, ◌≤◌, refl, sym, ◌∙◌, ap, subst, arith, inl, inr, Some, None}
-use Rattle.std.specs.Prelude.{Bool, true, false, max, All}
+use Rattle.std.specs.Prelude.{max, All}
 use Rattle.std.proofs.lemmas.List.Elements.{All-contains}
 use Rattle.mix_core.specs.declared.port.Ended.{Ended}
 use Rattle.mix_core.specs.declared.port.Ended.TheVariants as ended
@@ -9,7 +9,8 @@ use Rattle.mix_core.specs.declared.port.Position.{Position}
 use Rattle.snoop_core.specs.declared.port.Got.{Got}
 use Rattle.snoop_core.specs.declared.port.Got.TheVariants as got
 use Rattle.course.specs.Course.{◌>>=◌, Course, ends, gets, lays, loads}
-use Rattle.lab_run.specs.Rules.{AtPort, May, MayGet, MayLay, Rules, lets_pass, with_asks, with_stop, with_stop_by}
+use Rattle.lab_run.specs.Rules.{AtPort, May, MayGet, MayLay, Rules, with_asks}
+use Rattle.lab_run.proofs.RunGoesOn.{stop-seen}
 
 -- a load gives a position that isn't below the one that is known, and that one is known from then on
 abbrev pub AllKnown : {X : Type 0} → (ℕ → X → Type 0) → ℕ → Course X → Type 0
@@ -30,13 +31,6 @@ AllKnown-then R Q known (gets frame next) f all each = λ how. AllKnown-then R Q
 -- what is known at a port in a phase: the position at which the phase begins, and the one that was seen last
 abbrev pub known_at : ℕ → AtPort → ℕ
 known_at begin a = max begin a.seen
-
-stop-seen : (a : AtPort) → (with_stop a).seen ≡ a.seen
-stop-seen a = by_pass (lets_pass 1 a.left)
-  where
-    by_pass : (passes : Bool) → (with_stop_by passes a).seen ≡ a.seen
-    by_pass true = refl
-    by_pass false = refl
 
 lay-seen : (rules : Rules) (a b : AtPort) (e : Entry) (how : Ended) → MayLay rules a e how b → b.seen ≡ a.seen
 lay-seen rules a b e ended.Whole (after, passes, is) = rw is refl

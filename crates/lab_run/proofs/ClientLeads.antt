@@ -118,7 +118,7 @@ pub pause-first : (on : Bool) (c : PlaybackStream) (ring : List ℤ) (cursor : C
 pause-first on c ring cursor = Led-if Anything false on (ends _) _ tt
     (Led-if Anything false (nat_eq (pending_of c) 0) (ends _) (resumes c cursor ring) tt (first-of OkLed false _ (resumes-led c cursor ring false)))
 
-numbered-first : (number : PlaybackStream → ℕ) (course : Course (Answered (Unit {0}))) → LoadsFirst false course → LoadsFirst false (course_with_number number course)
+pub numbered-first : (number : PlaybackStream → ℕ) (course : Course (Answered (Unit {0}))) → LoadsFirst false course → LoadsFirst false (course_with_number number course)
 unfolding course_with_number
 numbered-first number course led = first-then false course (λ done. ends (with_number number done)) led (λ l x. tt)
 

@@ -147,18 +147,18 @@ four-rows is_theirs a b c d =
 abbrev pub members_of : {Y : Type 0} → ℕ → List (ℕ × Y) → List Y
 members_of {Y = Y} number pairs = map (λ (pair : ℕ × Y). pair.1) (filter (λ (pair : ℕ × Y). nat_eq pair.0 number) pairs)
 
-members-append : {Y : Type 0} (n : ℕ) (xs ys : List (ℕ × Y)) → members_of n (xs ++ ys) ≡ members_of n xs ++ members_of n ys
+pub members-append : {Y : Type 0} (n : ℕ) (xs ys : List (ℕ × Y)) → members_of n (xs ++ ys) ≡ members_of n xs ++ members_of n ys
 members-append n xs ys = ap (map (λ pair. pair.1)) (filter-append _ xs ys) ∙ map-append (λ pair. pair.1) (filter _ xs) (filter _ ys)
 
 members-own : {Y : Type 0} (n m : ℕ) (ys : List Y) → nat_eq m n ≡ true → members_of n (map (λ y. (m, y)) ys) ≡ ys
 members-own n m [] is = refl
 members-own n m (y ∷ ys) is = rw is (ap (λ zs. y ∷ zs) (members-own n m ys is))
 
-members-other : {Y : Type 0} (n m : ℕ) (ys : List Y) → nat_eq m n ≡ false → members_of n (map (λ y. (m, y)) ys) ≡ []
+pub members-other : {Y : Type 0} (n m : ℕ) (ys : List Y) → nat_eq m n ≡ false → members_of n (map (λ y. (m, y)) ys) ≡ []
 members-other n m [] is = refl
 members-other n m (y ∷ ys) is = rw is (members-other n m ys is)
 
-numbered-past : {X Y : Type 0} (of : X → List Y) (n number : ℕ) (xs : List X) → n < number → members_of n (with_numbers of number xs) ≡ []
+pub numbered-past : {X Y : Type 0} (of : X → List Y) (n number : ℕ) (xs : List X) → n < number → members_of n (with_numbers of number xs) ≡ []
 numbered-past of n number [] low = refl
 numbered-past of n number (x ∷ xs) low =
     members-append n (map (λ y. (number, y)) (of x)) (with_numbers of (number + 1) xs)

@@ -9,11 +9,12 @@ use Rattle.pcm_states.specs.declared.calls.Call.TheVariants as call
 use Rattle.course.specs.Course.{Course, ends}
 use Rattle.dmix_client.specs.declared.commit.Commit.{Commit}
 use Rattle.dmix_client.specs.declared.stream.PlaybackStream.{PlaybackStream}
-use Rattle.dmix_client.specs.Calls.{Answered, is_running, after_sync, with_number}
+use Rattle.dmix_client.specs.Calls.{Answered, is_running, after_sync}
 use Rattle.dmix_client.specs.Course.{nothing, course_with_number}
 use Rattle.dmix_client.specs.Rewind.{back_of, back_on, checks, rewind_course, rewind_on, rewindable_course, rewindable_of, rewinds, after_rewind, take_each, take_frames, take_on, takes_back}
 use Rattle.dmix_client.specs.View.{ring_sample}
-use Rattle.lab_run.proofs.Leads.{Anything, IsLed, Led, Led-if, Led-then, LoadsFirst, OkLed, first-of, first-then, is_loaded, on-ok}
+use Rattle.lab_run.proofs.ClientLeads.{numbered-first}
+use Rattle.lab_run.proofs.Leads.{Anything, IsLed, Led, Led-if, Led-then, LoadsFirst, OkLed, first-of, is_loaded, on-ok}
 
 checks-led : (c : PlaybackStream) (loaded : Bool) → Led OkLed loaded (checks c)
 unfolding checks
@@ -22,10 +23,6 @@ checks-led c loaded = by_load
     by_load : (load : Option Position) → OkLed (is_loaded loaded load) (after_sync c call.Transfer load nothing)
     by_load None = tt
     by_load (Some position) = on-ok true (after_sync c call.Transfer (Some position) nothing).1 refl
-
-numbered-first : (number : PlaybackStream → ℕ) (course : Course (Answered (Unit {0}))) → LoadsFirst false course → LoadsFirst false (course_with_number number course)
-unfolding course_with_number
-numbered-first number course led = first-then false course (λ done. ends (with_number number done)) led (λ l x. tt)
 
 pub rewindable-first : (c : PlaybackStream) (floor : Cursor) → LoadsFirst false (rewindable_course c floor)
 rewindable-first c floor = Led-if Anything false (is_running c.status.state) (course_with_number (rewindable_of floor) (checks c)) (ends _)

@@ -30,7 +30,8 @@ use Rattle.lab_run.proofs.RunExists.{IsBehind, Within, behind-more, close-behind
 abbrev IsBounded : Rules → Type 0
 IsBounded rules = (q : ℕ) → Contains rules.published q → q ≤ rules.at.position
 
-stop-seen : (a : AtPort) → (with_stop a).seen ≡ a.seen
+-- no stop changes the position that was seen
+pub stop-seen : (a : AtPort) → (with_stop a).seen ≡ a.seen
 stop-seen a = by_test (lets_pass 1 a.left)
   where
     by_test : (one : Bool) → (with_stop_by one a).seen ≡ a.seen

@@ -25,11 +25,11 @@ use Rattle.lab_run.specs.Phases.{card_rows, is_client, is_reader, ops_by}
 use Rattle.lab_run.specs.Reader.{Reader}
 use Rattle.lab_run.specs.Rules.{AtPort, Rules}
 use Rattle.lab_run.specs.Stage.{Session, Setup, Stage, after_close, after_open, client_at, close_reader, first_stage, no_reader, open_reader, open_reader_with, reader_at}
-use Rattle.lab_run.specs.Stretches.{AreSlices, IsFirstOf, ReadsInSlices, ReadersReadInSlices, ends_by_row, goes_on_after, got_by}
+use Rattle.lab_run.specs.Stretches.{AreSlices, ReadsInSlices, ReadersReadInSlices, ends_by_row, goes_on_after, got_by}
 use Rattle.lab_run.proofs.OwnItems.{view_of}
 use Rattle.lab_run.proofs.OwnLines.{AreNumbered, cards-other, constant-at, four-rows, map-at, map-size, numbered-at, own-row}
 use Rattle.lab_run.proofs.OwnReaders.{client_row-other, close_client-other, close_client-size, close_reader-other, close_reader-size, is-own, open_client-other, open_client-size, open_reader-other, open_reader-size, reader_view, reader_with, row-numbered, runs-members}
-use Rattle.lab_run.proofs.SliceLines.{AreSlices-append, IsGoing, LinesGet, lines-get}
+use Rattle.lab_run.proofs.SliceLines.{AreSlices-append, first-of, IsGoing, lines-get, LinesGet}
 
 -- ---- the rows of one actor in a phase
 
@@ -121,10 +121,6 @@ read-by view rows x at rows_are is slices goes = record {
   goes = subst (λ (y : AtPort × Reader). IsGoing at y.1.own) (sym is) goes;
 }
 
-first-of : (at : Option ℕ) → (first : ℕ) × IsFirstOf at first
-first-of None = (0, tt)
-first-of (Some next) = (next, refl)
-
 -- a row that got nothing
 with-row : (rows : List Row) (frames : List ℕ) (at after : Option ℕ) (row : Row) → got_by row.op row.answer ≡ 0 → after ≡ goes_on_after (ends_by_row row.op row.answer) at (first-of at).0 0
     → AreSlices None rows frames at → AreSlices None (rows ++ row ∷ []) frames after
@@ -183,7 +179,7 @@ reaped-goes ring (Some next) (a, reader) goes = by_own reader.own refl goes
         by_stopped true stops = absurd (both stops goes.1.0)
         by_stopped false stops = subst (λ o. IsGoing (Some next) o) (sym is) goes
 
-reaped-frames : (ring : Geometry) (x : AtPort × Reader) → (reaped_reader ring x).1.frames ≡ x.1.frames
+pub reaped-frames : (ring : Geometry) (x : AtPort × Reader) → (reaped_reader ring x).1.frames ≡ x.1.frames
 reaped-frames ring (a, reader) = by_test (is_reader_stopped reader.own)
   where
     by_test : (b : Bool) → (reaped_reader_if b ring (a, reader)).1.frames ≡ reader.frames

@@ -349,6 +349,11 @@ record LineGets (at : Option ℕ) (reader after : Reader) (asked : Op) (answer :
   frames : after.frames ≡ reader.frames ++ range_with_len first (got_by asked answer)
   goes : IsGoing (goes_on_after (ends_by_row asked answer) at first (got_by asked answer)) after.own
 
+-- a slice of no frames, where a stretch goes on from there
+pub first-of : (at : Option ℕ) → (first : ℕ) × IsFirstOf at first
+first-of None = (0, tt)
+first-of (Some next) = (next, refl)
+
 -- a line that leaves its reader as it is
 unchanged : (at : Option ℕ) (reader : Reader) (asked : Op) (answer : Answer) → got_by asked answer ≡ 0 → IsGoing at reader.own → LineGets at reader reader asked answer
 unchanged at reader asked answer none goes = record {
@@ -359,10 +364,6 @@ unchanged at reader asked answer none goes = record {
       (same (ends_by_row asked answer) at (first-of at).0 goes);
 }
   where
-    first-of : (at : Option ℕ) → (first : ℕ) × IsFirstOf at first
-    first-of None = (0, tt)
-    first-of (Some next) = (next, refl)
-
     same : (b : Bool) (at : Option ℕ) (first : ℕ) → IsGoing at reader.own → IsGoing (goes_on_after b at first 0) reader.own
     same true at first goes = tt
     same false at first goes = goes
