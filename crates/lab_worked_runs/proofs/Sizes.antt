@@ -12,7 +12,7 @@ use Rattle.lab_lines.specs.declared.line.Op.TheVariants as op
 use Rattle.lab_lines.specs.declared.script.Share.TheVariants as share
 use Rattle.lab_run.specs.LabRun.{lab_text}
 use Rattle.lab_run.specs.Stage.{Session}
-use Rattle.lab_run.proofs.Sessions.{card, line, setup, some}
+use Rattle.lab_worked_runs.proofs.Sessions.{card, line, setup, some}
 use Rattle.lab_worked_runs.proofs.Printouts.{a_file, mono, printout_of, report_of, silence, text_of}
 
 -- 64 clients, each with 64 frames of the least sample

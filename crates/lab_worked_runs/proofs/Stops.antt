@@ -14,7 +14,7 @@ use Rattle.lab_lines.specs.declared.row.Answer.TheVariants.{Count, Done, Failed}
 use Rattle.lab_lines.specs.declared.row.Row.{Row}
 use Rattle.lab_run.specs.LabRun.{lab_text}
 use Rattle.lab_run.specs.Stage.{Session}
-use Rattle.lab_run.proofs.Sessions.{a, b, card, line, row, silence, setup, some, stereo, the_card}
+use Rattle.lab_worked_runs.proofs.Sessions.{a, b, card, line, report_in, row, silence, setup, some, stereo, the_card}
 use Rattle.lab_worked_runs.proofs.Printouts.{printout_of}
 
 -- two stereo clients with 64 frames
@@ -69,3 +69,32 @@ dies_after_report : map (λ steps. (lab_text two None (dies_after steps)).report
     ≡ map dies_report (range_with_len 0 258)
 unfolding printout_of two dies_after dies_report write_row own_segment words_placed a b card line row silence setup some stereo the_card
 dies_after_report = refl
+
+-- after a stop no line of the phase does anything, and the actor is not open from the next phase on
+after_a_stop : List Item
+after_a_stop =
+    item.Opens 0 a
+    ∷ item.Phase (line a (op.Die 3) ∷ line a (op.Write 64) ∷ line a (op.Die 5) ∷ line a op.Pause ∷ line a op.Sync ∷ [])
+    ∷ item.Phase (line a op.Pause ∷ line a (op.Die 2) ∷ line a (op.Write 1) ∷ [])
+    ∷ item.Opens 0 a
+    ∷ item.Phase (line a (op.Write 1) ∷ []) ∷ []
+
+after_a_stop_report : report_in two after_a_stop ≡ record {
+  rows = row 0 a op.Opens Done state.Prepared None
+      ∷ row 1 a (op.Die 3) Done state.Prepared None
+      ∷ row 1 a (op.Write 64) (Failed error.Stopped) state.Running (Some 0)
+      ∷ row 1 a (op.Die 5) (Failed error.Stopped) state.Running (Some 0)
+      ∷ row 1 a op.Pause (Failed error.Stopped) state.Running (Some 0)
+      ∷ row 1 a op.Sync (Failed error.Stopped) state.Running (Some 0)
+      ∷ row 2 a op.Pause (Failed error.BadState) state.Open None
+      ∷ row 2 a (op.Die 2) (Failed error.BadState) state.Open None
+      ∷ row 2 a (op.Write 1) (Failed error.BadState) state.Open None
+      ∷ row 2 a op.Opens Done state.Prepared None
+      ∷ row 3 a (op.Write 1) (Count 1) state.Running (Some 0) ∷ [];
+  segments = (0, record { source = 0; card = 64; whole = 0; part = 1 }) ∷ (0, record { source = 0; card = 64; whole = 1; part = 0 }) ∷ [];
+  runs = [];
+  first = 0;
+  frames = 0;
+}
+unfolding report_in after_a_stop two
+after_a_stop_report = refl

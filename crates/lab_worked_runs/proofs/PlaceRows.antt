@@ -2,21 +2,14 @@
 use Rattle.std.proofs.Common.{◌≡◌, refl, Some, None}
 use Rattle.std.specs.Prelude.{List, [], ◌∷◌}
 use Rattle.snd_base.specs.declared.errors.PcmError.TheVariants as error
-use Rattle.bindings.specs.Bound
 use Rattle.pcm_states.specs.declared.states.State.TheVariants as state
-use Rattle.course.specs.Course.{◌>>=◌}
-use Rattle.dmix_client.specs.Course as client_calls
-use Rattle.dsnoop_client.specs.Course as reader_calls
 use Rattle.lab_lines.specs.declared.line.Item.{Item}
 use Rattle.lab_lines.specs.declared.line.Item.TheVariants as item
 use Rattle.lab_lines.specs.declared.line.Op.TheVariants as op
 use Rattle.lab_lines.specs.declared.script.Share.TheVariants as share
 use Rattle.lab_lines.specs.declared.row.Answer.TheVariants.{Count, Done, Failed}
-use Rattle.lab_run.specs.CourseText.{course_text}
-use Rattle.lab_run.specs.LabRun.{lab_text}
-use Rattle.dmix_client.specs.Rewind as rewinding
 use Rattle.lab_run.specs.Stage.{Session}
-use Rattle.lab_run.proofs.Sessions.{a, b, c, card, mono, row, r, setup, silence, some, stereo, the_card, line}
+use Rattle.lab_worked_runs.proofs.Sessions.{a, b, c, card, line, mono, report_in, row, silence, some, stereo, the_card}
 
 -- two clients and one place
 one_place : Session
@@ -58,7 +51,7 @@ silent =
     ∷ item.Phase (line the_card (op.Play 128) ∷ [])
     ∷ item.Opens 0 b ∷ []
 
-silent_report : (lab_text one_place None silent).report ≡ record {
+silent_report : report_in one_place silent ≡ record {
   rows = row 0 a op.Opens Done state.Prepared None
       ∷ row 1 a (op.Write 64) (Count 64) state.Running (Some 0)
       ∷ row 1 a op.Closes Done state.Open (Some 0)
@@ -70,7 +63,7 @@ silent_report : (lab_text one_place None silent).report ≡ record {
   first = 0;
   frames = 128;
 }
-unfolding silent one_place course_text ◌>>=◌ Bound.rising client_calls.lay_each client_calls.lay_frames client_calls.looks client_calls.syncs client_calls.starts client_calls.drains client_calls.course_with_number client_calls.takes_more client_calls.writes_on client_calls.starts_taking client_calls.resumes reader_calls.gets_frames reader_calls.starts reader_calls.syncs reader_calls.transfers reader_calls.reads_on reader_calls.reads_first reader_calls.counts rewinding.take_each rewinding.take_frames rewinding.checks rewinding.takes_back rewinding.rewinds a b c r card mono stereo row setup silence some the_card line
+unfolding report_in silent one_place
 silent_report = refl
 
 -- so is that of a client that was reaped
@@ -84,7 +77,7 @@ reaped =
     ∷ item.Phase (line the_card (op.Play 128) ∷ [])
     ∷ item.Opens 0 c ∷ []
 
-reaped_report : (lab_text two_places None reaped).report ≡ record {
+reaped_report : report_in two_places reaped ≡ record {
   rows = row 0 a op.Opens Done state.Prepared None
       ∷ row 0 b op.Opens Done state.Prepared None
       ∷ row 1 a (op.Die 3) Done state.Prepared None
@@ -98,7 +91,7 @@ reaped_report : (lab_text two_places None reaped).report ≡ record {
   first = 0;
   frames = 128;
 }
-unfolding reaped two_places course_text ◌>>=◌ Bound.rising client_calls.lay_each client_calls.lay_frames client_calls.looks client_calls.syncs client_calls.starts client_calls.drains client_calls.course_with_number client_calls.takes_more client_calls.writes_on client_calls.starts_taking client_calls.resumes reader_calls.gets_frames reader_calls.starts reader_calls.syncs reader_calls.transfers reader_calls.reads_on reader_calls.reads_first reader_calls.counts rewinding.take_each rewinding.take_frames rewinding.checks rewinding.takes_back rewinding.rewinds a b c r card mono stereo row setup silence some the_card line
+unfolding report_in reaped two_places
 reaped_report = refl
 
 -- no place is free
@@ -109,7 +102,7 @@ full =
     ∷ item.Opens 0 b
     ∷ item.Opens 0 a ∷ []
 
-full_report : (lab_text one_place None full).report ≡ record {
+full_report : report_in one_place full ≡ record {
   rows = row 0 a op.Opens Done state.Prepared None
       ∷ row 1 the_card (op.Play 64) (Count 64) state.Running (Some 64)
       ∷ row 1 b op.Opens (Failed (error.Busy None 0)) state.Open None
@@ -119,7 +112,7 @@ full_report : (lab_text one_place None full).report ≡ record {
   first = 0;
   frames = 64;
 }
-unfolding full one_place course_text ◌>>=◌ Bound.rising client_calls.lay_each client_calls.lay_frames client_calls.looks client_calls.syncs client_calls.starts client_calls.drains client_calls.course_with_number client_calls.takes_more client_calls.writes_on client_calls.starts_taking client_calls.resumes reader_calls.gets_frames reader_calls.starts reader_calls.syncs reader_calls.transfers reader_calls.reads_on reader_calls.reads_first reader_calls.counts rewinding.take_each rewinding.take_frames rewinding.checks rewinding.takes_back rewinding.rewinds a b c r card mono stereo row setup silence some the_card line
+unfolding report_in full one_place
 full_report = refl
 
 -- a channel has one owner
@@ -129,7 +122,7 @@ owned =
     ∷ item.Opens 0 b
     ∷ item.Opens 0 c ∷ []
 
-owned_report : (lab_text owners None owned).report ≡ record {
+owned_report : report_in owners owned ≡ record {
   rows = row 0 a op.Opens Done state.Prepared None
       ∷ row 0 b op.Opens Done state.Prepared None
       ∷ row 0 c op.Opens (Failed (error.Busy None 0)) state.Open None ∷ [];
@@ -138,7 +131,7 @@ owned_report : (lab_text owners None owned).report ≡ record {
   first = 0;
   frames = 0;
 }
-unfolding owned owners course_text ◌>>=◌ Bound.rising client_calls.lay_each client_calls.lay_frames client_calls.looks client_calls.syncs client_calls.starts client_calls.drains client_calls.course_with_number client_calls.takes_more client_calls.writes_on client_calls.starts_taking client_calls.resumes reader_calls.gets_frames reader_calls.starts reader_calls.syncs reader_calls.transfers reader_calls.reads_on reader_calls.reads_first reader_calls.counts rewinding.take_each rewinding.take_frames rewinding.checks rewinding.takes_back rewinding.rewinds a b c r card mono stereo row setup silence some the_card line
+unfolding report_in owned owners
 owned_report = refl
 
 -- a released channel can be claimed once it is silent
@@ -152,7 +145,7 @@ released =
     ∷ item.Phase (line the_card (op.Play 128) ∷ [])
     ∷ item.Opens 0 c ∷ []
 
-released_report : (lab_text owners None released).report ≡ record {
+released_report : report_in owners released ≡ record {
   rows = row 0 a op.Opens Done state.Prepared None
       ∷ row 0 b op.Opens Done state.Prepared None
       ∷ row 1 a (op.Write 64) (Count 64) state.Running (Some 0)
@@ -165,5 +158,5 @@ released_report : (lab_text owners None released).report ≡ record {
   first = 0;
   frames = 128;
 }
-unfolding released owners course_text ◌>>=◌ Bound.rising client_calls.lay_each client_calls.lay_frames client_calls.looks client_calls.syncs client_calls.starts client_calls.drains client_calls.course_with_number client_calls.takes_more client_calls.writes_on client_calls.starts_taking client_calls.resumes reader_calls.gets_frames reader_calls.starts reader_calls.syncs reader_calls.transfers reader_calls.reads_on reader_calls.reads_first reader_calls.counts rewinding.take_each rewinding.take_frames rewinding.checks rewinding.takes_back rewinding.rewinds a b c r card mono stereo row setup silence some the_card line
+unfolding report_in released owners
 released_report = refl

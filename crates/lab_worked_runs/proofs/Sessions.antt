@@ -1,18 +1,28 @@
--- Sessions for worked examples: a card of 256 frames with a period of 64, and files of silence.
+-- Sessions for worked examples: a card of 256 frames with a period of 64, and files of silence; and the report of their runs.
 use Rattle.std.proofs.Common.{ℕ, ◌*◌, arith, Option, Some, None}
 use Rattle.std.specs.Prelude.{List, [], ◌∷◌, replicate, pos}
 use Rattle.snd_base.specs.declared.geometry.Geometry.{Geometry}
+use Rattle.bindings.specs.Bound
 use Rattle.pcm_states.specs.declared.states.State.{State}
+use Rattle.course.specs.Course.{◌>>=◌}
+use Rattle.dmix_client.specs.Course as client_calls
+use Rattle.dmix_client.specs.Rewind as rewinding
+use Rattle.dsnoop_client.specs.Course as reader_calls
 use Rattle.wav_io.specs.Sound.{Sound}
 use Rattle.lab_lines.specs.declared.line.Actor.{Actor}
 use Rattle.lab_lines.specs.declared.line.Actor.TheVariants.{Card, Client, Reader}
+use Rattle.lab_lines.specs.declared.line.Item.{Item}
 use Rattle.lab_lines.specs.declared.line.Line.{Line}
 use Rattle.lab_lines.specs.declared.line.Op.{Op}
 use Rattle.lab_lines.specs.declared.script.CardLine.{CardLine}
+use Rattle.lab_lines.specs.declared.report.Report.{Report}
 use Rattle.lab_lines.specs.declared.script.Share.{Share}
+use Rattle.lab_lines.specs.declared.script.Share.TheVariants as share
 use Rattle.lab_lines.specs.declared.row.Answer.{Answer}
 use Rattle.lab_lines.specs.declared.row.Row.{Row}
-use Rattle.lab_run.specs.Stage.{Setup}
+use Rattle.lab_run.specs.CourseText.{course_text}
+use Rattle.lab_run.specs.LabRun.{lab_text}
+use Rattle.lab_run.specs.Stage.{Session, Setup}
 
 unfoldable pub mono : Geometry
 mono = record {
@@ -84,3 +94,28 @@ line actor asked = record { number = 0; actor = actor; op = asked }
 unfoldable pub row : ℕ → Actor → Op → Answer → State → Option ℕ → Row
 row phase actor asked answer after seen =
     record { phase = phase; actor = actor; op = asked; answer = answer; state = after; seen = seen }
+
+-- one client with 64 frames
+unfoldable pub one : Session
+one = record {
+  card = card 1 64 share.Dmix;
+  ring = mono;
+  sounds = silence 1 64 ∷ [];
+  clients = some (0 ∷ []) ∷ [];
+  readers = [];
+}
+
+-- one client with 512 frames
+unfoldable pub long : Session
+long = record {
+  card = card 1 64 share.Dmix;
+  ring = mono;
+  sounds = silence 1 512 ∷ [];
+  clients = some (0 ∷ []) ∷ [];
+  readers = [];
+}
+
+-- the report of a session's items, by all that computes it
+unfoldable pub report_in : Session → List Item → Report
+unfolding course_text ◌>>=◌ Bound.rising client_calls.lay_each client_calls.lay_frames client_calls.looks client_calls.syncs client_calls.starts client_calls.drains client_calls.course_with_number client_calls.takes_more client_calls.writes_on client_calls.starts_taking client_calls.resumes reader_calls.gets_frames reader_calls.starts reader_calls.syncs reader_calls.transfers reader_calls.reads_on reader_calls.reads_first reader_calls.counts rewinding.take_each rewinding.take_frames rewinding.checks rewinding.takes_back rewinding.rewinds a b c r card mono stereo row setup silence some the_card line
+report_in session items = (lab_text session None items).report

@@ -3,41 +3,14 @@ use Rattle.std.proofs.Common.{◌≡◌, refl, Some, None}
 use Rattle.std.specs.Prelude.{List, [], ◌∷◌}
 use Rattle.snd_base.specs.declared.errors.PcmError.TheVariants as error
 use Rattle.snd_base.specs.declared.errors.XrunWhy.TheVariants as why
-use Rattle.bindings.specs.Bound
 use Rattle.pcm_states.specs.declared.states.State.TheVariants as state
-use Rattle.course.specs.Course.{◌>>=◌}
-use Rattle.dmix_client.specs.Course as client_calls
-use Rattle.dsnoop_client.specs.Course as reader_calls
 use Rattle.lab_lines.specs.declared.line.Item.{Item}
 use Rattle.lab_lines.specs.declared.line.Item.TheVariants as item
 use Rattle.lab_lines.specs.declared.line.Op.TheVariants as op
 use Rattle.lab_lines.specs.declared.script.Share.TheVariants as share
 use Rattle.lab_lines.specs.declared.row.Answer.TheVariants.{Count, Done, Failed}
-use Rattle.lab_run.specs.CourseText.{course_text}
-use Rattle.lab_run.specs.LabRun.{lab_text}
-use Rattle.dmix_client.specs.Rewind as rewinding
 use Rattle.lab_run.specs.Stage.{Session}
-use Rattle.lab_run.proofs.Sessions.{a, b, c, card, mono, row, r, setup, silence, some, stereo, the_card, line}
-
--- one client with 64 frames
-one : Session
-one = record {
-  card = card 1 64 share.Dmix;
-  ring = mono;
-  sounds = silence 1 64 ∷ [];
-  clients = some (0 ∷ []) ∷ [];
-  readers = [];
-}
-
--- one client with 512 frames
-long : Session
-long = record {
-  card = card 1 64 share.Dmix;
-  ring = mono;
-  sounds = silence 1 512 ∷ [];
-  clients = some (0 ∷ []) ∷ [];
-  readers = [];
-}
+use Rattle.lab_worked_runs.proofs.Sessions.{a, card, line, long, mono, one, report_in, row, setup, silence, the_card}
 
 -- one client with 128 frames that no number of available frames stops
 endless : Session
@@ -56,7 +29,7 @@ plays =
     ∷ item.Phase (line a (op.Write 64) ∷ [])
     ∷ item.Phase (line the_card (op.Play 256) ∷ []) ∷ []
 
-plays_report : (lab_text one None plays).report ≡ record {
+plays_report : report_in one plays ≡ record {
   rows = row 0 a op.Opens Done state.Prepared None
       ∷ row 1 a (op.Write 64) (Count 64) state.Running (Some 0)
       ∷ row 2 the_card (op.Play 256) (Count 256) state.Running (Some 256) ∷ [];
@@ -65,7 +38,7 @@ plays_report : (lab_text one None plays).report ≡ record {
   first = 0;
   frames = 256;
 }
-unfolding plays one course_text ◌>>=◌ Bound.rising client_calls.lay_each client_calls.lay_frames client_calls.looks client_calls.syncs client_calls.starts client_calls.drains client_calls.course_with_number client_calls.takes_more client_calls.writes_on client_calls.starts_taking client_calls.resumes reader_calls.gets_frames reader_calls.starts reader_calls.syncs reader_calls.transfers reader_calls.reads_on reader_calls.reads_first reader_calls.counts rewinding.take_each rewinding.take_frames rewinding.checks rewinding.takes_back rewinding.rewinds a b c r card mono stereo row setup silence some the_card line
+unfolding report_in plays one
 plays_report = refl
 
 -- a client has nothing more to play
@@ -76,7 +49,7 @@ runs_dry =
     ∷ item.Phase (line the_card (op.Play 128) ∷ [])
     ∷ item.Phase (line a op.Sync ∷ line a (op.Write 1) ∷ line a op.Prepare ∷ []) ∷ []
 
-runs_dry_report : (lab_text one None runs_dry).report ≡ record {
+runs_dry_report : report_in one runs_dry ≡ record {
   rows = row 0 a op.Opens Done state.Prepared None
       ∷ row 1 a (op.Write 64) (Count 64) state.Running (Some 0)
       ∷ row 2 the_card (op.Play 128) (Count 128) state.Running (Some 128)
@@ -88,7 +61,7 @@ runs_dry_report : (lab_text one None runs_dry).report ≡ record {
   first = 0;
   frames = 128;
 }
-unfolding runs_dry one course_text ◌>>=◌ Bound.rising client_calls.lay_each client_calls.lay_frames client_calls.looks client_calls.syncs client_calls.starts client_calls.drains client_calls.course_with_number client_calls.takes_more client_calls.writes_on client_calls.starts_taking client_calls.resumes reader_calls.gets_frames reader_calls.starts reader_calls.syncs reader_calls.transfers reader_calls.reads_on reader_calls.reads_first reader_calls.counts rewinding.take_each rewinding.take_frames rewinding.checks rewinding.takes_back rewinding.rewinds a b c r card mono stereo row setup silence some the_card line
+unfolding report_in runs_dry one
 runs_dry_report = refl
 
 -- a client starts again after what it placed
@@ -100,7 +73,7 @@ restarts =
     ∷ item.Phase (line a op.Sync ∷ [])
     ∷ item.Phase (line the_card (op.Play 256) ∷ []) ∷ []
 
-restarts_report : (lab_text long None restarts).report ≡ record {
+restarts_report : report_in long restarts ≡ record {
   rows = row 0 a op.Opens Done state.Prepared None
       ∷ row 1 a (op.Write 256) (Count 256) state.Running (Some 0)
       ∷ row 1 a op.Drop Done state.Setup (Some 0)
@@ -114,7 +87,7 @@ restarts_report : (lab_text long None restarts).report ≡ record {
   first = 0;
   frames = 512;
 }
-unfolding restarts long course_text ◌>>=◌ Bound.rising client_calls.lay_each client_calls.lay_frames client_calls.looks client_calls.syncs client_calls.starts client_calls.drains client_calls.course_with_number client_calls.takes_more client_calls.writes_on client_calls.starts_taking client_calls.resumes reader_calls.gets_frames reader_calls.starts reader_calls.syncs reader_calls.transfers reader_calls.reads_on reader_calls.reads_first reader_calls.counts rewinding.take_each rewinding.take_frames rewinding.checks rewinding.takes_back rewinding.rewinds a b c r card mono stereo row setup silence some the_card line
+unfolding report_in restarts long
 restarts_report = refl
 
 -- a commit comes too late
@@ -125,7 +98,7 @@ late =
     ∷ item.Phase (line the_card (op.Play 192) ∷ [])
     ∷ item.Phase (line a (op.Write 64) ∷ line a op.Prepare ∷ line a (op.Write 64) ∷ line a op.Avail ∷ line a op.Delay ∷ []) ∷ []
 
-late_report : (lab_text endless None late).report ≡ record {
+late_report : report_in endless late ≡ record {
   rows = row 0 a op.Opens Done state.Prepared None
       ∷ row 1 a (op.Write 64) (Count 64) state.Running (Some 0)
       ∷ row 2 the_card (op.Play 192) (Count 192) state.Running (Some 192)
@@ -139,7 +112,7 @@ late_report : (lab_text endless None late).report ≡ record {
   first = 0;
   frames = 192;
 }
-unfolding late endless course_text ◌>>=◌ Bound.rising client_calls.lay_each client_calls.lay_frames client_calls.looks client_calls.syncs client_calls.starts client_calls.drains client_calls.course_with_number client_calls.takes_more client_calls.writes_on client_calls.starts_taking client_calls.resumes reader_calls.gets_frames reader_calls.starts reader_calls.syncs reader_calls.transfers reader_calls.reads_on reader_calls.reads_first reader_calls.counts rewinding.take_each rewinding.take_frames rewinding.checks rewinding.takes_back rewinding.rewinds a b c r card mono stereo row setup silence some the_card line
+unfolding report_in late endless
 late_report = refl
 
 -- of the two runs of a mixed phase, the one where the client sees the phase's end
@@ -149,7 +122,7 @@ mixed =
     ∷ item.Phase (line a (op.Write 64) ∷ line the_card (op.Play 64) ∷ [])
     ∷ item.Phase (line the_card (op.Play 192) ∷ []) ∷ []
 
-mixed_report : (lab_text one None mixed).report ≡ record {
+mixed_report : report_in one mixed ≡ record {
   rows = row 0 a op.Opens Done state.Prepared None
       ∷ row 1 the_card (op.Play 64) (Count 64) state.Running (Some 64)
       ∷ row 1 a (op.Write 64) (Count 64) state.Running (Some 64)
@@ -159,5 +132,5 @@ mixed_report : (lab_text one None mixed).report ≡ record {
   first = 0;
   frames = 256;
 }
-unfolding mixed one course_text ◌>>=◌ Bound.rising client_calls.lay_each client_calls.lay_frames client_calls.looks client_calls.syncs client_calls.starts client_calls.drains client_calls.course_with_number client_calls.takes_more client_calls.writes_on client_calls.starts_taking client_calls.resumes reader_calls.gets_frames reader_calls.starts reader_calls.syncs reader_calls.transfers reader_calls.reads_on reader_calls.reads_first reader_calls.counts rewinding.take_each rewinding.take_frames rewinding.checks rewinding.takes_back rewinding.rewinds a b c r card mono stereo row setup silence some the_card line
+unfolding report_in mixed one
 mixed_report = refl

@@ -3,41 +3,12 @@ use Rattle.std.proofs.Common.{◌≡◌, refl, Some, None}
 use Rattle.std.specs.Prelude.{List, [], ◌∷◌}
 use Rattle.snd_base.specs.declared.errors.PcmError.TheVariants as error
 use Rattle.snd_base.specs.declared.errors.XrunWhy.TheVariants as why
-use Rattle.bindings.specs.Bound
 use Rattle.pcm_states.specs.declared.states.State.TheVariants as state
-use Rattle.course.specs.Course.{◌>>=◌}
-use Rattle.dmix_client.specs.Course as client_calls
-use Rattle.dsnoop_client.specs.Course as reader_calls
 use Rattle.lab_lines.specs.declared.line.Item.{Item}
 use Rattle.lab_lines.specs.declared.line.Item.TheVariants as item
 use Rattle.lab_lines.specs.declared.line.Op.TheVariants as op
-use Rattle.lab_lines.specs.declared.script.Share.TheVariants as share
 use Rattle.lab_lines.specs.declared.row.Answer.TheVariants.{Count, Done, Failed}
-use Rattle.lab_run.specs.CourseText.{course_text}
-use Rattle.lab_run.specs.LabRun.{lab_text}
-use Rattle.dmix_client.specs.Rewind as rewinding
-use Rattle.lab_run.specs.Stage.{Session}
-use Rattle.lab_run.proofs.Sessions.{a, b, c, card, mono, row, r, setup, silence, some, stereo, the_card, line}
-
--- one client with 64 frames
-one : Session
-one = record {
-  card = card 1 64 share.Dmix;
-  ring = mono;
-  sounds = silence 1 64 ∷ [];
-  clients = some (0 ∷ []) ∷ [];
-  readers = [];
-}
-
--- one client with 512 frames
-long : Session
-long = record {
-  card = card 1 64 share.Dmix;
-  ring = mono;
-  sounds = silence 1 512 ∷ [];
-  clients = some (0 ∷ []) ∷ [];
-  readers = [];
-}
+use Rattle.lab_worked_runs.proofs.Sessions.{a, card, line, long, one, report_in, row, the_card}
 
 -- a client takes back half of what it committed
 takes_half : List Item
@@ -47,7 +18,7 @@ takes_half =
     ∷ item.Phase (line a (op.Rewind 32) ∷ [])
     ∷ item.Phase (line the_card (op.Play 256) ∷ []) ∷ []
 
-takes_half_report : (lab_text one None takes_half).report ≡ record {
+takes_half_report : report_in one takes_half ≡ record {
   rows = row 0 a op.Opens Done state.Prepared None
       ∷ row 1 a (op.Write 64) (Count 64) state.Running (Some 0)
       ∷ row 2 a (op.Rewind 32) (Count 32) state.Running (Some 0)
@@ -57,7 +28,7 @@ takes_half_report : (lab_text one None takes_half).report ≡ record {
   first = 0;
   frames = 256;
 }
-unfolding takes_half one course_text ◌>>=◌ Bound.rising client_calls.lay_each client_calls.lay_frames client_calls.looks client_calls.syncs client_calls.starts client_calls.drains client_calls.course_with_number client_calls.takes_more client_calls.writes_on client_calls.starts_taking client_calls.resumes reader_calls.gets_frames reader_calls.starts reader_calls.syncs reader_calls.transfers reader_calls.reads_on reader_calls.reads_first reader_calls.counts rewinding.take_each rewinding.take_frames rewinding.checks rewinding.takes_back rewinding.rewinds a b c r card mono stereo row setup silence some the_card line
+unfolding report_in takes_half one
 takes_half_report = refl
 
 -- and writes it anew
@@ -68,7 +39,7 @@ writes_anew =
     ∷ item.Phase (line a (op.Rewind 32) ∷ line a (op.Write 64) ∷ line a op.Rewindable ∷ line a (op.Rewind 1) ∷ [])
     ∷ item.Phase (line the_card (op.Play 256) ∷ []) ∷ []
 
-writes_anew_report : (lab_text one None writes_anew).report ≡ record {
+writes_anew_report : report_in one writes_anew ≡ record {
   rows = row 0 a op.Opens Done state.Prepared None
       ∷ row 1 a (op.Write 64) (Count 64) state.Running (Some 0)
       ∷ row 2 a (op.Rewind 32) (Count 32) state.Running (Some 0)
@@ -81,7 +52,7 @@ writes_anew_report : (lab_text one None writes_anew).report ≡ record {
   first = 0;
   frames = 256;
 }
-unfolding writes_anew one course_text ◌>>=◌ Bound.rising client_calls.lay_each client_calls.lay_frames client_calls.looks client_calls.syncs client_calls.starts client_calls.drains client_calls.course_with_number client_calls.takes_more client_calls.writes_on client_calls.starts_taking client_calls.resumes reader_calls.gets_frames reader_calls.starts reader_calls.syncs reader_calls.transfers reader_calls.reads_on reader_calls.reads_first reader_calls.counts rewinding.take_each rewinding.take_frames rewinding.checks rewinding.takes_back rewinding.rewinds a b c r card mono stereo row setup silence some the_card line
+unfolding report_in writes_anew one
 writes_anew_report = refl
 
 -- a client stops inside a rewind
@@ -91,7 +62,7 @@ stops_inside =
     ∷ item.Phase (line a (op.Write 64) ∷ [])
     ∷ item.Phase (line a (op.Die 4) ∷ line a (op.Rewind 32) ∷ []) ∷ []
 
-stops_inside_report : (lab_text one None stops_inside).report ≡ record {
+stops_inside_report : report_in one stops_inside ≡ record {
   rows = row 0 a op.Opens Done state.Prepared None
       ∷ row 1 a (op.Write 64) (Count 64) state.Running (Some 0)
       ∷ row 2 a (op.Die 4) Done state.Running (Some 0)
@@ -101,7 +72,7 @@ stops_inside_report : (lab_text one None stops_inside).report ≡ record {
   first = 0;
   frames = 0;
 }
-unfolding stops_inside one course_text ◌>>=◌ Bound.rising client_calls.lay_each client_calls.lay_frames client_calls.looks client_calls.syncs client_calls.starts client_calls.drains client_calls.course_with_number client_calls.takes_more client_calls.writes_on client_calls.starts_taking client_calls.resumes reader_calls.gets_frames reader_calls.starts reader_calls.syncs reader_calls.transfers reader_calls.reads_on reader_calls.reads_first reader_calls.counts rewinding.take_each rewinding.take_frames rewinding.checks rewinding.takes_back rewinding.rewinds a b c r card mono stereo row setup silence some the_card line
+unfolding report_in stops_inside one
 stops_inside_report = refl
 
 -- pending frames are taken back first, and those that the card played not at all; with nothing left the next look is an xrun
@@ -113,7 +84,7 @@ takes_pending_first =
     ∷ item.Phase (line the_card (op.Play 96) ∷ [])
     ∷ item.Phase (line a op.Rewindable ∷ line a (op.Rewind 1000) ∷ line a op.Rewindable ∷ []) ∷ []
 
-takes_pending_first_report : (lab_text long None takes_pending_first).report ≡ record {
+takes_pending_first_report : report_in long takes_pending_first ≡ record {
   rows = row 0 a op.Opens Done state.Prepared None
       ∷ row 1 a (op.Write 256) (Count 256) state.Running (Some 0)
       ∷ row 2 a op.Rewindable (Count 256) state.Running (Some 0)
@@ -127,5 +98,5 @@ takes_pending_first_report : (lab_text long None takes_pending_first).report ≡
   first = 0;
   frames = 96;
 }
-unfolding takes_pending_first long course_text ◌>>=◌ Bound.rising client_calls.lay_each client_calls.lay_frames client_calls.looks client_calls.syncs client_calls.starts client_calls.drains client_calls.course_with_number client_calls.takes_more client_calls.writes_on client_calls.starts_taking client_calls.resumes reader_calls.gets_frames reader_calls.starts reader_calls.syncs reader_calls.transfers reader_calls.reads_on reader_calls.reads_first reader_calls.counts rewinding.take_each rewinding.take_frames rewinding.checks rewinding.takes_back rewinding.rewinds a b c r card mono stereo row setup silence some the_card line
+unfolding report_in takes_pending_first long
 takes_pending_first_report = refl

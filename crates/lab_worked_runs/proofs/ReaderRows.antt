@@ -3,21 +3,14 @@ use Rattle.std.proofs.Common.{◌≡◌, refl, Some, None}
 use Rattle.std.specs.Prelude.{List, [], ◌∷◌}
 use Rattle.snd_base.specs.declared.errors.PcmError.TheVariants as error
 use Rattle.snd_base.specs.declared.errors.XrunWhy.TheVariants as why
-use Rattle.bindings.specs.Bound
 use Rattle.pcm_states.specs.declared.states.State.TheVariants as state
-use Rattle.course.specs.Course.{◌>>=◌}
-use Rattle.dmix_client.specs.Course as client_calls
-use Rattle.dsnoop_client.specs.Course as reader_calls
 use Rattle.lab_lines.specs.declared.line.Item.{Item}
 use Rattle.lab_lines.specs.declared.line.Item.TheVariants as item
 use Rattle.lab_lines.specs.declared.line.Op.TheVariants as op
 use Rattle.lab_lines.specs.declared.script.Share.TheVariants as share
 use Rattle.lab_lines.specs.declared.row.Answer.TheVariants.{Count, Done, Failed}
-use Rattle.lab_run.specs.CourseText.{course_text}
-use Rattle.lab_run.specs.LabRun.{lab_text}
-use Rattle.dmix_client.specs.Rewind as rewinding
 use Rattle.lab_run.specs.Stage.{Session}
-use Rattle.lab_run.proofs.Sessions.{a, b, c, card, mono, row, r, setup, silence, some, stereo, the_card, line}
+use Rattle.lab_worked_runs.proofs.Sessions.{card, line, mono, r, report_in, row, some, the_card}
 
 -- one reader
 reads : Session
@@ -41,7 +34,7 @@ overrun =
     ∷ item.Phase (line the_card (op.Play 64) ∷ [])
     ∷ item.Phase (line r (op.Read 64) ∷ []) ∷ []
 
-overrun_report : (lab_text reads None overrun).report ≡ record {
+overrun_report : report_in reads overrun ≡ record {
   rows = row 0 r op.Opens Done state.Prepared None
       ∷ row 1 r op.Start Done state.Running (Some 0)
       ∷ row 2 the_card (op.Play 64) (Count 64) state.Running (Some 64)
@@ -57,7 +50,7 @@ overrun_report : (lab_text reads None overrun).report ≡ record {
   first = 0;
   frames = 448;
 }
-unfolding overrun reads course_text ◌>>=◌ Bound.rising client_calls.lay_each client_calls.lay_frames client_calls.looks client_calls.syncs client_calls.starts client_calls.drains client_calls.course_with_number client_calls.takes_more client_calls.writes_on client_calls.starts_taking client_calls.resumes reader_calls.gets_frames reader_calls.starts reader_calls.syncs reader_calls.transfers reader_calls.reads_on reader_calls.reads_first reader_calls.counts rewinding.take_each rewinding.take_frames rewinding.checks rewinding.takes_back rewinding.rewinds a b c r card mono stereo row setup silence some the_card line
+unfolding report_in overrun reads
 overrun_report = refl
 
 -- a reader starts again
@@ -69,7 +62,7 @@ started_again =
     ∷ item.Phase (line r (op.Read 64) ∷ [])
     ∷ item.Phase (line r op.Drop ∷ line r op.Prepare ∷ line r op.Start ∷ line r (op.Read 1) ∷ []) ∷ []
 
-started_again_report : (lab_text reads None started_again).report ≡ record {
+started_again_report : report_in reads started_again ≡ record {
   rows = row 0 r op.Opens Done state.Prepared None
       ∷ row 1 r op.Start Done state.Running (Some 0)
       ∷ row 2 the_card (op.Play 64) (Count 64) state.Running (Some 64)
@@ -83,7 +76,7 @@ started_again_report : (lab_text reads None started_again).report ≡ record {
   first = 0;
   frames = 64;
 }
-unfolding started_again reads course_text ◌>>=◌ Bound.rising client_calls.lay_each client_calls.lay_frames client_calls.looks client_calls.syncs client_calls.starts client_calls.drains client_calls.course_with_number client_calls.takes_more client_calls.writes_on client_calls.starts_taking client_calls.resumes reader_calls.gets_frames reader_calls.starts reader_calls.syncs reader_calls.transfers reader_calls.reads_on reader_calls.reads_first reader_calls.counts rewinding.take_each rewinding.take_frames rewinding.checks rewinding.takes_back rewinding.rewinds a b c r card mono stereo row setup silence some the_card line
+unfolding report_in started_again reads
 started_again_report = refl
 
 -- a reader ends and is opened again
@@ -98,7 +91,7 @@ closed =
     ∷ item.Opens 0 r
     ∷ item.Phase (line r op.Avail ∷ line r op.Pause ∷ line r (op.Read 0) ∷ []) ∷ []
 
-closed_report : (lab_text reads None closed).report ≡ record {
+closed_report : report_in reads closed ≡ record {
   rows = row 0 r op.Opens Done state.Prepared None
       ∷ row 1 r op.Start Done state.Running (Some 0)
       ∷ row 2 the_card (op.Play 64) (Count 64) state.Running (Some 64)
@@ -116,7 +109,7 @@ closed_report : (lab_text reads None closed).report ≡ record {
   first = 0;
   frames = 64;
 }
-unfolding closed reads course_text ◌>>=◌ Bound.rising client_calls.lay_each client_calls.lay_frames client_calls.looks client_calls.syncs client_calls.starts client_calls.drains client_calls.course_with_number client_calls.takes_more client_calls.writes_on client_calls.starts_taking client_calls.resumes reader_calls.gets_frames reader_calls.starts reader_calls.syncs reader_calls.transfers reader_calls.reads_on reader_calls.reads_first reader_calls.counts rewinding.take_each rewinding.take_frames rewinding.checks rewinding.takes_back rewinding.rewinds a b c r card mono stereo row setup silence some the_card line
+unfolding report_in closed reads
 closed_report = refl
 
 -- a reader stops inside a read
@@ -128,7 +121,7 @@ stops =
     ∷ item.Phase (line r (op.Die 10) ∷ line r (op.Read 64) ∷ line r (op.Read 1) ∷ [])
     ∷ item.Phase (line r (op.Read 1) ∷ []) ∷ []
 
-stops_report : (lab_text reads None stops).report ≡ record {
+stops_report : report_in reads stops ≡ record {
   rows = row 0 r op.Opens Done state.Prepared None
       ∷ row 1 r op.Start Done state.Running (Some 0)
       ∷ row 2 the_card (op.Play 64) (Count 64) state.Running (Some 64)
@@ -141,5 +134,5 @@ stops_report : (lab_text reads None stops).report ≡ record {
   first = 0;
   frames = 64;
 }
-unfolding stops reads course_text ◌>>=◌ Bound.rising client_calls.lay_each client_calls.lay_frames client_calls.looks client_calls.syncs client_calls.starts client_calls.drains client_calls.course_with_number client_calls.takes_more client_calls.writes_on client_calls.starts_taking client_calls.resumes reader_calls.gets_frames reader_calls.starts reader_calls.syncs reader_calls.transfers reader_calls.reads_on reader_calls.reads_first reader_calls.counts rewinding.take_each rewinding.take_frames rewinding.checks rewinding.takes_back rewinding.rewinds a b c r card mono stereo row setup silence some the_card line
+unfolding report_in stops reads
 stops_report = refl

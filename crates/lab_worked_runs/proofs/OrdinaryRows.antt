@@ -2,21 +2,14 @@
 use Rattle.std.proofs.Common.{◌≡◌, refl, arith, Some, None}
 use Rattle.std.specs.Prelude.{List, [], ◌∷◌}
 use Rattle.snd_base.specs.declared.errors.PcmError.TheVariants as error
-use Rattle.bindings.specs.Bound
 use Rattle.pcm_states.specs.declared.states.State.TheVariants as state
-use Rattle.course.specs.Course.{◌>>=◌}
-use Rattle.dmix_client.specs.Course as client_calls
-use Rattle.dsnoop_client.specs.Course as reader_calls
 use Rattle.lab_lines.specs.declared.line.Item.{Item}
 use Rattle.lab_lines.specs.declared.line.Item.TheVariants as item
 use Rattle.lab_lines.specs.declared.line.Op.TheVariants as op
 use Rattle.lab_lines.specs.declared.script.Share.TheVariants as share
 use Rattle.lab_lines.specs.declared.row.Answer.TheVariants.{Count, Done, Failed}
-use Rattle.lab_run.specs.CourseText.{course_text}
-use Rattle.lab_run.specs.LabRun.{lab_text}
-use Rattle.dmix_client.specs.Rewind as rewinding
 use Rattle.lab_run.specs.Stage.{Session}
-use Rattle.lab_run.proofs.Sessions.{a, b, c, card, mono, row, r, setup, silence, some, stereo, the_card, line}
+use Rattle.lab_worked_runs.proofs.Sessions.{a, card, line, report_in, row, silence, the_card}
 
 -- a card of 512 frames with a period of 64, and a stereo client with 576 frames
 music : Session
@@ -54,7 +47,7 @@ plays_to_the_end =
     ∷ item.Phase (line the_card (op.Play 512) ∷ [])
     ∷ item.Phase (line a op.Drain ∷ []) ∷ []
 
-plays_to_the_end_report : (lab_text music None plays_to_the_end).report ≡ record {
+plays_to_the_end_report : report_in music plays_to_the_end ≡ record {
   rows = row 0 a op.Opens Done state.Prepared None
       ∷ row 1 a (op.Write 512) (Count 512) state.Running (Some 0)
       ∷ row 2 the_card (op.Play 64) (Count 64) state.Running (Some 64)
@@ -69,5 +62,5 @@ plays_to_the_end_report : (lab_text music None plays_to_the_end).report ≡ reco
   first = 0;
   frames = 640;
 }
-unfolding plays_to_the_end music course_text ◌>>=◌ Bound.rising client_calls.lay_each client_calls.lay_frames client_calls.looks client_calls.syncs client_calls.starts client_calls.drains client_calls.course_with_number client_calls.takes_more client_calls.writes_on client_calls.starts_taking client_calls.resumes reader_calls.gets_frames reader_calls.starts reader_calls.syncs reader_calls.transfers reader_calls.reads_on reader_calls.reads_first reader_calls.counts rewinding.take_each rewinding.take_frames rewinding.checks rewinding.takes_back rewinding.rewinds a b c r card mono stereo row setup silence some the_card line
+unfolding report_in plays_to_the_end music
 plays_to_the_end_report = refl

@@ -3,41 +3,12 @@ use Rattle.std.proofs.Common.{◌≡◌, refl, Some, None}
 use Rattle.std.specs.Prelude.{List, [], ◌∷◌}
 use Rattle.snd_base.specs.declared.errors.PcmError.TheVariants as error
 use Rattle.snd_base.specs.declared.errors.XrunWhy.TheVariants as why
-use Rattle.bindings.specs.Bound
 use Rattle.pcm_states.specs.declared.states.State.TheVariants as state
-use Rattle.course.specs.Course.{◌>>=◌}
-use Rattle.dmix_client.specs.Course as client_calls
-use Rattle.dsnoop_client.specs.Course as reader_calls
 use Rattle.lab_lines.specs.declared.line.Item.{Item}
 use Rattle.lab_lines.specs.declared.line.Item.TheVariants as item
 use Rattle.lab_lines.specs.declared.line.Op.TheVariants as op
-use Rattle.lab_lines.specs.declared.script.Share.TheVariants as share
 use Rattle.lab_lines.specs.declared.row.Answer.TheVariants.{Count, Done, Failed}
-use Rattle.lab_run.specs.CourseText.{course_text}
-use Rattle.lab_run.specs.LabRun.{lab_text}
-use Rattle.dmix_client.specs.Rewind as rewinding
-use Rattle.lab_run.specs.Stage.{Session}
-use Rattle.lab_run.proofs.Sessions.{a, b, c, card, mono, row, r, setup, silence, some, stereo, the_card, line}
-
--- one client with 64 frames
-one : Session
-one = record {
-  card = card 1 64 share.Dmix;
-  ring = mono;
-  sounds = silence 1 64 ∷ [];
-  clients = some (0 ∷ []) ∷ [];
-  readers = [];
-}
-
--- one client with 512 frames
-long : Session
-long = record {
-  card = card 1 64 share.Dmix;
-  ring = mono;
-  sounds = silence 1 512 ∷ [];
-  clients = some (0 ∷ []) ∷ [];
-  readers = [];
-}
+use Rattle.lab_worked_runs.proofs.Sessions.{a, card, line, long, one, report_in, row, the_card}
 
 -- a client pauses and goes on with a segment of its own
 pauses : List Item
@@ -48,7 +19,7 @@ pauses =
     ∷ item.Phase (line a op.Resume ∷ [])
     ∷ item.Phase (line the_card (op.Play 256) ∷ []) ∷ []
 
-pauses_report : (lab_text long None pauses).report ≡ record {
+pauses_report : report_in long pauses ≡ record {
   rows = row 0 a op.Opens Done state.Prepared None
       ∷ row 1 a (op.Write 256) (Count 256) state.Running (Some 0)
       ∷ row 1 a op.Pause Done state.Paused (Some 0)
@@ -60,7 +31,7 @@ pauses_report : (lab_text long None pauses).report ≡ record {
   first = 0;
   frames = 512;
 }
-unfolding pauses long course_text ◌>>=◌ Bound.rising client_calls.lay_each client_calls.lay_frames client_calls.looks client_calls.syncs client_calls.starts client_calls.drains client_calls.course_with_number client_calls.takes_more client_calls.writes_on client_calls.starts_taking client_calls.resumes reader_calls.gets_frames reader_calls.starts reader_calls.syncs reader_calls.transfers reader_calls.reads_on reader_calls.reads_first reader_calls.counts rewinding.take_each rewinding.take_frames rewinding.checks rewinding.takes_back rewinding.rewinds a b c r card mono stereo row setup silence some the_card line
+unfolding report_in pauses long
 pauses_report = refl
 
 -- what a paused client refuses, and a resume with nothing pending
@@ -69,7 +40,7 @@ refuses =
     item.Opens 0 a
     ∷ item.Phase (line a op.Pause ∷ line a (op.Write 64) ∷ line a (op.Write 64) ∷ line a op.Pause ∷ line a op.Resume ∷ []) ∷ []
 
-refuses_report : (lab_text one None refuses).report ≡ record {
+refuses_report : report_in one refuses ≡ record {
   rows = row 0 a op.Opens Done state.Prepared None
       ∷ row 1 a op.Pause (Failed error.BadState) state.Prepared None
       ∷ row 1 a (op.Write 64) (Count 64) state.Running (Some 0)
@@ -81,7 +52,7 @@ refuses_report : (lab_text one None refuses).report ≡ record {
   first = 0;
   frames = 0;
 }
-unfolding refuses one course_text ◌>>=◌ Bound.rising client_calls.lay_each client_calls.lay_frames client_calls.looks client_calls.syncs client_calls.starts client_calls.drains client_calls.course_with_number client_calls.takes_more client_calls.writes_on client_calls.starts_taking client_calls.resumes reader_calls.gets_frames reader_calls.starts reader_calls.syncs reader_calls.transfers reader_calls.reads_on reader_calls.reads_first reader_calls.counts rewinding.take_each rewinding.take_frames rewinding.checks rewinding.takes_back rewinding.rewinds a b c r card mono stereo row setup silence some the_card line
+unfolding report_in refuses one
 refuses_report = refl
 
 -- a resume that finds the card gone has ended its segment
@@ -92,7 +63,7 @@ finds_it_gone =
     ∷ item.Phase (line the_card op.Unplug ∷ [])
     ∷ item.Phase (line a op.Resume ∷ line a op.Resume ∷ []) ∷ []
 
-finds_it_gone_report : (lab_text long None finds_it_gone).report ≡ record {
+finds_it_gone_report : report_in long finds_it_gone ≡ record {
   rows = row 0 a op.Opens Done state.Prepared None
       ∷ row 1 a (op.Write 256) (Count 256) state.Running (Some 0)
       ∷ row 1 a op.Pause Done state.Paused (Some 0)
@@ -104,7 +75,7 @@ finds_it_gone_report : (lab_text long None finds_it_gone).report ≡ record {
   first = 0;
   frames = 0;
 }
-unfolding finds_it_gone long course_text ◌>>=◌ Bound.rising client_calls.lay_each client_calls.lay_frames client_calls.looks client_calls.syncs client_calls.starts client_calls.drains client_calls.course_with_number client_calls.takes_more client_calls.writes_on client_calls.starts_taking client_calls.resumes reader_calls.gets_frames reader_calls.starts reader_calls.syncs reader_calls.transfers reader_calls.reads_on reader_calls.reads_first reader_calls.counts rewinding.take_each rewinding.take_frames rewinding.checks rewinding.takes_back rewinding.rewinds a b c r card mono stereo row setup silence some the_card line
+unfolding report_in finds_it_gone long
 finds_it_gone_report = refl
 
 -- a resume that is stopped at its load leaves one segment
@@ -114,7 +85,7 @@ stops_at_its_load =
     ∷ item.Phase (line a (op.Write 256) ∷ line a op.Pause ∷ [])
     ∷ item.Phase (line a (op.Die 0) ∷ line a op.Resume ∷ []) ∷ []
 
-stops_at_its_load_report : (lab_text long None stops_at_its_load).report ≡ record {
+stops_at_its_load_report : report_in long stops_at_its_load ≡ record {
   rows = row 0 a op.Opens Done state.Prepared None
       ∷ row 1 a (op.Write 256) (Count 256) state.Running (Some 0)
       ∷ row 1 a op.Pause Done state.Paused (Some 0)
@@ -125,7 +96,7 @@ stops_at_its_load_report : (lab_text long None stops_at_its_load).report ≡ rec
   first = 0;
   frames = 0;
 }
-unfolding stops_at_its_load long course_text ◌>>=◌ Bound.rising client_calls.lay_each client_calls.lay_frames client_calls.looks client_calls.syncs client_calls.starts client_calls.drains client_calls.course_with_number client_calls.takes_more client_calls.writes_on client_calls.starts_taking client_calls.resumes reader_calls.gets_frames reader_calls.starts reader_calls.syncs reader_calls.transfers reader_calls.reads_on reader_calls.reads_first reader_calls.counts rewinding.take_each rewinding.take_frames rewinding.checks rewinding.takes_back rewinding.rewinds a b c r card mono stereo row setup silence some the_card line
+unfolding report_in stops_at_its_load long
 stops_at_its_load_report = refl
 
 -- the card is unplugged
@@ -136,7 +107,7 @@ unplugged =
     ∷ item.Phase (line the_card op.Unplug ∷ [])
     ∷ item.Phase (line a op.Sync ∷ line a op.Pause ∷ []) ∷ []
 
-unplugged_report : (lab_text one None unplugged).report ≡ record {
+unplugged_report : report_in one unplugged ≡ record {
   rows = row 0 a op.Opens Done state.Prepared None
       ∷ row 1 a op.Start (Failed (error.Xrun why.Empty)) state.Prepared None
       ∷ row 1 a (op.Write 64) (Count 64) state.Running (Some 0)
@@ -148,5 +119,5 @@ unplugged_report : (lab_text one None unplugged).report ≡ record {
   first = 0;
   frames = 0;
 }
-unfolding unplugged one course_text ◌>>=◌ Bound.rising client_calls.lay_each client_calls.lay_frames client_calls.looks client_calls.syncs client_calls.starts client_calls.drains client_calls.course_with_number client_calls.takes_more client_calls.writes_on client_calls.starts_taking client_calls.resumes reader_calls.gets_frames reader_calls.starts reader_calls.syncs reader_calls.transfers reader_calls.reads_on reader_calls.reads_first reader_calls.counts rewinding.take_each rewinding.take_frames rewinding.checks rewinding.takes_back rewinding.rewinds a b c r card mono stereo row setup silence some the_card line
+unfolding report_in unplugged one
 unplugged_report = refl
