@@ -10,7 +10,8 @@ use Rattle.lab_lines.specs.declared.line.Op.TheVariants as op
 use Rattle.lab_lines.specs.declared.script.Share.TheVariants as share
 use Rattle.lab_lines.specs.declared.row.Answer.TheVariants.{Count, Done, Failed}
 use Rattle.lab_run.specs.Stage.{Session}
-use Rattle.lab_worked_runs.proofs.Sessions.{a, card, line, long, mono, one, report_in, row, setup, silence, the_card}
+use Rattle.lab_worked_runs.proofs.Printouts.{mono}
+use Rattle.lab_worked_runs.proofs.Sessions.{a, card, line, long, one, report_in, row, setup, silence, the_card}
 
 -- one client with 128 frames that no number of available frames stops
 endless : Session

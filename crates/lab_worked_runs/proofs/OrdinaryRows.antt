@@ -9,7 +9,7 @@ use Rattle.lab_lines.specs.declared.line.Op.TheVariants as op
 use Rattle.lab_lines.specs.declared.script.Share.TheVariants as share
 use Rattle.lab_lines.specs.declared.row.Answer.TheVariants.{Count, Done, Failed}
 use Rattle.lab_run.specs.Stage.{Session}
-use Rattle.lab_worked_runs.proofs.Sessions.{a, card, line, report_in, row, silence, the_card}
+use Rattle.lab_worked_runs.proofs.Sessions.{a, line, report_in, row, silence, the_card}
 
 -- a card of 512 frames with a period of 64, and a stereo client with 576 frames
 music : Session

@@ -8,7 +8,7 @@ use Rattle.lab_lines.specs.declared.line.Item.{Item}
 use Rattle.lab_lines.specs.declared.line.Item.TheVariants as item
 use Rattle.lab_lines.specs.declared.line.Op.TheVariants as op
 use Rattle.lab_lines.specs.declared.row.Answer.TheVariants.{Count, Done, Failed}
-use Rattle.lab_worked_runs.proofs.Sessions.{a, card, line, long, one, report_in, row, the_card}
+use Rattle.lab_worked_runs.proofs.Sessions.{a, line, long, one, report_in, row, the_card}
 
 -- a client pauses and goes on with a segment of its own
 pauses : List Item

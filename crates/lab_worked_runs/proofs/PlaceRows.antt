@@ -9,7 +9,8 @@ use Rattle.lab_lines.specs.declared.line.Op.TheVariants as op
 use Rattle.lab_lines.specs.declared.script.Share.TheVariants as share
 use Rattle.lab_lines.specs.declared.row.Answer.TheVariants.{Count, Done, Failed}
 use Rattle.lab_run.specs.Stage.{Session}
-use Rattle.lab_worked_runs.proofs.Sessions.{a, b, c, card, line, mono, report_in, row, silence, some, stereo, the_card}
+use Rattle.lab_worked_runs.proofs.Printouts.{mono, stereo}
+use Rattle.lab_worked_runs.proofs.Sessions.{a, b, c, card, line, report_in, row, silence, some, the_card}
 
 -- two clients and one place
 one_place : Session

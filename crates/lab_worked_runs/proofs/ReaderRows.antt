@@ -10,7 +10,8 @@ use Rattle.lab_lines.specs.declared.line.Op.TheVariants as op
 use Rattle.lab_lines.specs.declared.script.Share.TheVariants as share
 use Rattle.lab_lines.specs.declared.row.Answer.TheVariants.{Count, Done, Failed}
 use Rattle.lab_run.specs.Stage.{Session}
-use Rattle.lab_worked_runs.proofs.Sessions.{card, line, mono, r, report_in, row, some, the_card}
+use Rattle.lab_worked_runs.proofs.Printouts.{mono}
+use Rattle.lab_worked_runs.proofs.Sessions.{card, line, r, report_in, row, some, the_card}
 
 -- one reader
 reads : Session

@@ -1,13 +1,7 @@
 -- Sessions for worked examples: a card of 256 frames with a period of 64, and files of silence; and the report of their runs.
-use Rattle.std.proofs.Common.{ℕ, ◌*◌, arith, Option, Some, None}
+use Rattle.std.proofs.Common.{ℕ, ◌*◌, Option, Some, None}
 use Rattle.std.specs.Prelude.{List, [], ◌∷◌, replicate, pos}
-use Rattle.snd_base.specs.declared.geometry.Geometry.{Geometry}
-use Rattle.bindings.specs.Bound
 use Rattle.pcm_states.specs.declared.states.State.{State}
-use Rattle.course.specs.Course.{◌>>=◌}
-use Rattle.dmix_client.specs.Course as client_calls
-use Rattle.dmix_client.specs.Rewind as rewinding
-use Rattle.dsnoop_client.specs.Course as reader_calls
 use Rattle.wav_io.specs.Sound.{Sound}
 use Rattle.lab_lines.specs.declared.line.Actor.{Actor}
 use Rattle.lab_lines.specs.declared.line.Actor.TheVariants.{Card, Client, Reader}
@@ -20,33 +14,9 @@ use Rattle.lab_lines.specs.declared.script.Share.{Share}
 use Rattle.lab_lines.specs.declared.script.Share.TheVariants as share
 use Rattle.lab_lines.specs.declared.row.Answer.{Answer}
 use Rattle.lab_lines.specs.declared.row.Row.{Row}
-use Rattle.lab_run.specs.CourseText.{course_text}
 use Rattle.lab_run.specs.LabRun.{lab_text}
 use Rattle.lab_run.specs.Stage.{Session, Setup}
-
-unfoldable pub mono : Geometry
-mono = record {
-  frames = 256;
-  channels = 1;
-  first_lap = 0;
-  frames_least = omega arith;
-  frames_most = omega arith;
-  channels_least = omega arith;
-  channels_most = omega arith;
-  first_lap_most = omega arith;
-}
-
-unfoldable pub stereo : Geometry
-stereo = record {
-  frames = 256;
-  channels = 2;
-  first_lap = 0;
-  frames_least = omega arith;
-  frames_most = omega arith;
-  channels_least = omega arith;
-  channels_most = omega arith;
-  first_lap_most = omega arith;
-}
+use Rattle.lab_worked_runs.proofs.Printouts.{mono, printout_of}
 
 unfoldable pub card : ℕ → ℕ → Share → CardLine
 card channels places share =
@@ -117,5 +87,5 @@ long = record {
 
 -- the report of a session's items, by all that computes it
 unfoldable pub report_in : Session → List Item → Report
-unfolding course_text ◌>>=◌ Bound.rising client_calls.lay_each client_calls.lay_frames client_calls.looks client_calls.syncs client_calls.starts client_calls.drains client_calls.course_with_number client_calls.takes_more client_calls.writes_on client_calls.starts_taking client_calls.resumes reader_calls.gets_frames reader_calls.starts reader_calls.syncs reader_calls.transfers reader_calls.reads_on reader_calls.reads_first reader_calls.counts rewinding.take_each rewinding.take_frames rewinding.checks rewinding.takes_back rewinding.rewinds a b c r card mono stereo row setup silence some the_card line
+unfolding printout_of a b c r card row setup silence some the_card line
 report_in session items = (lab_text session None items).report

@@ -14,8 +14,8 @@ use Rattle.lab_lines.specs.declared.row.Answer.TheVariants.{Count, Done, Failed}
 use Rattle.lab_lines.specs.declared.row.Row.{Row}
 use Rattle.lab_run.specs.LabRun.{lab_text}
 use Rattle.lab_run.specs.Stage.{Session}
-use Rattle.lab_worked_runs.proofs.Sessions.{a, b, card, line, report_in, row, silence, setup, some, stereo, the_card}
-use Rattle.lab_worked_runs.proofs.Printouts.{printout_of}
+use Rattle.lab_worked_runs.proofs.Sessions.{a, b, card, line, report_in, row, silence, setup, some, the_card}
+use Rattle.lab_worked_runs.proofs.Printouts.{printout_of, stereo}
 
 -- two stereo clients with 64 frames
 two : Session
@@ -67,7 +67,7 @@ dies_report steps = record {
 -- for each number of steps up to the one with which all 64 frames are placed
 dies_after_report : map (λ steps. (lab_text two None (dies_after steps)).report) (range_with_len 0 258)
     ≡ map dies_report (range_with_len 0 258)
-unfolding printout_of two dies_after dies_report write_row own_segment words_placed a b card line row silence setup some stereo the_card
+unfolding printout_of two dies_after dies_report write_row own_segment words_placed a b card line row silence setup some the_card
 dies_after_report = refl
 
 -- after a stop no line of the phase does anything, and the actor is not open from the next phase on
