@@ -13,7 +13,6 @@ use Rattle.pcm_states.specs.declared.states.State.TheVariants.{Prepared, Running
 use Rattle.pcm_states.specs.Table.{next_of}
 use Rattle.course.specs.Course.{Course, ends}
 use Rattle.course.specs.Gives.{Gives, Gives-any, Gives-behind, Gives-map, Gives-then}
-use Rattle.pcm_stream.specs.Status.{is_moving}
 use Rattle.dmix_client.specs.declared.commit.Commit.{Commit}
 use Rattle.dmix_client.specs.declared.stream.PlaybackStream.{PlaybackStream}
 use Rattle.dmix_client.specs.Calls.{Answered, committed_by, found_at, going_on, going_on_by, is_running, is_stop, late_at, stopped_in, taken_of, with_number, with_outcome}
@@ -22,6 +21,7 @@ use Rattle.dmix_client.specs.EachCall.{Counts, Leaves, Writes, drain-done, if_ad
 use Rattle.dmix_client.specs.Rewind.{back_of, back_on, checks, last_channel, last_laid, rewind_left, rewind_course, rewind_on, rewindable_course, rewindable_of, rewinds, after_rewind, take_frames, taken_back, takes_back, without_frames}
 use Rattle.dmix_client.specs.View.{IsSoundClient}
 use Rattle.dmix_client.specs.Writes.{frames_in}
+use Rattle.lab_run.proofs.CallParts.{running-moves}
 
 -- a client after a call has accepted at most so many frames
 pub record IsFed {X : Type 0} (limit : ℕ) (done : PlaybackStream × X) : Type 0 where
@@ -175,10 +175,6 @@ rewind_on-fed c floor ring n (d, Ok done) laid written is =
     subst (λ (k : ℕ). Gives (IsFed k) (takes_back d ring (min n (rewindable_of floor d)))) is.fed
     (takes_back-fed d ring (min n (rewindable_of floor d)) (let few = rewindable-few floor d n (let one = is.written in let two = is.committed in omega (arith, one, two, laid)) in let one = is.written in let two = is.fed in omega (arith, few, one, two, written)))
 rewind_on-fed c floor ring n (d, Err e) laid written is = let same = is.fed in record { most = omega (arith, same) }
-
-running-moves : (state : State) → is_running state ≡ true → is_moving state ≡ true
-running-moves Running runs = refl
-running-moves other runs = absurd (cc)
 
 pub rewind-fed : (c : PlaybackStream) (ring : List ℤ) (floor : Cursor) (n : ℕ) → IsSoundClient c ring → c.status.stopped ≡ false → Gives (IsFed c.fed) (if_admitted c call.Transfer (rewind_course c ring floor n))
 unfolding rewinds

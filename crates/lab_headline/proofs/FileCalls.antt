@@ -35,10 +35,10 @@ use Rattle.dmix_client.specs.View.{avail_of, queued_of, ring_sample}
 use Rattle.dmix_client.specs.Writes.{count_with, ring_with, starts_with}
 use Rattle.lab_lines.specs.declared.row.Answer.{Answer}
 use Rattle.lab_run.specs.Client.{call_answer, write_course}
+use Rattle.lab_run.proofs.CallParts.{admitted-going, moving-syncs, running-moves, running-transfers, transfers-prepared}
 use Rattle.lab_headline.proofs.CommitCounts.{From-all, IsCommitOf, commits-few, frames-left, nothing-of}
 use Rattle.lab_headline.proofs.Onward.{Channels, begun, stepped-unprepared}
-use Rattle.lab_headline.proofs.OnwardCalls.{moving-syncs, running-moves, running-transfers, transfers-prepared}
-use Rattle.lab_headline.proofs.PlayedCalls.{IfOk-any, IfOk-none, IsOver, admitted-going, step-over, step-unprepared}
+use Rattle.lab_headline.proofs.PlayedCalls.{IfOk-any, IfOk-none, IsOver, step-over, step-unprepared}
 use Rattle.lab_headline.proofs.PlayedCourses.{From, From-map, From-then, looks-from}
 
 -- ---- a client

@@ -23,14 +23,13 @@ use Rattle.lab_run.specs.Lines.{LineMay}
 use Rattle.lab_run.specs.Rules.{AtPort, Rules}
 use Rattle.lab_run.specs.Stage.{Session, Setup, opened_client}
 use Rattle.lab_headline.specs.Segments.{IsOfFrames}
+use Rattle.lab_run.proofs.CallParts.{admitted-going, starts-prepared}
 use Rattle.lab_headline.proofs.Bound.{HasBindings, line-bound}
 use Rattle.lab_headline.proofs.FileCalls.{FileAfter, IsOfFile, admitted-after, answered-after, drain-after, idle-goes, in-state, number_course-after, prepared-anew, resume-after, rewind-after, rewindable-after, start_course-after, sync-after, write-after}
 use Rattle.lab_headline.proofs.Going.{still-client, in-open}
 use Rattle.lab_headline.proofs.NumberedStages.{IsKeptBy}
 use Rattle.lab_headline.proofs.Onward.{Channels, begun}
-use Rattle.lab_headline.proofs.OnwardCalls.{starts-prepared}
 use Rattle.lab_headline.proofs.OnwardLines.{InOpen}
-use Rattle.lab_headline.proofs.PlayedCalls.{admitted-going}
 use Rattle.lab_headline.proofs.PlayedCourses.{From, From-then, Takes-from}
 use Rattle.lab_headline.proofs.Lists.{each-append}
 

@@ -1,7 +1,7 @@
 -- Each call of a client goes on after what was placed before.
-use Rattle.std.proofs.Common.{◌≡◌, ℕ, ◌+◌, ◌-◌, ◌≤◌, inl, inr, refl, sym, ◌∙◌, ap, subst, arith, Option, Some, None}
+use Rattle.std.proofs.Common.{◌≡◌, ℕ, ◌+◌, ◌-◌, ◌≤◌, inl, inr, refl, sym, ◌∙◌, subst, arith, Option, Some, None}
 use Rattle.std.proofs.lemmas.Bool.{false≢true}
-use Rattle.std.specs.Prelude.{Bool, true, false, not, ◌&&◌, nat_eq, nat_lt, if◌then◌else◌, [], Result, Ok, Err, min, max, is_some}
+use Rattle.std.specs.Prelude.{Bool, true, false, ◌&&◌, nat_eq, nat_lt, if◌then◌else◌, [], Result, Ok, Err, min, max}
 use Rattle.snd_base.specs.declared.errors.PcmError.{PcmError}
 use Rattle.snd_base.specs.declared.errors.PcmError.TheVariants as error
 use Rattle.snd_base.specs.declared.geometry.Geometry.{Geometry}
@@ -14,7 +14,6 @@ use Rattle.pcm_states.specs.declared.states.State.{State}
 use Rattle.pcm_states.specs.declared.states.State.TheVariants.{Draining, Paused, Prepared, Running, Setup}
 use Rattle.pcm_states.specs.Table.{next_of}
 use Rattle.pcm_stream.specs.declared.direction.Direction.TheVariants.{Playback}
-use Rattle.pcm_stream.specs.declared.status.Status.{Status}
 use Rattle.pcm_stream.specs.Status.{is_moving, nothing_found, refusal_of}
 use Rattle.course.specs.Course.{Course, ends}
 use Rattle.dmix_client.specs.declared.commit.Commit.{Commit}
@@ -30,44 +29,11 @@ use Rattle.lab_lines.specs.declared.line.Op.TheVariants as op
 use Rattle.lab_lines.specs.declared.row.Answer.{Answer}
 use Rattle.wav_io.specs.Sound.{Sound}
 use Rattle.lab_run.specs.Client.{call_answer, call_of, count_answer, done_answer, write_course}
+use Rattle.lab_run.proofs.CallParts.{moving-syncs, running-moves, running-transfers, starts-prepared, transfers-prepared}
 use Rattle.lab_headline.proofs.Onward.{Begun, Channels, OnwardAfter, Leads, Leads-if, Leads-map, Leads-then, Lies, Onward, Started, Waits, begun, commits-lead, earlier-lies, end_of, ended-lies, free_frame, high_end, looks-lead, moving-begun, moving-unprepared, start-commits, starts-go, after_sync-goes, syncs-go}
 use Rattle.lab_headline.proofs.Withdrawn.{below-sum, frames-back}
 
 -- ---- the calls
-
-pub moving-syncs : (s : State) → is_moving s ≡ true → IsFrameStep s call.Sync
-moving-syncs Running moves = tt
-moving-syncs Draining moves = tt
-moving-syncs other moves = absurd (false≢true moves)
-
-pub running-transfers : (s : State) → is_running s ≡ true → IsFrameStep s call.Transfer
-running-transfers Running runs = tt
-running-transfers other runs = absurd (false≢true runs)
-
-pub running-moves : (s : State) → is_running s ≡ true → is_moving s ≡ true
-running-moves Running runs = refl
-running-moves other runs = absurd (false≢true runs)
-
-pub some-none : {X : Type 0} {v : X} → Some v ≡ None → ⊥
-some-none is = false≢true (sym (ap is_some is))
-
--- a start, and a write of a stream that doesn't run, are admitted where it is prepared
-pub starts-prepared : (status : Status) → refusal_of Playback status call.Start ≡ None → is_prepared status.state ≡ true
-starts-prepared status = by_stop status.stopped status.state
-  where
-    by_stop : (stopped : Bool) (s : State) → refusal_of Playback (record { state = s; stopped = stopped }) call.Start ≡ None → is_prepared s ≡ true
-    by_stop true s is = absurd (some-none is)
-    by_stop false Prepared is = refl
-    by_stop false other is = absurd (some-none is)
-
-pub transfers-prepared : (status : Status) → refusal_of Playback status call.Transfer ≡ None → is_running status.state ≡ false → is_prepared status.state ≡ true
-transfers-prepared status = by_stop status.stopped status.state
-  where
-    by_stop : (stopped : Bool) (s : State) → refusal_of Playback (record { state = s; stopped = stopped }) call.Transfer ≡ None → is_running s ≡ false → is_prepared s ≡ true
-    by_stop true s is not = absurd (some-none is)
-    by_stop false Prepared is not = refl
-    by_stop false Running is not = absurd (false≢true (sym not))
-    by_stop false other is not = absurd (some-none is)
 
 module _ (p : ℕ) (g : Geometry) (x y : ℕ) where
   pub prepared-waits : (m : Marks) (c : PlaybackStream) → is_prepared c.status.state ≡ true → Onward p x y m c → Waits p x y m c

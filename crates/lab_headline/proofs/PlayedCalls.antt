@@ -22,7 +22,6 @@ use Rattle.pcm_states.specs.declared.states.State.{State}
 use Rattle.pcm_states.specs.declared.states.State.TheVariants.{Draining, Paused, Prepared, Running, Setup}
 use Rattle.pcm_states.specs.Table.{done_in, first_outcome, if_gone, if_late, if_over, if_played, next_of, still_draining}
 use Rattle.pcm_stream.specs.declared.direction.Direction.TheVariants.{Playback}
-use Rattle.pcm_stream.specs.declared.status.Status.{Status}
 use Rattle.pcm_stream.specs.Status.{is_moving, nothing_found, refusal_of}
 use Rattle.course.specs.Course.{Course, ends}
 use Rattle.dmix_client.specs.declared.commit.Commit.{Commit}
@@ -35,8 +34,8 @@ use Rattle.dmix_client.specs.View.{avail_of, queued_of, ring_sample}
 use Rattle.dmix_client.specs.Writes.{count_with, ring_with, starts_with}
 use Rattle.lab_run.specs.Client.{call_answer, write_course}
 use Rattle.lab_lines.specs.declared.row.Answer.{Answer}
+use Rattle.lab_run.proofs.CallParts.{admitted-going, moving-syncs, running-moves, running-transfers, transfers-prepared}
 use Rattle.lab_headline.proofs.Onward.{Channels, stepped-unprepared}
-use Rattle.lab_headline.proofs.OnwardCalls.{moving-syncs, running-moves, running-transfers, some-none, transfers-prepared}
 use Rattle.lab_headline.proofs.PlayedCourses.{CommitEnd, From, From-keeps, From-map, From-then, RewindEnd, commits-keep, frames-back, looks-from}
 use Rattle.lab_headline.proofs.PlayedSegments.{IsAlike, IsPast, alike-same, alike-then}
 use Rattle.lab_headline.proofs.Withdrawn.{below-sum}
@@ -144,14 +143,6 @@ prepared-unpaused other is = refl
 moving-unprepared : (s : State) → is_moving s ≡ true → is_prepared s ≡ false
 moving-unprepared Prepared is = absurd (false≢true is)
 moving-unprepared other is = refl
-
--- a call that isn't refused is of a client that no gate stopped
-pub admitted-going : (status : Status) (asked : Call) → refusal_of Playback status asked ≡ None → status.stopped ≡ false
-admitted-going status asked = by_stop status.stopped
-  where
-    by_stop : (stopped : Bool) → refusal_of Playback (record status { stopped = stopped }) asked ≡ None → stopped ≡ false
-    by_stop true is = absurd (some-none is)
-    by_stop false is = refl
 
 -- ---- a step of a client that moves frames
 

@@ -27,11 +27,11 @@ use Rattle.lab_run.specs.Client.{Client, after_call, begins, call_answer, call_o
 use Rattle.lab_run.specs.Lines.{LineMay, LinesMay}
 use Rattle.lab_run.specs.Rules.{AtPort, Rules}
 use Rattle.lab_run.specs.Stage.{Session, Setup}
+use Rattle.lab_run.proofs.CallParts.{admitted-going, some-none, starts-prepared}
 use Rattle.lab_headline.proofs.Going.{still-client}
 use Rattle.lab_headline.proofs.Onward.{Channels}
-use Rattle.lab_headline.proofs.OnwardCalls.{some-none, starts-prepared}
 use Rattle.lab_headline.proofs.OnwardLines.{InOpen, append-none}
-use Rattle.lab_headline.proofs.PlayedCalls.{CanStart, Fits, Kept, Started, admitted-going, admitted-kept, answered-kept, drain-kept, in-state, number_course-kept, rewind-kept, rewindable-kept, same, start-commits, start_course-kept, stopped-fits, sync-kept, write-kept}
+use Rattle.lab_headline.proofs.PlayedCalls.{CanStart, Fits, Kept, Started, admitted-kept, answered-kept, drain-kept, in-state, number_course-kept, rewind-kept, rewindable-kept, same, start-commits, start_course-kept, stopped-fits, sync-kept, write-kept}
 use Rattle.lab_headline.proofs.PlayedCourses.{From, From-map, From-then, Takes-from, looks-from}
 use Rattle.lab_headline.proofs.PlayedSegments.{IsAlike, IsPast, alike-same, heard, heard-append, stretch-alike, stretch-past}
 use Rattle.lab_headline.proofs.Stages.{IsKept}

@@ -29,7 +29,7 @@ use Rattle.lab_run.specs.Client.{Client, after_call, call_answer, call_of, clien
 use Rattle.lab_run.specs.Lines.{LineMay, LinesMay}
 use Rattle.lab_run.specs.Rules.{AtPort, Rules}
 use Rattle.lab_run.proofs.EachLine.{client-line}
-use Rattle.lab_headline.proofs.OnwardCalls.{some-none}
+use Rattle.lab_run.proofs.CallParts.{some-none}
 use Rattle.lab_headline.proofs.OnwardLines.{InOpen, unpaused-ends}
 
 -- a stream in these states places nothing and takes nothing back until it is prepared
