@@ -1,6 +1,6 @@
 -- Clients and readers are kinds of actors whose lines load a position before they place or get anything, and begin where they were.
 use Rattle.std.proofs.Common.{◌≡◌, ℕ, refl, Option, Some, None}
-use Rattle.std.specs.Prelude.{Bool, true, false, ◌-◌, min, [], Result}
+use Rattle.std.specs.Prelude.{Bool, true, false, [], Result, ⊤}
 use Rattle.snd_base.specs.declared.errors.PcmError.{PcmError}
 use Rattle.mix_core.specs.declared.marks.Marks.{Marks}
 use Rattle.pcm_states.specs.declared.calls.Call.{Call}
@@ -8,7 +8,7 @@ use Rattle.pcm_states.specs.declared.calls.Call.TheVariants as call
 use Rattle.wav_io.specs.Sound.{Sound}
 use Rattle.course.specs.Course.{Course, ends}
 use Rattle.dmix_client.specs.declared.stream.PlaybackStream.{PlaybackStream}
-use Rattle.dmix_client.specs.Calls.{Answered, avail_answer, delay_answer}
+use Rattle.dmix_client.specs.Calls.{Answered, in_draining}
 use Rattle.dmix_client.specs.Course.{if_admitted}
 use Rattle.dsnoop_client.specs.declared.stream.CaptureStream as reading
 use Rattle.dsnoop_client.specs.Calls as reading_calls
@@ -16,13 +16,14 @@ use Rattle.dsnoop_client.specs.Course as reading_course
 use Rattle.lab_lines.specs.declared.line.Op.{Op}
 use Rattle.lab_lines.specs.declared.line.Op.TheVariants as op
 use Rattle.lab_lines.specs.declared.row.Answer.{Answer}
-use Rattle.lab_run.specs.Client.{Client, after_call, call_answer, begins, call_of, client_kind, count_answer, dies_if, done_answer, frames_of, line_by, line_if}
+use Rattle.lab_run.specs.Client.{Client, after_call, call_answer, begins, call_of, client_kind, count_answer, dies_if, done_answer, line_by, line_if}
 use Rattle.lab_run.specs.Lines.{Kind}
 use Rattle.lab_run.specs.Reader.{Reader, reader_kind}
 use Rattle.lab_run.specs.Reader as readers
 use Rattle.lab_run.specs.Rules.{AtPort}
+use Rattle.lab_run.proofs.CallParts.{IsSaying, Parts, call_of-says, done_answer-says, if_admitted-says}
 use Rattle.lab_run.proofs.ClientLeads as client_leads
-use Rattle.lab_run.proofs.Leads.{LoadsFirst, first-then}
+use Rattle.lab_run.proofs.Leads.{Anything, Led, Led-less, Led-then, LoadsFirst, OkLed, first-of, first-then}
 use Rattle.lab_run.proofs.ReaderLeads as reader_leads
 use Rattle.lab_run.proofs.RewindLeads as rewind_leads
 
@@ -34,30 +35,49 @@ pub record IsKind {S : Type 0} (kind : Kind S) : Type 0 where
 
 -- ---- clients
 
-answered-first : {X : Type 0} (answer : Result X PcmError → Answer) (c : PlaybackStream) (call : Call) (course : Course (Answered X)) → LoadsFirst false course
-    → LoadsFirst false (call_answer answer (if_admitted c call course))
-answered-first answer c call course led =
-    first-then false (if_admitted c call course) (λ done. ends (done.0, answer done.1)) (client_leads.admitted-first c call course led) (λ l x. tt)
+led-so : IsSaying {W = Bool} (λ X Q loaded course. Led Q loaded course)
+led-so = record {
+  at_end = λ X Q loaded x is. is;
+  after = λ X Y R Q loaded course f led next. Led-then R Q loaded course f led next;
+  implied = λ X R Q loaded course led less. Led-less R Q less loaded course led;
+}
+
+parts-first : (marks : Marks) (c : PlaybackStream)
+    → Parts {W = Bool} (λ X Q loaded course. Led Q loaded course) (λ n. ⊤) marks c false OkLed (λ state more. OkLed) Anything Anything
+parts-first marks c = record {
+  same = tt;
+  counted = λ n. tt;
+  refused = λ e. tt;
+  not_counted = λ e. tt;
+  looks = λ asked going step. client_leads.syncs-led c asked [] false;
+  looked = λ loaded done led. tt;
+  numbered = λ number loaded done led. tt;
+  drained = λ going moves. first-of OkLed false _ (client_leads.syncs-led (in_draining c) call.Drain [] false);
+  starts_to = λ state upto more ring start prepared most few. client_leads.starts-led c state marks.cursor upto ring false;
+  started = λ loaded done led. tt;
+  drains_on = λ loaded done led. client_leads.drain_on-first [] loaded done;
+  empty = λ prepared. tt;
+  few_none = tt;
+  few_taken = λ n few. tt;
+  writes_more = λ n loaded done few led. client_leads.write_on-first [] [] n loaded done led;
+  accepted = λ n loaded done few led. tt;
+  stored = λ n few prepared. tt;
+  checked = λ going runs. rewind_leads.checks-led c false;
+  rewinds_on = λ n loaded done led. rewind_leads.rewind_on-first marks.floor [] n loaded done led;
+  fewer = λ n prepared most. tt;
+  dropped = tt;
+  paused = tt;
+}
+
+-- a call that begins a new stretch
+anew-first : (c : PlaybackStream) (asked : Call) (course : Course (Answered (Unit {0}))) → LoadsFirst false course → LoadsFirst false (call_answer done_answer (if_admitted c asked course))
+anew-first c asked course led = done_answer-says led-so c false Anything Anything (if_admitted c asked course) (λ loaded x is. tt)
+    (if_admitted-says led-so c false Anything asked course (λ e. tt) (λ admits. led))
 
 call-first : (wav : Sound) (marks : Marks) (c : PlaybackStream) (asked : Op) → LoadsFirst false (call_of wav marks c asked)
-call-first wav marks c (op.Write n) = answered-first count_answer c call.Transfer _ (client_leads.write-first c marks.cursor (min n (frames_of wav - c.fed)))
-call-first wav marks c op.Start = answered-first done_answer c call.Start _ (client_leads.start-first c [] marks.cursor)
-call-first wav marks c op.Sync = answered-first done_answer c call.Sync _ (client_leads.sync-first c [])
-call-first wav marks c op.Avail = answered-first count_answer c call.Sync _ (client_leads.number-first avail_answer c [])
-call-first wav marks c op.Delay = answered-first count_answer c call.Sync _ (client_leads.number-first delay_answer c [])
-call-first wav marks c op.Drain = answered-first done_answer c call.Drain _ (client_leads.drain-first c [] marks.cursor)
-call-first wav marks c op.Drop = answered-first done_answer c call.Drop (ends _) tt
-call-first wav marks c op.Prepare = answered-first done_answer c call.Prepare (ends _) tt
-call-first wav marks c op.Pause = answered-first done_answer c call.Pause _ (client_leads.pause-first true c [] marks.cursor)
-call-first wav marks c op.Resume = answered-first done_answer c call.Resume _ (client_leads.pause-first false c [] marks.cursor)
-call-first wav marks c (op.Rewind n) = answered-first count_answer c call.Transfer _ (rewind_leads.rewind-first c [] marks.floor n)
-call-first wav marks c op.Rewindable = answered-first count_answer c call.Transfer _ (rewind_leads.rewindable-first c marks.floor)
-call-first wav marks c (op.Die k) = tt
-call-first wav marks c (op.Play k) = tt
-call-first wav marks c (op.Read k) = tt
-call-first wav marks c op.Unplug = tt
-call-first wav marks c op.Opens = tt
-call-first wav marks c op.Closes = tt
+call-first wav marks c op.Prepare = anew-first c call.Prepare (ends _) tt
+call-first wav marks c op.Resume = anew-first c call.Resume _ (client_leads.pause-first false c [] marks.cursor)
+call-first wav marks c asked = call_of-says led-so c false (parts-first marks c) Anything (λ loaded x is. tt) (λ loaded x is. tt) tt wav (λ n. tt) asked refl
 
 line_if-first : (stopped : Bool) (wav : Sound) (marks : Marks) (client : Client) (c : PlaybackStream) (asked : Op) → LoadsFirst false (line_if stopped wav marks client c asked)
 line_if-first true wav marks client c asked = tt

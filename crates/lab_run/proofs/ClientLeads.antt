@@ -1,27 +1,23 @@
--- Each call of a client loads a position before it places anything.
+-- What the calls of a client do loads a position before it places anything.
 use Rattle.std.proofs.Common.{◌≡◌, ℕ, ◌+◌, refl, Option, Some, None}
 use Rattle.std.specs.Prelude.{Bool, true, false, nat_eq, List, [], ◌∷◌, zero, suc, ℤ, Ok, Err, ⊤}
-use Rattle.snd_base.specs.declared.errors.PcmError.{PcmError}
 use Rattle.snd_base.specs.declared.places.Cursor.{Cursor}
 use Rattle.mix_core.specs.declared.port.Ended.{Ended}
 use Rattle.mix_core.specs.declared.port.Ended.TheVariants.{Whole, Late, Stopped}
 use Rattle.mix_core.specs.declared.port.Position.{Position}
 use Rattle.bindings.specs.Bound.{rising}
 use Rattle.pcm_states.specs.declared.states.State.{State}
-use Rattle.pcm_states.specs.declared.states.State.TheVariants.{Draining, Running}
+use Rattle.pcm_states.specs.declared.states.State.TheVariants.{Running}
 use Rattle.pcm_states.specs.declared.calls.Call.{Call}
 use Rattle.pcm_states.specs.declared.calls.Call.TheVariants as call
 use Rattle.course.specs.Course.{◌>>=◌, Course, ends}
 use Rattle.dmix_client.specs.declared.commit.Commit.{Commit}
 use Rattle.dmix_client.specs.declared.stream.PlaybackStream.{PlaybackStream}
-use Rattle.pcm_stream.specs.declared.direction.Direction.TheVariants.{Playback}
-use Rattle.pcm_stream.specs.Status.{is_moving, refusal_of}
-use Rattle.dmix_client.specs.Calls.{Answered, accepted_if, in_draining, has_frames, is_running, pending_of, with_new_base, after_resume, start_count, after_start, started_in, sync_count, after_sync, taken_of, with_number, written_after}
-use Rattle.dmix_client.specs.Course.{if_admitted, admitted_by, commit_at, commits, drain_course, drain_on, drains, fills, go_on, lay_each, lay_frame, lay_frames, lay_on, looks, number_course, course_with_number, one_frame_more, one_more, pause_course, resumes, start_course, starts, starts_taking, sync_course, syncs, takes_more, write_on, writes_on}
+use Rattle.dmix_client.specs.Calls.{Answered, pending_of, with_new_base, after_resume, start_count, after_start, started_in, sync_count, after_sync, taken_of, written_after}
+use Rattle.dmix_client.specs.Course.{commit_at, commits, drain_on, go_on, lay_each, lay_frame, lay_frames, lay_on, looks, one_frame_more, one_more, pause_course, resumes, starts, syncs, takes_more, write_on}
 use Rattle.dmix_client.specs.View.{ring_sample}
-use Rattle.dmix_client.specs.Writes.{count_with, ring_with, starts_with}
-use Rattle.lab_run.specs.Client.{write_course}
-use Rattle.lab_run.proofs.Leads.{Anything, IsLed, Led, Led-if, Led-then, LoadsFirst, OkLed, first-of, first-then, is_loaded, on-ok}
+use Rattle.dmix_client.specs.Writes.{count_with, ring_with}
+use Rattle.lab_run.proofs.Leads.{Anything, IsLed, Led, Led-if, Led-then, LoadsFirst, OkLed, first-of, is_loaded, on-ok}
 
 lay_on-led : (rest : Course (ℕ × Ended)) (ended : Ended) → Led IsLed true rest → Led IsLed true (lay_on ended rest)
 lay_on-led rest Whole led = Led-then IsLed IsLed true rest (λ end. ends (one_more end)) led (λ l x is. is)
@@ -76,11 +72,11 @@ found-led : {T : Type 0} (at : Position → PlaybackStream) (count : Position �
 found-led at count ring done none loaded =
     Led-then FoundLed OkLed loaded (looks at count ring) (λ found. ends (done found.0 found.1)) (looks-led at count ring loaded) (found-ok done none)
 
-syncs-led : (c : PlaybackStream) (call : Call) (ring : List ℤ) (loaded : Bool) → Led OkLed loaded (syncs c call ring)
+pub syncs-led : (c : PlaybackStream) (call : Call) (ring : List ℤ) (loaded : Bool) → Led OkLed loaded (syncs c call ring)
 unfolding syncs
 syncs-led c call ring loaded = found-led (λ position. c) (sync_count c) ring (after_sync c call) (λ l x. tt) loaded
 
-starts-led : (c : PlaybackStream) (state : State) (cursor : Cursor) (upto : ℕ) (ring : List ℤ) (loaded : Bool) → Led OkLed loaded (starts c state cursor upto ring)
+pub starts-led : (c : PlaybackStream) (state : State) (cursor : Cursor) (upto : ℕ) (ring : List ℤ) (loaded : Bool) → Led OkLed loaded (starts c state cursor upto ring)
 unfolding starts
 starts-led c state cursor upto ring loaded =
     found-led (λ position. started_in c Running position cursor) (λ position. start_count c cursor position upto) ring (after_start c state cursor) (λ l x. tt) loaded
@@ -91,40 +87,11 @@ resumes-led c cursor ring loaded =
     found-led (λ position. started_in (with_new_base c) Running position cursor) (λ position. start_count (with_new_base c) cursor position (pending_of c)) ring
     (after_resume c cursor) (λ l x. tt) loaded
 
--- ---- the calls
+-- ---- what their parts say
 
-pub sync-first : (c : PlaybackStream) (ring : List ℤ) → LoadsFirst false (sync_course c ring)
-sync-first c ring = Led-if Anything false (is_moving c.status.state) (syncs c call.Sync ring) (ends _) (first-of OkLed false _ (syncs-led c call.Sync ring false)) tt
-
-pub start-first : (c : PlaybackStream) (ring : List ℤ) (cursor : Cursor) → LoadsFirst false (start_course c ring cursor)
-start-first c ring cursor =
-    Led-if Anything false (nat_eq c.stretch.written 0) (ends _) (starts c Running cursor c.stretch.written ring) tt (first-of OkLed false _ (starts-led c Running cursor c.stretch.written ring false))
-
-drain_on-first : (ring : List ℤ) (l : Bool) (done : Answered (Unit {0})) → LoadsFirst l (drain_on ring done)
+pub drain_on-first : (ring : List ℤ) (l : Bool) (done : Answered (Unit {0})) → LoadsFirst l (drain_on ring done)
 drain_on-first ring l (c, Ok x) = first-of OkLed l _ (syncs-led c call.Drain ring l)
 drain_on-first ring l (c, Err e) = tt
-
-drains-first : (c : PlaybackStream) (ring : List ℤ) (cursor : Cursor) → LoadsFirst false (drains c ring cursor)
-unfolding drains
-drains-first c ring cursor = first-then false (starts c Draining cursor c.stretch.written ring) (drain_on ring)
-    (first-of OkLed false _ (starts-led c Draining cursor c.stretch.written ring false)) (drain_on-first ring)
-
-pub drain-first : (c : PlaybackStream) (ring : List ℤ) (cursor : Cursor) → LoadsFirst false (drain_course c ring cursor)
-drain-first c ring cursor = Led-if Anything false (is_moving c.status.state) (syncs (in_draining c) call.Drain ring) _
-    (first-of OkLed false _ (syncs-led (in_draining c) call.Drain ring false))
-    (Led-if Anything false (has_frames c) (drains c ring cursor) (ends _) (drains-first c ring cursor) tt)
-
-pub pause-first : (on : Bool) (c : PlaybackStream) (ring : List ℤ) (cursor : Cursor) → LoadsFirst false (pause_course on c ring cursor)
-pause-first on c ring cursor = Led-if Anything false on (ends _) _ tt
-    (Led-if Anything false (nat_eq (pending_of c) 0) (ends _) (resumes c cursor ring) tt (first-of OkLed false _ (resumes-led c cursor ring false)))
-
-pub numbered-first : (number : PlaybackStream → ℕ) (course : Course (Answered (Unit {0}))) → LoadsFirst false course → LoadsFirst false (course_with_number number course)
-unfolding course_with_number
-numbered-first number course led = first-then false course (λ done. ends (with_number number done)) led (λ l x. tt)
-
-pub number-first : (number : PlaybackStream → ℕ) (c : PlaybackStream) (ring : List ℤ) → LoadsFirst false (number_course number c ring)
-number-first number c ring = Led-if Anything false (is_moving c.status.state) (course_with_number number (syncs c call.Sync ring)) (ends _)
-    (numbered-first number (syncs c call.Sync ring) (first-of OkLed false _ (syncs-led c call.Sync ring false))) tt
 
 takes_more-first : (c : PlaybackStream) (ring samples : List ℤ) (n : ℕ) → LoadsFirst true (takes_more c ring samples n)
 unfolding takes_more
@@ -132,29 +99,12 @@ takes_more-first c ring samples n =
     Led-then IsLed Anything true (commits c (ring_with c ring samples (taken_of c n)) (count_with c (taken_of c n))) (λ last. ends (written_after c n last))
     (commits-led c (ring_with c ring samples (taken_of c n)) (count_with c (taken_of c n))) (λ l x is. tt)
 
-write_on-first : (ring samples : List ℤ) (n : ℕ) (l : Bool) (done : Answered (Unit {0})) → OkLed l done → LoadsFirst l (write_on ring samples n done)
+pub write_on-first : (ring samples : List ℤ) (n : ℕ) (l : Bool) (done : Answered (Unit {0})) → OkLed l done → LoadsFirst l (write_on ring samples n done)
 write_on-first ring samples n l (c, Ok x) led = rw led (takes_more-first c ring samples n)
 write_on-first ring samples n l (c, Err e) led = tt
 
-writes_on-first : (c : PlaybackStream) (ring samples : List ℤ) (n : ℕ) → LoadsFirst false (writes_on c ring samples n)
-unfolding writes_on
-writes_on-first c ring samples n =
-    Led-then OkLed Anything false (syncs c call.Transfer ring) (write_on ring samples n) (syncs-led c call.Transfer ring false) (write_on-first ring samples n)
+-- ---- a resume, which begins a new stretch
 
-starts_taking-first : (c : PlaybackStream) (ring : List ℤ) (cursor : Cursor) (taken : ℕ) → LoadsFirst false (starts_taking c ring cursor taken)
-unfolding starts_taking
-starts_taking-first c ring cursor taken =
-    first-then false (starts c Running cursor (c.stretch.written + taken) ring) (λ done. ends (accepted_if taken done))
-    (first-of OkLed false _ (starts-led c Running cursor (c.stretch.written + taken) ring false)) (λ l x. tt)
-
-pub write-first : (c : PlaybackStream) (cursor : Cursor) (n : ℕ) → LoadsFirst false (write_course c cursor n)
-write-first c cursor n = Led-if Anything false (is_running c.status.state) (writes_on c [] [] n) (fills c [] [] cursor n) (writes_on-first c [] [] n)
-    (Led-if Anything false (starts_with c n) (starts_taking c (ring_with c [] [] (taken_of c n)) cursor (taken_of c n)) (ends _)
-    (starts_taking-first c (ring_with c [] [] (taken_of c n)) cursor (taken_of c n)) tt)
-
-pub admitted-first : {X : Type 0} (c : PlaybackStream) (call : Call) (course : Course (Answered X)) → LoadsFirst false course → LoadsFirst false (if_admitted c call course)
-admitted-first {X = X} c call course led = by_refusal (refusal_of Playback c.status call)
-  where
-    by_refusal : (refusal : Option PcmError) → LoadsFirst false (admitted_by {X = X} refusal c course)
-    by_refusal None = led
-    by_refusal (Some e) = tt
+pub pause-first : (on : Bool) (c : PlaybackStream) (ring : List ℤ) (cursor : Cursor) → LoadsFirst false (pause_course on c ring cursor)
+pause-first on c ring cursor = Led-if Anything false on (ends _) _ tt
+    (Led-if Anything false (nat_eq (pending_of c) 0) (ends _) (resumes c cursor ring) tt (first-of OkLed false _ (resumes-led c cursor ring false)))

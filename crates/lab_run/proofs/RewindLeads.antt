@@ -1,6 +1,6 @@
--- Each rewind of a client loads a position before it withdraws anything.
+-- What a rewind of a client does loads a position before it withdraws anything.
 use Rattle.std.proofs.Common.{◌≡◌, ℕ, ◌+◌, refl, Option, Some, None}
-use Rattle.std.specs.Prelude.{Bool, true, false, List, ℤ, zero, suc, min, length, Ok, Err, ◌-◌}
+use Rattle.std.specs.Prelude.{Bool, true, List, ℤ, zero, suc, min, length, Ok, Err, ◌-◌}
 use Rattle.snd_base.specs.declared.places.Cursor.{Cursor}
 use Rattle.mix_core.specs.declared.port.Ended.{Ended}
 use Rattle.mix_core.specs.declared.port.Ended.TheVariants.{Whole, Late, Stopped}
@@ -9,24 +9,19 @@ use Rattle.pcm_states.specs.declared.calls.Call.TheVariants as call
 use Rattle.course.specs.Course.{Course, ends}
 use Rattle.dmix_client.specs.declared.commit.Commit.{Commit}
 use Rattle.dmix_client.specs.declared.stream.PlaybackStream.{PlaybackStream}
-use Rattle.dmix_client.specs.Calls.{Answered, is_running, after_sync}
-use Rattle.dmix_client.specs.Course.{nothing, course_with_number}
-use Rattle.dmix_client.specs.Rewind.{back_of, back_on, checks, rewind_course, rewind_on, rewindable_course, rewindable_of, rewinds, after_rewind, take_each, take_frames, take_on, takes_back}
+use Rattle.dmix_client.specs.Calls.{Answered, after_sync}
+use Rattle.dmix_client.specs.Course.{nothing}
+use Rattle.dmix_client.specs.Rewind.{back_of, back_on, checks, rewind_on, rewindable_of, after_rewind, take_each, take_frames, take_on, takes_back}
 use Rattle.dmix_client.specs.View.{ring_sample}
-use Rattle.lab_run.proofs.ClientLeads.{numbered-first}
-use Rattle.lab_run.proofs.Leads.{Anything, IsLed, Led, Led-if, Led-then, LoadsFirst, OkLed, first-of, is_loaded, on-ok}
+use Rattle.lab_run.proofs.Leads.{Anything, IsLed, Led, Led-then, LoadsFirst, OkLed, is_loaded, on-ok}
 
-checks-led : (c : PlaybackStream) (loaded : Bool) → Led OkLed loaded (checks c)
+pub checks-led : (c : PlaybackStream) (loaded : Bool) → Led OkLed loaded (checks c)
 unfolding checks
 checks-led c loaded = by_load
   where
     by_load : (load : Option Position) → OkLed (is_loaded loaded load) (after_sync c call.Transfer load nothing)
     by_load None = tt
     by_load (Some position) = on-ok true (after_sync c call.Transfer (Some position) nothing).1 refl
-
-pub rewindable-first : (c : PlaybackStream) (floor : Cursor) → LoadsFirst false (rewindable_course c floor)
-rewindable-first c floor = Led-if Anything false (is_running c.status.state) (course_with_number (rewindable_of floor) (checks c)) (ends _)
-    (numbered-first (rewindable_of floor) (checks c) (first-of OkLed false _ (checks-led c false))) tt
 
 take_on-led : (ended : Ended) (n : ℕ) (rest : Course (ℕ × Ended)) → Led IsLed true rest → Led IsLed true (take_on ended n rest)
 take_on-led Whole n rest led = led
@@ -59,13 +54,6 @@ takes_back-first c ring n =
     Led-then IsLed Anything true (take_frames c.identity.member c.stretch.card c.setup.bindings (ring_sample c ring) (c.stretch.committed - back_of c n) (back_of c n)) (λ left. ends (after_rewind c n left))
     (take_frames-led c.identity.member c.stretch.card c.setup.bindings (ring_sample c ring) (c.stretch.committed - back_of c n) (back_of c n)) (λ l x is. tt)
 
-rewind_on-first : (floor : Cursor) (ring : List ℤ) (n : ℕ) (l : Bool) (done : Answered (Unit {0})) → OkLed l done → LoadsFirst l (rewind_on floor ring n done)
+pub rewind_on-first : (floor : Cursor) (ring : List ℤ) (n : ℕ) (l : Bool) (done : Answered (Unit {0})) → OkLed l done → LoadsFirst l (rewind_on floor ring n done)
 rewind_on-first floor ring n l (c, Ok x) led = rw led (takes_back-first c ring (min n (rewindable_of floor c)))
 rewind_on-first floor ring n l (c, Err e) led = tt
-
-rewinds-first : (c : PlaybackStream) (ring : List ℤ) (floor : Cursor) (n : ℕ) → LoadsFirst false (rewinds c ring floor n)
-unfolding rewinds
-rewinds-first c ring floor n = Led-then OkLed Anything false (checks c) (rewind_on floor ring n) (checks-led c false) (rewind_on-first floor ring n)
-
-pub rewind-first : (c : PlaybackStream) (ring : List ℤ) (floor : Cursor) (n : ℕ) → LoadsFirst false (rewind_course c ring floor n)
-rewind-first c ring floor n = Led-if Anything false (is_running c.status.state) (rewinds c ring floor n) (ends _) (rewinds-first c ring floor n) tt
