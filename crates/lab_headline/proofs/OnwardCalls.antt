@@ -1,8 +1,7 @@
 -- Each call of a client goes on after what was placed before.
-use Rattle.std.proofs.Common.{◌≡◌, ℕ, ◌+◌, ◌-◌, ◌≤◌, inl, inr, refl, sym, ◌∙◌, subst, arith, Option, Some, None}
+use Rattle.std.proofs.Common.{◌≡◌, ℕ, ◌+◌, ◌-◌, ◌≤◌, inl, inr, refl, sym, ◌∙◌, subst, arith, Some}
 use Rattle.std.proofs.lemmas.Bool.{false≢true}
-use Rattle.std.specs.Prelude.{Bool, true, false, ◌&&◌, nat_eq, nat_lt, if◌then◌else◌, [], Result, Ok, Err, min, max}
-use Rattle.snd_base.specs.declared.errors.PcmError.{PcmError}
+use Rattle.std.specs.Prelude.{Bool, true, false, ◌&&◌, nat_eq, nat_lt, if◌then◌else◌, [], Ok, Err, min, max, ⊤}
 use Rattle.snd_base.specs.declared.errors.PcmError.TheVariants as error
 use Rattle.snd_base.specs.declared.geometry.Geometry.{Geometry}
 use Rattle.snd_base.specs.declared.places.Cursor.{Cursor}
@@ -14,22 +13,21 @@ use Rattle.pcm_states.specs.declared.states.State.{State}
 use Rattle.pcm_states.specs.declared.states.State.TheVariants.{Draining, Paused, Prepared, Running, Setup}
 use Rattle.pcm_states.specs.Table.{next_of}
 use Rattle.pcm_stream.specs.declared.direction.Direction.TheVariants.{Playback}
-use Rattle.pcm_stream.specs.Status.{is_moving, nothing_found, refusal_of}
+use Rattle.pcm_stream.specs.Status.{is_moving, nothing_found}
 use Rattle.course.specs.Course.{Course, ends}
 use Rattle.dmix_client.specs.declared.commit.Commit.{Commit}
 use Rattle.dmix_client.specs.declared.stream.PlaybackStream.{PlaybackStream}
-use Rattle.dmix_client.specs.Calls.{Answered, committed_by, found_at, is_prepared, is_stop, late_of, with_outcome, start_count, after_start, started_in, stopped_in, accepted_if, avail_answer, delay_answer, in_draining, after_drop, has_frames, in_state, is_running, late_at, pending_of, after_prepare, with_new_base, after_resume, taken_of, with_number, written_after}
-use Rattle.dmix_client.specs.Course.{commits, looks, nothing, starts, syncs, if_admitted, admitted_by, drain_course, drain_on, drains, fills, number_course, course_with_number, pause_course, resumes, start_course, starts_taking, sync_course, takes_more, write_on, writes_on}
+use Rattle.dmix_client.specs.Calls.{Answered, committed_by, found_at, is_prepared, is_stop, late_of, with_outcome, start_count, after_start, started_in, stopped_in, accepted_if, in_draining, in_state, is_running, late_at, pending_of, after_prepare, with_new_base, after_resume, taken_of, with_number, written_after}
+use Rattle.dmix_client.specs.Course.{commits, looks, nothing, syncs, if_admitted, drain_on, drains, pause_course, resumes, takes_more, write_on}
 use Rattle.dmix_client.specs.Port.{IsFrameStep}
-use Rattle.dmix_client.specs.Rewind.{back_of, checks, last_channel, last_laid, rewind_course, rewind_on, rewindable_course, rewindable_of, rewinds, after_rewind, take_frames, taken_back, takes_back, without_frames}
+use Rattle.dmix_client.specs.Rewind.{back_of, checks, last_channel, last_laid, rewind_on, rewindable_of, after_rewind, take_frames, taken_back, takes_back}
 use Rattle.dmix_client.specs.View.{avail_of, ring_sample}
-use Rattle.dmix_client.specs.Writes.{count_with, ring_with, starts_with}
+use Rattle.dmix_client.specs.Writes.{count_with, ring_with}
 use Rattle.lab_lines.specs.declared.line.Op.{Op}
 use Rattle.lab_lines.specs.declared.line.Op.TheVariants as op
-use Rattle.lab_lines.specs.declared.row.Answer.{Answer}
 use Rattle.wav_io.specs.Sound.{Sound}
-use Rattle.lab_run.specs.Client.{call_answer, call_of, count_answer, done_answer, write_course}
-use Rattle.lab_run.proofs.CallParts.{moving-syncs, running-moves, running-transfers, starts-prepared, transfers-prepared}
+use Rattle.lab_run.specs.Client.{call_answer, call_of, done_answer}
+use Rattle.lab_run.proofs.CallParts.{IsSaying, Parts, call_of-says, done_answer-says, if_admitted-says, running-moves, running-transfers, start-unprepared, step-moves}
 use Rattle.lab_headline.proofs.Onward.{Begun, Channels, OnwardAfter, Leads, Leads-if, Leads-map, Leads-then, Lies, Onward, Started, Waits, begun, commits-lead, earlier-lies, end_of, ended-lies, free_frame, high_end, looks-lead, moving-begun, moving-unprepared, start-commits, starts-go, after_sync-goes, syncs-go}
 use Rattle.lab_headline.proofs.Withdrawn.{below-sum, frames-back}
 
@@ -54,43 +52,8 @@ module _ (p : ℕ) (g : Geometry) (x y : ℕ) where
   accepted-goes n m (c, Ok done) goes = goes
   accepted-goes n m (c, Err e) goes = goes
 
-  pub numbered-goes : (number : PlaybackStream → ℕ) (m : Marks) (course : Course (Answered (Unit {0}))) → Leads p g (OnwardAfter p x y) m course → Leads p g (OnwardAfter p x y) m (course_with_number number course)
-  unfolding course_with_number
-  numbered-goes number m course leads = Leads-then p g (OnwardAfter p x y) (OnwardAfter p x y) m course (λ done. ends (with_number number done)) leads (number-goes number)
-
   pub syncs-goes : (c : PlaybackStream) (asked : Call) (m : Marks) → IsFrameStep c.status.state asked → Begun p x y m c → Leads p g (OnwardAfter p x y) m (syncs c asked [])
   syncs-goes c asked m step is = Leads-map p g (λ n done. Begun p x y n done.0) (OnwardAfter p x y) m (syncs c asked []) (syncs-go p g x y c asked [] m step is) (λ n done begun. inl begun)
-
-  pub sync-goes : (c : PlaybackStream) (m : Marks) → Onward p x y m c → Leads p g (OnwardAfter p x y) m (sync_course c [])
-  sync-goes c m is = by_test (is_moving c.status.state) refl
-    where
-      by_test : (moves : Bool) → is_moving c.status.state ≡ moves → Leads p g (OnwardAfter p x y) m (if moves then syncs c call.Sync [] else ends (c, Ok tt))
-      by_test true moves = syncs-goes c call.Sync m (moving-syncs c.status.state moves) (moving-begun p x y m c moves is)
-      by_test false moves = is
-
-  pub number_course-goes : (number : PlaybackStream → ℕ) (c : PlaybackStream) (m : Marks) → Onward p x y m c → Leads p g (OnwardAfter p x y) m (number_course number c [])
-  number_course-goes number c m is = by_test (is_moving c.status.state) refl
-    where
-      by_test : (moves : Bool) → is_moving c.status.state ≡ moves
-          → Leads p g (OnwardAfter p x y) m (if moves then course_with_number number (syncs c call.Sync []) else ends (c, Ok (number c)))
-      by_test true moves = numbered-goes number m (syncs c call.Sync []) (syncs-goes c call.Sync m (moving-syncs c.status.state moves) (moving-begun p x y m c moves is))
-      by_test false moves = is
-
-  pub start-goes : (c : PlaybackStream) (m : Marks) → is_prepared c.status.state ≡ true → Waits p x y m c → Leads p g (OnwardAfter p x y) m (start_course c [] m.cursor)
-  start-goes c m prepared waits = Leads-if p g (OnwardAfter p x y) m (nat_eq c.stretch.written 0) _ _ (inr (record {
-    bound = waits.bound;
-    still = empty-still c.status.state prepared;
-    none = waits.none;
-    no_part = waits.no_part;
-    low = waits.low;
-    top = waits.top;
-    high = waits.high;
-  })) (Leads-map p g (Started p g x y Running) (OnwardAfter p x y) m (starts c Running m.cursor c.stretch.written []) (starts-go p g x y c Running c.stretch.written [] m refl waits)
-      (λ n done started. started.0))
-    where
-      empty-still : (s : State) → is_prepared s ≡ true → is_moving (next_of s call.Start (record (nothing_found Playback) { queued = 0 })).state ≡ false
-      empty-still Prepared is = refl
-      empty-still other is = absurd (false≢true is)
 
   -- a write
   pub written-begun : (c : PlaybackStream) (n : ℕ) (commit : Commit) (m : Marks) → Channels c.setup.bindings → c.stretch.started ≡ true → is_prepared c.status.state ≡ false
@@ -128,47 +91,11 @@ module _ (p : ℕ) (g : Geometry) (x y : ℕ) where
       (commits-lead p g x y c (ring_with c [] [] (taken_of c n)) (count_with c (taken_of c n)) m is.bound is.past is.lies)
       (λ k commit lies. written-begun c n commit k is.bound is.started is.unprepared is.past lies)
 
-  pub write-goes : (c : PlaybackStream) (n : ℕ) (m : Marks) → refusal_of Playback c.status call.Transfer ≡ None → Onward p x y m c → Leads p g (OnwardAfter p x y) m (write_course c m.cursor n)
-  unfolding writes_on starts_taking
-  write-goes c n m admits is = by_test (is_running c.status.state) refl
-    where
-      starts-taken : Waits p x y m c → Leads p g (OnwardAfter p x y) m (starts_taking c (ring_with c [] [] (taken_of c n)) m.cursor (taken_of c n))
-      starts-taken waits = Leads-then p g (Started p g x y Running) (OnwardAfter p x y) m (starts c Running m.cursor (c.stretch.written + taken_of c n) (ring_with c [] [] (taken_of c n)))
-          (λ done. ends (accepted_if (taken_of c n) done)) (starts-go p g x y c Running (c.stretch.written + taken_of c n) (ring_with c [] [] (taken_of c n)) m refl waits)
-          (λ k done started. accepted-goes (taken_of c n) k done started.0)
-
-      by_test : (runs : Bool) → is_running c.status.state ≡ runs → Leads p g (OnwardAfter p x y) m (if runs then writes_on c [] [] n else fills c [] [] m.cursor n)
-      by_test true runs = Leads-then p g (λ k done. Begun p x y k done.0) (OnwardAfter p x y) m (syncs c call.Transfer []) (write_on [] [] n)
-          (syncs-go p g x y c call.Transfer [] m (running-transfers c.status.state runs) (moving-begun p x y m c (running-moves c.status.state runs) is)) (write_on-goes n)
-      by_test false runs = Leads-if p g (OnwardAfter p x y) m (starts_with c n) _ _
-          (starts-taken (prepared-waits m c (transfers-prepared c.status admits runs) is)) is
-
   -- a drain
   pub drain_on-goes : (m : Marks) (done : Answered (Unit {0})) → Started p g x y Draining m done → Leads p g (OnwardAfter p x y) m (drain_on [] done)
   drain_on-goes m (c, Err e) (is, drains) = is
   drain_on-goes m (c, Ok done) (is, drains) = syncs-goes c call.Drain m (subst (λ s. IsFrameStep s call.Drain) (sym drains) tt)
       (moving-begun p x y m c (subst (λ s. is_moving s ≡ true) (sym drains) refl) is)
-
-  pub drain-goes : (c : PlaybackStream) (m : Marks) → Onward p x y m c → Leads p g (OnwardAfter p x y) m (drain_course c [] m.cursor)
-  unfolding drains
-  drain-goes c m is = by_test (is_moving c.status.state) refl
-    where
-      drains-go : Waits p x y m c → Leads p g (OnwardAfter p x y) m (drains c [] m.cursor)
-      drains-go waits = Leads-then p g (Started p g x y Draining) (OnwardAfter p x y) m (starts c Draining m.cursor c.stretch.written []) (drain_on [])
-          (starts-go p g x y c Draining c.stretch.written [] m refl waits) drain_on-goes
-
-      by_frames : (prepared some : Bool) → is_prepared c.status.state ≡ prepared → Leads p g (OnwardAfter p x y) m (if prepared && some then drains c [] m.cursor else ends (after_drop c, Ok tt))
-      by_frames true true is_so = drains-go (prepared-waits m c is_so is)
-      by_frames true false is_so = in-state Setup m c refl refl is
-      by_frames false some is_so = in-state Setup m c refl refl is
-
-      draining-begun : Begun p x y m c → Begun p x y m (in_draining c)
-      draining-begun begun = record { bound = begun.bound; started = begun.started; unprepared = refl; past = begun.past; lies = begun.lies }
-
-      by_test : (moves : Bool) → is_moving c.status.state ≡ moves → Leads p g (OnwardAfter p x y) m (if moves then syncs (in_draining c) call.Drain []
-          else (if has_frames c then drains c [] m.cursor else ends (after_drop c, Ok tt)))
-      by_test true moves = syncs-goes (in_draining c) call.Drain m tt (draining-begun (moving-begun p x y m c moves is))
-      by_test false moves = by_frames (is_prepared c.status.state) (nat_lt 0 c.stretch.written) refl
 
   -- ---- a resume
 
@@ -211,15 +138,6 @@ module _ (p : ℕ) (g : Geometry) (x y : ℕ) where
     λ position least. after_sync-goes p g x y c call.Transfer position nothing m is.bound is.started is.unprepared (running-transfers c.status.state runs) is.past
         (earlier-lies p x y c.stretch.card (end_of c) (end_of c) (end_of (committed_by c nothing)) m (omega arith) is.lies),
   )
-
-  pub rewindable-goes : (floor : Cursor) (c : PlaybackStream) (m : Marks) → Onward p x y m c → Leads p g (OnwardAfter p x y) m (rewindable_course c floor)
-  rewindable-goes floor c m is = by_test (is_running c.status.state) refl
-    where
-      by_test : (runs : Bool) → is_running c.status.state ≡ runs
-          → Leads p g (OnwardAfter p x y) m (if runs then course_with_number (rewindable_of floor) (checks c) else ends (c, Ok c.stretch.written))
-      by_test true runs = numbered-goes (rewindable_of floor) m (checks c) (Leads-map p g (λ n done. Begun p x y n done.0) (OnwardAfter p x y) m (checks c)
-          (checks-go c m runs (moving-begun p x y m c (running-moves c.status.state runs) is)) (λ n done begun. inl begun))
-      by_test false runs = is
 
   pub rewound-goes : (c : PlaybackStream) (n : ℕ) (left : Commit) (m : Marks) → Channels c.setup.bindings → c.stretch.started ≡ true → is_prepared c.status.state ≡ false → x ≤ c.stretch.card
       → Lies p x y c.stretch.card 0 (end_of (taken_back c n left)) m → OnwardAfter p x y m (after_rewind c n left)
@@ -265,42 +183,69 @@ module _ (p : ℕ) (g : Geometry) (x y : ℕ) where
   rewind_on-goes floor n m (c, Err e) is = inl is
   rewind_on-goes floor n m (c, Ok done) is = takes_back-goes c (min n (rewindable_of floor c)) m (below-sum n (pending_of c) c.stretch.committed _) is
 
-  pub rewind-goes : (floor : Cursor) (c : PlaybackStream) (n : ℕ) (m : Marks) → Onward p x y m c → Leads p g (OnwardAfter p x y) m (rewind_course c [] floor n)
-  unfolding rewinds
-  rewind-goes floor c n m is = by_test (is_running c.status.state) refl
+  -- ---- the calls of lines
+
+  leads-so : IsSaying {W = Marks} (λ X Q m course. Leads p g Q m course)
+  leads-so = record {
+    at_end = λ X Q m x is. is;
+    after = λ X Y R Q m course f leads next. Leads-then p g R Q m course f leads next;
+    implied = λ X R Q m course leads less. Leads-map p g R Q m course leads less;
+  }
+
+  parts-go : (m : Marks) (c : PlaybackStream) → Onward p x y m c
+      → Parts {W = Marks} (λ X Q n course. Leads p g Q n course) (λ n. ⊤) m c m (λ n done. Begun p x y n done.0) (λ state more. Started p g x y state) (OnwardAfter p x y) (OnwardAfter p x y)
+  parts-go m c is = record {
+    same = is;
+    counted = λ n. is;
+    refused = λ e. is;
+    not_counted = λ e. is;
+    looks = λ asked going step. syncs-go p g x y c asked [] m step (moving-begun p x y m c (step-moves c.status.state asked step) is);
+    looked = λ n done begun. inl begun;
+    numbered = λ number n done begun. number-goes number n done (inl begun);
+    drained = λ going moves. syncs-goes (in_draining c) call.Drain m tt (draining-begun (moving-begun p x y m c moves is));
+    starts_to = λ state upto more ring start prepared most few. starts-go p g x y c state upto ring m (start-unprepared state start) (prepared-waits m c prepared is);
+    started = λ n done started. started.0;
+    drains_on = λ n done started. drain_on-goes n done started;
+    empty = λ prepared. empty-goes prepared (prepared-waits m c prepared is);
+    few_none = tt;
+    few_taken = λ n few. tt;
+    writes_more = λ n k done few begun. write_on-goes n k done begun;
+    accepted = λ n k done few started. accepted-goes (taken_of c n) k done started.0;
+    stored = λ n few prepared. is;
+    checked = λ going runs. checks-go c m runs (moving-begun p x y m c (running-moves c.status.state runs) is);
+    rewinds_on = λ n k done begun. rewind_on-goes m.floor n k done begun;
+    fewer = λ n prepared most. is;
+    dropped = in-state Setup m c refl refl is;
+    paused = in-state Paused m c refl refl is;
+  }
     where
-      rewinds-go : Begun p x y m c → is_running c.status.state ≡ true → Leads p g (OnwardAfter p x y) m (rewinds c [] floor n)
-      rewinds-go begun runs = Leads-then p g (λ k done. Begun p x y k done.0) (OnwardAfter p x y) m (checks c) (rewind_on floor [] n) (checks-go c m runs begun) (rewind_on-goes floor n)
+      draining-begun : Begun p x y m c → Begun p x y m (in_draining c)
+      draining-begun begun = record { bound = begun.bound; started = begun.started; unprepared = refl; past = begun.past; lies = begun.lies }
 
-      by_test : (runs : Bool) → is_running c.status.state ≡ runs → Leads p g (OnwardAfter p x y) m (if runs then rewinds c [] floor n
-          else ends (without_frames c (min n c.stretch.written), Ok (min n c.stretch.written)))
-      by_test true runs = rewinds-go (moving-begun p x y m c (running-moves c.status.state runs) is) runs
-      by_test false runs = is
+      empty-still : (s : State) → is_prepared s ≡ true → is_moving (next_of s call.Start (record (nothing_found Playback) { queued = 0 })).state ≡ false
+      empty-still Prepared is = refl
+      empty-still other is = absurd (false≢true is)
 
-  -- ---- the lines
+      empty-goes : is_prepared c.status.state ≡ true → Waits p x y m c
+          → OnwardAfter p x y m (with_outcome c (next_of c.status.state call.Start (record (nothing_found Playback) { queued = 0 })))
+      empty-goes prepared waits = inr (record {
+        bound = waits.bound;
+        still = empty-still c.status.state prepared;
+        none = waits.none;
+        no_part = waits.no_part;
+        low = waits.low;
+        top = waits.top;
+        high = waits.high;
+      })
 
-  pub answered-goes : {T : Type 0} (answer : Result T PcmError → Answer) (m : Marks) (course : Course (Answered T)) → Leads p g (OnwardAfter p x y) m course
-      → Leads p g (OnwardAfter p x y) m (call_answer answer course)
-  answered-goes answer m course leads = Leads-then p g (OnwardAfter p x y) (OnwardAfter p x y) m course (λ done. ends (done.0, answer done.1)) leads (λ n done goes. goes)
-
-  pub admitted-goes : {T : Type 0} (c : PlaybackStream) (asked : Call) (course : Course (Answered T)) (m : Marks) → Onward p x y m c
-      → (refusal_of Playback c.status asked ≡ None → Leads p g (OnwardAfter p x y) m course) → Leads p g (OnwardAfter p x y) m (if_admitted c asked course)
-  admitted-goes {T = T} c asked course m is leads = by_refusal (refusal_of Playback c.status asked) refl
-    where
-      by_refusal : (refusal : Option PcmError) → refusal_of Playback c.status asked ≡ refusal → Leads p g (OnwardAfter p x y) m (admitted_by refusal c course)
-      by_refusal None admits = leads admits
-      by_refusal (Some e) admits = is
+  -- a call that begins a new stretch
+  anew-goes : (c : PlaybackStream) (asked : Call) (course : Course (Answered (Unit {0}))) (m : Marks) → Onward p x y m c → Leads p g (OnwardAfter p x y) m course
+      → Leads p g (OnwardAfter p x y) m (call_answer done_answer (if_admitted c asked course))
+  anew-goes c asked course m is leads = done_answer-says leads-so c m (OnwardAfter p x y) (OnwardAfter p x y) (if_admitted c asked course) (λ n done goes. goes)
+      (if_admitted-says leads-so c m (OnwardAfter p x y) asked course (λ e. is) (λ admits. leads))
 
   pub call-goes : (wav : Sound) (c : PlaybackStream) (asked : Op) (m : Marks) → Onward p x y m c → Leads p g (OnwardAfter p x y) m (call_of wav m c asked)
-  call-goes wav c (op.Write n) m is = answered-goes count_answer m _ (admitted-goes c call.Transfer _ m is (λ admits. write-goes c _ m admits is))
-  call-goes wav c op.Start m is = answered-goes done_answer m _
-      (admitted-goes c call.Start _ m is (λ admits. let prepared = starts-prepared c.status admits in start-goes c m prepared (prepared-waits m c prepared is)))
-  call-goes wav c op.Sync m is = answered-goes done_answer m _ (admitted-goes c call.Sync _ m is (λ admits. sync-goes c m is))
-  call-goes wav c op.Avail m is = answered-goes count_answer m _ (admitted-goes c call.Sync _ m is (λ admits. number_course-goes avail_answer c m is))
-  call-goes wav c op.Delay m is = answered-goes count_answer m _ (admitted-goes c call.Sync _ m is (λ admits. number_course-goes delay_answer c m is))
-  call-goes wav c op.Drain m is = answered-goes done_answer m _ (admitted-goes c call.Drain _ m is (λ admits. drain-goes c m is))
-  call-goes wav c op.Drop m is = answered-goes done_answer m _ (admitted-goes c call.Drop (ends (after_drop c, Ok tt)) m is (λ admits. in-state Setup m c refl refl is))
-  call-goes wav c op.Prepare m is = answered-goes done_answer m _ (admitted-goes c call.Prepare (ends (after_prepare c, Ok tt)) m is (λ admits. let at = reached m c is in inr (record {
+  call-goes wav c op.Prepare m is = anew-goes c call.Prepare (ends (after_prepare c, Ok tt)) m is (let at = reached m c is in inr (record {
     bound = at.3;
     still = refl;
     none = refl;
@@ -308,9 +253,7 @@ module _ (p : ℕ) (g : Geometry) (x y : ℕ) where
     low = at.0;
     top = at.1;
     high = at.2;
-  })))
-  call-goes wav c op.Pause m is = answered-goes done_answer m _ (admitted-goes c call.Pause _ m is (λ admits. in-state Paused m c refl refl is))
-  call-goes wav c op.Resume m is = answered-goes done_answer m _ (admitted-goes c call.Resume _ m is (λ admits. resume-goes c m is))
-  call-goes wav c (op.Rewind n) m is = answered-goes count_answer m _ (admitted-goes c call.Transfer _ m is (λ admits. rewind-goes m.floor c n m is))
-  call-goes wav c op.Rewindable m is = answered-goes count_answer m _ (admitted-goes c call.Transfer _ m is (λ admits. rewindable-goes m.floor c m is))
-  call-goes wav c other m is = is
+  }))
+  call-goes wav c op.Resume m is = anew-goes c call.Resume _ m is (resume-goes c m is)
+  call-goes wav c asked m is =
+      call_of-says leads-so c m (parts-go m c is) (OnwardAfter p x y) (λ n done goes. goes) (λ n done goes. goes) is wav (λ n. tt) asked refl
