@@ -3,13 +3,14 @@
 --     Kept      a call changed nothing below p
 use Rattle.std.proofs.Common.{◌≡◌, ℕ, ◌+◌, ◌-◌, ◌≤◌, ◌⊎◌, inl, inr, refl, sym, ◌∙◌, subst, arith, Option, Some, None}
 use Rattle.std.proofs.lemmas.Bool.{false≢true}
-use Rattle.std.specs.Prelude.{Bool, true, false, ◌&&◌, nat_eq, nat_lt, if◌then◌else◌, List, [], ◌∷◌, ℤ, Result, Ok, Err, IfOk, min, max}
+use Rattle.std.specs.Prelude.{Bool, true, false, ◌&&◌, nat_eq, nat_lt, if◌then◌else◌, List, [], ◌∷◌, ℤ, Result, Ok, Err, IfOk, min, max, ⊤}
 use Rattle.snd_base.specs.declared.errors.PcmError.{PcmError}
 use Rattle.snd_base.specs.declared.errors.PcmError.TheVariants as error
 use Rattle.snd_base.specs.declared.errors.XrunWhy.{XrunWhy}
 use Rattle.snd_base.specs.declared.errors.XrunWhy.TheVariants as why
 use Rattle.snd_base.specs.declared.places.Cursor.{Cursor}
 use Rattle.snd_base.specs.Places.{first_free}
+use Rattle.mix_core.specs.declared.marks.Marks.{Marks}
 use Rattle.mix_core.specs.declared.port.Ended.{Ended}
 use Rattle.mix_core.specs.declared.port.Ended.TheVariants as ended
 use Rattle.mix_core.specs.declared.port.Position.{Position}
@@ -22,21 +23,23 @@ use Rattle.pcm_states.specs.declared.states.State.{State}
 use Rattle.pcm_states.specs.declared.states.State.TheVariants.{Draining, Paused, Prepared, Running, Setup}
 use Rattle.pcm_states.specs.Table.{done_in, first_outcome, if_gone, if_late, if_over, if_played, next_of, still_draining}
 use Rattle.pcm_stream.specs.declared.direction.Direction.TheVariants.{Playback}
-use Rattle.pcm_stream.specs.Status.{is_moving, nothing_found, refusal_of}
-use Rattle.course.specs.Course.{Course, ends}
+use Rattle.pcm_stream.specs.Status.{is_moving, nothing_found}
+use Rattle.course.specs.Course.{ends}
 use Rattle.dmix_client.specs.declared.commit.Commit.{Commit}
 use Rattle.dmix_client.specs.declared.stream.PlaybackStream.{PlaybackStream}
-use Rattle.dmix_client.specs.Calls.{Answered, accepted_if, after_drop, after_start, after_sync, committed_by, end_channel, end_of_commit, facts_of, found_at, has_frames, in_draining, is_paused, is_prepared, is_running, is_stop, late_at, over_of, pending_of, seen_at, segment_of, start_count, start_frame, started_in, stopped_in, sync_count, taken_of, with_accepted, with_number, with_outcome, written_after, going_on}
-use Rattle.dmix_client.specs.Course.{admitted_by, commits, course_with_number, drain_course, drain_on, drains, fills, if_admitted, looks, nothing, number_course, start_course, starts, starts_taking, sync_course, syncs, takes_more, write_on, writes_on}
+use Rattle.dmix_client.specs.Calls.{Answered, accepted_if, after_start, after_sync, committed_by, end_channel, end_of_commit, facts_of, found_at, in_draining, is_paused, is_prepared, is_running, is_stop, late_at, over_of, pending_of, seen_at, segment_of, start_count, start_frame, started_in, stopped_in, sync_count, taken_of, with_number, with_outcome, written_after, going_on}
+use Rattle.dmix_client.specs.Course.{commits, drain_on, looks, nothing, starts, syncs, takes_more, write_on}
+use Rattle.dmix_client.specs.EachCall.{IsStart}
 use Rattle.dmix_client.specs.Port.{IsFrameStep}
-use Rattle.dmix_client.specs.Rewind.{after_rewind, back_of, checks, last_channel, last_laid, rewind_course, rewind_on, rewindable_course, rewindable_of, rewinds, take_frames, taken_back, takes_back, without_frames}
+use Rattle.dmix_client.specs.Rewind.{after_rewind, back_of, checks, last_channel, last_laid, rewind_on, rewindable_of, take_frames, taken_back, takes_back}
 use Rattle.dmix_client.specs.View.{avail_of, queued_of, ring_sample}
-use Rattle.dmix_client.specs.Writes.{count_with, ring_with, starts_with}
-use Rattle.lab_run.specs.Client.{call_answer, write_course}
-use Rattle.lab_lines.specs.declared.row.Answer.{Answer}
-use Rattle.lab_run.proofs.CallParts.{admitted-going, moving-syncs, running-moves, running-transfers, transfers-prepared}
+use Rattle.dmix_client.specs.Writes.{count_with, ring_with}
+use Rattle.lab_lines.specs.declared.line.Op.{Op}
+use Rattle.wav_io.specs.Sound.{Sound}
+use Rattle.lab_run.specs.Client.{call_of}
+use Rattle.lab_run.proofs.CallParts.{Parts, call_of-says, is_new_stretch, running-moves, running-transfers, start-unprepared, step-moves}
 use Rattle.lab_headline.proofs.Onward.{Channels, stepped-unprepared}
-use Rattle.lab_headline.proofs.PlayedCourses.{CommitEnd, From, From-keeps, From-map, From-then, RewindEnd, commits-keep, frames-back, looks-from}
+use Rattle.lab_headline.proofs.PlayedCourses.{CommitEnd, From, From-keeps, From-map, From-then, RewindEnd, commits-keep, frames-back, from-so, looks-from}
 use Rattle.lab_headline.proofs.PlayedSegments.{IsAlike, IsPast, alike-same, alike-then}
 use Rattle.lab_headline.proofs.Withdrawn.{below-sum}
 
@@ -336,47 +339,6 @@ module _ (p : ℕ) (c : PlaybackStream) (fits : Fits c) where
   accepted-kept n (d, Ok x) kept = kept
   accepted-kept n (d, Err e) kept = kept
 
-  numbered-from : (s : ℕ) (number : PlaybackStream → ℕ) (course : Course (Answered (Unit {0}))) → From p (λ t done. Kept p c done) s course
-      → From p (λ t done. Kept p c done) s (course_with_number number course)
-  unfolding course_with_number
-  numbered-from s number course from = From-then p (λ t done. Kept p c done) (λ t done. Kept p c done) s course (λ done. ends (with_number number done)) from
-      (λ t done is. number-kept number done is)
-
-  pub sync-kept : c.status.stopped ≡ false → From p (λ t done. Kept p c done) 0 (sync_course c [])
-  sync-kept run = by_test (is_moving c.status.state) refl
-    where
-      by_test : (moves : Bool) → is_moving c.status.state ≡ moves → From p (λ t done. Kept p c done) 0 (if moves then syncs c call.Sync [] else ends (c, Ok tt))
-      by_test true moves = syncs-kept p 0 c call.Sync fits.bound (moving-syncs c.status.state moves) (fits.goes moves run)
-      by_test false moves = same
-
-  pub number_course-kept : (number : PlaybackStream → ℕ) → c.status.stopped ≡ false → From p (λ t done. Kept p c done) 0 (number_course number c [])
-  number_course-kept number run = by_test (is_moving c.status.state) refl
-    where
-      by_test : (moves : Bool) → is_moving c.status.state ≡ moves
-          → From p (λ t done. Kept p c done) 0 (if moves then course_with_number number (syncs c call.Sync []) else ends (c, Ok (number c)))
-      by_test true moves = numbered-from 0 number (syncs c call.Sync []) (syncs-kept p 0 c call.Sync fits.bound (moving-syncs c.status.state moves) (fits.goes moves run))
-      by_test false moves = same
-
-  pub start_course-kept : (cursor : Cursor) → is_prepared c.status.state ≡ true → From p (λ t done. Kept p c done) 0 (start_course c [] cursor)
-  start_course-kept cursor prepared = by_test (nat_eq c.stretch.written 0)
-    where
-      can : CanStart c Running
-      can = can-start Running refl refl prepared
-
-      empty : (s : State) → is_prepared s ≡ true → is_moving (next_of s call.Start (record (nothing_found Playback) { queued = 0 })).state ≡ false
-      empty Prepared is = refl
-      empty other is = absurd (false≢true is)
-
-      none : Fits (with_outcome c (next_of c.status.state call.Start (record (nothing_found Playback) { queued = 0 }))).0
-      none = record { bound = fits.bound; waits = λ is. (can.none, can.no_part); goes = λ is run. can.no_part }
-
-      by_test : (nothing_written : Bool) → From p (λ t done. Kept p c done) 0 (if nothing_written
-          then ends (with_outcome c (next_of c.status.state call.Start (record (nothing_found Playback) { queued = 0 })))
-          else starts c Running cursor c.stretch.written [])
-      by_test true = (alike-same p (segment_of c), none)
-      by_test false = From-map p (Started p Running) (λ t done. Kept p c done) 0 (starts c Running cursor c.stretch.written [])
-          (starts-from p 0 c Running cursor c.stretch.written [] can) (λ t done is. start-kept p Running t c done can is)
-
   -- ---- a write
 
   -- a step of c, and then a write's commit
@@ -417,28 +379,6 @@ module _ (p : ℕ) (c : PlaybackStream) (fits : Fits c) where
   write_on-kept n t (d, Err e) ((alike, fits_then, unprepared, whole), past) = (alike, fits_then)
   write_on-kept n t (d, Ok x) ((alike, fits_then, unprepared, whole), past) = takes_more-kept d alike fits_then unprepared whole n t past
 
-  pub write-kept : (cursor : Cursor) (n : ℕ) → refusal_of Playback c.status call.Transfer ≡ None → From p (λ t done. Kept p c done) 0 (write_course c cursor n)
-  unfolding writes_on starts_taking
-  write-kept cursor n admits = by_test (is_running c.status.state) refl
-    where
-      starts-taken : CanStart c Running → From p (λ t done. Kept p c done) 0 (starts_taking c (ring_with c [] [] (taken_of c n)) cursor (taken_of c n))
-      starts-taken can = From-then p (Started p Running) (λ t done. Kept p c done) 0
-          (starts c Running cursor (c.stretch.written + taken_of c n) (ring_with c [] [] (taken_of c n))) (λ done. ends (accepted_if (taken_of c n) done))
-          (starts-from p 0 c Running cursor (c.stretch.written + taken_of c n) (ring_with c [] [] (taken_of c n)) can)
-          (λ t done is. accepted-kept (taken_of c n) done (start-kept p Running t c done can is))
-
-      by_start : (starts_now : Bool) → CanStart c Running → From p (λ t done. Kept p c done) 0 (if starts_now
-          then starts_taking c (ring_with c [] [] (taken_of c n)) cursor (taken_of c n)
-          else ends (with_accepted c (taken_of c n), Ok (taken_of c n)))
-      by_start true can = starts-taken can
-      by_start false can = same
-
-      by_test : (runs : Bool) → is_running c.status.state ≡ runs → From p (λ t done. Kept p c done) 0 (if runs then writes_on c [] [] n else fills c [] [] cursor n)
-      by_test true runs = From-then p (SteppedPast p c) (λ t done. Kept p c done) 0 (syncs c call.Transfer []) (write_on [] [] n)
-          (syncs-from p 0 c call.Transfer [] fits.bound (running-transfers c.status.state runs) (fits.goes (running-moves c.status.state runs) (admitted-going c.status call.Transfer admits)))
-          (λ t done is. write_on-kept n t done is)
-      by_test false runs = by_start (starts_with c n) (can-start Running refl refl (transfers-prepared c.status admits runs))
-
   -- ---- a drain
 
   drain_on-kept : (t : ℕ) (done : Answered (Unit {0})) → CanStart c Draining → Started p Draining t done → From p (λ u x. Kept p c x) t (drain_on [] done)
@@ -447,25 +387,6 @@ module _ (p : ℕ) (c : PlaybackStream) (fits : Fits c) where
       From-map p (λ u done. Kept p d done) (λ u done. Kept p c done) t (syncs d call.Drain [])
       (syncs-kept p t d call.Drain fits_then.bound (subst (λ s. IsFrameStep s call.Drain) (sym goes.1) tt) goes.0)
       (λ u done is. kept-then p c d done (inl (inl (can.none, can.no_part), past)) is)
-
-  pub drain-kept : (cursor : Cursor) → c.status.stopped ≡ false → From p (λ t done. Kept p c done) 0 (drain_course c [] cursor)
-  unfolding drains
-  drain-kept cursor run = by_test (is_moving c.status.state) refl
-    where
-      drains-kept : CanStart c Draining → From p (λ t done. Kept p c done) 0 (drains c [] cursor)
-      drains-kept can = From-then p (Started p Draining) (λ t done. Kept p c done) 0 (starts c Draining cursor c.stretch.written []) (drain_on [])
-          (starts-from p 0 c Draining cursor c.stretch.written [] can) (λ t done is. drain_on-kept t done can is)
-
-      by_frames : (prepared some : Bool) → is_prepared c.status.state ≡ prepared
-          → From p (λ t done. Kept p c done) 0 (if prepared && some then drains c [] cursor else ends (after_drop c, Ok tt))
-      by_frames true true is = drains-kept (can-start Draining refl refl is)
-      by_frames true false is = in-state Setup refl refl
-      by_frames false some is = in-state Setup refl refl
-
-      by_test : (moves : Bool) → is_moving c.status.state ≡ moves → From p (λ t done. Kept p c done) 0 (if moves then syncs (in_draining c) call.Drain []
-          else (if has_frames c then drains c [] cursor else ends (after_drop c, Ok tt)))
-      by_test true moves = syncs-kept p 0 (in_draining c) call.Drain fits.bound tt (fits.goes moves run)
-      by_test false moves = by_frames (is_prepared c.status.state) (nat_lt 0 c.stretch.written) refl
 
   -- ---- a rewind
 
@@ -478,15 +399,6 @@ module _ (p : ℕ) (c : PlaybackStream) (fits : Fits c) where
       IfOk-any (after_sync c call.Transfer (Some position) nothing).1 (p ≡ p) refl,
     ),
   )
-
-  pub rewindable-kept : (floor : Cursor) → c.status.stopped ≡ false → From p (λ t done. Kept p c done) 0 (rewindable_course c floor)
-  rewindable-kept floor run = by_test (is_running c.status.state) refl
-    where
-      by_test : (runs : Bool) → is_running c.status.state ≡ runs
-          → From p (λ t done. Kept p c done) 0 (if runs then course_with_number (rewindable_of floor) (checks c) else ends (c, Ok c.stretch.written))
-      by_test true runs = numbered-from 0 (rewindable_of floor) (checks c) (From-map p (SteppedPast p c) (λ t done. Kept p c done) 0 (checks c)
-          (checks-from runs (fits.goes (running-moves c.status.state runs) run)) (λ t done is. step-kept p t c done is))
-      by_test false runs = same
 
   module _ (d : PlaybackStream) (fits_then : Fits d) (unprepared : is_prepared d.status.state ≡ false) (whole : d.stretch.part ≡ 0) (n : ℕ)
       (within : back_of d n ≤ d.stretch.committed) where
@@ -533,27 +445,49 @@ module _ (p : ℕ) (c : PlaybackStream) (fits : Fits c) where
       (takes_back-kept d fits_then unprepared whole (min n (rewindable_of floor d)) (below-sum n (pending_of d) d.stretch.committed _) t past)
       (λ u done is. kept-then p c d done alike is)
 
-  pub rewind-kept : (floor : Cursor) (n : ℕ) → c.status.stopped ≡ false → From p (λ t done. Kept p c done) 0 (rewind_course c [] floor n)
-  unfolding rewinds
-  rewind-kept floor n run = by_test (is_running c.status.state) refl
+  -- ---- the calls of lines
+
+  parts-kept : (m : Marks) → Parts {W = ℕ} (λ X Q t course. From p Q t course) (λ n. ⊤) m c 0 (SteppedPast p c) (λ state more t done. CanStart c state × Started p state t done)
+      (λ t done. Kept p c done) (λ t done. Kept p c done)
+  parts-kept m = record {
+    same = same;
+    counted = λ n. same;
+    refused = λ e. same;
+    not_counted = λ e. same;
+    looks = λ asked going step. syncs-from p 0 c asked [] fits.bound step (fits.goes (step-moves c.status.state asked step) going);
+    looked = λ t done is. step-kept p t c done is;
+    numbered = λ number t done is. number-kept number done (step-kept p t c done is);
+    drained = λ going moves. syncs-kept p 0 (in_draining c) call.Drain fits.bound tt (fits.goes moves going);
+    starts_to = λ state upto more ring start prepared most few. starts-so state upto ring (can-start state (start-unprepared state start) (start-unpaused state start) prepared);
+    started = λ t done is. start-kept p Running t c done is.0 is.1;
+    drains_on = λ t done is. drain_on-kept t done is.0 is.1;
+    empty = λ prepared. (alike-same p (segment_of c), none prepared);
+    few_none = tt;
+    few_taken = λ n few. tt;
+    writes_more = λ n t done few is. write_on-kept n t done is;
+    accepted = λ n t done few is. accepted-kept (taken_of c n) done (start-kept p Running t c done is.0 is.1);
+    stored = λ n few prepared. same;
+    checked = λ going runs. checks-from runs (fits.goes (running-moves c.status.state runs) going);
+    rewinds_on = λ n t done is. rewind_on-kept m.floor n t done is;
+    fewer = λ n prepared most. same;
+    dropped = in-state Setup refl refl;
+    paused = in-state Paused refl refl;
+  }
     where
-      by_test : (runs : Bool) → is_running c.status.state ≡ runs → From p (λ t done. Kept p c done) 0 (if runs then rewinds c [] floor n
-          else ends (without_frames c (min n c.stretch.written), Ok (min n c.stretch.written)))
-      by_test true runs = From-then p (SteppedPast p c) (λ t done. Kept p c done) 0 (checks c) (rewind_on floor [] n)
-          (checks-from runs (fits.goes (running-moves c.status.state runs) run)) (λ t done is. rewind_on-kept floor n t done is)
-      by_test false runs = same
+      start-unpaused : (s : State) → IsStart s → is_paused s ≡ false
+      start-unpaused Running start = refl
+      start-unpaused Draining start = refl
+      start-unpaused other start = elim start [ ]
 
-  -- ---- a call with its answer
+      starts-so : (state : State) (upto : ℕ) (ring : List ℤ) → CanStart c state
+          → From p (λ t done. CanStart c state × Started p state t done) 0 (starts c state m.cursor upto ring)
+      starts-so state upto ring can = From-map p (Started p state) (λ t done. CanStart c state × Started p state t done) 0 (starts c state m.cursor upto ring)
+          (starts-from p 0 c state m.cursor upto ring can) (λ t done is. (can, is))
 
-  pub answered-kept : {T : Type 0} (answer : Result T PcmError → Answer) (course : Course (Answered T)) → From p (λ t done. Kept p c done) 0 course
-      → From p (λ t done. Kept p c done) 0 (call_answer answer course)
-  answered-kept answer course from =
-      From-then p (λ t done. Kept p c done) (λ t done. Kept p c done) 0 course (λ done. ends (done.0, answer done.1)) from (λ t done is. is)
+      none : is_prepared c.status.state ≡ true → Fits (with_outcome c (next_of c.status.state call.Start (record (nothing_found Playback) { queued = 0 }))).0
+      none prepared = record { bound = fits.bound; waits = λ is. fits.waits prepared; goes = λ is run. (fits.waits prepared).1 }
 
-  pub admitted-kept : {T : Type 0} (asked : Call) (course : Course (Answered T)) → (refusal_of Playback c.status asked ≡ None → From p (λ t done. Kept p c done) 0 course)
-      → From p (λ t done. Kept p c done) 0 (if_admitted c asked course)
-  admitted-kept asked course each = by_refusal (refusal_of Playback c.status asked) refl
-    where
-      by_refusal : (refusal : Option PcmError) → refusal_of Playback c.status asked ≡ refusal → From p (λ t done. Kept p c done) 0 (admitted_by refusal c course)
-      by_refusal None admits = each admits
-      by_refusal (Some e) admits = same
+  -- a call that begins no new stretch
+  pub call-kept : (wav : Sound) (m : Marks) (asked : Op) → is_new_stretch asked ≡ false → From p (λ t done. Kept p c done) 0 (call_of wav m c asked)
+  call-kept wav m asked not =
+      call_of-says (from-so p) c 0 (parts-kept m) (λ t done. Kept p c done) (λ t done is. is) (λ t done is. is) same wav (λ n. tt) asked not

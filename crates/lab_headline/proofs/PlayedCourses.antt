@@ -18,6 +18,7 @@ use Rattle.dmix_client.specs.Course.{commits, go_on, lay_each, lay_frame, lay_fr
 use Rattle.dmix_client.specs.Rewind.{back_on, rewind_left, take_each, take_frames}
 use Rattle.dmix_client.specs.View.{ring_sample}
 use Rattle.lab_run.specs.Rules.{AtPort, May, Rules, with_asks}
+use Rattle.lab_run.proofs.CallParts.{IsSaying}
 use Rattle.lab_run.proofs.RunGoesOn.{stop-seen}
 use Rattle.lab_headline.proofs.Onward.{Channels, channels-rise}
 
@@ -54,6 +55,13 @@ From-map p R Q s (lays e next) from each = (
   From-map p R Q s (next ended.Stopped) from.2 each,
 )
 From-map p R Q s (gets frame next) from each = λ got. From-map p R Q s (next got) (from got) each
+
+pub from-so : (p : ℕ) → IsSaying {W = ℕ} (λ X Q s course. From p Q s course)
+from-so p = record {
+  at_end = λ X Q s x is. is;
+  after = λ X Y R Q s course f from next. From-then p R Q s course f from next;
+  implied = λ X R Q s course from less. From-map p R Q s course from less;
+}
 
 -- a course without a load that places and takes back nothing below s, and whose results have a fact
 abbrev pub Keeps : {X : Type 0} → ℕ → (X → Type 0) → Course X → Type 0

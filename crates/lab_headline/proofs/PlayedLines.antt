@@ -8,7 +8,6 @@ use Rattle.mix_core.specs.declared.marks.Marks.{Marks}
 use Rattle.mix_core.specs.declared.port.Position.{Position}
 use Rattle.pcm_states.specs.declared.calls.Call.TheVariants as call
 use Rattle.pcm_states.specs.declared.states.State.{State}
-use Rattle.pcm_states.specs.declared.states.State.TheVariants as state
 use Rattle.pcm_states.specs.declared.states.State.TheVariants.{Paused, Prepared, Running}
 use Rattle.pcm_stream.specs.declared.direction.Direction.TheVariants.{Playback}
 use Rattle.pcm_stream.specs.declared.status.Status.{Status}
@@ -17,21 +16,21 @@ use Rattle.course.specs.Course.{◌>>=◌, ends}
 use Rattle.wav_io.specs.Sound.{Sound}
 use Rattle.dmix_client.specs.declared.commit.Commit.{Commit}
 use Rattle.dmix_client.specs.declared.stream.PlaybackStream.{PlaybackStream}
-use Rattle.dmix_client.specs.Calls.{Answered, after_drop, after_prepare, after_resume, after_start, avail_answer, delay_answer, is_paused, is_prepared, pending_of, segment_of, start_count, started_in, with_new_base}
+use Rattle.dmix_client.specs.Calls.{Answered, after_prepare, after_resume, after_start, is_paused, is_prepared, pending_of, segment_of, start_count, started_in, with_new_base}
 use Rattle.dmix_client.specs.Course.{admitted_by, looks, pause_course, resumes}
 use Rattle.lab_lines.specs.declared.line.Op.{Op}
 use Rattle.lab_lines.specs.declared.line.Op.TheVariants as op
 use Rattle.lab_lines.specs.declared.row.Answer.{Answer}
 use Rattle.lab_lines.specs.declared.row.Row.{Row}
-use Rattle.lab_run.specs.Client.{Client, after_call, begins, call_answer, call_of, client_kind, count_answer, done_answer, ended_by, line_by, line_if, present_of, segments_of, stretch_of}
+use Rattle.lab_run.specs.Client.{Client, after_call, begins, call_answer, call_of, client_kind, done_answer, ended_by, line_by, line_if, present_of, segments_of, stretch_of}
 use Rattle.lab_run.specs.Lines.{LineMay, LinesMay}
 use Rattle.lab_run.specs.Rules.{AtPort, Rules}
 use Rattle.lab_run.specs.Stage.{Session, Setup}
-use Rattle.lab_run.proofs.CallParts.{admitted-going, some-none, starts-prepared}
+use Rattle.lab_run.proofs.CallParts.{some-none}
 use Rattle.lab_headline.proofs.Going.{still-client}
 use Rattle.lab_headline.proofs.Onward.{Channels}
 use Rattle.lab_headline.proofs.OnwardLines.{InOpen, append-none}
-use Rattle.lab_headline.proofs.PlayedCalls.{CanStart, Fits, Kept, Started, admitted-kept, answered-kept, drain-kept, in-state, number_course-kept, rewind-kept, rewindable-kept, same, start-commits, start_course-kept, stopped-fits, sync-kept, write-kept}
+use Rattle.lab_headline.proofs.PlayedCalls.{CanStart, Fits, Kept, Started, call-kept, start-commits, stopped-fits}
 use Rattle.lab_headline.proofs.PlayedCourses.{From, From-map, From-then, Takes-from, looks-from}
 use Rattle.lab_headline.proofs.PlayedSegments.{IsAlike, IsPast, alike-same, heard, heard-append, stretch-alike, stretch-past}
 use Rattle.lab_headline.proofs.Stages.{IsKept}
@@ -159,27 +158,7 @@ module _ (p : ℕ) (client : Client) (c : PlaybackStream) (own_is : client.own �
   op-leaves wav m (op.Die k) = stays
   op-leaves wav m op.Prepare = prepare-leaves wav m
   op-leaves wav m op.Resume = resume-leaves wav m
-  op-leaves wav m (op.Write n) = call-leaves wav (op.Write n) m (λ answer d. refl)
-      (answered-kept p c fits count_answer _ (admitted-kept p c fits call.Transfer _ (λ admits. write-kept p c fits m.cursor _ admits)))
-  op-leaves wav m op.Start = call-leaves wav op.Start m (λ answer d. refl)
-      (answered-kept p c fits done_answer _ (admitted-kept p c fits call.Start _ (λ admits. start_course-kept p c fits m.cursor (starts-prepared c.status admits))))
-  op-leaves wav m op.Sync = call-leaves wav op.Sync m (λ answer d. refl)
-      (answered-kept p c fits done_answer _ (admitted-kept p c fits call.Sync _ (λ admits. sync-kept p c fits (admitted-going c.status call.Sync admits))))
-  op-leaves wav m op.Avail = call-leaves wav op.Avail m (λ answer d. refl)
-      (answered-kept p c fits count_answer _ (admitted-kept p c fits call.Sync _ (λ admits. number_course-kept p c fits avail_answer (admitted-going c.status call.Sync admits))))
-  op-leaves wav m op.Delay = call-leaves wav op.Delay m (λ answer d. refl)
-      (answered-kept p c fits count_answer _ (admitted-kept p c fits call.Sync _ (λ admits. number_course-kept p c fits delay_answer (admitted-going c.status call.Sync admits))))
-  op-leaves wav m op.Drain = call-leaves wav op.Drain m (λ answer d. refl)
-      (answered-kept p c fits done_answer _ (admitted-kept p c fits call.Drain _ (λ admits. drain-kept p c fits m.cursor (admitted-going c.status call.Drain admits))))
-  op-leaves wav m op.Drop = call-leaves wav op.Drop m (λ answer d. refl)
-      (answered-kept p c fits done_answer _ (admitted-kept p c fits call.Drop (ends (after_drop c, Ok tt)) (λ admits. in-state p c fits state.Setup refl refl)))
-  op-leaves wav m op.Pause = call-leaves wav op.Pause m (λ answer d. refl)
-      (answered-kept p c fits done_answer _ (admitted-kept p c fits call.Pause _ (λ admits. in-state p c fits Paused refl refl)))
-  op-leaves wav m (op.Rewind n) = call-leaves wav (op.Rewind n) m (λ answer d. refl)
-      (answered-kept p c fits count_answer _ (admitted-kept p c fits call.Transfer _ (λ admits. rewind-kept p c fits m.floor n (admitted-going c.status call.Transfer admits))))
-  op-leaves wav m op.Rewindable = call-leaves wav op.Rewindable m (λ answer d. refl)
-      (answered-kept p c fits count_answer _ (admitted-kept p c fits call.Transfer _ (λ admits. rewindable-kept p c fits m.floor (admitted-going c.status call.Transfer admits))))
-  op-leaves wav m other = call-leaves wav other m (λ answer d. refl) (same p c fits)
+  op-leaves wav m asked = call-leaves wav asked m (λ answer d. refl) (call-kept p c fits wav m asked refl)
 
   pub line-leaves : (wav : Sound) (m : Marks) (asked : Op) → From p LeavesAfter 0 (line_if c.status.stopped wav m client c asked)
   line-leaves wav m asked = by_stop c.status.stopped
