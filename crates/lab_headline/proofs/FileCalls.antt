@@ -3,14 +3,14 @@
 --     HasLaid      what is accepted and placed is within a file of so many frames
 --     GoesAt      of a client that moves frames only whole frames are placed, and none that weren't accepted
 --     IsOfFile      both, of a client
-use Rattle.std.proofs.Common.{◌≡◌, ℕ, ◌+◌, ◌-◌, ◌<◌, ◌≤◌, ◌⊎◌, inl, inr, refl, sym, ◌∙◌, subst, arith, Option, Some, None}
+use Rattle.std.proofs.Common.{◌≡◌, ℕ, ◌+◌, ◌-◌, ◌<◌, ◌≤◌, ◌⊎◌, inl, inr, refl, sym, ◌∙◌, subst, arith, Option, Some}
 use Rattle.std.proofs.lemmas.Bool.{false≢true}
-use Rattle.std.specs.Prelude.{Bool, true, false, ◌&&◌, ◌||◌, nat_eq, nat_lt, if◌then◌else◌, is_some, List, [], length, ℤ, Result, Ok, Err, IfOk, min, max, unwrap_or}
-use Rattle.snd_base.specs.declared.errors.PcmError.{PcmError}
+use Rattle.std.specs.Prelude.{Bool, true, false, ◌&&◌, ◌||◌, nat_eq, nat_lt, if◌then◌else◌, is_some, List, [], length, ℤ, Ok, Err, IfOk, min, max, unwrap_or}
 use Rattle.snd_base.specs.declared.errors.PcmError.TheVariants as error
 use Rattle.snd_base.specs.declared.errors.XrunWhy.TheVariants as why
 use Rattle.snd_base.specs.declared.places.Cursor.{Cursor}
 use Rattle.snd_base.specs.Places.{first_free}
+use Rattle.mix_core.specs.declared.marks.Marks.{Marks}
 use Rattle.mix_core.specs.declared.port.Ended.{Ended}
 use Rattle.mix_core.specs.declared.port.Ended.TheVariants as ended
 use Rattle.mix_core.specs.declared.port.Position.{Position}
@@ -19,27 +19,29 @@ use Rattle.pcm_states.specs.declared.calls.Call.{Call}
 use Rattle.pcm_states.specs.declared.calls.Call.TheVariants as call
 use Rattle.pcm_states.specs.declared.calls.Outcome.{Outcome}
 use Rattle.pcm_states.specs.declared.states.State.{State}
-use Rattle.pcm_states.specs.declared.states.State.TheVariants.{Draining, Prepared, Running, Setup}
+use Rattle.pcm_states.specs.declared.states.State.TheVariants.{Draining, Paused, Prepared, Running, Setup}
 use Rattle.pcm_states.specs.Table.{next_of}
 use Rattle.pcm_stream.specs.declared.direction.Direction.TheVariants.{Playback}
-use Rattle.pcm_stream.specs.Status.{is_moving, nothing_found, refusal_of}
+use Rattle.pcm_stream.specs.Status.{is_moving, nothing_found}
 use Rattle.course.specs.Course.{Course, ends}
 use Rattle.dmix_client.specs.declared.commit.Commit.{Commit}
 use Rattle.dmix_client.specs.declared.stream.PlaybackStream.{PlaybackStream}
 use Rattle.dmix_client.specs.declared.stream.Stretch.{Stretch}
-use Rattle.dmix_client.specs.Calls.{Answered, accepted_if, after_drop, after_prepare, after_resume, after_start, after_sync, committed_by, end_channel, end_of_commit, facts_of, found_at, going_on, has_frames, in_draining, is_prepared, is_running, is_stop, late_at, over_of, pending_of, seen_at, start_count, start_frame, started_in, stopped_in, sync_count, taken_of, window_end, with_accepted, with_new_base, with_number, with_outcome, written_after}
-use Rattle.dmix_client.specs.Course.{admitted_by, commits, course_with_number, drain_course, drain_on, drains, fills, if_admitted, looks, nothing, number_course, pause_course, resumes, start_course, starts, starts_taking, sync_course, syncs, takes_more, write_on, writes_on}
+use Rattle.dmix_client.specs.Calls.{Answered, accepted_if, after_prepare, after_resume, after_start, after_sync, committed_by, end_channel, end_of_commit, facts_of, found_at, going_on, in_draining, is_prepared, is_running, is_stop, late_at, over_of, pending_of, seen_at, start_count, start_frame, started_in, stopped_in, sync_count, taken_of, window_end, with_accepted, with_new_base, with_number, with_outcome, written_after}
+use Rattle.dmix_client.specs.Course.{commits, drain_on, if_admitted, looks, nothing, pause_course, resumes, starts, syncs, takes_more, write_on}
 use Rattle.dmix_client.specs.Port.{IsFrameStep}
-use Rattle.dmix_client.specs.Rewind.{after_rewind, back_of, checks, last_channel, last_laid, rewind_course, rewind_on, rewindable_course, rewindable_of, rewinds, take_frames, taken_back, takes_back, without_frames}
+use Rattle.dmix_client.specs.Rewind.{after_rewind, back_of, checks, last_channel, last_laid, rewind_on, rewindable_of, take_frames, taken_back, takes_back, without_frames}
 use Rattle.dmix_client.specs.View.{avail_of, queued_of, ring_sample}
-use Rattle.dmix_client.specs.Writes.{count_with, ring_with, starts_with}
-use Rattle.lab_lines.specs.declared.row.Answer.{Answer}
-use Rattle.lab_run.specs.Client.{call_answer, write_course}
-use Rattle.lab_run.proofs.CallParts.{admitted-going, moving-syncs, running-moves, running-transfers, transfers-prepared}
+use Rattle.dmix_client.specs.Writes.{count_with, ring_with}
+use Rattle.lab_lines.specs.declared.line.Op.{Op}
+use Rattle.lab_lines.specs.declared.line.Op.TheVariants as op
+use Rattle.wav_io.specs.Sound.{Sound}
+use Rattle.lab_run.specs.Client.{call_answer, call_of, done_answer, frames_of}
+use Rattle.lab_run.proofs.CallParts.{Parts, call_of-says, done_answer-says, if_admitted-says, running-moves, running-transfers, start-unprepared, step-moves}
 use Rattle.lab_headline.proofs.CommitCounts.{From-all, IsCommitOf, commits-few, frames-left, nothing-of}
 use Rattle.lab_headline.proofs.Onward.{Channels, begun, stepped-unprepared}
 use Rattle.lab_headline.proofs.PlayedCalls.{IfOk-any, IfOk-none, IsOver, step-over, step-unprepared}
-use Rattle.lab_headline.proofs.PlayedCourses.{From, From-map, From-then, looks-from}
+use Rattle.lab_headline.proofs.PlayedCourses.{From, From-map, From-then, from-so, looks-from}
 
 -- ---- a client
 
@@ -317,23 +319,11 @@ module _ (p limit : ℕ) where
       (has, going-goes p d.status.state d.status.stopped d.stretch (subst (λ (s : State). is_prepared s ≡ false) (sym is) unprepared) moves)
   begun-after c state (d, Err e) unprepared is = is
 
-  starts-after : (s : ℕ) (c : PlaybackStream) (state : State) (cursor : Cursor) (upto : ℕ) → CanBegin p limit c state → upto ≤ c.stretch.written
-      → From p (λ t done. FileAfter p limit done) s (starts c state cursor upto [])
-  starts-after s c state cursor upto can few = let most = can.has.most in
-      From-map p (λ t done. Begins c state 0 done) (λ t done. FileAfter p limit done) s (starts c state cursor upto [])
-      (starts-begin s c state cursor upto 0 [] can (omega (arith, most)) (omega (arith, few))) (λ t done begins. begun-after c state done can.unprepared begins)
-
   -- ---- the calls
 
   number-after : (number : PlaybackStream → ℕ) (done : Answered (Unit {0})) → FileAfter p limit done → FileAfter p limit (with_number number done)
   number-after number (d, Ok x) is = is
   number-after number (d, Err e) is = is
-
-  numbered-after : (s : ℕ) (number : PlaybackStream → ℕ) (course : Course (Answered (Unit {0}))) → From p (λ t done. FileAfter p limit done) s course
-      → From p (λ t done. FileAfter p limit done) s (course_with_number number course)
-  unfolding course_with_number
-  numbered-after s number course from = From-then p (λ t done. FileAfter p limit done) (λ t done. FileAfter p limit done) s course (λ done. ends (with_number number done)) from
-      (λ t done is. number-after number done is)
 
   -- frames that were taken are accepted
   accepted-laid : (taken : ℕ) (d : PlaybackStream) → HasLaid p limit d.setup.bindings d.stretch d.fed → d.fed + taken ≤ limit
@@ -361,40 +351,6 @@ module _ (p limit : ℕ) where
     pub in-state : (state : State) → is_prepared state ≡ false → is_moving state ≡ false
         → HasLaid p limit c.setup.bindings c.stretch c.fed × GoesAt p state c.status.stopped c.stretch
     in-state state unprepared still = (is.0, still-goes p state c.status.stopped c.stretch unprepared still)
-
-    pub sync-after : c.status.stopped ≡ false → From p (λ t done. FileAfter p limit done) 0 (sync_course c [])
-    sync-after run = by_test (is_moving c.status.state) refl
-      where
-        by_test : (moves : Bool) → is_moving c.status.state ≡ moves → From p (λ t done. FileAfter p limit done) 0 (if moves then syncs c call.Sync [] else ends (c, Ok tt))
-        by_test true moves = syncs-after 0 c call.Sync is (moving-syncs c.status.state moves) (is.1.goes moves run)
-        by_test false moves = is
-
-    pub number_course-after : (number : PlaybackStream → ℕ) → c.status.stopped ≡ false → From p (λ t done. FileAfter p limit done) 0 (number_course number c [])
-    number_course-after number run = by_test (is_moving c.status.state) refl
-      where
-        by_test : (moves : Bool) → is_moving c.status.state ≡ moves
-            → From p (λ t done. FileAfter p limit done) 0 (if moves then course_with_number number (syncs c call.Sync []) else ends (c, Ok (number c)))
-        by_test true moves = numbered-after 0 number (syncs c call.Sync []) (syncs-after 0 c call.Sync is (moving-syncs c.status.state moves) (is.1.goes moves run))
-        by_test false moves = is
-
-    pub start_course-after : (cursor : Cursor) → is_prepared c.status.state ≡ true → From p (λ t done. FileAfter p limit done) 0 (start_course c [] cursor)
-    start_course-after cursor prepared = by_test (nat_eq c.stretch.written 0)
-      where
-        can : CanBegin p limit c Running
-        can = can-begin Running refl prepared
-
-        empty : (s : State) → is_prepared s ≡ true → is_moving (next_of s call.Start (record (nothing_found Playback) { queued = 0 })).state ≡ false
-        empty Prepared is_so = refl
-        empty other is_so = absurd (false≢true is_so)
-
-        none : IsOfFile p limit (with_outcome c (next_of c.status.state call.Start (record (nothing_found Playback) { queued = 0 }))).0
-        none = (is.0, idle-goes p _ c.status.stopped c.stretch (empty c.status.state prepared) can.none can.no_part)
-
-        by_test : (nothing_written : Bool) → From p (λ t done. FileAfter p limit done) 0 (if nothing_written
-            then ends (with_outcome c (next_of c.status.state call.Start (record (nothing_found Playback) { queued = 0 })))
-            else starts c Running cursor c.stretch.written [])
-        by_test true = none
-        by_test false = starts-after 0 c Running cursor c.stretch.written can (omega arith)
 
     -- ---- a write
 
@@ -460,39 +416,6 @@ module _ (p limit : ℕ) where
     )
     accepted-after taken (d, Err e) room there = there
 
-    pub write-after : (cursor : Cursor) (n : ℕ) → c.fed + n ≤ limit → refusal_of Playback c.status call.Transfer ≡ None
-        → From p (λ t done. FileAfter p limit done) 0 (write_course c cursor n)
-    unfolding writes_on starts_taking
-    write-after cursor n room admits = by_test (is_running c.status.state) refl
-      where
-        within : c.fed + taken_of c n ≤ limit
-        within = let few = taken_of-few c n in omega (arith, few, room)
-
-        starts-taken : CanBegin p limit c Running → From p (λ t done. FileAfter p limit done) 0 (starts_taking c (ring_with c [] [] (taken_of c n)) cursor (taken_of c n))
-        starts-taken can = From-then p (λ t done. Begins c Running (taken_of c n) done) (λ t done. FileAfter p limit done) 0
-            (starts c Running cursor (c.stretch.written + taken_of c n) (ring_with c [] [] (taken_of c n))) (λ done. ends (accepted_if (taken_of c n) done))
-            (starts-begin 0 c Running cursor (c.stretch.written + taken_of c n) (taken_of c n) (ring_with c [] [] (taken_of c n)) can within (omega arith))
-            (λ t done begins. accepted-after (taken_of c n) done within begins)
-
-        by_start : (starts_now : Bool) → CanBegin p limit c Running → From p (λ t done. FileAfter p limit done) 0 (if starts_now
-            then starts_taking c (ring_with c [] [] (taken_of c n)) cursor (taken_of c n)
-            else ends (with_accepted c (taken_of c n), Ok (taken_of c n)))
-        by_start true can = starts-taken can
-        by_start false can = (
-          accepted-laid (taken_of c n) c is.0 within,
-          record {
-            waits = λ prepared. (can.none, can.no_part);
-            goes = λ moves run. let before = is.1.goes moves run in
-                (before.0, accepted-whole c.stretch.written 0 (taken_of c n) c.stretch.committed before.1 (omega arith), before.2);
-          },
-        )
-
-        by_test : (runs : Bool) → is_running c.status.state ≡ runs → From p (λ t done. FileAfter p limit done) 0 (if runs then writes_on c [] [] n else fills c [] [] cursor n)
-        by_test true runs = From-then p (λ t done. StepsOn c done) (λ t done. FileAfter p limit done) 0 (syncs c call.Transfer []) (write_on [] [] n)
-            (syncs-on 0 c call.Transfer [] is (running-transfers c.status.state runs) (is.1.goes (running-moves c.status.state runs) (admitted-going c.status call.Transfer admits)))
-            (λ t done steps. write_on-after n t done room steps)
-        by_test false runs = by_start (starts_with c n) (can-begin Running refl (transfers-prepared c.status admits runs))
-
     -- ---- a drain
 
     drain_on-after : (t : ℕ) (done : Answered (Unit {0})) → Begins c Draining 0 done → From p (λ u x. FileAfter p limit x) t (drain_on [] done)
@@ -500,27 +423,6 @@ module _ (p limit : ℕ) where
     drain_on-after t (d, Ok x) (has, same_fed, draining, moves) = syncs-after t d call.Drain
         (has, going-goes p d.status.state d.status.stopped d.stretch (subst (λ (s : State). is_prepared s ≡ false) (sym draining) refl) moves)
         (subst (λ (s : State). IsFrameStep s call.Drain) (sym draining) tt) moves
-
-    pub drain-after : (cursor : Cursor) → c.status.stopped ≡ false → From p (λ t done. FileAfter p limit done) 0 (drain_course c [] cursor)
-    unfolding drains
-    drain-after cursor run = by_test (is_moving c.status.state) refl
-      where
-        drains-after : CanBegin p limit c Draining → From p (λ t done. FileAfter p limit done) 0 (drains c [] cursor)
-        drains-after can = let most = can.has.most in
-            From-then p (λ t done. Begins c Draining 0 done) (λ t done. FileAfter p limit done) 0 (starts c Draining cursor c.stretch.written []) (drain_on [])
-            (starts-begin 0 c Draining cursor c.stretch.written 0 [] can (omega (arith, most)) (omega arith)) (λ t done begins. drain_on-after t done begins)
-
-        by_frames : (prepared some : Bool) → is_prepared c.status.state ≡ prepared
-            → From p (λ t done. FileAfter p limit done) 0 (if prepared && some then drains c [] cursor else ends (after_drop c, Ok tt))
-        by_frames true true prepared = drains-after (can-begin Draining refl prepared)
-        by_frames true false prepared = in-state Setup refl refl
-        by_frames false some prepared = in-state Setup refl refl
-
-        by_test : (moves : Bool) → is_moving c.status.state ≡ moves → From p (λ t done. FileAfter p limit done) 0 (if moves then syncs (in_draining c) call.Drain []
-            else (if has_frames c then drains c [] cursor else ends (after_drop c, Ok tt)))
-        by_test true moves = let on = is.1.goes moves run in
-            syncs-after 0 (in_draining c) call.Drain (is.0, going-goes p Draining c.status.stopped c.stretch refl on) tt on
-        by_test false moves = by_frames (is_prepared c.status.state) (nat_lt 0 c.stretch.written) refl
 
     -- ---- a pause and a resume
 
@@ -600,15 +502,6 @@ module _ (p limit : ℕ) where
       λ position least. after_sync-on c call.Transfer position nothing is (running-transfers c.status.state runs) moves
           (nothing-of (sync_count c position) (length c.setup.bindings) is.0.bound.some),
     )
-
-    pub rewindable-after : (floor : Cursor) → c.status.stopped ≡ false → From p (λ t done. FileAfter p limit done) 0 (rewindable_course c floor)
-    rewindable-after floor run = by_test (is_running c.status.state) refl
-      where
-        by_test : (runs : Bool) → is_running c.status.state ≡ runs
-            → From p (λ t done. FileAfter p limit done) 0 (if runs then course_with_number (rewindable_of floor) (checks c) else ends (c, Ok c.stretch.written))
-        by_test true runs = numbered-after 0 (rewindable_of floor) (checks c) (From-map p (λ t done. StepsOn c done) (λ t done. FileAfter p limit done) 0 (checks c)
-            (checks-on runs (is.1.goes (running-moves c.status.state runs) run)) (λ t done steps. step-after c done steps))
-        by_test false runs = is
 
     module _ (d : PlaybackStream) (there : IsOfFile p limit d) (unprepared : is_prepared d.status.state ≡ false) (moves : Moves p 0 d.stretch) (n : ℕ) (within : n ≤ d.stretch.written) where
       back-few : (written committed : ℕ) → committed ≤ written + 0 → n ≤ written → n - (written - committed) ≤ committed
@@ -699,28 +592,69 @@ module _ (p limit : ℕ) where
         prepared-still Prepared is_so = refl
         prepared-still other is_so = absurd (false≢true is_so)
 
-    pub rewind-after : (floor : Cursor) (n : ℕ) → refusal_of Playback c.status call.Transfer ≡ None → From p (λ t done. FileAfter p limit done) 0 (rewind_course c [] floor n)
-    unfolding rewinds
-    rewind-after floor n admits = by_test (is_running c.status.state) refl
+    -- ---- the calls of lines
+
+    parts-after : (m : Marks) → Parts {W = ℕ} (λ X Q t course. From p Q t course) (λ n. c.fed + n ≤ limit) m c 0 (λ t done. StepsOn c done) (λ state more t done. Begins c state more done)
+        (λ t done. FileAfter p limit done) (λ t done. FileAfter p limit done)
+    parts-after m = record {
+      same = is;
+      counted = λ n. is;
+      refused = λ e. is;
+      not_counted = λ e. is;
+      looks = λ asked going step. syncs-on 0 c asked [] is step (is.1.goes (step-moves c.status.state asked step) going);
+      looked = λ t done steps. step-after c done steps;
+      numbered = λ number t done steps. number-after number done (step-after c done steps);
+      drained = λ going moves. draining-after (is.1.goes moves going);
+      starts_to = λ state upto more ring start prepared most few. starts-begin 0 c state m.cursor upto more ring (can-begin state (start-unprepared state start) prepared) few most;
+      started = λ t done begins. begun-after c Running done refl begins;
+      drains_on = λ t done begins. drain_on-after t done begins;
+      empty = λ prepared. none prepared;
+      few_none = no-more;
+      few_taken = λ n few. within n few;
+      writes_more = λ n t done few steps. write_on-after n t done few steps;
+      accepted = λ n t done few begins. accepted-after (taken_of c n) done (within n few) begins;
+      stored = λ n few prepared. stored-after n few;
+      checked = λ going runs. checks-on runs (is.1.goes (running-moves c.status.state runs) going);
+      rewinds_on = λ n t done steps. rewind_on-after m.floor n t done steps;
+      fewer = λ n prepared most. unwritten n prepared most;
+      dropped = in-state Setup refl refl;
+      paused = in-state Paused refl refl;
+    }
       where
-        by_test : (runs : Bool) → is_running c.status.state ≡ runs → From p (λ t done. FileAfter p limit done) 0 (if runs then rewinds c [] floor n
-            else ends (without_frames c (min n c.stretch.written), Ok (min n c.stretch.written)))
-        by_test true runs = From-then p (λ t done. StepsOn c done) (λ t done. FileAfter p limit done) 0 (checks c) (rewind_on floor [] n)
-            (checks-on runs (is.1.goes (running-moves c.status.state runs) (admitted-going c.status call.Transfer admits))) (λ t done steps. rewind_on-after floor n t done steps)
-        by_test false runs = unwritten (min n c.stretch.written) (transfers-prepared c.status admits runs) (omega arith)
+        no-more : c.fed + 0 ≤ limit
+        no-more = let most = is.0.most in omega (arith, most)
 
-    -- ---- a call with its answer
+        within : (n : ℕ) → c.fed + n ≤ limit → c.fed + taken_of c n ≤ limit
+        within n room = let few = taken_of-few c n in omega (arith, few, room)
 
-    pub answered-after : {T : Type 0} (answer : Result T PcmError → Answer) (course : Course (Answered T)) → From p (λ t done. FileAfter p limit done) 0 course
-        → From p (λ t done. FileAfter p limit done) 0 (call_answer answer course)
-    answered-after answer course from =
-        From-then p (λ t done. FileAfter p limit done) (λ t done. FileAfter p limit done) 0 course (λ done. ends (done.0, answer done.1)) from (λ t done there. there)
+        draining-after : Moves p 0 c.stretch → From p (λ t done. FileAfter p limit done) 0 (syncs (in_draining c) call.Drain [])
+        draining-after on = syncs-after 0 (in_draining c) call.Drain (is.0, going-goes p Draining c.status.stopped c.stretch refl on) tt on
 
-    pub admitted-after : {T : Type 0} (asked : Call) (course : Course (Answered T))
-        → (refusal_of Playback c.status asked ≡ None → From p (λ t done. FileAfter p limit done) 0 course)
-        → From p (λ t done. FileAfter p limit done) 0 (if_admitted c asked course)
-    admitted-after asked course each = by_refusal (refusal_of Playback c.status asked) refl
-      where
-        by_refusal : (refusal : Option PcmError) → refusal_of Playback c.status asked ≡ refusal → From p (λ t done. FileAfter p limit done) 0 (admitted_by refusal c course)
-        by_refusal None admits = each admits
-        by_refusal (Some e) admits = is
+        empty-still : (s : State) → is_prepared s ≡ true → is_moving (next_of s call.Start (record (nothing_found Playback) { queued = 0 })).state ≡ false
+        empty-still Prepared is_so = refl
+        empty-still other is_so = absurd (false≢true is_so)
+
+        none : is_prepared c.status.state ≡ true → IsOfFile p limit (with_outcome c (next_of c.status.state call.Start (record (nothing_found Playback) { queued = 0 }))).0
+        none prepared = (is.0, idle-goes p _ c.status.stopped c.stretch (empty-still c.status.state prepared) (is.1.waits prepared).0 (is.1.waits prepared).1)
+
+        stored-after : (n : ℕ) → c.fed + n ≤ limit → IsOfFile p limit (with_accepted c (taken_of c n))
+        stored-after n room = (
+          accepted-laid (taken_of c n) c is.0 (within n room),
+          record {
+            waits = λ prepared. is.1.waits prepared;
+            goes = λ moves run. let before = is.1.goes moves run in
+                (before.0, accepted-whole c.stretch.written 0 (taken_of c n) c.stretch.committed before.1 (omega arith), before.2);
+          },
+        )
+
+    -- a call that begins a new stretch
+    anew-after : (asked : Call) (course : Course (Answered (Unit {0}))) → From p (λ t done. FileAfter p limit done) 0 course
+        → From p (λ t done. FileAfter p limit done) 0 (call_answer done_answer (if_admitted c asked course))
+    anew-after asked course from = done_answer-says (from-so p) c 0 (λ t done. FileAfter p limit done) (λ t done. FileAfter p limit done) (if_admitted c asked course) (λ t done there. there)
+        (if_admitted-says (from-so p) c 0 (λ t done. FileAfter p limit done) asked course (λ e. is) (λ admits. from))
+
+    pub call-after : (wav : Sound) (m : Marks) → ((n : ℕ) → c.fed + min n (frames_of wav - c.fed) ≤ limit) → (asked : Op) → From p (λ t done. FileAfter p limit done) 0 (call_of wav m c asked)
+    call-after wav m room op.Prepare = anew-after call.Prepare (ends (after_prepare c, Ok tt)) prepared-anew
+    call-after wav m room op.Resume = anew-after call.Resume _ (resume-after m.cursor)
+    call-after wav m room asked =
+        call_of-says (from-so p) c 0 (parts-after m) (λ t done. FileAfter p limit done) (λ t done there. there) (λ t done there. there) is wav room asked refl

@@ -3,29 +3,26 @@ use Rattle.std.proofs.Common.{◌≡◌, ℕ, ◌+◌, ◌-◌, ◌<◌, ◌≤�
 use Rattle.std.proofs.lemmas.Bool.Decides.{nat_tests}
 use Rattle.std.proofs.lemmas.List.{append-nil}
 use Rattle.std.specs.List.{AllByRecursion}
-use Rattle.std.specs.Prelude.{Bool, true, false, not, ◌&&◌, nat_eq, if◌then◌else◌, min, Ok, IfSome, Contains, slice_index_or}
+use Rattle.std.specs.Prelude.{Bool, true, false, not, ◌&&◌, nat_eq, if◌then◌else◌, min, IfSome, Contains, slice_index_or}
 use Rattle.mix_core.specs.declared.marks.Marks.{Marks}
-use Rattle.pcm_states.specs.declared.calls.Call.TheVariants as call
-use Rattle.pcm_states.specs.declared.states.State.TheVariants as state
-use Rattle.pcm_states.specs.declared.states.State.TheVariants.{Paused, Prepared}
+use Rattle.pcm_states.specs.declared.states.State.TheVariants.{Prepared}
 use Rattle.course.specs.Course.{◌>>=◌, ends}
 use Rattle.wav_io.specs.Sound.{Sound}
 use Rattle.dmix_client.specs.declared.stream.PlaybackStream.{PlaybackStream}
-use Rattle.dmix_client.specs.Calls.{after_drop, after_prepare, avail_answer, delay_answer, is_paused, segment_of}
+use Rattle.dmix_client.specs.Calls.{is_paused, segment_of}
 use Rattle.lab_lines.specs.declared.line.Op.{Op}
 use Rattle.lab_lines.specs.declared.line.Op.TheVariants as op
 use Rattle.lab_lines.specs.declared.row.Answer.{Answer}
 use Rattle.lab_lines.specs.declared.row.Answer.TheVariants.{Done}
 use Rattle.lab_lines.specs.Script.{first_frame}
-use Rattle.lab_run.specs.Client.{Client, after_call, begins, call_of, client_kind, count_answer, done_answer, ended_by, frames_of, line_by, line_if, present_of, segments_of, stretch_of}
+use Rattle.lab_run.specs.Client.{Client, after_call, begins, call_of, client_kind, ended_by, frames_of, line_by, line_if, present_of, segments_of, stretch_of}
 use Rattle.lab_run.specs.Items.{no_sound}
 use Rattle.lab_run.specs.Lines.{LineMay}
 use Rattle.lab_run.specs.Rules.{AtPort, Rules}
 use Rattle.lab_run.specs.Stage.{Session, Setup, opened_client}
 use Rattle.lab_headline.specs.Segments.{IsOfFrames}
-use Rattle.lab_run.proofs.CallParts.{admitted-going, starts-prepared}
 use Rattle.lab_headline.proofs.Bound.{HasBindings, line-bound}
-use Rattle.lab_headline.proofs.FileCalls.{FileAfter, IsOfFile, admitted-after, answered-after, drain-after, idle-goes, in-state, number_course-after, prepared-anew, resume-after, rewind-after, rewindable-after, start_course-after, sync-after, write-after}
+use Rattle.lab_headline.proofs.FileCalls.{FileAfter, IsOfFile, call-after, idle-goes}
 use Rattle.lab_headline.proofs.Going.{still-client, in-open}
 use Rattle.lab_headline.proofs.NumberedStages.{IsKeptBy}
 use Rattle.lab_headline.proofs.Onward.{Channels, begun}
@@ -67,36 +64,9 @@ module _ (p : ℕ) (wav : Sound) (client : Client) (c : PlaybackStream) (own_is 
   call-leaves asked m from = From-then p (λ t done. FileAfter p (frames_of wav) done) FileDone 0 (call_of wav m c asked) (λ done. ends (after_call client c asked done)) from
       (λ t done there. (there, ended-so asked done.1 done.0))
 
-  prepare-after : (m : Marks) → From p (λ t done. FileAfter p (frames_of wav) done) 0 (call_of wav m c op.Prepare)
-  prepare-after m = answered-after p (frames_of wav) c is done_answer _ (admitted-after p (frames_of wav) c is call.Prepare (ends (after_prepare c, Ok tt)) (λ admits. prepared-anew p (frames_of wav) c is))
-
   op-leaves : (m : Marks) (asked : Op) → From p FileDone 0 (line_if false wav m client c asked)
   op-leaves m (op.Die k) = stays
-  op-leaves m (op.Write n) = call-leaves (op.Write n) m
-      (answered-after p (frames_of wav) c is count_answer _ (admitted-after p (frames_of wav) c is call.Transfer _
-      (λ admits. write-after p (frames_of wav) c is m.cursor (min n (frames_of wav - c.fed)) (write-room n c.fed (frames_of wav) is.0.most) admits)))
-  op-leaves m op.Start = call-leaves op.Start m
-      (answered-after p (frames_of wav) c is done_answer _ (admitted-after p (frames_of wav) c is call.Start _ (λ admits. start_course-after p (frames_of wav) c is m.cursor (starts-prepared c.status admits))))
-  op-leaves m op.Sync = call-leaves op.Sync m
-      (answered-after p (frames_of wav) c is done_answer _ (admitted-after p (frames_of wav) c is call.Sync _ (λ admits. sync-after p (frames_of wav) c is (admitted-going c.status call.Sync admits))))
-  op-leaves m op.Avail = call-leaves op.Avail m
-      (answered-after p (frames_of wav) c is count_answer _ (admitted-after p (frames_of wav) c is call.Sync _ (λ admits. number_course-after p (frames_of wav) c is avail_answer (admitted-going c.status call.Sync admits))))
-  op-leaves m op.Delay = call-leaves op.Delay m
-      (answered-after p (frames_of wav) c is count_answer _ (admitted-after p (frames_of wav) c is call.Sync _ (λ admits. number_course-after p (frames_of wav) c is delay_answer (admitted-going c.status call.Sync admits))))
-  op-leaves m op.Drain = call-leaves op.Drain m
-      (answered-after p (frames_of wav) c is done_answer _ (admitted-after p (frames_of wav) c is call.Drain _ (λ admits. drain-after p (frames_of wav) c is m.cursor (admitted-going c.status call.Drain admits))))
-  op-leaves m op.Drop = call-leaves op.Drop m
-      (answered-after p (frames_of wav) c is done_answer _ (admitted-after p (frames_of wav) c is call.Drop (ends (after_drop c, Ok tt)) (λ admits. in-state p (frames_of wav) c is state.Setup refl refl)))
-  op-leaves m op.Prepare = call-leaves op.Prepare m (prepare-after m)
-  op-leaves m op.Pause = call-leaves op.Pause m
-      (answered-after p (frames_of wav) c is done_answer _ (admitted-after p (frames_of wav) c is call.Pause _ (λ admits. in-state p (frames_of wav) c is Paused refl refl)))
-  op-leaves m op.Resume = call-leaves op.Resume m
-      (answered-after p (frames_of wav) c is done_answer _ (admitted-after p (frames_of wav) c is call.Resume _ (λ admits. resume-after p (frames_of wav) c is m.cursor)))
-  op-leaves m (op.Rewind n) = call-leaves (op.Rewind n) m
-      (answered-after p (frames_of wav) c is count_answer _ (admitted-after p (frames_of wav) c is call.Transfer _ (λ admits. rewind-after p (frames_of wav) c is m.floor n admits)))
-  op-leaves m op.Rewindable = call-leaves op.Rewindable m
-      (answered-after p (frames_of wav) c is count_answer _ (admitted-after p (frames_of wav) c is call.Transfer _ (λ admits. rewindable-after p (frames_of wav) c is m.floor (admitted-going c.status call.Transfer admits))))
-  op-leaves m other = call-leaves other m is
+  op-leaves m asked = call-leaves asked m (call-after p (frames_of wav) c is wav m (λ n. write-room n c.fed (frames_of wav) is.0.most) asked)
 
   pub line-leaves : (m : Marks) (asked : Op) → From p FileDone 0 (line_if c.status.stopped wav m client c asked)
   line-leaves m asked = by_stop c.status.stopped
