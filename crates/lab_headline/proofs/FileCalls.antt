@@ -37,7 +37,7 @@ use Rattle.lab_lines.specs.declared.line.Op.{Op}
 use Rattle.lab_lines.specs.declared.line.Op.TheVariants as op
 use Rattle.wav_io.specs.Sound.{Sound}
 use Rattle.lab_run.specs.Client.{call_answer, call_of, done_answer, frames_of}
-use Rattle.lab_run.proofs.CallParts.{Parts, call_of-says, done_answer-says, if_admitted-says, running-moves, running-transfers, start-unprepared, step-moves}
+use Rattle.lab_run.proofs.CallParts.{Parts, call_of-says, done_answer-says, empty-still, if_admitted-says, running-moves, running-transfers, start-unprepared, step-moves}
 use Rattle.lab_headline.proofs.CommitCounts.{From-all, IsCommitOf, commits-few, frames-left, nothing-of}
 use Rattle.lab_headline.proofs.Onward.{Channels, begun, stepped-unprepared}
 use Rattle.lab_headline.proofs.PlayedCalls.{IfOk-any, IfOk-none, IsOver, step-over, step-unprepared}
@@ -629,10 +629,6 @@ module _ (p limit : ℕ) where
 
         draining-after : Moves p 0 c.stretch → From p (λ t done. FileAfter p limit done) 0 (syncs (in_draining c) call.Drain [])
         draining-after on = syncs-after 0 (in_draining c) call.Drain (is.0, going-goes p Draining c.status.stopped c.stretch refl on) tt on
-
-        empty-still : (s : State) → is_prepared s ≡ true → is_moving (next_of s call.Start (record (nothing_found Playback) { queued = 0 })).state ≡ false
-        empty-still Prepared is_so = refl
-        empty-still other is_so = absurd (false≢true is_so)
 
         none : is_prepared c.status.state ≡ true → IsOfFile p limit (with_outcome c (next_of c.status.state call.Start (record (nothing_found Playback) { queued = 0 }))).0
         none prepared = (is.0, idle-goes p _ c.status.stopped c.stretch (empty-still c.status.state prepared) (is.1.waits prepared).0 (is.1.waits prepared).1)

@@ -10,7 +10,7 @@ use Rattle.pcm_states.specs.declared.calls.Call.{Call}
 use Rattle.pcm_states.specs.declared.calls.Call.TheVariants as call
 use Rattle.pcm_states.specs.declared.calls.Facts.{Facts}
 use Rattle.pcm_states.specs.declared.states.State.{State}
-use Rattle.pcm_states.specs.declared.states.State.TheVariants.{Draining, Paused, Prepared, Running, Setup}
+use Rattle.pcm_states.specs.declared.states.State.TheVariants.{Draining, Paused, Running, Setup}
 use Rattle.pcm_states.specs.Table.{next_of}
 use Rattle.pcm_stream.specs.declared.direction.Direction.TheVariants.{Playback}
 use Rattle.pcm_stream.specs.Status.{is_moving, nothing_found}
@@ -27,7 +27,7 @@ use Rattle.lab_lines.specs.declared.line.Op.{Op}
 use Rattle.lab_lines.specs.declared.line.Op.TheVariants as op
 use Rattle.wav_io.specs.Sound.{Sound}
 use Rattle.lab_run.specs.Client.{call_answer, call_of, done_answer}
-use Rattle.lab_run.proofs.CallParts.{IsSaying, Parts, call_of-says, done_answer-says, if_admitted-says, running-moves, running-transfers, start-unprepared, step-moves}
+use Rattle.lab_run.proofs.CallParts.{IsSaying, Parts, call_of-says, done_answer-says, empty-still, if_admitted-says, running-moves, running-transfers, start-unprepared, step-moves}
 use Rattle.lab_headline.proofs.Onward.{Begun, Channels, OnwardAfter, Leads, Leads-if, Leads-map, Leads-then, Lies, Onward, Started, Waits, begun, commits-lead, earlier-lies, end_of, ended-lies, free_frame, high_end, looks-lead, moving-begun, moving-unprepared, start-commits, starts-go, after_sync-goes, syncs-go}
 use Rattle.lab_headline.proofs.Withdrawn.{below-sum, frames-back}
 
@@ -221,10 +221,6 @@ module _ (p : ℕ) (g : Geometry) (x y : ℕ) where
     where
       draining-begun : Begun p x y m c → Begun p x y m (in_draining c)
       draining-begun begun = record { bound = begun.bound; started = begun.started; unprepared = refl; past = begun.past; lies = begun.lies }
-
-      empty-still : (s : State) → is_prepared s ≡ true → is_moving (next_of s call.Start (record (nothing_found Playback) { queued = 0 })).state ≡ false
-      empty-still Prepared is = refl
-      empty-still other is = absurd (false≢true is)
 
       empty-goes : is_prepared c.status.state ≡ true → Waits p x y m c
           → OnwardAfter p x y m (with_outcome c (next_of c.status.state call.Start (record (nothing_found Playback) { queued = 0 })))

@@ -85,6 +85,11 @@ transfers-prepared status = by_stop status.stopped status.state
     by_stop false Running is not = absurd (false≢true (sym not))
     by_stop false other is not = absurd (some-none is)
 
+-- a start of nothing that was written leads to no state that moves frames
+pub empty-still : (s : State) → is_prepared s ≡ true → is_moving (next_of s call.Start (record (nothing_found Playback) { queued = 0 })).state ≡ false
+empty-still Prepared is = refl
+empty-still other is = absurd (false≢true is)
+
 -- ---- facts of courses
 
 -- from a world on, whatever a course does, a fact holds of the world in which it ends and of its result
