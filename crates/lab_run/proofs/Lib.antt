@@ -22,6 +22,7 @@ pub mod OwnReaders
 pub mod PartLaws
 pub mod PartsGrow
 pub mod PortLaws
+pub mod ReadParts
 pub mod ReaderLeads
 pub mod ReaderLines
 pub mod ReadsAlike
