@@ -1,7 +1,6 @@
 -- Clients and readers are kinds of actors whose lines load a position before they place or get anything, and begin where they were.
 use Rattle.std.proofs.Common.{◌≡◌, ℕ, refl, Option, Some, None}
-use Rattle.std.specs.Prelude.{Bool, true, false, [], Result, ⊤}
-use Rattle.snd_base.specs.declared.errors.PcmError.{PcmError}
+use Rattle.std.specs.Prelude.{Bool, true, false, [], ⊤}
 use Rattle.mix_core.specs.declared.marks.Marks.{Marks}
 use Rattle.pcm_states.specs.declared.calls.Call.{Call}
 use Rattle.pcm_states.specs.declared.calls.Call.TheVariants as call
@@ -11,12 +10,9 @@ use Rattle.dmix_client.specs.declared.stream.PlaybackStream.{PlaybackStream}
 use Rattle.dmix_client.specs.Calls.{Answered, in_draining}
 use Rattle.dmix_client.specs.Course.{if_admitted}
 use Rattle.dsnoop_client.specs.declared.stream.CaptureStream as reading
-use Rattle.dsnoop_client.specs.Calls as reading_calls
-use Rattle.dsnoop_client.specs.Course as reading_course
 use Rattle.lab_lines.specs.declared.line.Op.{Op}
 use Rattle.lab_lines.specs.declared.line.Op.TheVariants as op
-use Rattle.lab_lines.specs.declared.row.Answer.{Answer}
-use Rattle.lab_run.specs.Client.{Client, after_call, call_answer, begins, call_of, client_kind, count_answer, dies_if, done_answer, line_by, line_if}
+use Rattle.lab_run.specs.Client.{Client, after_call, call_answer, begins, call_of, client_kind, dies_if, done_answer, line_by, line_if}
 use Rattle.lab_run.specs.Lines.{Kind}
 use Rattle.lab_run.specs.Reader.{Reader, reader_kind}
 use Rattle.lab_run.specs.Reader as readers
@@ -24,6 +20,7 @@ use Rattle.lab_run.specs.Rules.{AtPort}
 use Rattle.lab_run.proofs.CallParts.{IsSaying, Parts, call_of-says, done_answer-says, if_admitted-says}
 use Rattle.lab_run.proofs.ClientLeads as client_leads
 use Rattle.lab_run.proofs.Leads.{Anything, Led, Led-less, Led-then, LoadsFirst, OkLed, first-of, first-then}
+use Rattle.lab_run.proofs.ReadParts as read_parts
 use Rattle.lab_run.proofs.ReaderLeads as reader_leads
 use Rattle.lab_run.proofs.RewindLeads as rewind_leads
 
@@ -111,30 +108,27 @@ client-IsKind phase wav number = record {
 
 -- ---- readers
 
-read-first : {X : Type 0} (answer : Result X PcmError → Answer) (r : reading.CaptureStream) (call : Call) (course : Course (reading_calls.Answered X)) → LoadsFirst false course
-    → LoadsFirst false (readers.call_answer answer (reading_course.if_admitted r call course))
-read-first answer r call course led =
-    first-then false (reading_course.if_admitted r call course) (λ done. ends (done.0, answer done.1)) (reader_leads.admitted-first r call course led) (λ l x. tt)
+reads-first : (r : reading.CaptureStream) → read_parts.Parts {W = Bool} (λ X Q loaded course. Led Q loaded course) r false OkLed Anything Anything Anything
+reads-first r = record {
+  same = tt;
+  none = tt;
+  refused = λ asked e is. tt;
+  not_counted = λ asked e is. tt;
+  not_read = λ asked e is. tt;
+  starts_so = first-of OkLed false _ (reader_leads.starts-led r call.Start false);
+  syncs_so = λ runs. first-of OkLed false _ (reader_leads.syncs-led r call.Sync false);
+  available = λ loaded done led. tt;
+  goes_on = λ runs. reader_leads.syncs-led r call.Transfer false;
+  begins = λ still. reader_leads.starts-led r call.Transfer false;
+  gets_on = λ n loaded done led. reader_leads.transfer_on-first n loaded done led;
+  waiting = λ n. tt;
+  dropped = tt;
+  prepared = tt;
+}
 
 reader_call-first : (r : reading.CaptureStream) (asked : Op) → LoadsFirst false (readers.call_of r asked)
-reader_call-first r (op.Read n) = read-first count_answer r call.Transfer _ (reader_leads.read-first r n)
-reader_call-first r op.Start = read-first done_answer r call.Start _ (reader_leads.start-first r)
-reader_call-first r op.Sync = read-first done_answer r call.Sync _ (reader_leads.sync-first r)
-reader_call-first r op.Avail = read-first count_answer r call.Sync _ (reader_leads.avail-first r)
-reader_call-first r op.Drop = read-first done_answer r call.Drop (ends _) tt
-reader_call-first r op.Prepare = read-first done_answer r call.Prepare (ends _) tt
-reader_call-first r op.Pause = tt
-reader_call-first r op.Resume = tt
-reader_call-first r op.Drain = tt
-reader_call-first r op.Delay = tt
-reader_call-first r (op.Die k) = tt
-reader_call-first r (op.Play k) = tt
-reader_call-first r (op.Write k) = tt
-reader_call-first r (op.Rewind k) = tt
-reader_call-first r op.Rewindable = tt
-reader_call-first r op.Unplug = tt
-reader_call-first r op.Opens = tt
-reader_call-first r op.Closes = tt
+reader_call-first r asked = read_parts.call_of-says led-so (reads-first r) (λ o. Anything) (λ o loaded x is. tt) (λ loaded x is. tt) (λ n loaded x is. tt)
+    (λ o. tt) (λ o. tt) asked
 
 reader_line-first : (stopped : Bool) (reader : Reader) (r : reading.CaptureStream) (asked : Op) → LoadsFirst false (readers.line_if stopped reader r asked)
 reader_line-first true reader r asked = tt
