@@ -16,6 +16,7 @@ use Rattle.pcm_stream.specs.declared.direction.Direction.TheVariants.{Playback}
 use Rattle.pcm_stream.specs.declared.status.Status.{Status}
 use Rattle.pcm_stream.specs.Status.{is_moving, nothing_found, refusal_of}
 use Rattle.course.specs.Course.{◌>>=◌, Course, ends}
+use Rattle.course.specs.Gives.{Gives, Gives-map, Gives-then}
 use Rattle.wav_io.specs.Sound.{Sound}
 use Rattle.dmix_client.specs.declared.stream.PlaybackStream.{PlaybackStream}
 use Rattle.dmix_client.specs.Calls.{Answered, accepted_if, after_drop, after_pause, avail_answer, delay_answer, in_draining, is_prepared, is_running, taken_of, with_accepted, with_number, with_outcome}
@@ -102,6 +103,14 @@ pub record IsSaying {W : Type 0} (Says : Saying W) : Type 1 where
   pub after : (X Y : Type 0) (R : W → X → Type 0) (Q : W → Y → Type 0) (w : W) (m : Course X) (f : X → Course Y)
       → Says X R w m → ((v : W) (x : X) → R v x → Says Y Q v (f x)) → Says Y Q w (m >>= f)
   pub implied : (X : Type 0) (R Q : W → X → Type 0) (w : W) (m : Course X) → Says X R w m → ((v : W) (x : X) → R v x → Q v x) → Says X Q w m
+
+-- a fact of each result of a course alone
+pub gives-so : IsSaying {W = Unit {0}} (λ X Q w course. Gives (Q w) course)
+gives-so = record {
+  at_end = λ X Q w x is. is;
+  after = λ X Y R Q w course f gives next. Gives-then (R w) (Q w) course f gives (next w);
+  implied = λ X R Q w course gives less. Gives-map (R w) (Q w) course gives (less w);
+}
 
 -- what is so of the parts of the calls of a client, which begin in a world at a port with marks: `Looked` after its load and the commit after that, `Started` after
 -- a start to a state with some frames more than are accepted, `Done` after a call, and `Counted` after one that answers a number; `Few` frames may be written
