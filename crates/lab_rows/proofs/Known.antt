@@ -10,6 +10,7 @@ use Rattle.snoop_core.specs.declared.port.Got.{Got}
 use Rattle.snoop_core.specs.declared.port.Got.TheVariants as got
 use Rattle.course.specs.Course.{◌>>=◌, Course, ends, gets, lays, loads}
 use Rattle.lab_run.specs.Rules.{AtPort, May, MayGet, MayLay, Rules, with_asks}
+use Rattle.lab_run.proofs.CallParts.{IsSaying}
 use Rattle.lab_run.proofs.RunGoesOn.{stop-seen}
 
 -- a load gives a position that isn't below the one that is known, and that one is known from then on
@@ -27,6 +28,21 @@ AllKnown-then R Q known (loads next) f all each =
     (AllKnown-then R Q known (next None) f all.0 each, λ p newer. AllKnown-then R Q p.frame (next (Some p)) f (all.1 p newer) each)
 AllKnown-then R Q known (lays e next) f all each = λ how. AllKnown-then R Q known (next how) f (all how) each
 AllKnown-then R Q known (gets frame next) f all each = λ how. AllKnown-then R Q known (next how) f (all how) each
+
+pub AllKnown-map : {X : Type 0} (R Q : ℕ → X → Type 0) (known : ℕ) (m : Course X) → AllKnown R known m → ((later : ℕ) (x : X) → R later x → Q later x)
+    → AllKnown Q known m
+AllKnown-map R Q known (ends x) all each = each known x all
+AllKnown-map R Q known (loads next) all each =
+    (AllKnown-map R Q known (next None) all.0 each, λ p newer. AllKnown-map R Q p.frame (next (Some p)) (all.1 p newer) each)
+AllKnown-map R Q known (lays e next) all each = λ how. AllKnown-map R Q known (next how) (all how) each
+AllKnown-map R Q known (gets frame next) all each = λ how. AllKnown-map R Q known (next how) (all how) each
+
+pub known-so : IsSaying {W = ℕ} (λ X Q known m. AllKnown Q known m)
+known-so = record {
+  at_end = λ X Q known x is. is;
+  after = λ X Y R Q known m f all next. AllKnown-then R Q known m f all next;
+  implied = λ X R Q known m all less. AllKnown-map R Q known m all less;
+}
 
 -- what is known at a port in a phase: the position at which the phase begins, and the one that was seen last
 abbrev pub known_at : ℕ → AtPort → ℕ

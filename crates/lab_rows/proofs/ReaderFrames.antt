@@ -1,6 +1,6 @@
 -- A reader's frames are captured ones: each that it gets is after the others, and below the position known. So they are at most as many as the card has captured.
 use Rattle.std.proofs.Common.{◌≡◌, ℕ, ◌+◌, ◌-◌, ◌≤◌, ◌⊎◌, inl, inr, refl, sym, ap, subst, arith, length, List, [], ◌∷◌, Option, Some, None, zero, suc}
-use Rattle.std.specs.Prelude.{Bool, true, false, ◌&&◌, ◌++◌, nat_eq, nat_le, nat_lt, if◌then◌else◌, Result, Ok, Err, ⊤, unwrap_or}
+use Rattle.std.specs.Prelude.{Bool, true, false, ◌&&◌, ◌++◌, nat_eq, nat_lt, if◌then◌else◌, Result, Ok, Err, ⊤, unwrap_or}
 use Rattle.std.specs.List.{range_with_len}
 use Rattle.snd_base.specs.declared.errors.PcmError.{PcmError}
 use Rattle.snd_base.specs.declared.errors.PcmError.TheVariants as error
@@ -11,23 +11,22 @@ use Rattle.pcm_states.specs.declared.calls.Outcome.{Outcome}
 use Rattle.pcm_states.specs.declared.states.State.{State}
 use Rattle.pcm_states.specs.declared.states.State.TheVariants as state
 use Rattle.pcm_states.specs.Table.{next_of}
-use Rattle.pcm_stream.specs.declared.direction.Direction.TheVariants.{Capture}
-use Rattle.pcm_stream.specs.Status.{refusal_of}
-use Rattle.course.specs.Course.{◌>>=◌, Course, ends}
+use Rattle.course.specs.Course.{◌>>=◌, ends}
 use Rattle.snoop_core.specs.declared.port.Got.{Got}
 use Rattle.snoop_core.specs.declared.port.Got.TheVariants as got
 use Rattle.dsnoop_client.specs.declared.stream.CaptureStream.{CaptureStream}
 use Rattle.dsnoop_client.specs.Calls.{Answered, facts_with, in_state, over_of, read_after, read_to, seen_at, with_outcome, after_sync, taken_of, waits, with_avail}
-use Rattle.dsnoop_client.specs.Course.{if_admitted, admitted_by, avail_course, counts, get_on, gets_frames, one_more, read_course, reads_first, reads_on, starts, sync_course, syncs, transfer_on, transfers}
+use Rattle.dsnoop_client.specs.Course.{get_on, gets_frames, one_more, starts, syncs, transfer_on, transfers}
 use Rattle.dsnoop_client.specs.View.{avail_of, is_running}
 use Rattle.lab_lines.specs.declared.line.Op.{Op}
 use Rattle.lab_lines.specs.declared.line.Op.TheVariants as op
 use Rattle.lab_lines.specs.declared.row.Answer.{Answer}
 use Rattle.lab_lines.specs.declared.row.Answer.TheVariants.{Failed}
 use Rattle.lab_run.specs.Client.{count_answer, done_answer}
-use Rattle.lab_run.specs.Reader.{Reader, after_call, call_answer, call_of, frames_by, line_by, line_if}
+use Rattle.lab_run.specs.Reader.{Reader, after_call, call_of, frames_by, line_by, line_if}
 use Rattle.lab_rows.specs.Captured.{AreRisingFrames}
-use Rattle.lab_rows.proofs.Known.{AllKnown, AllKnown-then}
+use Rattle.lab_run.proofs.ReadParts.{Parts, call_of-says}
+use Rattle.lab_rows.proofs.Known.{AllKnown, AllKnown-then, known-so}
 
 -- ---- frames that rise
 
@@ -176,40 +175,28 @@ waits-reads base known r n low next = by_test (nat_eq n 0)
 
 -- ---- the calls
 
-read_course-reads : (base known : ℕ) (r : CaptureStream) (n : ℕ) → base ≤ known → IsPast base r → AllKnown (Reads base) known (read_course r n)
-unfolding reads_on reads_first
-read_course-reads base known r n low next = by_running (is_running r.status.state) refl
-  where
-    by_start : (b : Bool) → is_running r.status.state ≡ false → AllKnown (Reads base) known (if b then reads_first r n else ends (r, waits n))
-    by_start true not = AllKnown-then (Begins base) (Reads base) known (starts r call.Transfer) (transfer_on n) (starts-begins base known r low not)
-        (λ later done is. transfer_on-reads base later n done is)
-    by_start false not = waits-reads base known r n low next
+with_avail-stays : (base known : ℕ) (done : Answered (Unit {0})) → Stays base known done → Stays base known (with_avail done)
+with_avail-stays base known (d, Ok done) is = is
+with_avail-stays base known (d, Err e) is = is
 
-    by_running : (b : Bool) → is_running r.status.state ≡ b
-        → AllKnown (Reads base) known (if b then reads_on r n else (if nat_le r.setup.params.start_threshold n then reads_first r n else ends (r, waits n)))
-    by_running true runs = AllKnown-then (Begins base) (Reads base) known (syncs r call.Transfer) (transfer_on n)
-        (syncs-begins base known r call.Transfer low (next runs)) (λ later done is. transfer_on-reads base later n done is)
-    by_running false not = by_start (nat_le r.setup.params.start_threshold n) not
-
-sync_course-stays : (base known : ℕ) (r : CaptureStream) → base ≤ known → IsPast base r → AllKnown (Stays base) known (sync_course r)
-sync_course-stays base known r low next = by_running (is_running r.status.state) refl
-  where
-    by_running : (b : Bool) → is_running r.status.state ≡ b → AllKnown (Stays base) known (if b then syncs r call.Sync else ends (r, Ok tt))
-    by_running true runs = syncs-stays base known r call.Sync low (next runs)
-    by_running false not = (low, next)
-
-avail_course-stays : (base known : ℕ) (r : CaptureStream) → base ≤ known → IsPast base r → AllKnown (Stays base) known (avail_course r)
-unfolding counts
-avail_course-stays base known r low next = by_running (is_running r.status.state) refl
-  where
-    with_avail-stays : (later : ℕ) (done : Answered (Unit {0})) → Stays base later done → Stays base later (with_avail done)
-    with_avail-stays later (d, Ok done) is = is
-    with_avail-stays later (d, Err e) is = is
-
-    by_running : (b : Bool) → is_running r.status.state ≡ b → AllKnown (Stays base) known (if b then counts (syncs r call.Sync) else ends (r, Ok 0))
-    by_running true runs = AllKnown-then (Stays base) (Stays base) known (syncs r call.Sync) (λ done. ends (with_avail done))
-        (syncs-stays base known r call.Sync low (next runs)) with_avail-stays
-    by_running false not = (low, next)
+reads-stay : (base known : ℕ) (r : CaptureStream) → base ≤ known → IsPast base r
+    → Parts {W = ℕ} (λ X Q known m. AllKnown Q known m) r known (Begins base) (Stays base) (Stays base) (Reads base)
+reads-stay base known r low next = record {
+  same = (low, next);
+  none = (low, next);
+  refused = λ asked e is. (low, next);
+  not_counted = λ asked e is. (low, next);
+  not_read = λ asked e is. (low, next);
+  starts_so = starts-stays base known r low next;
+  syncs_so = λ runs. syncs-stays base known r call.Sync low (next runs);
+  available = λ later done is. with_avail-stays base later done is;
+  goes_on = λ runs. syncs-begins base known r call.Transfer low (next runs);
+  begins = λ still. starts-begins base known r low still;
+  gets_on = λ n later done is. transfer_on-reads base later n done is;
+  waiting = λ n. waits-reads base known r n low next;
+  dropped = (low, λ runs. absurd (cc));
+  prepared = (low, λ runs. absurd (cc));
+}
 
 -- ---- the lines
 
@@ -232,16 +219,6 @@ LineHas first known (reader, answer) = HasFrames first known reader
 abbrev IsLeft : ℕ → ℕ → Op → CaptureStream × Answer → Type 0
 IsLeft base known asked (d, answer) = (end : ℕ) × AreRisingFrames base end (frames_by asked answer d) × (end ≤ known) × IsPast end d
 
-admitted-left : {T : Type 0} (base known : ℕ) (r : CaptureStream) (asked : Op) (c : Call) (answer : Result T PcmError → Answer) (R : ℕ → Answered T → Type 0) (m : Course (Answered T))
-    → ((later : ℕ) (x : Answered T) → R later x → IsLeft base later asked (x.0, answer x.1)) → ((e : PcmError) → R known (r, Err e)) → AllKnown R known m
-    → AllKnown (λ later x. IsLeft base later asked x) known (call_answer answer (if_admitted r c m))
-admitted-left {T = T} base known r asked c answer R m leaves refused all =
-    AllKnown-then R (λ later x. IsLeft base later asked x) known (if_admitted r c m) (λ done. ends (done.0, answer done.1)) (by_refusal (refusal_of Capture r.status c)) leaves
-  where
-    by_refusal : (refusal : Option PcmError) → AllKnown R known (admitted_by refusal r m)
-    by_refusal None = all
-    by_refusal (Some e) = refused e
-
 -- a call that got nothing
 none-left : (base known : ℕ) (asked : Op) (d : CaptureStream) (answer : Answer) → frames_by asked answer d ≡ [] → (base ≤ known) × IsPast base d
     → IsLeft base known asked (d, answer)
@@ -257,27 +234,21 @@ read-left base n known (d, Ok count) (inr (next, low)) =
     (d.next, rising-range base d.next (d.next - count) count (omega (arith, next)) (omega (arith, next)), low, λ runs. omega arith)
 read-left base n known (d, Err e) is = none-left base known (op.Read n) d (count_answer (Err e)) refl is
 
+no-frames : (o : Op) (r : Result (Unit {0}) PcmError) (d : CaptureStream) → frames_by o (done_answer r) d ≡ []
+no-frames (op.Read n) (Ok done) d = refl
+no-frames (op.Read n) (Err e) d = refl
+no-frames other r d = refl
+
+failed-frames : (o : Op) (e : PcmError) (d : CaptureStream) → frames_by o (Failed e) d ≡ []
+failed-frames (op.Read n) e d = refl
+failed-frames other e d = refl
+
 call-left : (base known : ℕ) (r : CaptureStream) (asked : Op) → base ≤ known → IsPast base r → AllKnown (λ later x. IsLeft base later asked x) known (call_of r asked)
-call-left base known r (op.Read n) low next =
-    admitted-left base known r (op.Read n) call.Transfer count_answer (Reads base) (read_course r n) (λ later x is. read-left base n later x is) (λ e. (low, next))
-    (read_course-reads base known r n low next)
-call-left base known r op.Start low next =
-    admitted-left base known r op.Start call.Start done_answer (Stays base) (starts r call.Start)
-    (λ later x is. none-left base later op.Start x.0 (done_answer x.1) refl is) (λ e. (low, next)) (starts-stays base known r low next)
-call-left base known r op.Sync low next =
-    admitted-left base known r op.Sync call.Sync done_answer (Stays base) (sync_course r)
-    (λ later x is. none-left base later op.Sync x.0 (done_answer x.1) refl is) (λ e. (low, next)) (sync_course-stays base known r low next)
-call-left base known r op.Avail low next =
-    admitted-left base known r op.Avail call.Sync count_answer (Stays base) (avail_course r)
-    (λ later x is. none-left base later op.Avail x.0 (count_answer x.1) refl is) (λ e. (low, next)) (avail_course-stays base known r low next)
-call-left base known r op.Drop low next =
-    admitted-left base known r op.Drop call.Drop done_answer (Stays base) (ends (in_state r state.Setup, Ok tt))
-    (λ later x is. none-left base later op.Drop x.0 (done_answer x.1) refl is) (λ e. (low, next)) (low, λ runs. absurd (cc))
-call-left base known r op.Prepare low next =
-    admitted-left base known r op.Prepare call.Prepare done_answer (Stays base) (ends (in_state r state.Prepared, Ok tt))
-    (λ later x is. none-left base later op.Prepare x.0 (done_answer x.1) refl is) (λ e. (low, next)) (low, λ runs. absurd (cc))
-call-left base known r op.Pause low next = none-left base known op.Pause r (Failed error.NotSupported) refl (low, next)
-call-left base known r other low next = none-left base known other r (Failed error.BadState) refl (low, next)
+call-left base known r asked low next = call_of-says known-so (reads-stay base known r low next) (λ o later x. IsLeft base later o x)
+    (λ o later x is. none-left base later o x.0 (done_answer x.1) (no-frames o x.1 x.0) is)
+    (λ later x is. none-left base later op.Avail x.0 (count_answer x.1) refl is) (λ n later x is. read-left base n later x is)
+    (λ o. none-left base known o r (Failed error.NotSupported) (failed-frames o error.NotSupported r) (low, next))
+    (λ o. none-left base known o r (Failed error.BadState) (failed-frames o error.BadState r) (low, next)) asked
 
 -- a line adds the frames that its call got
 line-left : (first base known : ℕ) (reader : Reader) (asked : Op) (x : CaptureStream × Answer) → AreRisingFrames first base reader.frames → IsLeft base known asked x
