@@ -23,10 +23,10 @@ use Rattle.lab_stop.specs.FaultLaws.{IsWriteKind-only}
 use Rattle.lab_stop.specs.declared.stop.Stop.{Stop}
 use Rattle.lab_stop.specs.Stops.{StopKind, at_output, at_memory, stop_facts, IsWriteStop}
 use Rattle.lab_make.specs.declared.workload.Workload.{Workload}
-use Rattle.lab_workload.specs.Made.{IsMadeAsking, IsMadePart}
+use Rattle.lab_commands.specs.Made.{IsMadeAsking, IsMadePart}
 use Rattle.lab_check.specs.Runs.{RunsAreChecked, RunsSayHeadline}
-use Rattle.lab_commands.specs.Checking.{IsCheckedRun}
-use Rattle.lab_commands.proofs.PassedChecks.{run-passes}
+use Rattle.lab_compare.specs.Checking.{IsCheckedRun}
+use Rattle.lab_compare.proofs.PassedChecks.{run-passes}
 use Rattle.lab_commands.specs.Words.{Form, check, make, refine, run}
 use Rattle.lab_commands.specs.Run.{HasFinishedAsking, IsUnfinished}
 use Rattle.lab_commands.specs.Top.{CommandLeaves, LeavesAt}

@@ -1,9 +1,7 @@
 mod Asking
-mod CheckedFiles
-mod Checks
-mod Comparing
 mod Ends
 mod Leaving
 mod Only
-mod PassedChecks
 mod Texts
+mod Making
+mod Unmixed

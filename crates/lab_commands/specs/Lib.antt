@@ -1,4 +1,4 @@
 pub mod Words
-pub mod Checking
 pub mod Run
 pub mod Top
+pub mod Made

@@ -18,7 +18,7 @@ use Rattle.lab_run.specs.Openings.{IsSessionOf}
 use Rattle.lab_run.specs.Phases.{AreUnmixed}
 use Rattle.lab_run.specs.Stage.{Session, first_stage}
 use Rattle.lab_shelf.specs.Files.{Files}
-use Rattle.lab_commands.specs.Checking.{HoldsRun, check_in}
+use Rattle.lab_compare.specs.Checking.{HoldsRun, check_in}
 
 -- A run is done. Its script and all WAV files that it names are what the files held. There are a report and samples that are of a run of them, in which
 -- each gate stopped its actor at most so often (`IsRunOf`). OUT.wav is the WAV file of what the card played, and OUT.NAME.wav that of what each reader

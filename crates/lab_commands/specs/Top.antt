@@ -18,10 +18,16 @@ use Rattle.lab_stop.specs.Lines.{stop_line}
 use Rattle.lab_stop.specs.Stops.{StopKind, at_output, at_memory, stop_facts, EndsOf, EndsReliably, status_of}
 use Rattle.lab_stop.specs.declared.stop.Stop.{Stop}
 use Rattle.wav_io.specs.declared.error.WavError.{WavError}
-use Rattle.lab_workload.specs.Made.{IsMade, IsMadeAsking, IsMadePart, IsOnlyMade}
-use Rattle.lab_commands.specs.Checking.{HasChecked, check_in}
+use Rattle.lab_commands.specs.Made.{IsMade, IsMadeAsking, IsMadePart, IsOnlyMade}
+use Rattle.lab_compare.specs.Checking.{check_in, IsCheckedRun}
 use Rattle.lab_commands.specs.Words.{Form, run, check, refine, conf, make, help, version, form_of, help_text, version_text}
 use Rattle.lab_commands.specs.Run.{HasFinished, HasFinishedAsking, IsOnlyRunOf, IsUnfinished}
+
+-- what a check leaves that is done: the files are those of a checked run, no file changed, and nothing was put
+pub record HasChecked (script report out : List ℕ) (before after : Option Files)
+    (taken taken_after : Option (List ℕ)) : Type 0 where
+  pub run : IsCheckedRun before script report out
+  pub untouched : IsUntouched before after taken taken_after
 
 -- the first cause in the order of the work, form by form
 abbrev pub cause_in : Option Form → Files → Option Cause

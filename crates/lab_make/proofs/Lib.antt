@@ -9,3 +9,7 @@ pub mod LineSteps
 pub mod Reading
 pub mod Turns
 pub mod Refused
+pub mod MemoryStops
+pub mod ReadBack
+pub mod SoundSizes
+pub mod Storing

@@ -3,3 +3,4 @@ pub mod Workload
 pub mod Lines
 pub mod Script
 pub mod Summary
+pub mod Stored

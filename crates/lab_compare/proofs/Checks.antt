@@ -1,0 +1,284 @@
+-- The tests of a check, one after the other: a stop at one is a stop of the check.
+use Rattle.std.proofs.Common.{◌≡◌, ◌≤◌, ◌<◌, ◌+◌, ℕ, suc, zero, true, false, sym, ap, subst, ◌∙◌, refl, List, [], ◌∷◌, length, take, drop, get_or, length-take, add-one, arith, drop-cons}
+use Rattle.std.proofs.lemmas.Bool.Decides.{nat_tests}
+use Rattle.std.proofs.lemmas.List.{drop_all, take_all}
+use Rattle.std.proofs.lemmas.Option.{get_or_from_slice_get}
+use Rattle.std.specs.Prelude.{All, Bool, ℤ, Option, Some, None, Result, Ok, Err, IfOk, min, nat_le, slice_get, slice_index_or, if◌then◌else◌}
+use Rattle.std.specs.Option.{ForSome, option_map}
+use Rattle.lab_check.specs.declared.error.CheckError.{CheckError}
+use Rattle.lab_check.specs.declared.error.CheckError.TheVariants as checks
+use Rattle.lab_check.specs.Defects.{HasTestedRuns, HasTestedSegments, most_of_report, tested, tested_report}
+use Rattle.lab_check.specs.Lines.{line_of_end, line_of_played}
+use Rattle.lab_check.specs.Results.{ChecksAs}
+use Rattle.lab_check.specs.Samples.{played_samples, reader_samples, readers_samples}
+use Rattle.lab_input.specs.Input.{RunInput, input_in}
+use Rattle.lab_lines.specs.declared.report.Report.{Report}
+use Rattle.lab_lines.specs.declared.script.CardLine.{CardLine}
+use Rattle.lab_lines.specs.declared.script.ReaderLine.{ReaderLine}
+use Rattle.lab_lines.specs.declared.script.Script.{Script}
+use Rattle.lab_lines.specs.Limits.{IsReaderLine}
+use Rattle.lab_output.specs.declared.file.OutputFile.{OutputFile}
+use Rattle.lab_output.specs.Files.{played_file, recorded_file}
+use Rattle.lab_report.specs.Reading.{report_in_text}
+use Rattle.lab_shelf.specs.declared.traits.Shelf as shelves
+use Rattle.lab_shelf.specs.Files.{Files, bytes_under}
+use Rattle.lab_stop.specs.Causes.{Cause, bytes_or_cause, first_bytes, ◌>>=◌}
+use Rattle.lab_stop.specs.Effects.{IsSameShelf}
+use Rattle.lab_stop.specs.Stops.{AnswersOrStops, Misses, TestFaults}
+use Rattle.wav_io.specs.Sound.{Sound}
+use Rattle.lab_compare.specs.Checking.{IsReportIn, as_tested, check_in, is_same_in, outputs_in, passed, played_in, recording_in, recordings_in, same_in, same_or_line, tested_in}
+
+-- ---- a file that is compared
+
+-- whether a file is the one that it must be decides its test
+pub same_in-compared : (m : Files) (line : ℕ) (file : OutputFile) (samples : List ℤ) (same : Bool) → is_same_in m file samples ≡ Ok same
+    → same_in m line file samples ≡ same_or_line line same
+unfolding same_in
+same_in-compared m line file samples same is = ap (λ (r : Result Bool Cause). r >>= λ s. same_or_line line s) is
+
+-- a file that is missing fails its test so
+pub same_in-missing : (m : Files) (line : ℕ) (file : OutputFile) (samples : List ℤ) (e : Cause) → is_same_in m file samples ≡ Err e
+    → same_in m line file samples ≡ Err e
+unfolding same_in
+same_in-missing m line file samples e is = ap (λ (r : Result Bool Cause). r >>= λ s. same_or_line line s) is
+
+-- the test of a file is that of what was played, where it is compared with that
+pub played_in-of : (m : Files) (input : RunInput) (out : List ℕ) (report : Report) (line : ℕ) (file : OutputFile) (samples : List ℤ)
+    → line ≡ line_of_played report → file ≡ played_file input.script.card out → samples ≡ played_samples input.script input.sounds report
+    → same_in m line file samples ≡ played_in m input out report
+unfolding played_in
+played_in-of m input out report line file samples line_is file_is samples_are =
+    ap (λ (l : ℕ). same_in m l file samples) line_is
+    ∙ ap (λ (f : OutputFile). same_in m (line_of_played report) f samples) file_is
+    ∙ ap (λ (zs : List ℤ). same_in m (line_of_played report) (played_file input.script.card out) zs) samples_are
+
+-- and that of what a reader recorded
+pub recording_in-of : (m : Files) (input : RunInput) (out : List ℕ) (report : Report) (number : ℕ) (reader : ReaderLine) (line : ℕ) (file : OutputFile) (samples : List ℤ)
+    → line ≡ line_of_end report → file ≡ recorded_file input.script.card out reader
+    → samples ≡ reader_samples input.script.card input.capture report number reader
+    → same_in m line file samples ≡ recording_in m input out report number reader
+unfolding recording_in
+recording_in-of m input out report number reader line file samples line_is file_is samples_are =
+    ap (λ (l : ℕ). same_in m l file samples) line_is
+    ∙ ap (λ (f : OutputFile). same_in m (line_of_end report) f samples) file_is
+    ∙ ap (λ (zs : List ℤ). same_in m (line_of_end report) (recorded_file input.script.card out reader) zs) samples_are
+
+-- ---- the report
+
+-- the bytes of a file that may have no more are all of it
+whole-file : (content : Option (List ℕ)) (name text : List ℕ) (most : ℕ)
+    → bytes_or_cause name (option_map (λ (c : List ℕ). take (most + 1) (drop 0 c)) content) ≡ Ok text → length text ≤ most → content ≡ Some text
+whole-file None name text most is few = absurd cc
+whole-file (Some content) name text most is few =
+    let first : take (most + 1) content ≡ text = cc in
+    let taken : length (take (most + 1) content) ≡ min (most + 1) (length content) = length-take (most + 1) content in
+    let low : length content ≤ most + 1 = omega (arith, taken, ap length first, few) in
+    ap (λ (c : List ℕ). Some c) (sym (take_all (most + 1) content low) ∙ first)
+
+-- a text that passes isn't too long
+few-bytes : (script : Script) (wavs : List Sound) (text : List ℕ) (report : Report) → tested_report script wavs text ≡ Ok report → length text ≤ most_of_report
+few-bytes script wavs text report passes = by_test (nat_le (length text) most_of_report) refl passes
+  where
+    by_test : (b : Bool) → nat_le (length text) most_of_report ≡ b
+        → (if b then tested script wavs (report_in_text script text) else Err 0) ≡ Ok report → length text ≤ most_of_report
+    by_test true low is = grind (arith, nat_tests, low)
+    by_test false low is = absurd cc
+
+-- the file of a report that passes
+pub report-held : (files : Option Files) (name : List ℕ) (script : Script) (wavs : List Sound) (text : List ℕ) (report : Report)
+    → ForSome files (λ m. first_bytes m name (most_of_report + 1) ≡ Ok text) → tested_report script wavs text ≡ Ok report
+    → ForSome files (λ m. bytes_under m name ≡ Some text)
+report-held files name script wavs text report fetched passes m told =
+    whole-file (bytes_under m name) name text most_of_report (fetched m told) (few-bytes script wavs text report passes)
+
+-- what a text's tests give is what its file gives
+pub tested_in-fetched : (m : Files) (input : RunInput) (name text : List ℕ) → first_bytes m name (most_of_report + 1) ≡ Ok text
+    → tested_in m input name ≡ as_tested (tested_report input.script input.sounds text)
+unfolding tested_in
+tested_in-fetched m input name text is =
+    ap (λ (r : Result (List ℕ) Cause). r >>= λ t. as_tested (tested_report input.script input.sounds t)) is
+
+pub tested_in-missing : (m : Files) (input : RunInput) (name : List ℕ) (e : Cause) → first_bytes m name (most_of_report + 1) ≡ Err e
+    → tested_in m input name ≡ Err e
+unfolding tested_in
+tested_in-missing m input name e is =
+    ap (λ (r : Result (List ℕ) Cause). r >>= λ t. as_tested (tested_report input.script input.sounds t)) is
+
+-- a command ends at the first test that a text fails
+pub AnswersOrStops-passed : {X : Type 0} (end : Result X CheckError) (said : Result X ℕ) → ChecksAs (λ x. x) end said
+    → AnswersOrStops (λ x. x) (passed end) (as_tested said)
+AnswersOrStops-passed (Ok x) said is = ap as_tested is
+AnswersOrStops-passed (Err (checks.No line)) said is = ap as_tested is
+AnswersOrStops-passed (Err checks.Memory) said is = tt
+
+-- it counts no fetch, and finds no file missing
+pub TestFaults-passed : {X : Type 0} (end : Result X CheckError) (before now : ℕ) → now ≡ before → TestFaults (passed end) before now
+TestFaults-passed (Ok x) before now same = same
+TestFaults-passed (Err (checks.No line)) before now same = same
+TestFaults-passed (Err checks.Memory) before now same = same
+
+pub Misses-test : {X Y : Type 0} (end : Result X CheckError) (given : Result Y Cause) → Misses (passed end) given
+Misses-test (Ok x) given = tt
+Misses-test (Err (checks.No line)) given = tt
+Misses-test (Err checks.Memory) given = tt
+
+-- the tests of the text in a file are those of what its file gives
+pub tested-answers : (files : Option Files) (input : RunInput) (wavs : List Sound) (name text spelled : List ℕ) (end : Result Report CheckError)
+    → ForSome files (λ m. first_bytes m name (most_of_report + 1) ≡ Ok text) → wavs ≡ input.sounds → spelled ≡ text
+    → ChecksAs (λ report. report) end (tested_report input.script wavs spelled)
+    → ForSome files (λ m. AnswersOrStops (λ report. report) (passed end) (tested_in m input name))
+tested-answers files input wavs name text spelled end fetched wavs_are same is m told =
+    subst (λ (given : Result Report Cause). AnswersOrStops (λ report. report) (passed end) given) (sym (tested_in-fetched m input name text (fetched m told)))
+    (AnswersOrStops-passed end (tested_report input.script input.sounds text)
+    (subst (λ (t : List ℕ). ChecksAs (λ report. report) end (tested_report input.script input.sounds t)) same
+    (subst (λ (ws : List Sound). ChecksAs (λ report. report) end (tested_report input.script ws spelled)) wavs_are is)))
+
+-- where they pass, what the file holds passes
+pub tested-held : (files : Option Files) (input : RunInput) (wavs : List Sound) (name text spelled : List ℕ) (end : Result Report CheckError)
+    → ForSome files (λ m. first_bytes m name (most_of_report + 1) ≡ Ok text) → wavs ≡ input.sounds → spelled ≡ text
+    → ChecksAs (λ report. report) end (tested_report input.script wavs spelled)
+    → IfOk end (λ report. HasTestedSegments input.script wavs report) → IfOk end (λ report. HasTestedRuns input.script report)
+    → IfOk (passed end) (IsReportIn files input name)
+tested-held files input wavs name text spelled (Ok report) fetched wavs_are same is segments runs =
+    let passes : tested_report input.script input.sounds text ≡ Ok report =
+    subst (λ (t : List ℕ). tested_report input.script input.sounds t ≡ Ok report) same
+    (subst (λ (ws : List Sound). tested_report input.script ws spelled ≡ Ok report) wavs_are is) in
+    record {
+      text = text;
+      fetched = report-held files name input.script input.sounds text report fetched passes;
+      passes = passes;
+      segments = subst (λ (ws : List Sound). HasTestedSegments input.script ws report) wavs_are segments;
+      runs = runs;
+    }
+tested-held files input wavs name text spelled (Err (checks.No line)) fetched wavs_are same is segments runs = tt
+tested-held files input wavs name text spelled (Err checks.Memory) fetched wavs_are same is segments runs = tt
+
+-- ---- the readers
+
+-- what the reader of a number recorded
+readers_samples-at : (card : CardLine) (capture : Option Sound) (report : Report) (first : ℕ) (readers : List ReaderLine) (k : ℕ) (reader : ReaderLine)
+    → slice_get readers k ≡ Some reader
+    → slice_index_or (readers_samples card capture report first readers) k [] ≡ reader_samples card capture report (first + k) reader
+readers_samples-at card capture report first [] k reader is = absurd cc
+readers_samples-at card capture report first (line ∷ lines) zero reader is =
+    let same : line ≡ reader = cc in
+    let here : first ≡ first + 0 = omega arith in
+    ap (reader_samples card capture report first) same ∙ ap (λ n. reader_samples card capture report n reader) here
+readers_samples-at card capture report first (line ∷ lines) (suc k) reader is =
+    let there : (first + 1) + k ≡ first + suc k = omega arith in
+    readers_samples-at card capture report (first + 1) lines k reader is ∙ ap (λ n. reader_samples card capture report n reader) there
+
+reader_samples-at : (card : CardLine) (capture : Option Sound) (report : Report) (readers : List ReaderLine) (number : ℕ) (reader : ReaderLine)
+    → slice_get readers number ≡ Some reader
+    → slice_index_or (readers_samples card capture report 0 readers) number [] ≡ reader_samples card capture report number reader
+reader_samples-at card capture report readers number reader is =
+    let there : 0 + number ≡ number = omega arith in
+    readers_samples-at card capture report 0 readers number reader is ∙ ap (λ (n : ℕ). reader_samples card capture report n reader) there
+
+-- the samples that are compared are those of the reader
+pub reader_samples-taken : (card : CardLine) (capture copied : Option Sound) (report : Report) (readers : List ReaderLine) (number : ℕ) (reader : ReaderLine)
+    (taken given : List ℤ) → taken ≡ given → given ≡ slice_index_or (readers_samples card copied report 0 readers) number [] → copied ≡ capture
+    → slice_get readers number ≡ Some reader → taken ≡ reader_samples card capture report number reader
+reader_samples-taken card capture copied report readers number reader taken given same is copy line =
+    same ∙ is
+    ∙ ap (λ (c : Option Sound). slice_index_or (readers_samples card c report 0 readers) number []) copy
+    ∙ reader_samples-at card capture report readers number reader line
+
+-- a reader that there is has a number below that of all, and keeps a line's limits
+pub reader-below : (readers : List ReaderLine) (number : ℕ) (reader : ReaderLine) → slice_get readers number ≡ Some reader → number < length readers
+reader-below [] number reader is = absurd cc
+reader-below (line ∷ lines) zero reader is = omega arith
+reader-below (line ∷ lines) (suc number) reader is = omega (arith, reader-below lines number reader is)
+
+pub reader-line : (card : CardLine) (readers : List ReaderLine) (number : ℕ) (reader : ReaderLine) → All (IsReaderLine card) readers
+    → slice_get readers number ≡ Some reader → IsReaderLine card reader
+reader-line card readers number reader each is =
+    subst (IsReaderLine card) (get_or_from_slice_get readers number reader reader is) (each number reader (reader-below readers number reader is))
+
+-- the readers that are left, at an index
+readers-left : (readers : List ReaderLine) (index : ℕ) (reader : ReaderLine) → index < length readers → reader ≡ get_or readers index reader
+    → drop index readers ≡ reader ∷ drop (suc index) readers
+readers-left readers index reader within is =
+    drop-cons readers index reader within ∙ ap (λ r. r ∷ drop (suc index) readers) (sym is)
+
+recordings_in-first : (m : Files) (input : RunInput) (out : List ℕ) (report : Report) (number : ℕ) (reader : ReaderLine) (readers : List ReaderLine)
+    (first : Result (Unit {0}) Cause) → recording_in m input out report number reader ≡ first
+    → recordings_in m input out report number (reader ∷ readers) ≡ (first >>= λ same. recordings_in m input out report (number + 1) readers)
+unfolding recordings_in
+recordings_in-first m input out report number reader readers first is =
+    ap (λ (r : Result (Unit {0}) Cause). r >>= λ same. recordings_in m input out report (number + 1) readers) is
+
+recordings_in-none : (m : Files) (input : RunInput) (out : List ℕ) (report : Report) (number : ℕ) → recordings_in m input out report number [] ≡ Ok tt
+unfolding recordings_in
+recordings_in-none m input out report number = refl
+
+-- what a loop over the readers keeps: the tests of all are those of the ones that are left
+pub record Reviewing {S : Type 0} (H : shelves.Ghosts S) (old now : S) (input : RunInput) (out : List ℕ) (report : Report)
+    (readers : List ReaderLine) (index number : ℕ) : Type 0 where
+  pub so_far : ForSome (H.files old) (λ m. recordings_in m input out report 0 readers ≡ recordings_in m input out report number (drop index readers))
+  pub counted : number ≡ index
+  pub same : IsSameShelf H old now
+
+-- the next reader's test, and then those of the others
+pub recordings_in-next : (m : Files) (input : RunInput) (out : List ℕ) (report : Report) (readers : List ReaderLine) (index number : ℕ)
+    (reader : ReaderLine) (first : Result (Unit {0}) Cause)
+    → recordings_in m input out report 0 readers ≡ recordings_in m input out report number (drop index readers)
+    → index < length readers → reader ≡ get_or readers index reader → recording_in m input out report number reader ≡ first
+    → recordings_in m input out report 0 readers ≡ (first >>= λ same. recordings_in m input out report (number + 1) (drop (index + 1) readers))
+recordings_in-next m input out report readers index number reader first so_far within is tests =
+    so_far
+    ∙ ap (λ (rs : List ReaderLine). recordings_in m input out report number rs) (readers-left readers index reader within is)
+    ∙ recordings_in-first m input out report number reader (drop (suc index) readers) first tests
+    ∙ ap (λ (k : ℕ). first >>= λ same. recordings_in m input out report (number + 1) (drop k readers)) (sym (add-one index))
+
+-- all readers' tests pass
+pub recordings_in-all : (files : Option Files) (input : RunInput) (out : List ℕ) (report : Report) (readers : List ReaderLine) (index number : ℕ)
+    → ForSome files (λ m. recordings_in m input out report 0 readers ≡ recordings_in m input out report number (drop index readers))
+    → length readers ≤ index → ForSome files (λ m. recordings_in m input out report 0 readers ≡ Ok tt)
+recordings_in-all files input out report readers index number so_far all m told =
+    so_far m told
+    ∙ ap (λ (rs : List ReaderLine). recordings_in m input out report number rs) (drop_all index readers all)
+    ∙ recordings_in-none m input out report number
+
+-- ---- the outputs
+
+outputs_in-played : (m : Files) (input : RunInput) (out : List ℕ) (report : Report) (played : Result (Unit {0}) Cause) → played_in m input out report ≡ played
+    → outputs_in m input out report ≡ (played >>= λ same. recordings_in m input out report 0 input.script.readers)
+unfolding outputs_in
+outputs_in-played m input out report played is =
+    ap (λ (r : Result (Unit {0}) Cause). r >>= λ same. recordings_in m input out report 0 input.script.readers) is
+
+-- where what was played isn't right, the outputs aren't
+pub outputs_in-refused : (m : Files) (input : RunInput) (out : List ℕ) (report : Report) (e : Cause) → played_in m input out report ≡ Err e
+    → outputs_in m input out report ≡ Err e
+outputs_in-refused m input out report e is = outputs_in-played m input out report (Err e) is
+
+-- where it is, the readers' tests decide
+pub outputs_in-passed : (m : Files) (input : RunInput) (out : List ℕ) (report : Report) → played_in m input out report ≡ Ok tt
+    → outputs_in m input out report ≡ recordings_in m input out report 0 input.script.readers
+outputs_in-passed m input out report is = outputs_in-played m input out report (Ok tt) is
+
+-- ---- all
+
+-- where the input isn't right, the check isn't
+pub check_in-input : (m : Files) (script report out : List ℕ) (e : Cause) → input_in m script ≡ Err e → check_in m script report out ≡ Err e
+unfolding check_in
+check_in-input m script report out e is =
+    ap (λ (r : Result RunInput Cause). r >>= λ input. tested_in m input report >>= λ tested. outputs_in m input out tested) is
+
+check_in-read : (m : Files) (script report out : List ℕ) (input : RunInput) (tested : Result Report Cause) → input_in m script ≡ Ok input
+    → tested_in m input report ≡ tested → check_in m script report out ≡ (tested >>= λ t. outputs_in m input out t)
+unfolding check_in
+check_in-read m script report out input tested read is =
+    ap (λ (r : Result RunInput Cause). r >>= λ i. tested_in m i report >>= λ t. outputs_in m i out t) read
+    ∙ ap (λ (r : Result Report Cause). r >>= λ t. outputs_in m input out t) is
+
+-- where the report isn't right, the check isn't
+pub check_in-report : (m : Files) (script report out : List ℕ) (input : RunInput) (e : Cause) → input_in m script ≡ Ok input
+    → tested_in m input report ≡ Err e → check_in m script report out ≡ Err e
+check_in-report m script report out input e read is = check_in-read m script report out input (Err e) read is
+
+-- where it is, the outputs decide
+pub check_in-outputs : (m : Files) (script report out : List ℕ) (input : RunInput) (tested : Report) → input_in m script ≡ Ok input
+    → tested_in m input report ≡ Ok tested → check_in m script report out ≡ outputs_in m input out tested
+check_in-outputs m script report out input tested read is = check_in-read m script report out input (Ok tested) read is

@@ -1,0 +1,4 @@
+pub mod CheckedFiles
+pub mod Checks
+pub mod Comparing
+pub mod PassedChecks

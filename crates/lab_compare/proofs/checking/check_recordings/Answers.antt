@@ -1,0 +1,69 @@
+use Rattle.std.proofs.Common.{◌≡◌, ◌∙◌, ◌+◌, ◌<◌, ◌≤◌, ℕ, List, ap, arith, get_or, length, refl, subst, sym}
+use Rattle.std.proofs.lemmas.Option.{slice_get_read}
+use Rattle.std.specs.Prelude.{Err, Ok, slice_get}
+use Rattle.lab_input.specs.Read.{input_of}
+use Rattle.lab_lines.specs.declared.script.ReaderLine.{ReaderLine}
+use Rattle.lab_stop.specs.ReadLaws.{AnswersFrom-passed, IsSameShelf-same, IsSameShelf-then}
+use Rattle.lab_stop.specs.TestLaws.{IsSameShelf-tests, OnlyTests-after, OnlyTests-done, OnlyTests-passed}
+use Rattle.lab_compare.proofs.Checks.{recordings_in-all, recordings_in-next}
+use Rattle.lab_compare.proofs.checking.check_recordings.Goals as goal
+
+pub loop-reader-init : goal.loop-reader-init
+loop-reader-init g c = record {
+  so_far = λ m told. refl;
+  counted = refl;
+  same = IsSameShelf-same g.S.Shelf _;
+}
+
+pub overflow_add-number : goal.overflow_add-number
+overflow_add-number g c =
+    omega (arith, c.loop-reader.invariant.counted, c.loop-reader-test.true, ap length c.as_slice-reader-items.ensures, c.requires.script.readers)
+
+pub check_recording-requires-clause-reader : goal.check_recording-requires-clause-reader
+check_recording-requires-clause-reader g c =
+    ap (λ (n : ℕ). slice_get c.args.input.now.script.readers n) c.loop-reader.invariant.counted
+    ∙ ap (λ (readers : List ReaderLine). slice_get readers c.loop-reader.reader-index) (sym c.as_slice-reader-items.ensures)
+    ∙ slice_get_read _ _ _ _ refl c.loop-reader-test.true c.reader-item.is
+
+pub loop-reader-preserved : goal.loop-reader-preserved
+loop-reader-preserved g c =
+    let within : c.loop-reader.reader-index < length c.args.input.now.script.readers =
+    subst (λ (readers : List ReaderLine). c.loop-reader.reader-index < length readers) c.as_slice-reader-items.ensures c.loop-reader-test.true in
+    let is : c.reader-item.result ≡ get_or c.args.input.now.script.readers c.loop-reader.reader-index c.reader-item.result =
+    subst (λ (readers : List ReaderLine). c.reader-item.result ≡ get_or readers c.loop-reader.reader-index c.reader-item.result) c.as_slice-reader-items.ensures c.reader-item.is in
+    record {
+      so_far = λ m told. recordings_in-next m (input_of c.args.input.now) c.args.out.now c.args.report.now c.args.input.now.script.readers
+          c.loop-reader.reader-index c.loop-reader.number c.reader-item.result (Ok tt) (c.loop-reader.invariant.so_far m told) within is
+          (c.in_ok-check_recording.ensures.recorded.answer m (c.loop-reader.invariant.same.files ∙ told));
+      counted = ap (λ (n : ℕ). n + 1) c.loop-reader.invariant.counted;
+      same = IsSameShelf-then g.S.Shelf _ _ _ c.loop-reader.invariant.same
+          (IsSameShelf-tests g.S.Shelf _ _ _ c.in_ok-check_recording.ensures.only_tests);
+    }
+
+pub returns-in_err-check_recording-clause-recorded : goal.returns-in_err-check_recording-clause-recorded
+returns-in_err-check_recording-clause-recorded g c =
+    let within : c.loop-reader.reader-index < length c.args.input.now.script.readers =
+    subst (λ (readers : List ReaderLine). c.loop-reader.reader-index < length readers) c.as_slice-reader-items.ensures c.loop-reader-test.true in
+    let is : c.reader-item.result ≡ get_or c.args.input.now.script.readers c.loop-reader.reader-index c.reader-item.result =
+    subst (λ (readers : List ReaderLine). c.reader-item.result ≡ get_or readers c.loop-reader.reader-index c.reader-item.result) c.as_slice-reader-items.ensures c.reader-item.is in
+    AnswersFrom-passed g.S.Shelf _ _ c.from_residual.result c.in_err-check_recording.field-0.0 _ _ _ _ c.from_residual.ensures.1
+    c.loop-reader.invariant.same c.in_err-check_recording.ensures.recorded
+    (λ m told e refused. recordings_in-next m (input_of c.args.input.now) c.args.out.now c.args.report.now c.args.input.now.script.readers
+    c.loop-reader.reader-index c.loop-reader.number c.reader-item.result (Err e) (c.loop-reader.invariant.so_far m told) within is refused)
+
+pub returns-in_err-check_recording-clause-only_tests : goal.returns-in_err-check_recording-clause-only_tests
+returns-in_err-check_recording-clause-only_tests g c =
+    OnlyTests-after g.S.Shelf _ _ _ _ c.loop-reader.invariant.same
+    (OnlyTests-passed g.S.Shelf c.from_residual.result c.in_err-check_recording.field-0.0 _ _ c.from_residual.ensures.1
+    c.in_err-check_recording.ensures.only_tests)
+
+pub returns-clause-recorded : goal.returns-clause-recorded
+returns-clause-recorded g c = record {
+  answer = recordings_in-all _ (input_of c.args.input.now) c.args.out.now c.args.report.now c.args.input.now.script.readers
+      c.loop-reader.reader-index c.loop-reader.number c.loop-reader.invariant.so_far
+      (subst (λ (readers : List ReaderLine). length readers ≤ c.loop-reader.reader-index) c.as_slice-reader-items.ensures c.loop-reader-test.false);
+  missing = λ is m told. tt;
+}
+
+pub returns-clause-only_tests : goal.returns-clause-only_tests
+returns-clause-only_tests g c = OnlyTests-done g.S.Shelf _ _ _ c.loop-reader.invariant.same

@@ -1,0 +1,63 @@
+use Rattle.std.specs.Prelude.{◌≡◌, ℕ, List, Option, Err}
+use Rattle.std.specs.Option.{option_map}
+use Rattle.std.proofs.Common.{refl, subst, ◌∙◌}
+use Rattle.std.proofs.lemmas.Result.{on_err_weaker, on_ok_weaker}
+use Rattle.wav_io.specs.Canonical.{canonical}
+use Rattle.lab_shelf.specs.Files.{Files, IsPartWritten, with_file}
+use Rattle.lab_stop.specs.declared.stop.Stop.TheVariants.{Memory}
+use Rattle.lab_stop.specs.EffectLaws.{OnlyWrites-memory, OnlyWrites-nothing, OnlyWrites-passed}
+use Rattle.lab_make.proofs.MemoryStops.{Err-memory, OnErr-memory, OnOk-memory, memory-no_write}
+use Rattle.lab_make.proofs.store.store_client.Goals as goal
+
+pub returns-clause-part : goal.returns-clause-part
+returns-clause-part g c =
+    let before : Option Files = g.S.Shelf.files c.args.shelf.now in
+    let after : Option Files = g.S.Shelf.files c.store.new.shelf in
+    on_err_weaker c.store.result
+    (λ part. subst (λ (name : List ℕ). IsPartWritten before after name (canonical c.args.wav.now)) (c.as_bytes.ensures.value ∙ c.in_ok-name.ensures)
+    (subst (λ (bytes : List ℕ). IsPartWritten before after c.as_bytes.result.now bytes) (c.deref.ensures.value ∙ c.in_ok-bytes.ensures.bytes) part))
+    c.store.ensures.part
+
+pub returns-clause-stored : goal.returns-clause-stored
+returns-clause-stored g c =
+    let before : Option Files = g.S.Shelf.files c.args.shelf.now in
+    let after : Option Files = g.S.Shelf.files c.store.new.shelf in
+    on_ok_weaker c.store.result
+    (λ stored. subst (λ (name : List ℕ). after ≡ option_map (λ files. with_file files name (canonical c.args.wav.now)) before) (c.as_bytes.ensures.value ∙ c.in_ok-name.ensures)
+    (subst (λ (bytes : List ℕ). after ≡ option_map (λ files. with_file files c.as_bytes.result.now bytes) before) (c.deref.ensures.value ∙ c.in_ok-bytes.ensures.bytes) stored))
+    c.store.ensures.stored
+
+pub returns-in_err-name-clause-stored : goal.returns-in_err-name-clause-stored
+returns-in_err-name-clause-stored g c = OnOk-memory _ _ (Err-memory Memory c.from_residual.result c.from_residual.ensures.1 refl)
+
+pub returns-in_err-name-clause-read : goal.returns-in_err-name-clause-read
+returns-in_err-name-clause-read g c = OnOk-memory _ _ (Err-memory Memory c.from_residual.result c.from_residual.ensures.1 refl)
+
+pub returns-in_err-name-clause-part : goal.returns-in_err-name-clause-part
+returns-in_err-name-clause-part g c = OnErr-memory _ _ _ _ (Err-memory Memory c.from_residual.result c.from_residual.ensures.1 refl)
+
+pub returns-in_err-bytes-clause-stored : goal.returns-in_err-bytes-clause-stored
+returns-in_err-bytes-clause-stored g c = OnOk-memory _ _ (Err-memory _ c.from_residual-in_err-bytes.result c.from_residual-in_err-bytes.ensures.1 c.in_err-bytes.ensures.only)
+
+pub returns-in_err-bytes-clause-read : goal.returns-in_err-bytes-clause-read
+returns-in_err-bytes-clause-read g c = OnOk-memory _ _ (Err-memory _ c.from_residual-in_err-bytes.result c.from_residual-in_err-bytes.ensures.1 c.in_err-bytes.ensures.only)
+
+pub returns-in_err-bytes-clause-part : goal.returns-in_err-bytes-clause-part
+returns-in_err-bytes-clause-part g c = OnErr-memory _ _ _ _ (Err-memory _ c.from_residual-in_err-bytes.result c.from_residual-in_err-bytes.ensures.1 c.in_err-bytes.ensures.only)
+
+pub returns-in_err-name-clause-never : goal.returns-in_err-name-clause-never
+returns-in_err-name-clause-never g c reliable = memory-no_write _ (Err-memory Memory c.from_residual.result c.from_residual.ensures.1 refl)
+
+pub returns-in_err-bytes-clause-never : goal.returns-in_err-bytes-clause-never
+returns-in_err-bytes-clause-never g c reliable = memory-no_write _ (Err-memory _ c.from_residual-in_err-bytes.result c.from_residual-in_err-bytes.ensures.1 c.in_err-bytes.ensures.only)
+
+pub returns-in_err-name-clause-only_writes : goal.returns-in_err-name-clause-only_writes
+returns-in_err-name-clause-only_writes g c = OnlyWrites-memory g.S.Shelf c.from_residual.result _ c.from_residual.ensures.1
+
+pub returns-in_err-bytes-clause-only_writes : goal.returns-in_err-bytes-clause-only_writes
+returns-in_err-bytes-clause-only_writes g c =
+    OnlyWrites-passed g.S.Shelf c.from_residual-in_err-bytes.result c.in_err-bytes.field-0.0 _ _ c.from_residual-in_err-bytes.ensures.1
+    (OnlyWrites-nothing {X = Unit {0}} g.S.Shelf (Err c.in_err-bytes.field-0.0) _ c.in_err-bytes.ensures.only)
+
+pub returns-clause-only_writes : goal.returns-clause-only_writes
+returns-clause-only_writes g c = c.store.ensures.only_writes

@@ -1,6 +1,0 @@
-mod Making
-mod MemoryStops
-mod Reading
-mod Sizes
-mod Storing
-mod Unmixed
