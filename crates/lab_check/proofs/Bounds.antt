@@ -16,9 +16,9 @@ use Rattle.dmix_client.specs.Expansion.{expand, frame_entries, sample_at}
 use Rattle.lab_lines.specs.declared.script.ClientLine.{ClientLine}
 use Rattle.lab_lines.specs.declared.script.Script.{Script}
 use Rattle.lab_run.specs.Openings.{bound_by}
-use Rattle.lab_headline.specs.Files.{file_samples}
-use Rattle.lab_headline.specs.Once.{PlacesOnce}
-use Rattle.lab_headline.specs.OneSample.{AreSamples}
+use Rattle.run_laws.specs.Files.{file_samples}
+use Rattle.run_laws.specs.Once.{PlacesOnce}
+use Rattle.run_laws.specs.OneSample.{AreSamples}
 use Rattle.lab_check.specs.Late.{entries_of_segment}
 use Rattle.lab_check.specs.Sums.{entries_of_segments}
 

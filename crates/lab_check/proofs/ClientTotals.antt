@@ -13,7 +13,7 @@ use Rattle.wav_io.specs.Sound.{Sound}
 use Rattle.lab_lines.specs.declared.script.ClientLine.{ClientLine}
 use Rattle.lab_lines.specs.declared.script.Script.{Script}
 use Rattle.lab_run.specs.OwnRows.{segments_by}
-use Rattle.lab_headline.specs.Files.{file_samples}
+use Rattle.run_laws.specs.Files.{file_samples}
 use Rattle.lab_check.specs.Late.{entries_of_segment}
 use Rattle.lab_check.specs.Segments.{is_right_segment, is_segment_of}
 

@@ -16,8 +16,8 @@ use Rattle.lab_lines.specs.Limits.{IsBoundWhere, IsCardLine, IsReaderLine, IsScr
 use Rattle.lab_run.specs.LabRun.{mixed_at}
 use Rattle.lab_run.specs.Openings.{read_by}
 use Rattle.lab_run.specs.OwnRows.{runs_by}
-use Rattle.lab_headline.specs.Files.{placed_from}
-use Rattle.lab_headline.specs.Recordings.{frames_in_runs}
+use Rattle.run_laws.specs.Files.{placed_from}
+use Rattle.run_laws.specs.Recordings.{frames_in_runs}
 use Rattle.lab_check.specs.Defects.{HasTestedRuns, HasTestedSegments}
 use Rattle.lab_check.specs.Lines.{first_run_line}
 use Rattle.lab_check.specs.Reads.{lined_runs, reader_defect, run_defect}

@@ -12,9 +12,9 @@ use Rattle.lab_lines.specs.declared.report.Report.{Report}
 use Rattle.lab_lines.specs.declared.row.Answer.{Answer}
 use Rattle.lab_lines.specs.declared.row.Row.{Row}
 use Rattle.lab_lines.specs.declared.script.Script.{Script}
-use Rattle.lab_run.specs.LateRows.{is_rewind}
+use Rattle.run_laws.specs.LateRows.{is_rewind}
 use Rattle.lab_run.specs.OwnRows.{segments_by}
-use Rattle.lab_headline.specs.Late.{IsLate}
+use Rattle.run_laws.specs.Late.{IsLate}
 use Rattle.lab_check.specs.Late.{covers, has_sample, is_covered, is_right_place, is_right_row, late_place, entries_of_segment}
 use Rattle.lab_check.specs.Shown.{ShowsLate}
 use Rattle.lab_check.proofs.Tested.{and-left, and-right}

@@ -13,12 +13,12 @@ use Rattle.lab_run.specs.Openings.{IsSessionOf}
 use Rattle.lab_run.specs.ScriptWords.{IsReached}
 use Rattle.lab_run.specs.Stage.{Session}
 use Rattle.lab_run.proofs.ScriptWords.{stages-of_scripts}
-use Rattle.lab_headline.specs.Headline.{Headline}
-use Rattle.lab_headline.specs.Recordings.{UnopenedHaveNoRuns}
-use Rattle.lab_headline.specs.Segments.{AreOfClients}
-use Rattle.lab_rows.specs.Reports.{IsOutcomeOf}
-use Rattle.lab_rows.proofs.CapturedRuns.{readers-capture}
-use Rattle.lab_rows.proofs.Runs.{outcomes-are_of_scripts}
+use Rattle.run_laws.specs.Headline.{Headline}
+use Rattle.run_laws.specs.Recordings.{UnopenedHaveNoRuns}
+use Rattle.run_laws.specs.Segments.{AreOfClients}
+use Rattle.run_laws.specs.Reports.{IsOutcomeOf}
+use Rattle.run_laws.proofs.CapturedRuns.{readers-capture}
+use Rattle.run_laws.proofs.Runs.{outcomes-are_of_scripts}
 use Rattle.lab_check.proofs.RunPasses.{RunFacts}
 
 pub run-leaves : (script : Script) (wavs : List Sound) (session : Session) (capture : Option Sound) (client_stops reader_stops : ℕ → ℕ) (outcome : Outcome)

@@ -24,10 +24,10 @@ use Rattle.lab_run.specs.LabRun.{Outcome, captured_sample, entries_of, mixed_at,
 use Rattle.lab_run.specs.Openings.{IsSessionOf, bound_by, read_by}
 use Rattle.lab_run.specs.OwnRows.{runs_by}
 use Rattle.lab_run.specs.Stage.{Session, Stage}
-use Rattle.lab_headline.specs.Files.{IsPlacedFrom}
-use Rattle.lab_headline.specs.Recordings.{AreRecordingsOf, ReadersAreBound, UnopenedHaveNoRuns, bindings_at, frames_of_runs, recording_of}
-use Rattle.lab_headline.specs.Segments.{AreOfClients, IsOfClient}
-use Rattle.lab_rows.specs.Captured.{AreCapturedRuns}
+use Rattle.run_laws.specs.Files.{IsPlacedFrom}
+use Rattle.run_laws.specs.Recordings.{AreRecordingsOf, ReadersAreBound, UnopenedHaveNoRuns, bindings_at, frames_of_runs, recording_of}
+use Rattle.run_laws.specs.Segments.{AreOfClients, IsOfClient}
+use Rattle.run_laws.specs.Captured.{AreCapturedRuns}
 use Rattle.lab_check.specs.Checked.{IsChecked, run_sounds}
 use Rattle.lab_check.specs.Defects.{most_of_report, played_defect, report_defect, report_or_line, row_defect, segment_defect, tested, tested_report}
 use Rattle.lab_check.specs.Late.{is_right_place, is_right_row, late_place}

@@ -10,8 +10,8 @@ use Rattle.lab_lines.specs.declared.row.Row.{Row}
 use Rattle.lab_run.specs.OwnRows.{rows_by, runs_by}
 use Rattle.lab_run.specs.Phases.{is_reader}
 use Rattle.lab_run.specs.Stretches.{AreSlices, IsFirstOf, ends_by_row, goes_on_after, got_by}
-use Rattle.lab_headline.specs.Recordings.{frames_of_runs}
-use Rattle.lab_rows.specs.Captured.{AreCapturedRuns}
+use Rattle.run_laws.specs.Recordings.{frames_of_runs}
+use Rattle.run_laws.specs.Captured.{AreCapturedRuns}
 use Rattle.lab_check.specs.Lines.{first_row_line, first_run_line}
 use Rattle.lab_check.specs.Reads.{Unread, after_row, end_defect, first_defect, is_next, is_run_within, lined_runs, on_row, reader_defect, reads_end, run_defect, runs_without, taken_by}
 use Rattle.lab_check.proofs.Slices.{frames-taken, goes-without, lines-off, unlined, unread_frames}

@@ -20,8 +20,8 @@ use Rattle.lab_run.specs.Openings.{read_by}
 use Rattle.lab_run.specs.OwnRows.{rows_by, runs_by}
 use Rattle.lab_run.specs.Phases.{is_reader}
 use Rattle.lab_run.specs.Stretches.{AreSlices}
-use Rattle.lab_headline.specs.Files.{IsMixOfFiles, placed_from}
-use Rattle.lab_headline.specs.Recordings.{frames_in_runs, frames_of_runs}
+use Rattle.run_laws.specs.Files.{IsMixOfFiles, placed_from}
+use Rattle.run_laws.specs.Recordings.{frames_in_runs, frames_of_runs}
 use Rattle.lab_check.specs.Checked.{IsChecked}
 use Rattle.lab_check.specs.Lines.{first_row_line, first_run_line}
 use Rattle.lab_check.specs.Reads.{end_defect, reader_defect, readers_defect, reads_end, run_defect, runs_with_lines}

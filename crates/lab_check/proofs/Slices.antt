@@ -8,7 +8,7 @@ use Rattle.lab_lines.specs.declared.row.Row.{Row}
 use Rattle.lab_run.specs.OwnRows.{rows_by, runs_by}
 use Rattle.lab_run.specs.Phases.{is_reader}
 use Rattle.lab_run.specs.Stretches.{AreSlices, IsFirstOf, ends_by_row, goes_on_after, got_by}
-use Rattle.lab_headline.specs.Recordings.{frames_of_runs}
+use Rattle.run_laws.specs.Recordings.{frames_of_runs}
 use Rattle.lab_check.specs.Reads.{Unread, after_row, end_defect, is_next, on_row, reads_end, run_defect, runs_with_lines, runs_without, taken_by}
 use Rattle.lab_check.specs.Shown.{IsCapturedRun}
 

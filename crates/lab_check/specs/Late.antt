@@ -14,9 +14,9 @@ use Rattle.lab_lines.specs.declared.row.Answer.{Answer}
 use Rattle.lab_lines.specs.declared.row.Answer.TheVariants.{Failed}
 use Rattle.lab_lines.specs.declared.row.Row.{Row}
 use Rattle.lab_lines.specs.declared.script.Script.{Script}
-use Rattle.lab_run.specs.LateRows.{is_rewind}
+use Rattle.run_laws.specs.LateRows.{is_rewind}
 use Rattle.lab_run.specs.OwnRows.{segments_by}
-use Rattle.lab_headline.specs.Files.{file_samples}
+use Rattle.run_laws.specs.Files.{file_samples}
 
 -- the frame and channel that a late answer names
 abbrev pub late_place : Answer → Option (ℕ × ℕ)

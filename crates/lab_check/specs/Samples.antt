@@ -11,8 +11,8 @@ use Rattle.lab_lines.specs.Script.{first_frame}
 use Rattle.lab_run.specs.LabRun.{mixed_at}
 use Rattle.lab_run.specs.Openings.{read_by}
 use Rattle.lab_run.specs.OwnRows.{runs_by}
-use Rattle.lab_headline.specs.Files.{placed_from}
-use Rattle.lab_headline.specs.Recordings.{frames_of_runs}
+use Rattle.run_laws.specs.Files.{placed_from}
+use Rattle.run_laws.specs.Recordings.{frames_of_runs}
 
 -- the played samples, interleaved: each is the saturated sum of what the segments placed at its frame and channel
 abbrev pub played_samples : Script → List Sound → Report → List ℤ

@@ -10,14 +10,14 @@ use Rattle.lab_lines.specs.declared.row.Row.{Row}
 use Rattle.lab_lines.specs.declared.script.ReaderLine.{ReaderLine}
 use Rattle.lab_lines.specs.declared.script.Script.{Script}
 use Rattle.lab_report.specs.Reading.{report_in_text}
-use Rattle.lab_run.specs.LateRows.{is_rewind}
+use Rattle.run_laws.specs.LateRows.{is_rewind}
 use Rattle.lab_run.specs.Openings.{read_by}
 use Rattle.lab_run.specs.OwnRows.{rows_by, runs_by}
 use Rattle.lab_run.specs.Phases.{is_reader}
 use Rattle.lab_run.specs.Stretches.{AreSlices}
-use Rattle.lab_headline.specs.Files.{IsMixOfFiles, placed_from}
-use Rattle.lab_headline.specs.Late.{IsLate}
-use Rattle.lab_headline.specs.Recordings.{frames_in_runs, frames_of_runs}
+use Rattle.run_laws.specs.Files.{IsMixOfFiles, placed_from}
+use Rattle.run_laws.specs.Late.{IsLate}
+use Rattle.run_laws.specs.Recordings.{frames_in_runs, frames_of_runs}
 use Rattle.lab_check.specs.Checked.{run_sounds}
 use Rattle.lab_check.specs.Defects.{row_defect}
 use Rattle.lab_check.specs.Late.{entries_of_client}

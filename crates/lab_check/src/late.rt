@@ -5,7 +5,7 @@ ghost use Rattle.wav_io.specs.Sound.{Sound};
 ghost use Rattle.lab_lines.specs.declared.report.Report.{Report};
 ghost use Rattle.lab_lines.specs.declared.script.Script.{Script};
 ghost use Rattle.lab_lines.specs.Limits.{IsScript};
-ghost use Rattle.lab_run.specs.LateRows.{is_rewind};
+ghost use Rattle.run_laws.specs.LateRows.{is_rewind};
 ghost use Rattle.lab_check.specs.Late.{covers, is_covered, is_right_row, late_place};
 ghost use Rattle.lab_check.specs.Segments.{is_right_segment};
 ghost use Rattle.lab_check.specs.Spans.{AreIndexes, has_client_sample, is_in_index, is_in_some, is_in_span};

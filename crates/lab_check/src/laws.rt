@@ -7,7 +7,8 @@ ghost use Rattle.lab_check.specs.Pieces.{IsSameFile, IsSameUpTo};
 ghost use Rattle.lab_check.specs.Runs.{RunsAreChecked, RunsSayHeadline, ShownRunsSayHeadline, UnlateRowsPass};
 ghost use Rattle.lab_check.specs.Shown.{IsShown};
 
-use lab_headline::{runs_keep_headline, segments_are_of_files, unopened_readers_have_no_runs};
+use run_laws::{runs_keep_headline, segments_are_of_files, unopened_readers_have_no_runs};
+
 
 /// A run that is checked has what is said of a run, whoever made its files: each sample that was played is the saturated sum of
 /// exactly the samples that the report's segments placed at its frame and channel, each of them once; a late row names a frame and

@@ -13,8 +13,8 @@ ghost use Rattle.lab_check.specs.Sums.{IsSummed, TotalsFit};
 
 use crate::samples::samples_are_of_16_bits;
 use crate::sums::add_parts;
-use lab_headline::segments_place_once;
 use lab_lines::{Report, Script};
+use run_laws::segments_place_once;
 use std::alloc::{AllocError, Global};
 use wav_io::Wav;
 

@@ -1,7 +1,7 @@
 //! The samples of the clients' files are of 16 bits: a fact for contracts, which each sample's type gives where it is read.
 ghost use Rattle.std.specs.Prelude.{All};
 ghost use Rattle.lap_word.specs.Clamp.{IsSample};
-ghost use Rattle.lab_headline.specs.OneSample.{AreSamples};
+ghost use Rattle.run_laws.specs.OneSample.{AreSamples};
 
 use wav_io::Wav;
 

@@ -5,7 +5,7 @@ use Rattle.std.specs.Option.{ForSome, option_map}
 use Rattle.mix_core.specs.declared.gate.Pass.{Pass}
 use Rattle.mix_core.specs.declared.gate.StepKind.{StepKind}
 use Rattle.wav_io.specs.Sound.{Sound}
-use Rattle.lab_headline.specs.Exact.{IsExactRun, IsOwnRun, IsUnstoppedRun}
+use Rattle.run_laws.specs.Exact.{IsExactRun, IsOwnRun, IsUnstoppedRun}
 use Rattle.lab_input.specs.Input.{RunInput, input_in}
 use Rattle.lab_phase.specs.PhaseRuns.{Stops}
 use Rattle.lab_play.specs.Exact.{HasStoppedRun}

@@ -7,7 +7,7 @@ use Rattle.std.specs.Prelude.{◌≡◌, ◌⊎◌, ◌++◌, ℕ, List, [], cod
 use Rattle.std.specs.Option.{ForSome, option_map}
 use Rattle.mix_core.specs.declared.gate.Pass.{Pass}
 use Rattle.mix_core.specs.declared.gate.StepKind.{StepKind}
-use Rattle.lab_headline.specs.Exact.{IsOwnRun}
+use Rattle.run_laws.specs.Exact.{IsOwnRun}
 use Rattle.lab_input.specs.Input.{input_in}
 use Rattle.lab_output.specs.Files.{output_files, finished_files}
 use Rattle.lab_phase.specs.PhaseRuns.{HaveAsked, Stops}

@@ -5,7 +5,7 @@ use Rattle.mix_core.specs.declared.gate.Pass.{Pass}
 use Rattle.mix_core.specs.declared.gate.StepKind.{StepKind}
 use Rattle.lab_check.specs.Runs.{CanPass, samples_of_run}
 use Rattle.lab_check.specs.Shown.{SaysHeadline}
-use Rattle.lab_headline.specs.Exact.{IsExactRun, IsOwnRun}
+use Rattle.run_laws.specs.Exact.{IsExactRun, IsOwnRun}
 use Rattle.lab_input.specs.Input.{RunInput, input_in}
 use Rattle.lab_output.specs.Files.{output_files, finished_files}
 use Rattle.lab_phase.specs.PhaseRuns.{HaveAsked, Stops}

@@ -10,11 +10,11 @@ ghost use Rattle.lab_commands.specs.Made.{IsMadeAsking, IsMadePart};
 
 use crate::made_run::run_input;
 use crate::made_summary::put_summary;
-use lab_headline::{actors_do_their_own, runs_are_exact, scripts_have_one_session};
 use lab_make::{Workload, made_input, store, store_input};
 use lab_shelf::{Shelf, Sink};
 use lab_stop::Stop;
 use mix_core::Gate;
+use run_laws::{actors_do_their_own, runs_are_exact, scripts_have_one_session};
 use std::alloc::Global;
 use std::marker::{Send, Sync};
 use std::thread::Threads;

@@ -12,10 +12,10 @@ ghost use Rattle.lab_commands.specs.Top.{AskedIn, cause_in, ComesExactly, EndsWe
 
 use crate::commands::{check_command, conf_command, make_command, refine_command, run_command};
 use crate::words::{Command, help, read_command, version};
-use lab_headline::scripts_have_one_session;
 use lab_shelf::{Shelf, Sink};
 use lab_stop::{Stop, put, status, tell};
 use mix_core::Gate;
+use run_laws::scripts_have_one_session;
 use std::alloc::Global;
 use std::marker::{Send, Sync};
 use std::thread::Threads;

@@ -9,8 +9,8 @@ use Rattle.std.proofs.lemmas.List.Concat.{flat_map-append}
 use Rattle.mix_core.specs.declared.gate.Pass.{Pass}
 use Rattle.mix_core.specs.declared.gate.StepKind.{StepKind}
 use Rattle.wav_io.specs.Sound.{Sound}
-use Rattle.lab_headline.specs.Headline.{Headline}
-use Rattle.lab_headline.specs.OneSample.{AreSamples, PlaysOneSample}
+use Rattle.run_laws.specs.Headline.{Headline}
+use Rattle.run_laws.specs.OneSample.{AreSamples, PlaysOneSample}
 use Rattle.lab_output.specs.declared.file.OutputFile.{OutputFile}
 use Rattle.lab_output.specs.declared.outputs.Outputs.{Outputs}
 use Rattle.lab_output.specs.Files.{MayHold, output_files, finished_files}
@@ -25,7 +25,7 @@ use Rattle.lab_phase.specs.StopLaws.{AreWithin-counted}
 use Rattle.lab_lines.specs.declared.report.Report.{Report}
 use Rattle.lab_lines.specs.declared.row.Row.{Row}
 use Rattle.lab_report.specs.Text.{IsReportOf, report_text, row_line, tail_text}
-use Rattle.lab_rows.specs.Reports.{OutcomesAreOfScripts}
+use Rattle.run_laws.specs.Reports.{OutcomesAreOfScripts}
 use Rattle.lab_run.specs.LabRun.{LabRun, Outcome, outcome_of, recorded_from}
 use Rattle.lab_run.specs.Openings.{IsSessionOf}
 use Rattle.lab_run.specs.Items.{ItemsMay}

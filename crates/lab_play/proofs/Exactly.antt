@@ -20,9 +20,9 @@ use Rattle.lab_run.specs.Rules.{AtPort}
 use Rattle.lab_run.specs.Stage.{Session, Stage, first_stage}
 use Rattle.lab_run.proofs.EachLaws.{StopsGrow}
 use Rattle.lab_run.proofs.RunUnique.{items-grow}
-use Rattle.lab_headline.specs.OneSample.{AreBound}
-use Rattle.lab_headline.specs.Played.{PlayedStays}
-use Rattle.lab_rows.specs.Growth.{AreGrown, StagesGrow}
+use Rattle.run_laws.specs.OneSample.{AreBound}
+use Rattle.run_laws.specs.Played.{PlayedStays}
+use Rattle.run_laws.specs.Growth.{AreGrown, StagesGrow}
 use Rattle.lab_input.specs.Input.{RunInput}
 use Rattle.lab_output.specs.Going.{AreLonger}
 use Rattle.lab_output.specs.Text.{head_text, text_so_far}

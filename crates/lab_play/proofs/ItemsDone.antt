@@ -21,7 +21,7 @@ use Rattle.lab_run.specs.Reader.{Reader}
 use Rattle.lab_run.specs.Rules.{AtPort}
 use Rattle.lab_run.specs.ScriptWords.{IsReached}
 use Rattle.lab_run.specs.Stage.{Session, Stage}
-use Rattle.lab_rows.specs.Growth.{AreGrown, BordersKeepFrames, StagesGrow, frames_of_readers, recorded_from-grown, recorded_from-same}
+use Rattle.run_laws.specs.Growth.{AreGrown, BordersKeepFrames, StagesGrow, frames_of_readers, recorded_from-grown, recorded_from-same}
 use Rattle.lab_phase.specs.declared.lab.Lab.{Lab}
 use Rattle.lab_phase.specs.AtStage.{DoesItem, IsBorderItem, IsNextItem, IsOfScript, IsSameScript, capture_of, played_of, session_of}
 use Rattle.lab_phase.specs.BorderLaws.{session_of-same}

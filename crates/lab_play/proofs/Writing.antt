@@ -13,7 +13,7 @@ use Rattle.lab_actors.specs.Walks.{AreEach-length}
 use Rattle.lab_readers.specs.AtStage.{readers_of}
 use Rattle.lab_phase.specs.declared.lab.Lab.{Lab}
 use Rattle.lab_phase.specs.AtStage.{IsAtStage, capture_of, readers_in, session_of}
-use Rattle.lab_rows.specs.Growth.{recorded_from-at, recorded_from-size}
+use Rattle.run_laws.specs.Growth.{recorded_from-at, recorded_from-size}
 use Rattle.lab_shelf.specs.Changes.{Changes}
 use Rattle.lab_shelf.specs.declared.traits.Shelf as shelves
 use Rattle.lab_shelf.specs.Files.{Files}

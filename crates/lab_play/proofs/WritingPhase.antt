@@ -11,8 +11,8 @@ use Rattle.lab_run.specs.Stage.{Stage}
 use Rattle.lab_phase.specs.declared.lab.Lab.{Lab}
 use Rattle.lab_phase.specs.AtStage.{IsAtStage, IsCardOf, capture_of, played_of, rows_of, session_of}
 use Rattle.lab_phase.specs.PhaseRuns.{Stops}
-use Rattle.lab_rows.specs.Reports.{StagesAreReported}
-use Rattle.lab_rows.specs.Sizes.{HasSizes, StagesHaveSizes}
+use Rattle.run_laws.specs.Reports.{StagesAreReported}
+use Rattle.run_laws.specs.Sizes.{HasSizes, StagesHaveSizes}
 use Rattle.lab_output.specs.declared.file.OutputFile.{OutputFile}
 use Rattle.lab_output.specs.declared.outputs.Outputs.{Outputs}
 use Rattle.lab_output.specs.Files.{IsOutputFile, AreApart, MayHold, output_files}

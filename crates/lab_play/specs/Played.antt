@@ -7,8 +7,8 @@ use Rattle.lab_report.specs.Text.{report_text}
 use Rattle.lab_run.specs.LabRun.{LabRun, Outcome}
 use Rattle.lab_run.specs.Openings.{IsSessionOf}
 use Rattle.lab_run.specs.Stage.{Session, first_stage}
-use Rattle.lab_headline.specs.Headline.{Headline}
-use Rattle.lab_headline.specs.OneSample.{PlaysOneSample}
+use Rattle.run_laws.specs.Headline.{Headline}
+use Rattle.run_laws.specs.OneSample.{PlaysOneSample}
 use Rattle.lab_input.specs.Input.{RunInput}
 use Rattle.lab_phase.specs.PhaseRuns.{HaveAsked, Stops}
 use Rattle.lab_output.specs.Files.{output_files, finished_files}

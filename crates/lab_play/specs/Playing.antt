@@ -17,7 +17,7 @@ use Rattle.lab_run.specs.LabRun.{all_segments, mix_of, recorded_from, report_of}
 use Rattle.lab_run.specs.Openings.{IsSessionOf}
 use Rattle.lab_run.specs.ScriptWords.{IsReached}
 use Rattle.lab_run.specs.Stage.{Session, Stage}
-use Rattle.lab_headline.specs.OneSample.{AreSamples}
+use Rattle.run_laws.specs.OneSample.{AreSamples}
 use Rattle.lab_input.specs.Input.{RunInput}
 use Rattle.lab_phase.specs.declared.lab.Lab.{Lab}
 use Rattle.lab_phase.specs.AtStage.{IsAtStage, IsOfScript, capture_of, played_of, session_of}

@@ -3,7 +3,7 @@
 --     HaveNoStops      never
 --     IsWithinStops      at most so often up to a stage of a run
 use Rattle.std.specs.Prelude.{◌-◌}
-use Rattle.lab_headline.specs.Exact.{IsUnstopped}
+use Rattle.run_laws.specs.Exact.{IsUnstopped}
 use Rattle.lab_run.specs.LabRun.{AreWithin}
 use Rattle.lab_run.specs.Stage.{Stage}
 use Rattle.lab_phase.specs.PhaseRuns.{Stops}

@@ -23,17 +23,19 @@ ghost use Rattle.lab_play.specs.Stops.{rises};
 
 use crate::items::do_items;
 use crate::samples::samples_are_of_16_bits;
-use lab_headline::{played_samples_stay, runs_keep_headline, scripts_bind_channels};
 use lab_input::Input;
 use lab_lines::Script;
 use lab_output::{Outputs, outputs_of};
 use lab_phase::{Lab, Outcome};
-use lab_rows::{outcomes_are_of_scripts, stages_grow};
-use lab_run::{one_run, runs_go_on};
+use lab_run::one_run;
 use lab_setup::ring_of;
 use lab_shelf::{Shelf, Sink};
 use lab_stop::Stop;
 use mix_core::Gate;
+use run_laws::{
+    outcomes_are_of_scripts, played_samples_stay, runs_go_on, runs_keep_headline,
+    scripts_bind_channels, stages_grow,
+};
 use snd_base::Geometry;
 use snoop_table::SnoopRing;
 use std::alloc::Global;

@@ -15,9 +15,9 @@ ghost use Rattle.lab_play.specs.Playing.{CanCatchUp, CatchesUp, IsKnownBehind, S
 use lab_lines::Script;
 use lab_output::Outputs;
 use lab_phase::Lab;
-use lab_rows::{stages_have_rows, stages_have_sizes};
 use lab_shelf::{Shelf, Sink};
 use lab_stop::Stop;
+use run_laws::{stages_have_rows, stages_have_sizes};
 use std::alloc::Global;
 
 /// The samples so far of the output of this number: of 0 what the card played, and of the others what each reader recorded.

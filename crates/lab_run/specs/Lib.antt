@@ -7,7 +7,6 @@ pub mod CourseText
 pub mod GateAsks
 pub mod Items
 pub mod LabRun
-pub mod LateRows
 pub mod Lines
 pub mod Members
 pub mod Openings
@@ -20,6 +19,5 @@ pub mod ReaderAtPort
 pub mod ReportSize
 pub mod Rules
 pub mod ScriptWords
-pub mod Slices
 pub mod Stage
 pub mod Stretches

@@ -7,8 +7,7 @@
 mod laws;
 
 pub use laws::{
-    actors_are_alone, calls_are_alike, claims_are_of_owners, client_lines_are_parts,
-    last_frames_are_own, late_rows_name_samples, lines_without_calls, members_are_unreported,
-    one_run, parts_are_runs, parts_grow, reader_lines_are_parts, readers_read_on,
-    reports_are_within_rows, runs_are_of_scripts, runs_go_on,
+    claims_are_of_owners, client_lines_are_parts, last_frames_are_own, lines_without_calls,
+    members_are_unreported, one_run, parts_are_runs, parts_grow, reader_lines_are_parts,
+    reports_are_within_rows, runs_are_of_scripts,
 };

@@ -1,7 +1,7 @@
 use Rattle.std.proofs.Common.{◌≡◌, ◌+◌, ◌*◌, ◌<◌, ℕ, ℤ, List, ap, sym, ◌∙◌, subst, length, arith}
 use Rattle.std.specs.Prelude.{pos, replicate}
 use Rattle.snd_base.specs.declared.places.Segment.{Segment}
-use Rattle.lab_headline.specs.Files.{placed_from}
+use Rattle.run_laws.specs.Files.{placed_from}
 use Rattle.lab_check.specs.Sums.{TotalsFit, IsSummed, entries_of_segments}
 use Rattle.lab_check.proofs.Bounds.{placed_fits, samples-known}
 use Rattle.lab_check.proofs.Saturated.{back, window-played}

@@ -4,7 +4,7 @@ use Rattle.std.proofs.lemmas.List.Elements.{All-more}
 use Rattle.std.specs.Prelude.{All}
 use Rattle.lap_word.specs.Clamp.{IsSample}
 use Rattle.wav_io.specs.Sound.{Sound}
-use Rattle.lab_headline.specs.OneSample.{AreSamples}
+use Rattle.run_laws.specs.OneSample.{AreSamples}
 use Rattle.lab_check.proofs.samples.samples_are_of_16_bits.Goals as goal
 
 pub loop-wav-preserved : goal.loop-wav-preserved

@@ -2,7 +2,7 @@ use Rattle.std.specs.Prelude.{ℕ, Err, List, Option}
 use Rattle.std.specs.Option.{option_copied}
 use Rattle.std.proofs.lemmas.Result.{IfOk-weaker}
 use Rattle.std.proofs.Common.{inr, refl, subst}
-use Rattle.lab_headline.specs.OneSample.{AreSamples}
+use Rattle.run_laws.specs.OneSample.{AreSamples}
 use Rattle.lab_input.specs.Input.{RunInput}
 use Rattle.lab_input.specs.Read.{input_of}
 use Rattle.lab_phase.specs.AtStage.{IsOfScript}

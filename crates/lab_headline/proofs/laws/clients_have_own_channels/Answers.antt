@@ -1,5 +1,0 @@
-use Rattle.lab_headline.proofs.Apart.{own-channels}
-use Rattle.lab_headline.proofs.laws.clients_have_own_channels.Goals as goal
-
-pub returns : goal.returns
-returns c session done stage = own-channels session done stage c.claims_are_of_owners.ensures

@@ -1,4 +1,0 @@
-pub mod Captured
-pub mod Growth
-pub mod Reports
-pub mod Sizes

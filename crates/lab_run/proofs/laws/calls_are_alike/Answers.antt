@@ -1,6 +1,0 @@
-use Rattle.lab_run.proofs.laws.calls_are_alike.Goals as goal
-use Rattle.lab_run.proofs.CallsAlike.{calls-alike}
-use Rattle.lab_run.proofs.ReadsAlike.{reads-alike}
-
-pub returns : goal.returns
-returns c = record { clients = calls-alike; readers = reads-alike }

@@ -1,6 +1,0 @@
-use Rattle.lab_run.proofs.SliceItems.{readers-read_in_slices}
-use Rattle.lab_run.proofs.SliceLaws.{lines-get_slices, readers-read_on}
-use Rattle.lab_run.proofs.laws.readers_read_on.Goals as goal
-
-pub returns : goal.returns
-returns c = record { slices = lines-get_slices; goes_on = readers-read_on; runs = readers-read_in_slices }

@@ -1,0 +1,103 @@
+-- The clients of a script are bound to channels of the card that differ.
+use Rattle.std.proofs.Common.{◌≡◌, ℕ, zero, suc, ◌<◌, ◌≤◌, List, [], ◌∷◌, inl, inr, sym, subst, arith, length, Option, Some, None}
+use Rattle.std.specs.Prelude.{unwrap_or, IfSome, slice_index_or}
+use Rattle.bindings.specs.AnswerLaws.{AreBindings-answered}
+use Rattle.bindings.specs.Bound.{AreBindings, identity}
+use Rattle.bindings.specs.RisingLaws.{AreBindings-identity}
+use Rattle.pcm_interval.specs.declared.interval.Interval.{Interval}
+use Rattle.pcm_interval.specs.Intervals.{IsLowerWithin, IsUpperWithin, IsIntervalWithin, refinement}
+use Rattle.pcm_interval.specs.IntervalLaws.{IsNonEmpty-le, refined-IsWithin_left, refined-IsWithin_right}
+use Rattle.hw_space.specs.declared.param.Param.TheVariants.{Channels}
+use Rattle.hw_space.specs.declared.param_box.ParamBox.{ParamBox}
+use Rattle.hw_space.specs.declared.quantity.Quantity.TheVariants as quantity
+use Rattle.hw_space.specs.Narrowings.{point, with_value}
+use Rattle.hw_space.specs.Settled.{IsLeft}
+use Rattle.hw_space.specs.Widest.{whole_from_to, widest}
+use Rattle.wav_io.specs.Sound.{Sound}
+use Rattle.lab_lines.specs.declared.script.CardLine.{CardLine}
+use Rattle.lab_lines.specs.declared.script.ClientLine.{ClientLine}
+use Rattle.lab_lines.specs.declared.script.Script.{Script}
+use Rattle.lab_lines.specs.Limits.{IsBoundWhere, IsClientLine, IsScript}
+use Rattle.lab_run.specs.Openings.{AreClientOpenings, IsClientOpening, IsClientSetup, IsSessionOf}
+use Rattle.lab_run.specs.Stage.{Session, Setup}
+use Rattle.run_laws.specs.OneSample.{AreBound}
+
+-- ---- the channels of a file
+
+lower-least : (a b : Interval) → IsLowerWithin a b → b.min ≤ a.min
+lower-least a b (inl is) = omega (arith, is)
+lower-least a b (inr is) = let same : a.min ≡ b.min = is.0 in omega (arith, same)
+
+upper-most : (a b : Interval) → IsUpperWithin a b → a.max ≤ b.max
+upper-most a b (inl is) = omega (arith, is)
+upper-most a b (inr is) = let same : a.max ≡ b.max = is.0 in omega (arith, same)
+
+-- a space in which the channels are one number leaves the card's channels at most
+left-channels : (channels rate ring n : ℕ) (left : ParamBox) → IsLeft (with_value (widest channels rate ring) Channels n) left → (1 ≤ n) × (n ≤ channels)
+left-channels channels rate ring n left is = (least, most)
+  where
+    whole : Interval
+    whole = whole_from_to 1 channels
+
+    part : Interval
+    part = refinement (whole_from_to 1 channels) (point n)
+
+    within : IsIntervalWithin left.channels (refinement (whole_from_to 1 channels) (point n))
+    within = is.greatest.within.parts quantity.Channels
+
+    ends : left.channels.min ≤ left.channels.max
+    ends = IsNonEmpty-le left.channels (is.greatest.settled.parts quantity.Channels)
+
+    least : 1 ≤ n
+    least =
+        let a = lower-least left.channels (refinement (whole_from_to 1 channels) (point n)) within.lower in
+        let b = upper-most left.channels (refinement (whole_from_to 1 channels) (point n)) within.upper in
+        let c : 1 ≤ (refinement (whole_from_to 1 channels) (point n)).min = lower-least (refinement (whole_from_to 1 channels) (point n)) (whole_from_to 1 channels) (refined-IsWithin_left (whole_from_to 1 channels) (point n)).lower in
+        let d : (refinement (whole_from_to 1 channels) (point n)).max ≤ n = upper-most (refinement (whole_from_to 1 channels) (point n)) (point n) (refined-IsWithin_right (whole_from_to 1 channels) (point n)).upper in
+        chain 1 _ left.channels.min left.channels.max _ n c a ends b d
+      where
+        chain : (u v w x y z : ℕ) → u ≤ v → v ≤ w → w ≤ x → x ≤ y → y ≤ z → u ≤ z
+        chain u v w x y z one two three four five = omega (arith, one, two, three, four, five)
+
+    most : n ≤ channels
+    most =
+        let a = lower-least left.channels (refinement (whole_from_to 1 channels) (point n)) within.lower in
+        let b = upper-most left.channels (refinement (whole_from_to 1 channels) (point n)) within.upper in
+        let c : n ≤ (refinement (whole_from_to 1 channels) (point n)).min = lower-least (refinement (whole_from_to 1 channels) (point n)) (point n) (refined-IsWithin_right (whole_from_to 1 channels) (point n)).lower in
+        let d : (refinement (whole_from_to 1 channels) (point n)).max ≤ channels = upper-most (refinement (whole_from_to 1 channels) (point n)) (whole_from_to 1 channels) (refined-IsWithin_left (whole_from_to 1 channels) (point n)).upper in
+        chain n _ left.channels.min left.channels.max _ channels c a ends b d
+      where
+        chain : (u v w x y z : ℕ) → u ≤ v → v ≤ w → w ≤ x → x ≤ y → y ≤ z → u ≤ z
+        chain u v w x y z one two three four five = omega (arith, one, two, three, four, five)
+
+-- ---- the clients of a script
+
+-- a client's file has a channel, and no more than the card
+pub setup-channels : (card : CardLine) (line : ClientLine) (wav : Sound) (setup : Setup) → IsClientSetup card line wav setup
+    → (1 ≤ wav.channels) × (wav.channels ≤ card.channels)
+setup-channels card line wav setup opening = left-channels card.channels card.rate card.ring wav.channels opening.config.1.0 opening.config.1.1
+
+opening-bound : (card : CardLine) (line : ClientLine) (wav : Sound) (setup : Option Setup) → card.channels ≤ 8 → IsClientLine card line → IsClientOpening card line wav setup
+    → IfSome setup (λ (s : Setup). AreBindings s.bindings)
+opening-bound card line wav None few is opening = tt
+opening-bound card line wav (Some setup) few is opening = subst AreBindings (sym opening.bindings) (by_line line.bindings is.bindings)
+  where
+    channels : (1 ≤ wav.channels) × (wav.channels ≤ card.channels)
+    channels = setup-channels card line wav setup opening
+
+    by_line : (o : Option (List ℕ)) → IsBoundWhere card.channels o → AreBindings (unwrap_or o (identity wav.channels))
+    by_line None bound = AreBindings-identity wav.channels channels.0 (omega (arith, channels.1, few))
+    by_line (Some list) bound = AreBindings-answered list card.channels (omega (arith, few)) bound
+
+openings-bound : (card : CardLine) (lines : List ClientLine) (wavs : List Sound) (setups : List (Option Setup)) (number : ℕ) → card.channels ≤ 8
+    → ((k : ℕ) (d : ClientLine) → k < length lines → IsClientLine card (slice_index_or lines k d)) → AreClientOpenings card lines wavs setups
+    → IfSome (slice_index_or setups number None) (λ (s : Setup). AreBindings s.bindings)
+openings-bound card [] [] [] number few each are = tt
+openings-bound card (line ∷ lines) (wav ∷ wavs) (setup ∷ setups) zero few each are = opening-bound card line wav setup few (each 0 line (omega arith)) are.0
+openings-bound card (line ∷ lines) (wav ∷ wavs) (setup ∷ setups) (suc number) few each are =
+    openings-bound card lines wavs setups number few (λ k d within. each (suc k) d (omega (arith, within))) are.1
+openings-bound card lines wavs setups number few each are = absurd are
+
+pub script-bound : (script : Script) (wavs : List Sound) (session : Session) → IsScript script → IsSessionOf script wavs session → AreBound session
+script-bound script wavs session is of_script number =
+    openings-bound script.card script.clients wavs session.clients number is.card.channels.high is.each_client of_script.clients

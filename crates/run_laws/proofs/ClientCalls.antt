@@ -1,0 +1,141 @@
+-- What a line of a client is answered has a text in a report, and its state afterwards.
+use Rattle.std.proofs.Common.{◌≡◌, ℕ, subst, Option, Some, None}
+use Rattle.std.specs.Prelude.{[], Result, Ok, Err, IfSome, ⊤}
+use Rattle.snd_base.specs.declared.errors.PcmError.{PcmError}
+use Rattle.mix_core.specs.declared.marks.Marks.{Marks}
+use Rattle.pcm_states.specs.declared.calls.Call.{Call}
+use Rattle.pcm_states.specs.declared.calls.Call.TheVariants as call
+use Rattle.pcm_states.specs.declared.calls.Facts.{Facts}
+use Rattle.pcm_states.specs.declared.states.State.{State}
+use Rattle.pcm_states.specs.declared.states.State.TheVariants.{Draining, Prepared, Running}
+use Rattle.pcm_states.specs.Table.{next_of}
+use Rattle.pcm_stream.specs.declared.direction.Direction.TheVariants.{Playback}
+use Rattle.pcm_stream.specs.Status.{refusal_of}
+use Rattle.course.specs.Gives.{Gives, Gives-any, Gives-map}
+use Rattle.wav_io.specs.Sound.{Sound}
+use Rattle.dmix_client.specs.declared.stream.PlaybackStream.{PlaybackStream}
+use Rattle.dmix_client.specs.Calls.{Answered, committed_by, going_on, going_on_by, with_number, with_outcome}
+use Rattle.dmix_client.specs.Course.{commits}
+use Rattle.dmix_client.specs.EachCall.{Counts, IsStart, Leaves, Rewinds, Writes, checks-done, rewind-counted}
+use Rattle.dmix_client.specs.Rewind.{take_frames, taken_back}
+use Rattle.dmix_client.specs.View.{ring_sample}
+use Rattle.lab_lines.specs.declared.line.Op.{Op}
+use Rattle.lab_lines.specs.declared.row.Answer.{Answer}
+use Rattle.lab_report.specs.Text.{HasStateText, HasText}
+use Rattle.lab_run.specs.Client.{Client, after_call, call_of, count_answer, done_answer, line_by}
+use Rattle.run_laws.proofs.EachCall.{call_of-gives, count_answer-gives}
+use Rattle.lab_run.proofs.EachLine.{client_line-gives}
+use Rattle.run_laws.proofs.TableLaws.{CanReport, CanReportIn, next-reports, refusal-reports, reported-reports}
+
+-- a client's state has a text
+abbrev pub HasState : PlaybackStream → Type 0
+HasState c = HasStateText c.status.state
+
+-- a report can have a call's error, and the state of its client afterwards
+abbrev Reports : {T : Type 0} → Answered T → Type 0
+Reports (d, r) = CanReportIn r × HasState d
+
+-- ---- the parts of a call
+
+going_on-reports : (c : PlaybackStream) (s refused : State) (r : Result (Unit {0}) PcmError) → HasStateText s → HasStateText refused → CanReportIn r
+    → Reports (going_on_by r c s refused)
+going_on-reports c s refused (Ok done) is other reports = (tt, is)
+going_on-reports c s refused (Err e) is other reports = (reports, other)
+
+begun-reports : (c : PlaybackStream) (s : State) (f : Facts) → HasStateText s → Reports (going_on c s (next_of Prepared call.Start f))
+begun-reports c s f is =
+    let o = next-reports Prepared call.Start f tt in
+    going_on-reports c s (next_of Prepared call.Start f).state (next_of Prepared call.Start f).answer is o.1 o.0
+
+number-reports : (number : PlaybackStream → ℕ) (done : Answered (Unit {0})) → Reports done → Reports (with_number number done)
+number-reports number (c, Ok done) reports = (tt, reports.1)
+number-reports number (c, Err e) reports = reports
+
+-- a state that a start leads to has a text
+start-text : (s : State) → IsStart s → HasStateText s
+start-text Running start = tt
+start-text Draining start = tt
+start-text other start = elim start [ ]
+
+refused-reports : (c : PlaybackStream) (asked : Call) (e : PcmError) → HasState c → refusal_of Playback c.status asked ≡ Some e → CanReport e
+refused-reports c asked e is refusal = subst (λ (o : Option PcmError). IfSome o CanReport) refusal (refusal-reports Playback c.status asked is)
+
+leaves-reports : Leaves HasState (λ x. ⊤) Reports
+leaves-reports = record {
+  goes = λ c done reports. reports.1;
+  same = λ c is. (tt, is);
+  seen = λ c p is. is;
+  started = λ c s p cursor start is. start-text s start;
+  based = λ c is. tt;
+  committed = λ c x is any. is;
+  drains = λ c is. tt;
+  paused = λ c is. tt;
+  dropped = λ c is. tt;
+  prepared = λ c is. tt;
+  placed = λ c ring count is. Gives-any (λ x. ⊤) (commits c ring count) (λ x. tt);
+  placed_none = tt;
+  stopped = λ c is. (tt, is);
+  refused = λ c asked e is refusal. (refused-reports c asked e is refusal, is);
+  outcome = λ c x asked f is any same. next-reports c.status.state asked f is;
+  begun = λ c x s f start is any same. begun-reports (committed_by c x) s f (start-text s start);
+  gone = λ c s f start is none. begun-reports c s f (start-text s start);
+  empty = λ c f is none. next-reports c.status.state call.Start f is;
+}
+
+counts-reports : Counts HasState Reports Reports
+counts-reports = record { fails = λ c e reports. reports; numbered = λ c n is. (tt, is) }
+
+writes-reports : (n : ℕ) → Writes HasState (λ x. ⊤) Reports Reports n
+writes-reports n = record {
+  fails = λ c e reports. reports;
+  stopped = λ c is. (tt, is);
+  full = λ c is. (tt, is);
+  outcome = λ c x f is any same. next-reports Running call.Transfer f tt;
+  accepts = λ c d done is reports. (tt, reports.1);
+}
+
+rewinds-reports : Rewinds HasState (λ x. ⊤) Reports Reports
+rewinds-reports = record {
+  checked = λ c is. checks-done leaves-reports c is;
+  goes = λ c done reports. reports.1;
+  fails = λ c e reports. reports;
+  refused = λ c e is refusal. (refused-reports c call.Transfer e is refusal, is);
+  left = λ c ring first n. Gives-any (λ x. ⊤) (take_frames c.identity.member c.stretch.card c.setup.bindings (ring_sample c ring) first n) (λ x. tt);
+  stopped = λ c n left is. (tt, is);
+  outcome = λ c n left f is any same. number-reports (λ d. n) (with_outcome (taken_back c n left) (next_of Running call.Transfer f)) (next-reports Running call.Transfer f tt);
+  fewer = λ c n is. (tt, is);
+}
+
+-- ---- the lines
+
+-- an answer of a report has a text, and the state of its client
+abbrev IsSaid : PlaybackStream × Answer → Type 0
+IsSaid (d, answer) = HasText answer × HasState d
+
+done-said : (x : Answered (Unit {0})) → Reports x → IsSaid (x.0, done_answer x.1)
+done-said (d, Ok done) reports = (tt, reports.1)
+done-said (d, Err e) reports = (reported-reports e reports.0, reports.1)
+
+count-said : (x : Answered ℕ) → Reports x → IsSaid (x.0, count_answer x.1)
+count-said (d, Ok n) reports = (tt, reports.1)
+count-said (d, Err e) reports = (reported-reports e reports.0, reports.1)
+
+call-said : (wav : Sound) (marks : Marks) (c : PlaybackStream) (asked : Op) → HasState c → Gives IsSaid (call_of wav marks c asked)
+call-said wav marks c asked is = call_of-gives leaves-reports counts-reports writes-reports IsSaid done-said count-said (λ d text. (tt, text)) wav marks c asked is
+    (λ n same. count_answer-gives Reports IsSaid _ count-said (rewind-counted rewinds-reports c [] marks.floor n is))
+
+-- a client that is open has a state with a text
+abbrev pub IsReportable : Option PlaybackStream → Type 0
+IsReportable None = ⊤
+IsReportable (Some c) = HasState c
+
+-- a line's answer has a text, and the client's state after it
+abbrev pub LineReports : Client × Answer → Type 0
+LineReports (client, answer) = IsReportable client.own × HasText answer
+
+pub client_line-reports : (wav : Sound) (marks : Marks) (client : Client) (own : Option PlaybackStream) (asked : Op) → IsReportable own → IsReportable client.own
+    → Gives LineReports (line_by wav marks client own asked)
+client_line-reports wav marks client own asked is there =
+    client_line-gives LineReports wav marks client own asked (λ none. (there, tt)) (λ c same. (there, tt)) (λ c same. (there, tt))
+    (λ c same at. Gives-map IsSaid (λ x. LineReports (after_call client c asked x)) (call_of wav at c asked)
+    (call-said wav at c asked (subst IsReportable same is)) (λ x said. (said.1, said.0)))

@@ -1,0 +1,80 @@
+-- A run that the script settles is the only one, and each actor does in it what it does by itself.
+use Rattle.std.proofs.Common.{◌≡◌, ℕ, sym, ap, ◌∙◌, refl, subst, List, [], ◌∷◌, length, Option, arith}
+use Rattle.std.specs.Prelude.{Bool, suc}
+use Rattle.wav_io.specs.Sound.{Sound}
+use Rattle.lab_lines.specs.declared.line.Actor.{Actor}
+use Rattle.lab_lines.specs.declared.line.Item.{Item}
+use Rattle.lab_lines.specs.declared.script.CardLine.{CardLine}
+use Rattle.lab_lines.specs.declared.script.ClientLine.{ClientLine}
+use Rattle.lab_lines.specs.declared.script.ReaderLine.{ReaderLine}
+use Rattle.lab_lines.specs.declared.script.Script.{Script}
+use Rattle.lab_lines.specs.declared.report.Report.{Report}
+use Rattle.lab_run.specs.LabRun.{IsOneRun, LabRun, Outcome, lab_text}
+use Rattle.lab_run.specs.Openings.{AreClientOpenings, AreReaderOpenings, IsSessionOf}
+use Rattle.lab_run.specs.OwnRows.{AreAlone, HaveLines, IsClientAlone, IsReaderAlone, answers_of, client_alone, client_part, rows_by}
+use Rattle.lab_run.specs.Phases.{AreUnmixed, is_client, is_reader}
+use Rattle.lab_run.specs.Stage.{Session, Setup}
+use Rattle.run_laws.specs.Exact.{DoesTheSame, HasSameClient, IsExactRun, IsOwnRun, IsUnstoppedRun}
+
+unstopped-is : (session : Session) (capture : Option Sound) (body : List Item) (outcome : Outcome) → IsOneRun session capture body → AreUnmixed body
+    → IsUnstoppedRun session capture body outcome → outcome ≡ lab_text session capture body
+unstopped-is session capture body outcome one unmixed run =
+    let clients : run.client_stops ≡ (λ (n : ℕ). 0) = λ k n. run.clients n k in
+    let readers : run.reader_stops ≡ (λ (n : ℕ). 0) = λ k n. run.readers n k in
+    let first : LabRun session capture body (λ n. 0) run.reader_stops outcome =
+    subst (λ (stops : ℕ → ℕ). LabRun session capture body stops run.reader_stops outcome) clients run.run in
+    one.only unmixed outcome (subst (λ (stops : ℕ → ℕ). LabRun session capture body (λ n. 0) stops outcome) readers first)
+
+pub unstopped-exact : (session : Session) (capture : Option Sound) (body : List Item) (outcome : Outcome) → IsOneRun session capture body
+    → IsUnstoppedRun session capture body outcome → IsExactRun session capture body outcome
+unstopped-exact session capture body outcome one run = record {
+  is = λ unmixed. unstopped-is session capture body outcome one unmixed run;
+  only = λ unmixed other its.
+      unstopped-is session capture body other one unmixed its ∙ sym (unstopped-is session capture body outcome one unmixed run);
+}
+
+-- ---- each actor by itself
+
+clients-size : (card : CardLine) (lines : List ClientLine) (wavs : List Sound) (setups : List (Option Setup)) → AreClientOpenings card lines wavs setups
+    → length setups ≡ length lines
+clients-size card [] [] [] are = refl
+clients-size card [] [] (x ∷ setups) are = absurd are
+clients-size card [] (wav ∷ wavs) setups are = absurd are
+clients-size card (line ∷ lines) [] setups are = absurd are
+clients-size card (line ∷ lines) (wav ∷ wavs) [] are = absurd are
+clients-size card (line ∷ lines) (wav ∷ wavs) (x ∷ setups) are = ap suc (clients-size card lines wavs setups are.1)
+
+readers-size : (card : CardLine) (lines : List ReaderLine) (setups : List (Option Setup)) → AreReaderOpenings card lines setups
+    → length setups ≡ length lines
+readers-size card [] [] are = refl
+readers-size card [] (x ∷ setups) are = absurd are
+readers-size card (line ∷ lines) [] are = absurd are
+readers-size card (line ∷ lines) (x ∷ setups) are = ap suc (readers-size card lines setups are.1)
+
+pub unstopped-own : (script : Script) (wavs : List Sound) (session : Session) (capture : Option Sound) (outcome : Outcome)
+    → ((is_theirs : Actor → Bool) → HaveLines is_theirs script.body) → IsSessionOf script wavs session
+    → IsOneRun session capture script.body → AreAlone session capture script.body
+    → IsUnstoppedRun session capture script.body outcome → IsOwnRun script session outcome
+unstopped-own script wavs session capture outcome lines is one alone run = record {
+  clients = λ unmixed number low.
+      subst (λ (o : Outcome). IsClientAlone session script.body o.report number) (sym (unstopped-is session capture script.body outcome one unmixed run))
+      (alone.clients number (omega (arith, low, clients-size script.card script.clients wavs session.clients is.clients)) (lines (is_client number)));
+  readers = λ unmixed number low.
+      subst (λ (o : Outcome). IsReaderAlone session script.body o.report number) (sym (unstopped-is session capture script.body outcome one unmixed run))
+      (alone.readers number (omega (arith, low, readers-size script.card script.readers session.readers is.readers)) (lines (is_reader number)));
+}
+
+-- a client's part is settled by what is its own
+part-same : (session : Session) (body : List Item) (other : Session) (other_body : List Item) (number : ℕ) → HasSameClient session body other other_body number
+    → client_part session body number ≡ client_part other other_body number
+part-same session body other other_body number same =
+    λ k. client_alone (same.ring k) number (same.setup k) (same.file k) (same.first k) (same.items k)
+
+pub alone-same : (session : Session) (body : List Item) (report : Report) (other : Session) (other_body : List Item) (other_report : Report) (number : ℕ)
+    → HasSameClient session body other other_body number → IsClientAlone session body report number → IsClientAlone other other_body other_report number
+    → DoesTheSame report other_report number
+alone-same session body report other other_body other_report number same one two answers =
+    let parts : client_part session body number (answers_of (rows_by (is_client number) report.rows))
+    ≡ client_part other other_body number (answers_of (rows_by (is_client number) other_report.rows))
+    = λ k. part-same session body other other_body number same k (answers k) in
+    (one.rows ∙ ap (λ p. p.0) parts ∙ sym two.rows, one.segments ∙ ap (λ p. p.1) parts ∙ sym two.segments)

@@ -1,0 +1,233 @@
+-- What each line of a client leaves: its stretch is of its file, and so is each one that ended.
+use Rattle.std.proofs.Common.{◌≡◌, ℕ, ◌+◌, ◌-◌, ◌<◌, ◌≤◌, ◌⊎◌, inl, inr, refl, sym, ◌∙◌, ap, subst, arith, List, [], ◌∷◌, ◌++◌, length, Option, Some, None}
+use Rattle.std.proofs.lemmas.Bool.Decides.{nat_tests}
+use Rattle.std.proofs.lemmas.List.{append-nil}
+use Rattle.std.specs.List.{AllByRecursion}
+use Rattle.std.specs.Prelude.{Bool, true, false, not, ◌&&◌, nat_eq, if◌then◌else◌, min, IfSome, Contains, slice_index_or}
+use Rattle.mix_core.specs.declared.marks.Marks.{Marks}
+use Rattle.pcm_states.specs.declared.states.State.TheVariants.{Prepared}
+use Rattle.course.specs.Course.{◌>>=◌, ends}
+use Rattle.wav_io.specs.Sound.{Sound}
+use Rattle.dmix_client.specs.declared.stream.PlaybackStream.{PlaybackStream}
+use Rattle.dmix_client.specs.Calls.{is_paused, segment_of}
+use Rattle.lab_lines.specs.declared.line.Op.{Op}
+use Rattle.lab_lines.specs.declared.line.Op.TheVariants as op
+use Rattle.lab_lines.specs.declared.row.Answer.{Answer}
+use Rattle.lab_lines.specs.declared.row.Answer.TheVariants.{Done}
+use Rattle.lab_lines.specs.Script.{first_frame}
+use Rattle.lab_run.specs.Client.{Client, after_call, begins, call_of, client_kind, ended_by, frames_of, line_by, line_if, present_of, segments_of, stretch_of}
+use Rattle.lab_run.specs.Items.{no_sound}
+use Rattle.lab_run.specs.Lines.{LineMay}
+use Rattle.lab_run.specs.Rules.{AtPort, Rules}
+use Rattle.lab_run.specs.Stage.{Session, Setup, opened_client}
+use Rattle.run_laws.specs.Segments.{IsOfFrames}
+use Rattle.run_laws.proofs.Bound.{HasBindings, line-bound}
+use Rattle.run_laws.proofs.FileCalls.{FileAfter, IsOfFile, call-after, idle-goes}
+use Rattle.run_laws.proofs.Going.{still-client, in-open}
+use Rattle.run_laws.proofs.NumberedStages.{IsKeptBy}
+use Rattle.run_laws.proofs.Onward.{Channels, begun}
+use Rattle.run_laws.proofs.OnwardLines.{InOpen}
+use Rattle.run_laws.proofs.PlayedCourses.{From, From-then, Takes-from}
+use Rattle.run_laws.proofs.Lists.{each-append}
+
+-- ---- a line of an open client
+
+-- the frames that a write may take are in the file
+write-room : (n accepted frames : ℕ) → accepted ≤ frames → accepted + min n (frames - accepted) ≤ frames
+write-room n accepted frames most = omega (arith, most)
+
+module _ (p : ℕ) (wav : Sound) (client : Client) (c : PlaybackStream) (own_is : client.own ≡ Some c) (is : IsOfFile p (frames_of wav) c) where
+  -- the client's stretch is of the file, and no other one ended than that before the line
+  abbrev pub LeavesFile : Client → Type 0
+  LeavesFile after = InOpen after.own (IsOfFile p (frames_of wav)) × ((after.ended ≡ client.ended) ⊎ (after.ended ≡ client.ended ++ stretch_of c))
+
+  stays : LeavesFile client
+  stays = (subst (λ own. InOpen own (IsOfFile p (frames_of wav))) (sym own_is) is, inl refl)
+
+  -- what a line ends is the stretch, or nothing
+  ended-so : (asked : Op) (answer : Answer) (d : PlaybackStream)
+      → (client.ended ++ ended_by asked answer c d ≡ client.ended) ⊎ (client.ended ++ ended_by asked answer c d ≡ client.ended ++ stretch_of c)
+  ended-so op.Prepare Done d = inr refl
+  ended-so op.Prepare other d = inl (append-nil client.ended)
+  ended-so op.Resume answer d = by_test (is_paused c.status.state && not (is_paused d.status.state))
+    where
+      by_test : (ends_so : Bool) → (client.ended ++ (if ends_so then stretch_of c else []) ≡ client.ended) ⊎ (client.ended ++ (if ends_so then stretch_of c else []) ≡ client.ended ++ stretch_of c)
+      by_test true = inr refl
+      by_test false = inl (append-nil client.ended)
+  ended-so other answer d = inl (append-nil client.ended)
+
+  abbrev FileDone : ℕ → Client × Answer → Type 0
+  FileDone t done = LeavesFile done.0
+
+  call-leaves : (asked : Op) (m : Marks) → From p (λ t done. FileAfter p (frames_of wav) done) 0 (call_of wav m c asked)
+      → From p FileDone 0 (call_of wav m c asked >>= λ done. ends (after_call client c asked done))
+  call-leaves asked m from = From-then p (λ t done. FileAfter p (frames_of wav) done) FileDone 0 (call_of wav m c asked) (λ done. ends (after_call client c asked done)) from
+      (λ t done there. (there, ended-so asked done.1 done.0))
+
+  op-leaves : (m : Marks) (asked : Op) → From p FileDone 0 (line_if false wav m client c asked)
+  op-leaves m (op.Die k) = stays
+  op-leaves m asked = call-leaves asked m (call-after p (frames_of wav) c is wav m (λ n. write-room n c.fed (frames_of wav) is.0.most) asked)
+
+  pub line-leaves : (m : Marks) (asked : Op) → From p FileDone 0 (line_if c.status.stopped wav m client c asked)
+  line-leaves m asked = by_stop c.status.stopped
+    where
+      by_stop : (stopped : Bool) → From p FileDone 0 (line_if stopped wav m client c asked)
+      by_stop true = stays
+      by_stop false = op-leaves m asked
+
+-- a line that is done
+pub done-leaves : (rules : Rules) (p : ℕ) → ((q : ℕ) → Contains rules.published q → p ≤ q) → (phase : ℕ) (wav : Sound) (number : ℕ) (a b : AtPort) (client after : Client)
+    (asked : Op) (answer : Answer) (c : PlaybackStream) (own_is : client.own ≡ Some c) (is : IsOfFile p (frames_of wav) c)
+    → LineMay (client_kind phase wav number) rules (a, client) asked (b, after) answer → LeavesFile p wav client c own_is is after
+done-leaves rules p least phase wav number a b client after asked answer c own_is is may =
+    Takes-from rules p least (λ (done : Client × Answer). LeavesFile p wav client c own_is is done.0) 0 (begins client.own asked a) b
+    (line_by wav m client client.own asked) (after, answer)
+    (subst (λ own. From p (λ t (done : Client × Answer). LeavesFile p wav client c own_is is done.0) 0 (line_by wav m client own asked)) (sym own_is)
+    (line-leaves p wav client c own_is is m asked))
+    (omega arith) may
+  where
+    m : Marks
+    m = (begins client.own asked a).marks
+
+-- ---- the segments of a client
+
+-- a client's stretch, where it is open, and the segments that ended are of a file of so many frames, with these bindings
+pub record HoldsFile (p limit : ℕ) (bindings : List ℕ) (client : Client) : Type 0 where
+  pub own : IfSome client.own (IsOfFile p limit)
+  pub bound : HasBindings bindings client.own
+  pub ended : AllByRecursion (IsOfFrames p (length bindings) limit) client.ended
+
+-- the segment of a stretch
+segment-right : (p limit : ℕ) (bindings : List ℕ) (c : PlaybackStream) → IsOfFile p limit c → c.setup.bindings ≡ bindings → 0 < c.stretch.committed + c.stretch.part
+    → IsOfFrames p (length bindings) limit (segment_of c)
+segment-right p limit bindings c is same some = record {
+  some = some;
+  part = subst (λ (l : List ℕ). c.stretch.part < length l) same is.0.part;
+  card = by_past is.0.past;
+  source = whole c.stretch.source c.stretch.committed (begun c.stretch.part) is.0.laid;
+  begun = λ more. let one = begun-one c.stretch.part more in last c.stretch.source c.stretch.committed (begun c.stretch.part) is.0.laid one;
+}
+  where
+    by_past : ((c.stretch.committed ≡ 0) × (c.stretch.part ≡ 0)) ⊎ (p ≤ c.stretch.card) → p ≤ c.stretch.card
+    by_past (inl (none, no_part)) = absurd (omega (arith, some, none, no_part))
+    by_past (inr past) = past
+
+    whole : (source committed part : ℕ) → source + committed + part ≤ limit → source + committed ≤ limit
+    whole source committed part laid = omega (arith, laid)
+
+    last : (source committed part : ℕ) → source + committed + part ≤ limit → part ≡ 1 → source + committed < limit
+    last source committed part laid one = omega (arith, laid, one)
+
+    begun-one : (part : ℕ) → 0 < part → begun part ≡ 1
+    begun-one part more = by_test (nat_eq part 0) refl
+      where
+        by_test : (none : Bool) → nat_eq part 0 ≡ none → ◌≡◌ {A = ℕ} (if none then 0 else 1) 1
+        by_test true test = absurd (grind (arith, nat_tests, more))
+        by_test false test = refl
+
+pub stretch-right : (p limit : ℕ) (bindings : List ℕ) (c : PlaybackStream) → IsOfFile p limit c → c.setup.bindings ≡ bindings
+    → AllByRecursion (IsOfFrames p (length bindings) limit) (stretch_of c)
+stretch-right p limit bindings c is same = by_test (nat_eq c.stretch.committed 0) (nat_eq c.stretch.part 0) refl refl
+  where
+    more : (n m : ℕ) → nat_eq n 0 ≡ false → 0 < n + m
+    more n m test = grind (arith, nat_tests)
+
+    also : (n m : ℕ) → nat_eq m 0 ≡ false → 0 < n + m
+    also n m test = grind (arith, nat_tests)
+
+    by_test : (none no_part : Bool) → nat_eq c.stretch.committed 0 ≡ none → nat_eq c.stretch.part 0 ≡ no_part
+        → AllByRecursion (IsOfFrames p (length bindings) limit) (if none && no_part then [] else segment_of c ∷ [])
+    by_test true true test other = tt
+    by_test true false test other = (segment-right p limit bindings c is same (also c.stretch.committed c.stretch.part other), tt)
+    by_test false no_part test other = (segment-right p limit bindings c is same (more c.stretch.committed c.stretch.part test), tt)
+
+pub present-right : (p limit : ℕ) (bindings : List ℕ) (own : Option PlaybackStream) → IfSome own (IsOfFile p limit) → HasBindings bindings own
+    → AllByRecursion (IsOfFrames p (length bindings) limit) (present_of own)
+present-right p limit bindings None is same = tt
+present-right p limit bindings (Some c) is same = stretch-right p limit bindings c is same
+
+pub segments-right : (p limit : ℕ) (bindings : List ℕ) (client : Client) → HoldsFile p limit bindings client
+    → AllByRecursion (IsOfFrames p (length bindings) limit) (segments_of client)
+segments-right p limit bindings client holds =
+    each-append (IsOfFrames p (length bindings) limit) client.ended (present_of client.own) holds.ended (present-right p limit bindings client.own holds.own holds.bound)
+
+-- ---- each client of a run
+
+-- a client that can be opened holds its file, from the card's first frame on
+abbrev pub IsFileClient : Session → ℕ → Client → Type 0
+IsFileClient session number client = (setup : Setup) → slice_index_or session.clients number None ≡ Some setup → Channels setup.bindings
+    → HoldsFile (first_frame session.card) (frames_of (slice_index_or session.sounds number no_sound)) setup.bindings client
+
+module _ (session : Session) where
+  line-holds : (rules : Rules) → ((q : ℕ) → Contains rules.published q → first_frame session.card ≤ q) → (phase number : ℕ) (a b : AtPort) (client after : Client)
+      (asked : Op) (answer : Answer) → IsFileClient session number client
+      → LineMay (client_kind phase (slice_index_or session.sounds number no_sound) number) rules (a, client) asked (b, after) answer → IsFileClient session number after
+  line-holds rules least phase number a b client after asked answer so may setup setup_is channels = by_own client.own refl
+    where
+      holds : HoldsFile (first_frame session.card) (frames_of (slice_index_or session.sounds number no_sound)) setup.bindings client
+      holds = so setup setup_is channels
+
+      bound : HasBindings setup.bindings after.own
+      bound = line-bound rules phase (slice_index_or session.sounds number no_sound) number setup.bindings a b client after asked answer holds.bound may
+
+      by_ended : (c : PlaybackStream) → IsOfFile (first_frame session.card) (frames_of (slice_index_or session.sounds number no_sound)) c → c.setup.bindings ≡ setup.bindings
+          → (after.ended ≡ client.ended) ⊎ (after.ended ≡ client.ended ++ stretch_of c)
+          → AllByRecursion (IsOfFrames (first_frame session.card) (length setup.bindings) (frames_of (slice_index_or session.sounds number no_sound))) after.ended
+      by_ended c is same (inl ended) = rw ended holds.ended
+      by_ended c is same (inr ended) = rw ended
+          (each-append (IsOfFrames (first_frame session.card) (length setup.bindings) (frames_of (slice_index_or session.sounds number no_sound))) client.ended (stretch_of c) holds.ended
+          (stretch-right (first_frame session.card) (frames_of (slice_index_or session.sounds number no_sound)) setup.bindings c is same))
+
+      by_own : (own : Option PlaybackStream) → client.own ≡ own
+          → HoldsFile (first_frame session.card) (frames_of (slice_index_or session.sounds number no_sound)) setup.bindings after
+      by_own None none = subst
+          (HoldsFile (first_frame session.card) (frames_of (slice_index_or session.sounds number no_sound)) setup.bindings)
+          (sym (still-client rules phase (slice_index_or session.sounds number no_sound) number a b client after asked answer none may)) holds
+      by_own (Some c) own_is =
+          let is : IsOfFile (first_frame session.card) (frames_of (slice_index_or session.sounds number no_sound)) c =
+          subst (λ own. IfSome own (IsOfFile (first_frame session.card) (frames_of (slice_index_or session.sounds number no_sound)))) own_is holds.own in
+          let same : c.setup.bindings ≡ setup.bindings = subst (HasBindings setup.bindings) own_is holds.bound in
+          let left = done-leaves rules (first_frame session.card) least phase (slice_index_or session.sounds number no_sound) number a b client after asked answer c own_is is may in
+          record {
+            own = in-open (IsOfFile (first_frame session.card) (frames_of (slice_index_or session.sounds number no_sound))) after.own left.0;
+            bound = bound;
+            ended = by_ended c is same left.1;
+          }
+
+  open-holds : (number : ℕ) (setup : Setup) → slice_index_or session.clients number None ≡ Some setup → (client : Client) → IsFileClient session number client
+      → IsFileClient session number (record client { own = Some (opened_client session.ring number setup) })
+  open-holds number setup is client so other other_is channels =
+      let same : setup ≡ other = some-same (sym is ∙ other_is) in
+      record {
+        own = (
+          record {
+            bound = subst (λ (s : Setup). Channels s.bindings) (sym same) channels;
+            most = omega arith;
+            sum = omega arith;
+            laid = omega arith;
+            part = let some = channels.some in subst (λ (s : Setup). 0 < length s.bindings) (sym same) some;
+            past = inl (refl, refl);
+          },
+          idle-goes (first_frame session.card) Prepared false (opened_client session.ring number setup).stretch refl refl refl,
+        );
+        bound = ap (λ (s : Setup). s.bindings) same;
+        ended = (so other other_is channels).ended;
+      }
+    where
+      some-same : Some setup ≡ Some other → setup ≡ other
+      some-same same = cc
+
+  end-holds : (number : ℕ) (client : Client) → IsFileClient session number client → IsFileClient session number (record { own = None; ended = segments_of client })
+  end-holds number client so setup is channels = record {
+    own = tt;
+    bound = tt;
+    ended = segments-right (first_frame session.card) (frames_of (slice_index_or session.sounds number no_sound)) setup.bindings client (so setup is channels);
+  }
+
+  pub clients-hold : IsKeptBy session (IsFileClient session)
+  clients-hold = record {
+    never = λ number setup is channels. record { own = tt; bound = tt; ended = tt };
+    lines = line-holds;
+    opens = open-holds;
+    ends = end-holds;
+  }

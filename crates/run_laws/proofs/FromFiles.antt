@@ -1,0 +1,153 @@
+-- A report's segments are of clients that could be opened, each with its line and its file.
+use Rattle.std.proofs.Common.{◌≡◌, ℕ, ◌+◌, ◌*◌, ◌<◌, refl, sym, ◌∙◌, ap, subst, List, [], ◌∷◌, ◌++◌, Option, Some, None}
+use Rattle.std.proofs.lemmas.List.Concat.{flat_map-append}
+use Rattle.std.specs.List.{flat_map}
+use Rattle.std.specs.Prelude.{ℤ, pos, zero, suc, map, slice_get, slice_index_or, ⊤}
+use Rattle.snd_base.specs.declared.places.Segment.{Segment}
+use Rattle.lap_word.specs.Clamp.{clamp_of}
+use Rattle.mix_core.specs.declared.port.Entry.{Entry}
+use Rattle.mix_core.specs.Laid.{total}
+use Rattle.course.specs.Gives.{Gives, Gives-taken}
+use Rattle.wav_io.specs.Sound.{Sound}
+use Rattle.dmix_client.specs.Expansion.{expand}
+use Rattle.lab_lines.specs.declared.line.Op.{Op}
+use Rattle.lab_lines.specs.declared.script.CardLine.{CardLine}
+use Rattle.lab_lines.specs.declared.script.ClientLine.{ClientLine}
+use Rattle.lab_lines.specs.declared.script.Script.{Script}
+use Rattle.lab_lines.specs.Script.{first_frame}
+use Rattle.lab_lines.specs.declared.report.Report.{Report}
+use Rattle.lab_lines.specs.declared.row.Answer.{Answer}
+use Rattle.lab_run.specs.Client.{Client, begins, client_kind, line_by, segments_of}
+use Rattle.lab_run.specs.LabRun.{LabRun, Outcome, entries_by, with_numbers}
+use Rattle.lab_run.specs.Lines.{LineMay}
+use Rattle.lab_run.specs.Openings.{AreClientOpenings, IsClientSetup, IsSessionOf}
+use Rattle.lab_run.specs.Rules.{AtPort, MayGet, MayLay, MayLoad, Rules}
+use Rattle.lab_run.specs.Stage.{Session, Setup}
+use Rattle.run_laws.specs.Files.{IsMixOfFiles, IsPlacedFrom, file_samples}
+use Rattle.run_laws.specs.Mix.{IsMixOf}
+use Rattle.run_laws.proofs.Stages.{AreSo, IsKept, reached-so}
+
+-- ---- a client without a setup has no segments
+
+abbrev pub IsIdle : Client → Type 0
+IsIdle client = (client.own ≡ None) × (client.ended ≡ [])
+
+abbrev pub IsUsed : Option Setup → Client → Type 0
+IsUsed None client = IsIdle client
+IsUsed (Some s) client = ⊤
+
+never-used : (setup : Option Setup) → IsUsed setup (record { own = None; ended = [] })
+never-used None = (refl, refl)
+never-used (Some s) = tt
+
+pub idle-segments : (client : Client) → IsIdle client → segments_of client ≡ []
+idle-segments client (closed, none) = rw closed (rw none refl)
+
+ended-used : (setup : Option Setup) (client : Client) → IsUsed setup client → IsUsed setup (record { own = None; ended = segments_of client })
+ended-used None client idle = (refl, idle-segments client idle)
+ended-used (Some s) client used = tt
+
+line-used : (rules : Rules) (phase : ℕ) (wav : Sound) (number : ℕ) (setup : Option Setup) (a b : AtPort) (client after : Client) (asked : Op) (answer : Answer)
+    → IsUsed setup client → LineMay (client_kind phase wav number) rules (a, client) asked (b, after) answer → IsUsed setup after
+line-used rules phase wav number (Some s) a b client after asked answer used may = tt
+line-used rules phase wav number None a b client after asked answer idle may =
+    Gives-taken (MayLoad rules) (MayLay rules) (MayGet rules) (λ (x : Client × Answer). IsIdle x.0) (begins client.own asked a) b
+    (line_by wav (begins client.own asked a).marks client client.own asked) (after, answer)
+    (subst (λ own. Gives (λ (x : Client × Answer). IsIdle x.0) (line_by wav (begins client.own asked a).marks client own asked)) (sym idle.0) idle) may
+
+pub clients-used : IsKept IsUsed
+clients-used = record {
+  never = never-used;
+  lines = line-used;
+  opens = λ ring number setup client used. tt;
+  ends = ended-used;
+}
+
+-- ---- a client with a setup has its line and its file
+
+pub record IsOpened (card : CardLine) (lines : List ClientLine) (wavs : List Sound) (n : ℕ) (s : Setup) : Type 0 where
+  pub line : ClientLine
+  pub wav : Sound
+  pub line_is : slice_get lines n ≡ Some line
+  pub wav_is : slice_get wavs n ≡ Some wav
+  pub opening : IsClientSetup card line wav s
+
+pub opened-at : (card : CardLine) (lines : List ClientLine) (wavs : List Sound) (setups : List (Option Setup)) (n : ℕ) (s : Setup) → AreClientOpenings card lines wavs setups
+    → slice_index_or setups n None ≡ Some s → IsOpened card lines wavs n s
+opened-at card [] [] [] n s are is = absurd (cc)
+opened-at card [] [] (setup ∷ setups) n s are is = absurd are
+opened-at card [] (wav ∷ wavs) setups n s are is = absurd are
+opened-at card (line ∷ lines) [] setups n s are is = absurd are
+opened-at card (line ∷ lines) (wav ∷ wavs) [] n s are is = absurd are
+opened-at card (line ∷ lines) (wav ∷ wavs) (None ∷ setups) zero s are is = absurd (cc)
+opened-at card (line ∷ lines) (wav ∷ wavs) (Some t ∷ setups) zero s are is =
+    let same : t ≡ s = cc in
+    record { line = line; wav = wav; line_is = refl; wav_is = refl; opening = subst (IsClientSetup card line wav) same are.0 }
+opened-at card (line ∷ lines) (wav ∷ wavs) (setup ∷ setups) (suc n) s are is =
+    let rest = opened-at card lines wavs setups n s are.1 is in
+    record { line = rest.line; wav = rest.wav; line_is = rest.line_is; wav_is = rest.wav_is; opening = rest.opening }
+
+-- what a segment of a client placed, by its line and file
+abbrev from_file : Script → List Sound → ℕ × Segment → List Entry
+from_file script wavs pair = file_samples pair.0 pair.1 (slice_get script.clients pair.0) (slice_get wavs pair.0)
+
+segment-from : (script : Script) (wavs : List Sound) (session : Session) (n : ℕ) (s : Setup) (segment : Segment) → IsSessionOf script wavs session
+    → slice_index_or session.clients n None ≡ Some s → entries_by session (n, segment) ≡ from_file script wavs (n, segment)
+segment-from script wavs session n s segment is setup_is =
+    let opened = opened-at script.card script.clients wavs session.clients n s is.clients setup_is in
+    let wav_is : slice_get session.sounds n ≡ Some opened.wav = ap (λ (l : List Sound). slice_get l n) is.sounds ∙ opened.wav_is in
+    rw wav_is (rw setup_is (rw opened.line_is (rw opened.wav_is (ap (λ b. expand n segment opened.wav.samples b) opened.opening.bindings))))
+
+-- ---- all segments
+
+parts-from : (script : Script) (wavs : List Sound) (session : Session) (n : ℕ) (s : Setup) (segments : List Segment) → IsSessionOf script wavs session
+    → slice_index_or session.clients n None ≡ Some s
+    → flat_map (entries_by session) (map (λ segment. (n, segment)) segments) ≡ flat_map (from_file script wavs) (map (λ segment. (n, segment)) segments)
+parts-from script wavs session n s [] is setup_is = refl
+parts-from script wavs session n s (segment ∷ segments) is setup_is =
+    ap (λ l. l ++ flat_map (entries_by session) (map (λ segment. (n, segment)) segments)) (segment-from script wavs session n s segment is setup_is)
+    ∙ ap (λ l. from_file script wavs (n, segment) ++ l) (parts-from script wavs session n s segments is setup_is)
+
+client-from : (script : Script) (wavs : List Sound) (session : Session) (n : ℕ) (client : Client) → IsSessionOf script wavs session
+    → (setup : Option Setup) → slice_index_or session.clients n None ≡ setup → IsUsed setup client
+    → flat_map (entries_by session) (map (λ segment. (n, segment)) (segments_of client))
+    ≡ flat_map (from_file script wavs) (map (λ segment. (n, segment)) (segments_of client))
+client-from script wavs session n client is (Some s) setup_is used = parts-from script wavs session n s (segments_of client) is setup_is
+client-from script wavs session n client is None setup_is idle = rw (idle-segments client idle) refl
+
+clients-from : (script : Script) (wavs : List Sound) (session : Session) (n : ℕ) (clients : List (AtPort × Client)) → IsSessionOf script wavs session
+    → AreSo IsUsed clients-used session n clients
+    → flat_map (entries_by session) (with_numbers (λ (client : AtPort × Client). segments_of client.1) n clients)
+    ≡ flat_map (from_file script wavs) (with_numbers (λ (client : AtPort × Client). segments_of client.1) n clients)
+clients-from script wavs session n [] is are = refl
+clients-from script wavs session n (client ∷ clients) is are =
+    flat_map-append (entries_by session) own others
+    ∙ ap (λ l. l ++ flat_map (entries_by session) others) (client-from script wavs session n client.1 is (slice_index_or session.clients n None) refl are.0)
+    ∙ ap (λ l. flat_map (from_file script wavs) own ++ l) (clients-from script wavs session (n + 1) clients is are.1)
+    ∙ sym (flat_map-append (from_file script wavs) own others)
+  where
+    own : List (ℕ × Segment)
+    own = map (λ segment. (n, segment)) (segments_of client.1)
+
+    others : List (ℕ × Segment)
+    others = with_numbers (λ (client : AtPort × Client). segments_of client.1) (n + 1) clients
+
+pub LabRun-files : (script : Script) (wavs : List Sound) (session : Session) (capture : Option Sound) (client_stops reader_stops : ℕ → ℕ) (outcome : Outcome)
+    → IsSessionOf script wavs session → LabRun session capture script.body client_stops reader_stops outcome → IsPlacedFrom script wavs session outcome.report
+LabRun-files script wavs session capture client_stops reader_stops outcome is run =
+    subst (λ (o : Outcome). IsPlacedFrom script wavs session o.report) (sym run.is)
+    (clients-from script wavs session 0 run.end.clients is (reached-so IsUsed clients-used session script.body run.end run.may))
+
+-- the mix of a session is that of its script and files
+pub mix-files : (script : Script) (wavs : List Sound) (session : Session) (report : Report) (played : List ℤ) → IsSessionOf script wavs session
+    → IsPlacedFrom script wavs session report → IsMixOf session report played → IsMixOfFiles script wavs report played
+mix-files script wavs session report played is from mix =
+    let card_is : session.card ≡ script.card = is.card in
+    record {
+      first = mix.first ∙ ap first_frame card_is;
+      samples = mix.samples ∙ ap (λ (c : CardLine). report.frames * c.channels) card_is;
+      sums = λ frame channel in_frames in_channels.
+          ap (λ (c : CardLine). slice_index_or played (frame * c.channels + channel) (pos 0)) (sym card_is)
+          ∙ mix.sums frame channel in_frames (subst (λ (c : CardLine). channel < c.channels) (sym card_is) in_channels)
+          ∙ ap (λ es. clamp_of (total es (report.first + frame) channel)) from;
+    }

@@ -1,0 +1,119 @@
+-- In a card that is shared by channels the one sample of a place is played as it is, since a sample of 16 bits isn't saturated.
+use Rattle.std.proofs.Common.{◌≡◌, ℕ, ◌+◌, refl, sym, ◌∙◌, ap, subst, arith, List, [], ◌∷◌, Option, Some, None, length}
+use Rattle.std.proofs.lemmas.Int.{int_max_is, int_min_is, ints}
+use Rattle.std.specs.Int.{int_min}
+use Rattle.std.proofs.lemmas.List.Elements.{recursion_from_All}
+use Rattle.std.specs.List.{AllByRecursion, flat_map, range_with_len}
+use Rattle.std.specs.Prelude.{All, Bool, true, false, cond, zero, suc, ℤ, negsuc, pos, filter, map, slice_get, slice_index, slice_index_or, take}
+use Rattle.snd_base.specs.declared.places.Segment.{Segment}
+use Rattle.bindings.specs.Bound.{rising}
+use Rattle.lap_word.specs.Clamp.{IsSample, clamp_of}
+use Rattle.mix_core.specs.declared.port.Entry.{Entry}
+use Rattle.mix_core.specs.declared.port.Kind.TheVariants.{Added}
+use Rattle.mix_core.specs.Laid as laid
+use Rattle.mix_core.specs.Laid.{is_at, value_of}
+use Rattle.wav_io.specs.Sound.{Sound}
+use Rattle.dshare.specs.Owners.{ClaimRow as Claim}
+use Rattle.dmix_client.specs.Expansion.{expand, frame_entries, sample_at}
+use Rattle.lab_lines.specs.declared.script.Script.{Script}
+use Rattle.lab_run.specs.Claims.{ClaimIsOwners}
+use Rattle.lab_run.specs.LabRun.{LabRun, Outcome, entries_by}
+use Rattle.lab_run.specs.Openings.{IsSessionOf}
+use Rattle.lab_run.specs.Stage.{Session, Setup}
+use Rattle.run_laws.specs.Mix.{IsMixOf, placed_entries}
+use Rattle.run_laws.specs.OneSample.{AreBound, AreSamples, PlaysOneSample, only_of}
+use Rattle.run_laws.proofs.Mixes.{LabRun-mix}
+use Rattle.run_laws.proofs.Lists.{each-append}
+use Rattle.run_laws.proofs.OneSample.{LabRun-once}
+
+-- a sample isn't saturated
+sample-clamp : (x : ℤ) → IsSample x → clamp_of x ≡ x
+sample-clamp x is = let low = is.low in let high = is.high in omega (arith, ints, int_min_is x (pos 32767), int_max_is (negsuc 32767) (int_min x (pos 32767)), low, high)
+
+silence : IsSample (pos 0)
+silence = record { low = omega (arith, ints); high = omega (arith, ints) }
+
+-- ---- entries of samples
+
+abbrev AreEntries : List Entry → Type 0
+AreEntries es = AllByRecursion (λ (e : Entry). IsSample (value_of e)) es
+
+flat-entries : {X : Type 0} (f : X → List Entry) (xs : List X) → ((x : X) → AreEntries (f x)) → AreEntries (flat_map f xs)
+flat-entries f [] each = tt
+flat-entries f (x ∷ xs) each = each-append (λ (e : Entry). IsSample (value_of e)) (f x) (flat_map f xs) (each x) (flat-entries f xs each)
+
+-- the first of some of them
+only-sample : (test : Entry → Bool) (es : List Entry) → AreEntries es → IsSample (only_of (map value_of (filter test es)))
+only-sample test [] each = silence
+only-sample test (e ∷ es) each = by_test (only-sample test es each.1) (test e)
+  where
+    by_test : IsSample (only_of (map value_of (filter test es))) → (here : Bool) → IsSample (only_of (map value_of (cond here (e ∷ filter test es) (filter test es))))
+    by_test rest true = each.0
+    by_test rest false = rest
+
+-- ---- the files
+
+sample-of : (samples : List ℤ) (i : ℕ) → AllByRecursion IsSample samples → IsSample (slice_index_or samples i (pos 0))
+sample-of [] i each = silence
+sample-of (x ∷ samples) zero each = each.0
+sample-of (x ∷ samples) (suc i) each = sample-of samples i each.1
+
+frame-samples : (member : ℕ) (bindings : List ℕ) (sample_of : ℕ → ℤ) (n card : ℕ) → ((q : ℕ) → IsSample (sample_of q)) → AreEntries (frame_entries member bindings sample_of n card)
+frame-samples member bindings sample_of n card each = by_list (take n (rising bindings))
+  where
+    by_list : (qs : List ℕ) → AreEntries (map (λ q. record {
+      member = member;
+      frame = card;
+      channel = slice_index bindings q;
+      sample = sample_of q;
+      kind = Added;
+    }) qs)
+    by_list [] = tt
+    by_list (q ∷ qs) = (each q, by_list qs)
+
+expand-samples : (member : ℕ) (segment : Segment) (samples : List ℤ) (bindings : List ℕ) → AllByRecursion IsSample samples → AreEntries (expand member segment samples bindings)
+expand-samples member segment samples bindings each =
+    each-append (λ (e : Entry). IsSample (value_of e)) (flat_map (λ j. frame_entries member bindings (of_file j) (length bindings) (segment.card + j)) (range_with_len 0 segment.whole)) _
+    (flat-entries (λ j. frame_entries member bindings (of_file j) (length bindings) (segment.card + j)) (range_with_len 0 segment.whole)
+    (λ j. frame-samples member bindings (of_file j) (length bindings) (segment.card + j) (sampled j)))
+    (frame-samples member bindings (of_file (0 + segment.whole)) segment.part (segment.card + (0 + segment.whole)) (sampled (0 + segment.whole)))
+  where
+    of_file : ℕ → ℕ → ℤ
+    of_file j = sample_at samples (length bindings) (segment.source + j)
+
+    sampled : (j q : ℕ) → IsSample (of_file j q)
+    sampled j q = sample-of samples _ each
+
+file-of : (wavs : List Sound) (number : ℕ) (wav : Sound) → AllByRecursion (λ (w : Sound). All IsSample w.samples) wavs → slice_get wavs number ≡ Some wav
+    → AllByRecursion IsSample wav.samples
+file-of [] number wav each is = absurd (let none = is in cc)
+file-of (w ∷ wavs) zero wav each is = let same : w ≡ wav = cc in
+    subst (λ (x : Sound). AllByRecursion IsSample x.samples) same (recursion_from_All IsSample w.samples each.0)
+file-of (w ∷ wavs) (suc number) wav each is = file-of wavs number wav each.1 is
+
+entries-samples : (session : Session) (part : ℕ × Segment) → AreSamples session.sounds → AreEntries (entries_by session part)
+entries-samples session (n, s) samples = by_file (slice_get session.sounds n) (slice_index_or session.clients n None) refl refl
+  where
+    by_file : (wav : Option Sound) (setup : Option Setup) → slice_get session.sounds n ≡ wav → slice_index_or session.clients n None ≡ setup → AreEntries (entries_by session (n, s))
+    by_file (Some wav) (Some setup) wav_is setup_is =
+        rw wav_is (rw setup_is (expand-samples n s wav.samples setup.bindings
+        (file-of session.sounds n wav (recursion_from_All (λ (w : Sound). All IsSample w.samples) session.sounds samples) wav_is)))
+    by_file None setup wav_is setup_is = rw wav_is tt
+    by_file (Some wav) None wav_is setup_is = rw wav_is (rw setup_is tt)
+
+-- ---- a run
+
+pub LabRun-one_played : (script : Script) (wavs : List Sound) (session : Session) (capture : Option Sound) (client_stops reader_stops : ℕ → ℕ) (outcome : Outcome)
+    → ((claims : List Claim) (channels : List ℕ) (position : ℕ) → ClaimIsOwners claims channels position) → IsSessionOf script wavs session → AreBound session
+    → AreSamples wavs → LabRun session capture script.body client_stops reader_stops outcome → PlaysOneSample session outcome
+LabRun-one_played script wavs session capture client_stops reader_stops outcome owners is bound samples run share frame channel within of_card =
+    mix.sums frame channel within of_card
+    ∙ ap clamp_of (LabRun-once script wavs session capture client_stops reader_stops outcome owners is bound run share (outcome.report.first + frame) channel).1
+    ∙ sample-clamp (only_of (laid.at placed (outcome.report.first + frame) channel)) (only-sample (is_at (outcome.report.first + frame) channel) placed
+    (flat-entries (entries_by session) outcome.report.segments (λ part. entries-samples session part (subst AreSamples (sym is.sounds) samples))))
+  where
+    placed : List Entry
+    placed = placed_entries session outcome.report
+
+    mix : IsMixOf session outcome.report outcome.played
+    mix = LabRun-mix session capture script.body client_stops reader_stops outcome run

@@ -1,0 +1,286 @@
+-- What the steps of a course may change: no sample below a position p, where each position that it loads is at p or past it.
+--     From, Keeps      a course's results have a fact, as far as its steps keep to p
+--     CommitEnd, RewindEnd      what a commit, and a rewind, leave: nothing is changed below p
+use Rattle.std.proofs.Common.{◌≡◌, ℕ, ◌+◌, ◌<◌, ◌≤◌, ◌⊎◌, inl, inr, refl, sym, ◌∙◌, ap, subst, arith, Option, Some, None}
+use Rattle.std.proofs.lemmas.Bool.Decides.{nat_tests}
+use Rattle.std.specs.Prelude.{Bool, true, false, nat_eq, if◌then◌else◌, List, [], ◌∷◌, length, ℤ, zero, suc, Contains}
+use Rattle.bindings.specs.Bound.{rising}
+use Rattle.mix_core.specs.declared.port.Ended.{Ended}
+use Rattle.mix_core.specs.declared.port.Ended.TheVariants as ended
+use Rattle.mix_core.specs.declared.port.Position.{Position}
+use Rattle.mix_core.specs.Port.{OnWhole}
+use Rattle.snoop_core.specs.declared.port.Got.{Got}
+use Rattle.snoop_core.specs.declared.port.Got.TheVariants as got
+use Rattle.course.specs.Course.{◌>>=◌, Course, ends, gets, lays, loads}
+use Rattle.dmix_client.specs.declared.commit.Commit.{Commit}
+use Rattle.dmix_client.specs.declared.stream.PlaybackStream.{PlaybackStream}
+use Rattle.dmix_client.specs.Course.{commits, go_on, lay_each, lay_frame, lay_frames, looks, nothing, one_frame_more, one_more}
+use Rattle.dmix_client.specs.Rewind.{back_on, rewind_left, take_each, take_frames}
+use Rattle.dmix_client.specs.View.{ring_sample}
+use Rattle.lab_run.specs.Rules.{AtPort, May, Rules, with_asks}
+use Rattle.lab_run.proofs.CallParts.{IsSaying}
+use Rattle.run_laws.proofs.RunGoesOn.{stop-seen}
+use Rattle.run_laws.proofs.Onward.{Channels, channels-rise}
+
+-- ---- courses
+
+-- Whatever the steps of a course give, its results have a fact: where each load gives a position at p or past it, and nothing is placed or taken back
+-- below s, which is p from the first load on. The fact may speak of the s at the end.
+abbrev pub From : {X : Type 0} → ℕ → (ℕ → X → Type 0) → ℕ → Course X → Type 0
+From p Q s (ends x) = Q s x
+From p Q s (loads next) = From p Q s (next None) × ((position : Position) → p ≤ position.frame → From p Q p (next (Some position)))
+From p Q s (lays e next) = (s ≤ e.frame → From p Q s (next ended.Whole)) × ((word : ℕ) → From p Q s (next (ended.Late word))) × From p Q s (next ended.Stopped)
+From p Q s (gets frame next) = (got : Got) → From p Q s (next got)
+
+pub From-then : {X Y : Type 0} (p : ℕ) (R : ℕ → X → Type 0) (Q : ℕ → Y → Type 0) (s : ℕ) (c : Course X) (f : X → Course Y)
+    → From p R s c → ((t : ℕ) (x : X) → R t x → From p Q t (f x)) → From p Q s (c >>= f)
+unfolding ◌>>=◌
+From-then p R Q s (ends x) f from each = each s x from
+From-then p R Q s (loads next) f from each =
+    (From-then p R Q s (next None) f from.0 each, λ position least. From-then p R Q p (next (Some position)) f (from.1 position least) each)
+From-then p R Q s (lays e next) f from each = (
+  λ past. From-then p R Q s (next ended.Whole) f (from.0 past) each,
+  λ word. From-then p R Q s (next (ended.Late word)) f (from.1 word) each,
+  From-then p R Q s (next ended.Stopped) f from.2 each,
+)
+From-then p R Q s (gets frame next) f from each = λ got. From-then p R Q s (next got) f (from got) each
+
+pub From-map : {X : Type 0} (p : ℕ) (R Q : ℕ → X → Type 0) (s : ℕ) (c : Course X) → From p R s c → ((t : ℕ) (x : X) → R t x → Q t x) → From p Q s c
+From-map p R Q s (ends x) from each = each s x from
+From-map p R Q s (loads next) from each =
+    (From-map p R Q s (next None) from.0 each, λ position least. From-map p R Q p (next (Some position)) (from.1 position least) each)
+From-map p R Q s (lays e next) from each = (
+  λ past. From-map p R Q s (next ended.Whole) (from.0 past) each,
+  λ word. From-map p R Q s (next (ended.Late word)) (from.1 word) each,
+  From-map p R Q s (next ended.Stopped) from.2 each,
+)
+From-map p R Q s (gets frame next) from each = λ got. From-map p R Q s (next got) (from got) each
+
+pub from-so : (p : ℕ) → IsSaying {W = ℕ} (λ X Q s course. From p Q s course)
+from-so p = record {
+  at_end = λ X Q s x is. is;
+  after = λ X Y R Q s course f from next. From-then p R Q s course f from next;
+  implied = λ X R Q s course from less. From-map p R Q s course from less;
+}
+
+-- a course without a load that places and takes back nothing below s, and whose results have a fact
+abbrev pub Keeps : {X : Type 0} → ℕ → (X → Type 0) → Course X → Type 0
+Keeps s Q (ends x) = Q x
+Keeps s Q (loads next) = ⊥
+Keeps s Q (lays e next) = (s ≤ e.frame → Keeps s Q (next ended.Whole)) × ((word : ℕ) → Keeps s Q (next (ended.Late word))) × Keeps s Q (next ended.Stopped)
+Keeps s Q (gets frame next) = ⊥
+
+pub Keeps-then : {X Y : Type 0} (s : ℕ) (R : X → Type 0) (Q : Y → Type 0) (c : Course X) (f : X → Course Y) → Keeps s R c → ((x : X) → R x → Keeps s Q (f x))
+    → Keeps s Q (c >>= f)
+unfolding ◌>>=◌
+Keeps-then s R Q (ends x) f keeps each = each x keeps
+Keeps-then s R Q (loads next) f keeps each = absurd keeps
+Keeps-then s R Q (lays e next) f keeps each = (
+  λ past. Keeps-then s R Q (next ended.Whole) f (keeps.0 past) each,
+  λ word. Keeps-then s R Q (next (ended.Late word)) f (keeps.1 word) each,
+  Keeps-then s R Q (next ended.Stopped) f keeps.2 each,
+)
+Keeps-then s R Q (gets frame next) f keeps each = absurd keeps
+
+pub Keeps-map : {X : Type 0} (s : ℕ) (R Q : X → Type 0) (c : Course X) → Keeps s R c → ((x : X) → R x → Q x) → Keeps s Q c
+Keeps-map s R Q (ends x) keeps each = each x keeps
+Keeps-map s R Q (loads next) keeps each = absurd keeps
+Keeps-map s R Q (lays e next) keeps each = (
+  λ past. Keeps-map s R Q (next ended.Whole) (keeps.0 past) each,
+  λ word. Keeps-map s R Q (next (ended.Late word)) (keeps.1 word) each,
+  Keeps-map s R Q (next ended.Stopped) keeps.2 each,
+)
+Keeps-map s R Q (gets frame next) keeps each = absurd keeps
+
+pub From-keeps : {X : Type 0} (p s : ℕ) (Q : X → Type 0) (c : Course X) → Keeps s Q c → From p (λ t x. (t ≡ s) × Q x) s c
+From-keeps p s Q (ends x) keeps = (refl, keeps)
+From-keeps p s Q (loads next) keeps = absurd keeps
+From-keeps p s Q (lays e next) keeps = (
+  λ past. From-keeps p s Q (next ended.Whole) (keeps.0 past),
+  λ word. From-keeps p s Q (next (ended.Late word)) (keeps.1 word),
+  From-keeps p s Q (next ended.Stopped) keeps.2,
+)
+From-keeps p s Q (gets frame next) keeps = absurd keeps
+
+-- ---- a course that is taken
+
+module _ (rules : Rules) (p : ℕ) (least : (q : ℕ) → Contains rules.published q → p ≤ q) where
+  pub Takes-from : {X : Type 0} (Q : X → Type 0) (s : ℕ) (a b : AtPort) (course : Course X) (x : X) → From p (λ t y. Q y) s course → s ≤ a.seen
+      → May rules a course b x → Q x
+  Takes-from Q s a b (ends z) x from seen takes = rw takes.result from
+  Takes-from Q s a b (loads next) x from seen (None, m, step, rest) =
+      Takes-from Q s m b (next None) x from.0 (subst (λ n. s ≤ n) (sym (ap (λ (k : AtPort). k.seen) step ∙ stop-seen a)) seen) rest
+  Takes-from Q s a b (loads next) x from seen (Some position, m, step, rest) =
+      Takes-from Q p m b (next (Some position)) x (from.1 position (least position.frame step.1))
+      (subst (λ n. p ≤ n) (sym (ap (λ (k : AtPort). k.seen) step.4)) (least position.frame step.1)) rest
+  Takes-from Q s a b (lays e next) x from seen (ended.Whole, m, step, rest) =
+      Takes-from Q s m b (next ended.Whole) x (from.0 (through s a.seen e.frame seen step.0)) (subst (λ n. s ≤ n) (sym (ap (λ (k : AtPort). k.seen) step.2)) seen) rest
+    where
+      through : (x y z : ℕ) → x ≤ y → y ≤ z → x ≤ z
+      through x y z one two = omega (arith, one, two)
+  Takes-from Q s a b (lays e next) x from seen (ended.Late word, m, step, rest) =
+      Takes-from Q s m b (next (ended.Late word)) x (from.1 word) (subst (λ n. s ≤ n) (sym (ap (λ (k : AtPort). k.seen) step.5)) seen) rest
+  Takes-from Q s a b (lays e next) x from seen (ended.Stopped, m, inl step, rest) =
+      Takes-from Q s m b (next ended.Stopped) x from.2
+      (subst (λ n. s ≤ n) (sym (ap (λ (k : AtPort). k.seen) step.3 ∙ stop-seen (with_asks step.0 a))) seen) rest
+  Takes-from Q s a b (lays e next) x from seen (ended.Stopped, m, inr step, rest) =
+      Takes-from Q s m b (next ended.Stopped) x from.2 (subst (λ n. s ≤ n) (sym (ap (λ (k : AtPort). k.seen) step.2)) seen) rest
+  Takes-from Q s a b (gets frame next) x from seen (got.Whole, m, step, rest) =
+      Takes-from Q s m b (next got.Whole) x (from got.Whole) (subst (λ n. s ≤ n) (sym (ap (λ (k : AtPort). k.seen) step.2)) seen) rest
+  Takes-from Q s a b (gets frame next) x from seen (got.Overtaken channel word, m, step, rest) =
+      Takes-from Q s m b (next (got.Overtaken channel word)) x (from (got.Overtaken channel word)) (subst (λ n. s ≤ n) (sym (ap (λ (k : AtPort). k.seen) step.5)) seen) rest
+  Takes-from Q s a b (gets frame next) x from seen (got.Stopped, m, step, rest) =
+      Takes-from Q s m b (next got.Stopped) x (from got.Stopped)
+      (subst (λ n. s ≤ n) (sym (ap (λ (k : AtPort). k.seen) step.4 ∙ stop-seen (with_asks step.0 a))) seen) rest
+
+-- ---- a commit
+
+-- a commit that begins at a frame placed nothing, or that frame is not below s; and it has no part of a frame where it is whole
+abbrev pub CommitEnd : ℕ → ℕ → Commit → Type 0
+CommitEnd frame s commit = (((commit.frames ≡ 0) × (commit.part ≡ 0)) ⊎ (s ≤ frame)) × OnWhole commit.ended (commit.part ≡ 0)
+
+module _ (s : ℕ) where
+  -- once a sample of a frame is placed
+  each-keeps : (member frame : ℕ) (bindings : List ℕ) (sample_of : ℕ → ℤ) (qs : List ℕ) → s ≤ frame
+      → Keeps s (λ (end : ℕ × Ended). s ≤ frame) (lay_each member frame bindings sample_of qs)
+  unfolding lay_each
+  each-keeps member frame bindings sample_of [] past = past
+  each-keeps member frame bindings sample_of (q ∷ qs) past = (
+    λ again. Keeps-then s (λ (end : ℕ × Ended). s ≤ frame) (λ (end : ℕ × Ended). s ≤ frame) (lay_each member frame bindings sample_of qs) (λ end. ends (one_more end))
+        (each-keeps member frame bindings sample_of qs past) (λ end is. is),
+    λ word. past,
+    past,
+  )
+
+  -- how many samples of a frame were placed
+  abbrev FrameEnd : ℕ → ℕ × Ended → Type 0
+  FrameEnd frame (done, end) = ((done ≡ 0) ⊎ (s ≤ frame)) × OnWhole end (s ≤ frame)
+
+  on_end : (frame : ℕ) (end : Ended) → s ≤ frame → OnWhole end (s ≤ frame)
+  on_end frame ended.Whole past = past
+  on_end frame (ended.Late word) past = tt
+  on_end frame ended.Stopped past = tt
+
+  frame-keeps : (member frame : ℕ) (bindings : List ℕ) (sample_of : ℕ → ℤ) (qs : List ℕ) → 0 < length qs
+      → Keeps s (FrameEnd frame) (lay_each member frame bindings sample_of qs)
+  unfolding lay_each
+  frame-keeps member frame bindings sample_of [] some = absurd (omega (arith, some))
+  frame-keeps member frame bindings sample_of (q ∷ qs) some = (
+    λ past. Keeps-then s (λ (end : ℕ × Ended). s ≤ frame) (FrameEnd frame) (lay_each member frame bindings sample_of qs) (λ end. ends (one_more end))
+        (each-keeps member frame bindings sample_of qs past) one,
+    λ word. (inl refl, tt),
+    (inl refl, tt),
+  )
+    where
+      one : (end : ℕ × Ended) → s ≤ frame → FrameEnd frame (one_more end)
+      one (done, end) past = (inr past, on_end frame end past)
+
+  pub frames-keep : (member card : ℕ) (bindings : List ℕ) (samples : ℕ → ℕ → ℤ) (count first : ℕ) → 0 < length (rising bindings)
+      → Keeps s (CommitEnd (card + first) s) (lay_frames member card bindings samples count first)
+  unfolding lay_frames
+  frames-keep member card bindings samples zero first some = (inl (refl, refl), refl)
+  frames-keep member card bindings samples (suc count) first some =
+      Keeps-then s (FrameEnd (card + first)) (CommitEnd (card + first) s) (lay_frame member (card + first) bindings (samples first))
+      (λ end. go_on end (lay_frames member card bindings samples count (first + 1)))
+      (frame-keeps member (card + first) bindings (samples first) (rising bindings) some) (on (frames-keep member card bindings samples count (first + 1) some))
+    where
+      kept : (done : ℕ) → (done ≡ 0) ⊎ (s ≤ card + first) → ((zero ≡ zero) × (done ≡ 0)) ⊎ (s ≤ card + first)
+      kept done (inl none) = inl (refl, none)
+      kept done (inr past) = inr past
+
+      on : Keeps s (CommitEnd (card + (first + 1)) s) (lay_frames member card bindings samples count (first + 1)) → (end : ℕ × Ended) → FrameEnd (card + first) end
+          → Keeps s (CommitEnd (card + first) s) (go_on end (lay_frames member card bindings samples count (first + 1)))
+      on rest (done, ended.Whole) (any, past) = Keeps-then s (CommitEnd (card + (first + 1)) s) (CommitEnd (card + first) s)
+          (lay_frames member card bindings samples count (first + 1)) (λ commit. ends (one_frame_more commit))
+          rest (λ commit is. (inr past, is.1))
+      on rest (done, ended.Late word) (any, past) = (kept done any, tt)
+      on rest (done, ended.Stopped) (any, past) = (kept done any, tt)
+
+  -- the commit of a client
+  pub commits-keep : (c : PlaybackStream) (ring : List ℤ) (count : ℕ) → Channels c.setup.bindings
+      → Keeps s (CommitEnd (c.stretch.card + c.stretch.committed) s) (commits c ring count)
+  commits-keep c ring count bound =
+      frames-keep c.identity.member c.stretch.card c.setup.bindings (ring_sample c ring) count c.stretch.committed (channels-rise c.setup.bindings bound)
+
+-- ---- a rewind
+
+-- of n frames from a first one on, at a frame of the card, these are left: all of them, or what is left ends at no frame below s; there are no more of
+-- them than n; and they have no part of a frame where all that was to be taken back was
+pub record RewindEnd (frame n s : ℕ) (left : Commit) : Type 0 where
+  pub kept : ((left.frames ≡ n) × (left.part ≡ 0)) ⊎ (s ≤ frame + left.frames)
+  pub few : left.frames ≤ n
+  pub whole : OnWhole left.ended (left.part ≡ 0)
+
+module _ (s : ℕ) where
+  -- how many samples of a frame are left
+  abbrev FrameLeft : ℕ → ℕ → ℕ × Ended → Type 0
+  FrameLeft frame n (left, end) = ((left ≡ n) ⊎ (s ≤ frame)) × OnWhole end (left ≡ 0)
+
+  each-back : (member frame : ℕ) (bindings : List ℕ) (sample_of : ℕ → ℤ) (n : ℕ) → Keeps s (FrameLeft frame n) (take_each member frame bindings sample_of n)
+  unfolding take_each
+  each-back member frame bindings sample_of zero = (inl refl, refl)
+  each-back member frame bindings sample_of (suc n) = (
+    λ past. Keeps-map s (FrameLeft frame n) (FrameLeft frame (suc n)) (take_each member frame bindings sample_of n) (each-back member frame bindings sample_of n) (less past),
+    λ word. (inl refl, tt),
+    (inl refl, tt),
+  )
+    where
+      less : s ≤ frame → (end : ℕ × Ended) → FrameLeft frame n end → FrameLeft frame (suc n) end
+      less past (left, end) is = (inr past, is.1)
+
+  module _ (member card : ℕ) (bindings : List ℕ) (some : 0 < length bindings) where
+    left-end : (first n left : ℕ) (end : Ended) → (left ≡ length bindings) ⊎ (s ≤ card + (first + n)) → OnWhole end ⊥
+        → RewindEnd (card + first) (suc n) s (rewind_left n left (length bindings) end)
+    left-end first n left end any over = by_test (nat_eq left (length bindings)) refl any
+      where
+        on : (e : Ended) (x : ℕ) → OnWhole e ⊥ → OnWhole e (x ≡ 0)
+        on ended.Whole x is = absurd is
+        on (ended.Late word) x is = tt
+        on ended.Stopped x is = tt
+
+        by_test : (all : Bool) → nat_eq left (length bindings) ≡ all → (left ≡ length bindings) ⊎ (s ≤ card + (first + n))
+            → RewindEnd (card + first) (suc n) s (if all then record { frames = n + 1; part = 0; ended = end } else record { frames = n; part = left; ended = end })
+        by_test true is any = record { kept = inl (omega arith, refl); few = omega arith; whole = on end 0 over }
+        by_test false is (inl same) = absurd (grind (arith, nat_tests))
+        by_test false is (inr past) = record { kept = inr (omega (arith, past)); few = omega arith; whole = on end left over }
+
+    pub frames-back : (samples : ℕ → ℕ → ℤ) (first n : ℕ) → Keeps s (RewindEnd (card + first) n s) (take_frames member card bindings samples first n)
+    unfolding take_frames
+    frames-back samples first zero = record { kept = inl (refl, refl); few = omega arith; whole = refl }
+    frames-back samples first (suc n) =
+        Keeps-then s (FrameLeft (card + (first + n)) (length bindings)) (RewindEnd (card + first) (suc n) s)
+        (take_each member (card + (first + n)) bindings (samples (first + n)) (length bindings))
+        (λ end. back_on end n (length bindings) (take_frames member card bindings samples first n))
+        (each-back member (card + (first + n)) bindings (samples (first + n)) (length bindings)) (on (frames-back samples first n))
+      where
+        past : (left : ℕ) → (left ≡ length bindings) ⊎ (s ≤ card + (first + n)) → left ≡ 0 → s ≤ card + (first + n)
+        past left (inl all) none = absurd (omega (arith, all, none, some))
+        past left (inr is) none = is
+
+        fewer : s ≤ card + (first + n) → (left : Commit) → RewindEnd (card + first) n s left → RewindEnd (card + first) (suc n) s left
+        fewer below left is = record { kept = by_kept is.kept; few = omega (arith, is.few); whole = is.whole }
+          where
+            by_kept : ((left.frames ≡ n) × (left.part ≡ 0)) ⊎ (s ≤ card + first + left.frames) → ((left.frames ≡ suc n) × (left.part ≡ 0)) ⊎ (s ≤ card + first + left.frames)
+            by_kept (inl (all, none)) = inr (omega (arith, all, below))
+            by_kept (inr ends_there) = inr ends_there
+
+        on : Keeps s (RewindEnd (card + first) n s) (take_frames member card bindings samples first n) → (end : ℕ × Ended)
+            → FrameLeft (card + (first + n)) (length bindings) end
+            → Keeps s (RewindEnd (card + first) (suc n) s) (back_on end n (length bindings) (take_frames member card bindings samples first n))
+        on rest (left, ended.Whole) (any, none) = Keeps-map s (RewindEnd (card + first) n s) (RewindEnd (card + first) (suc n) s) (take_frames member card bindings samples first n)
+            rest (fewer (past left any none))
+        on rest (left, ended.Late word) (any, none) = left-end first n left (ended.Late word) any tt
+        on rest (left, ended.Stopped) (any, none) = left-end first n left ended.Stopped any tt
+
+-- ---- a load, and the commit after it
+
+pub looks-from : (p s : ℕ) (Q : ℕ → Option Position × Commit → Type 0) (at : Position → PlaybackStream) (count : Position → ℕ) (ring : List ℤ) → Q s (None, nothing)
+    → ((position : Position) → p ≤ position.frame → From p (λ t commit. Q t (Some position, commit)) p (commits (at position) ring (count position)))
+    → From p Q s (looks at count ring)
+unfolding looks ◌>>=◌
+looks-from p s Q at count ring none some = (
+  none,
+  λ position least.
+      From-then p (λ t commit. Q t (Some position, commit)) Q p (commits (at position) ring (count position)) (λ commit. ends (Some position, commit))
+      (some position least) (λ t commit is. is),
+)

@@ -1,0 +1,104 @@
+-- What the readers recorded is the captured frames of their runs.
+use Rattle.std.proofs.Common.{◌≡◌, ℕ, ◌+◌, ◌*◌, refl, sym, ◌∙◌, ap, subst, arith, List, [], ◌∷◌, ◌++◌, length, Option, None, ◌⊎◌, inl, inr, Some}
+use Rattle.std.proofs.lemmas.Bool.{eqb-true}
+use Rattle.std.proofs.lemmas.List.{length-append}
+use Rattle.std.proofs.lemmas.List.FromFn.{length-range_with_len}
+use Rattle.std.specs.List.{flat_map, range_with_len}
+use Rattle.std.specs.Prelude.{ℤ, Bool, true, false, suc, nat_eq, map, slice_index_or, if◌then◌else◌, zero, slice_get}
+use Rattle.wav_io.specs.Sound.{Sound}
+use Rattle.lab_lines.specs.declared.line.Item.{Item}
+use Rattle.lab_lines.specs.declared.script.CardLine.{CardLine}
+use Rattle.lab_lines.specs.declared.script.ReaderLine.{ReaderLine}
+use Rattle.lab_lines.specs.declared.script.Script.{Script}
+use Rattle.lab_run.specs.LabRun.{LabRun, Outcome, captured_sample, joined_runs, recorded_from, runs_of, bindings_of}
+use Rattle.lab_run.specs.Openings.{AreReaderOpenings, IsSessionOf, read_by}
+use Rattle.lab_run.specs.OwnRows.{rows_by, runs_by}
+use Rattle.lab_run.specs.Phases.{is_reader}
+use Rattle.lab_run.specs.Reader.{Reader}
+use Rattle.lab_run.specs.Rules.{AtPort}
+use Rattle.lab_run.specs.Stage.{Session, Setup}
+use Rattle.lab_run.specs.Stretches.{AreSlices, ReadersReadInSlices, ReadsInSlices}
+use Rattle.run_laws.specs.Recordings.{AreRecordingsOf, IsRecordingOf, bindings_at, frames_in_runs, frames_of_runs, recording_of, ReadersAreBound}
+use Rattle.run_laws.proofs.OwnLines.{map-size}
+use Rattle.run_laws.proofs.Sizes.{run-size}
+
+-- the frames of the runs of some frames are these frames
+joined-frames : (frame : ℕ) (runs : List (ℕ × ℕ)) → frames_of_runs (joined_runs frame runs) ≡ frame ∷ frames_of_runs runs
+joined-frames frame [] = refl
+joined-frames frame ((first, count) ∷ runs) = by_test (nat_eq (frame + 1) first) refl
+  where
+    more : count + 1 ≡ suc count
+    more = omega arith
+
+    by_test : (next : Bool) → nat_eq (frame + 1) first ≡ next
+        → frames_of_runs (if next then (frame, count + 1) ∷ runs else (frame, 1) ∷ (first, count) ∷ runs) ≡ frame ∷ range_with_len first count ++ frames_of_runs runs
+    by_test true is =
+        ap (λ n. range_with_len frame n ++ frames_of_runs runs) more
+        ∙ ap (λ f. frame ∷ range_with_len f count ++ frames_of_runs runs) (eqb-true (frame + 1) first is)
+    by_test false is = refl
+
+runs-frames : (frames : List ℕ) → frames_of_runs (runs_of frames) ≡ frames
+runs-frames [] = refl
+runs-frames (frame ∷ frames) = joined-frames frame (runs_of frames) ∙ ap (λ fs. frame ∷ fs) (runs-frames frames)
+
+-- how many samples a recording has
+frames-count : (runs : List (ℕ × ℕ)) → length (frames_of_runs runs) ≡ frames_in_runs runs
+frames-count [] = refl
+frames-count ((first, count) ∷ runs) =
+    length-append (range_with_len first count) (frames_of_runs runs)
+    ∙ ap (λ n. n + length (frames_of_runs runs)) (length-range_with_len first count)
+    ∙ ap (λ n. count + n) (frames-count runs)
+
+samples-count : (sample_of : ℕ → ℕ → ℤ) (bindings frames : List ℕ) → length (flat_map (λ frame. map (sample_of frame) bindings) frames) ≡ length frames * length bindings
+samples-count sample_of bindings [] = omega arith
+samples-count sample_of bindings (frame ∷ frames) =
+    length-append (map (sample_of frame) bindings) (flat_map (λ f. map (sample_of f) bindings) frames)
+    ∙ ap (λ n. n + length (flat_map (λ f. map (sample_of f) bindings) frames)) (map-size (sample_of frame) bindings)
+    ∙ ap (λ n. length bindings + n) (samples-count sample_of bindings frames)
+    ∙ step
+  where
+    step : length bindings + length frames * length bindings ≡ suc (length frames) * length bindings
+    step = omega arith
+
+reader-recording : (session : Session) (capture : Option Sound) (outcome : Outcome) (number : ℕ) → ReadsInSlices session capture outcome number
+    → IsRecordingOf session capture outcome.report number (slice_index_or outcome.recorded number [])
+reader-recording session capture outcome number reads =
+    let runs = runs_by number outcome.report.runs in
+    let bindings = bindings_at session number in
+    let frames : frames_of_runs runs ≡ reads.frames = ap frames_of_runs reads.runs ∙ runs-frames reads.frames in
+    let samples : slice_index_or outcome.recorded number [] ≡ recording_of session capture bindings runs =
+    reads.samples ∙ ap (flat_map (λ frame. map (captured_sample session capture frame) bindings)) (sym frames) in
+    record {
+      frames = samples;
+      samples_are = ap length samples ∙ samples-count (captured_sample session capture) bindings (frames_of_runs runs) ∙ ap (λ n. n * length bindings) (frames-count runs);
+      after = reads.after;
+      stretches = subst (λ f. AreSlices None (rows_by (is_reader number) outcome.report.rows) f reads.after) (sym frames) reads.slices;
+    }
+
+recorded-size : (session : Session) (capture : Option Sound) (number : ℕ) (readers : List (AtPort × Reader))
+    → length (recorded_from session capture number readers) ≡ length readers
+recorded-size session capture number [] = refl
+recorded-size session capture number (reader ∷ readers) = ap suc (recorded-size session capture (number + 1) readers)
+
+pub LabRun-recordings : (session : Session) (capture : Option Sound) (body : List Item) (client_stops reader_stops : ℕ → ℕ) (outcome : Outcome)
+    → ReadersReadInSlices session capture body → LabRun session capture body client_stops reader_stops outcome
+    → AreRecordingsOf session capture outcome.report outcome.recorded
+LabRun-recordings session capture body client_stops reader_stops outcome read run = record {
+  readers = ap (λ (o : Outcome). length o.recorded) run.is ∙ recorded-size session capture 0 run.end.readers ∙ (run-size session body run.end run.may).readers;
+  each = λ number low. reader-recording session capture outcome number (read client_stops reader_stops outcome run number low);
+}
+
+-- ---- bindings
+
+readers-bound : (card : CardLine) (lines : List ReaderLine) (setups : List (Option Setup)) (number : ℕ) (line : ReaderLine) → AreReaderOpenings card lines setups
+    → slice_get lines number ≡ Some line
+    → (slice_index_or setups number None ≡ None) ⊎ (bindings_of (slice_index_or setups number None) ≡ read_by card line)
+readers-bound card [] setups number line are is = absurd (cc)
+readers-bound card (first ∷ lines) [] number line are is = absurd are
+readers-bound card (first ∷ lines) (None ∷ setups) zero line are is = inl refl
+readers-bound card (first ∷ lines) (Some setup ∷ setups) zero line are is =
+    let same : first ≡ line = cc in inr (are.0.bindings ∙ ap (read_by card) same)
+readers-bound card (first ∷ lines) (setup ∷ setups) (suc number) line are is = readers-bound card lines setups number line are.1 is
+
+pub session-bound : (script : Script) (wavs : List Sound) (session : Session) → IsSessionOf script wavs session → ReadersAreBound script session
+session-bound script wavs session is number line line_is = readers-bound script.card script.readers session.readers number line is.readers line_is

@@ -1,0 +1,424 @@
+-- Each row of a report that is answered late is that of a line of the run.
+use Rattle.std.proofs.Common.{◌≡◌, ℕ, ◌+◌, refl, sym, ◌∙◌, ap, subst, arith, List, [], ◌∷◌, ◌++◌, Option, Some, None}
+use Rattle.std.proofs.lemmas.List.{append-nil, append_assoc}
+use Rattle.std.proofs.lemmas.List.Elements.{All-from_recursion}
+use Rattle.std.specs.List.{AllByRecursion, list_all, list_any, position}
+use Rattle.std.specs.Prelude.{Bool, true, false, suc, IfSome, if◌then◌else◌, slice_index_or, Result, Ok, Err, ⊤}
+use Rattle.snd_base.specs.declared.errors.PcmError.{PcmError}
+use Rattle.snd_base.specs.declared.errors.PcmError.TheVariants as error
+use Rattle.snd_base.specs.declared.errors.XrunWhy.TheVariants as why
+use Rattle.wav_io.specs.Sound.{Sound}
+use Rattle.dmix_client.specs.declared.stream.PlaybackStream.{PlaybackStream}
+use Rattle.dsnoop_client.specs.declared.stream.CaptureStream as reading
+use Rattle.dshare.specs.Owners as owners
+use Rattle.lab_lines.specs.declared.line.Actor.TheVariants as actor
+use Rattle.lab_lines.specs.declared.line.Item.{Item}
+use Rattle.lab_lines.specs.declared.line.Item.TheVariants as item
+use Rattle.lab_lines.specs.declared.line.Line.{Line}
+use Rattle.lab_lines.specs.declared.line.Op.{Op}
+use Rattle.lab_lines.specs.declared.line.Op.TheVariants as op
+use Rattle.lab_lines.specs.declared.script.Share.{Share}
+use Rattle.lab_lines.specs.declared.script.Share.TheVariants.{Dmix, Dshare}
+use Rattle.lab_lines.specs.Script.{is_of_card, played_by}
+use Rattle.lab_lines.specs.declared.row.Answer.{Answer}
+use Rattle.lab_lines.specs.declared.row.Answer.TheVariants.{Failed}
+use Rattle.lab_lines.specs.declared.row.Row.{Row}
+use Rattle.lab_run.specs.Claims.{claim_refusal, is_free_channel}
+use Rattle.lab_run.specs.Client.{Client, row_by, segments_of}
+use Rattle.lab_run.specs.Items.{ItemMay, ItemsMay, client_kinds, no_sound, phase_end, reader_kinds, rules_of}
+use Rattle.lab_run.specs.LabRun.{LabRun, Outcome, report_of}
+use Rattle.run_laws.specs.LateRows.{is_rewind}
+use Rattle.lab_run.specs.Lines.{EachMay, Kind, LineMay, LinesMay}
+use Rattle.lab_run.specs.Phases.{card_row, card_rows, is_client, is_reader, ops_by}
+use Rattle.lab_run.specs.Places.{Lobby, after_attach, attached_by, is_free, is_silent}
+use Rattle.lab_run.specs.Reader.{Reader, reader_kind}
+use Rattle.lab_run.specs.Reader as readers
+use Rattle.lab_run.specs.Rules.{AtPort, Rules}
+use Rattle.lab_run.specs.Stage.{Session, Setup, Stage, attached_client, claimed_client, client_at, close_client, close_reader, first_stage, no_client, open_client, open_client_with, open_reader, open_reader_with, reader_at}
+use Rattle.run_laws.specs.Late.{IsLate, IsLineOf, ListsSegments, IsRowOfLine, LateLinesMiss, LateRowsMiss, RowMisses, RowNamesLast, SaysWhereLate}
+use Rattle.run_laws.proofs.Listed.{items-over, late-over, listed-at, reaped-over}
+use Rattle.run_laws.proofs.Sealed.{IsStart, Over, over-lines}
+use Rattle.snd_base.specs.declared.places.Segment.{Segment}
+use Rattle.lab_lines.specs.declared.report.Report.{Report}
+use Rattle.lab_run.specs.OwnRows.{segments_by}
+use Rattle.run_laws.proofs.Lists.{each-append}
+
+-- one line more, and one item more
+LinesMay-more : {S : Type 0} (kind : Kind S) (rules : Rules) (x before between : AtPort × S) (early : List Op) (asked : Op) (answer : Answer) (rows : List Row)
+    → LinesMay kind rules x early before rows → LineMay kind rules before asked between answer
+    → LinesMay kind rules x (early ++ asked ∷ []) between (rows ++ kind.row asked between.1 answer ∷ [])
+LinesMay-more kind rules x before between [] asked answer rows (same, none) may =
+    rw none (between, answer, [], subst (λ y. LineMay kind rules y asked between answer) same may, (refl, refl), refl)
+LinesMay-more kind rules x before between (first ∷ early) asked answer rows (middle, given, others, one, rest, are) may = (
+  middle,
+  given,
+  others ++ kind.row asked between.1 answer ∷ [],
+  one,
+  LinesMay-more kind rules middle before between early asked answer others rest may,
+  ap (λ r. r ++ kind.row asked between.1 answer ∷ []) are,
+)
+
+ItemsMay-more : (session : Session) (x stage between : Stage) (done : List Item) (one : Item) → ItemsMay session x done stage → ItemMay session stage one between
+    → ItemsMay session x (done ++ one ∷ []) between
+ItemsMay-more session x stage between [] one same may = (between, subst (λ (s : Stage). ItemMay session s one between) same may, refl)
+ItemsMay-more session x stage between (first ∷ done) one (middle, step, rest) may = (middle, step, ItemsMay-more session middle stage between done one rest may)
+
+-- ---- an opening is never late
+
+abbrev IsEarly : PcmError → Type 0
+IsEarly e = (frame channel : ℕ) → e ≡ error.Xrun (why.Late frame channel 0) → ⊥
+
+abbrev IsEarlyResult : Result (Unit {0}) PcmError → Type 0
+IsEarlyResult (Ok done) = ⊤
+IsEarlyResult (Err e) = IsEarly e
+
+busy-early : (until : Option ℕ) (seen : ℕ) → IsEarly (error.Busy until seen)
+busy-early until seen frame channel is = absurd (cc)
+
+claim-early : (share : Share) (claims : List owners.ClaimRow) (channels : List ℕ) (position : ℕ) → IfSome (claim_refusal share claims channels position) IsEarly
+claim-early Dmix claims channels position = tt
+claim-early Dshare claims channels position = by_test (list_all (is_free_channel claims position) channels)
+  where
+    by_test : (free : Bool) → IfSome (if free then None else Some (owners.busy claims channels position)) IsEarly
+    by_test true = tt
+    by_test false = busy-early _ _
+
+attached-early : (n at : ℕ) (lobby : Lobby) → IsEarlyResult (after_attach n at lobby).1
+attached-early n at lobby = by_test (list_any is_free lobby.places)
+  where
+    by_place : (place : Option ℕ) → IsEarlyResult (attached_by place n at lobby).1
+    by_place None = busy-early _ _
+    by_place (Some place) = tt
+
+    by_test : (free : Bool) → IsEarlyResult (if free then attached_by (position (is_silent at) lobby.places) n at lobby else (lobby, Err (error.Busy None lobby.seen))).1
+    by_test true = by_place (position (is_silent at) lobby.places)
+    by_test false = busy-early None lobby.seen
+
+-- ---- rows are never taken back
+
+-- a stage's rows are the first ones of some
+abbrev IsFirst : List Row → List Row → Type 0
+IsFirst rows all = (later : List Row) × (all ≡ rows ++ later)
+
+first-more : (rows more all : List Row) → IsFirst (rows ++ more) all → IsFirst rows all
+first-more rows more all (later, is) = (more ++ later, is ∙ append_assoc rows more later)
+
+open-first : (session : Session) (stage : Stage) (n : ℕ) (x : AtPort × Client) (own : Option PlaybackStream) (all : List Row) → IsFirst (open_client session stage n x own).rows all → IsFirst stage.rows all
+open-first session stage n x (Some c) all = first-more stage.rows _ all
+open-first session stage n x None all = by_setup (slice_index_or session.clients n None)
+  where
+    by_answer : (setup : Setup) (at : Lobby × Result (Unit {0}) PcmError) → IsFirst (attached_client session stage n setup x at).rows all → IsFirst stage.rows all
+    by_answer setup (lobby, Ok done) is = first-more stage.rows _ all is
+    by_answer setup (lobby, Err e) is = first-more stage.rows _ all is
+
+    by_claim : (setup : Setup) (refusal : Option PcmError) → IsFirst (claimed_client session stage n setup x refusal).rows all → IsFirst stage.rows all
+    by_claim setup (Some e) is = first-more stage.rows _ all is
+    by_claim setup None is = by_answer setup (after_attach n stage.position stage.lobby) is
+
+    by_setup : (setup : Option Setup) → IsFirst (open_client_with session stage n setup x).rows all → IsFirst stage.rows all
+    by_setup None is = first-more stage.rows _ all is
+    by_setup (Some setup) is = by_claim setup (claim_refusal session.card.share stage.claims setup.bindings stage.position) is
+
+close-first : (session : Session) (stage : Stage) (n : ℕ) (x : AtPort × Client) (own : Option PlaybackStream) (all : List Row) → IsFirst (close_client session stage n x own).rows all → IsFirst stage.rows all
+close-first session stage n x None all is = first-more stage.rows _ all is
+close-first session stage n x (Some c) all is = first-more stage.rows _ all is
+
+open_reader-first : (session : Session) (stage : Stage) (n : ℕ) (x : AtPort × Reader) (own : Option reading.CaptureStream) (all : List Row)
+    → IsFirst (open_reader session stage n x own).rows all → IsFirst stage.rows all
+open_reader-first session stage n x (Some r) all = first-more stage.rows _ all
+open_reader-first session stage n x None all = by_setup (slice_index_or session.readers n None)
+  where
+    by_setup : (setup : Option Setup) → IsFirst (open_reader_with session stage n setup x).rows all → IsFirst stage.rows all
+    by_setup None is = first-more stage.rows _ all is
+    by_setup (Some setup) is = first-more stage.rows _ all is
+
+close_reader-first : (session : Session) (stage : Stage) (n : ℕ) (x : AtPort × Reader) (own : Option reading.CaptureStream) (all : List Row)
+    → IsFirst (close_reader session stage n x own).rows all → IsFirst stage.rows all
+close_reader-first session stage n x None all is = first-more stage.rows _ all is
+close_reader-first session stage n x (Some r) all is = first-more stage.rows _ all is
+
+item-first : (session : Session) (stage after : Stage) (one : Item) (all : List Row) → ItemMay session stage one after → IsFirst after.rows all → IsFirst stage.rows all
+item-first session stage after (item.Opens number actor.Card) all is = rw is (λ first. first)
+item-first session stage after (item.Opens number (actor.Client n)) all is = rw is (open-first session stage n (client_at session stage n) (client_at session stage n).1.own all)
+item-first session stage after (item.Opens number (actor.Reader n)) all is = rw is (open_reader-first session stage n (reader_at session stage n) (reader_at session stage n).1.own all)
+item-first session stage after (item.Closes number actor.Card) all is = rw is (λ first. first)
+item-first session stage after (item.Closes number (actor.Client n)) all is = rw is (close-first session stage n (client_at session stage n) (client_at session stage n).1.own all)
+item-first session stage after (item.Closes number (actor.Reader n)) all is = rw is (close_reader-first session stage n (reader_at session stage n) (reader_at session stage n).1.own all)
+item-first session stage after (item.Phase lines) all may = rw may.is (λ first. first-more stage.rows cards all
+    (first-more (stage.rows ++ cards) may.client_rows all (first-more (stage.rows ++ cards ++ may.client_rows) may.reader_rows all first)))
+  where
+    cards : List Row
+    cards = card_rows (stage.phases + 1) stage.position (ops_by is_of_card lines)
+
+items-first : (session : Session) (stage after : Stage) (items : List Item) (all : List Row) → ItemsMay session stage items after → IsFirst after.rows all → IsFirst stage.rows all
+items-first session stage after [] all is = rw is (λ first. first)
+items-first session stage after (one ∷ items) all (between, may, rest) = λ first. item-first session stage between one all may (items-first session between after items all rest first)
+
+module _ (session : Session) (body : List Item) (report : Report) (late : LateLinesMiss session body) where
+  abbrev all : List Row
+  all = report.rows
+
+  abbrev P : Row → Type 0
+  P = SaysWhereLate session body report
+
+  -- the report lists these segments of a client, and others only behind them
+  abbrev Lists : ℕ → List Segment → Type 0
+  Lists number list = IsStart list (segments_by number report.segments)
+
+  -- it lists those of each client that are settled at a stage
+  abbrev ListsAt : Stage → Type 0
+  ListsAt stage = (number : ℕ) (list : List Segment) → Over list (client_at session stage number).1 → Lists number list
+
+  -- it lists those that are settled at a line
+  abbrev ListsOf : ℕ → AtPort × Client → Type 0
+  ListsOf number x = (list : List Segment) → Over list x.1 → Lists number list
+
+  is-listed : (number : ℕ) (client : Client) → Lists number (segments_of client) → ListsSegments report number client
+  is-listed number client (others, are) = record { others = others; segments_are = are }
+
+  -- a row with another answer, and a row of another actor
+  answered-other : (row : Row) → ((frame channel : ℕ) → IsLate row.answer frame channel → ⊥) → P row
+  answered-other row other = record {
+    missed = λ number frame channel who not is. absurd (other frame channel is);
+    rewinds = λ number frame channel who rewind is. absurd (other frame channel is);
+  }
+
+  of-other : (row : Row) → ((number : ℕ) → row.actor ≡ actor.Client number → ⊥) → P row
+  of-other row other = record {
+    missed = λ number frame channel who not is. absurd (other number who);
+    rewinds = λ number frame channel who rewind is. absurd (other number who);
+  }
+
+  failed-early : (e : PcmError) → IsEarly e → (frame channel : ℕ) → IsLate (Failed e) frame channel → ⊥
+  failed-early e early frame channel is = let same : e ≡ error.Xrun (why.Late frame channel 0) = cc in early frame channel same
+
+  -- ---- rows of a phase
+
+  card-P : (phase position : ℕ) (asked : Op) → P (card_row phase position asked)
+  card-P phase position op.Unplug = of-other _ (λ number who. absurd (cc))
+  card-P phase position asked = of-other _ (λ number who. absurd (cc))
+
+  cards-P : (phase position : ℕ) (ops : List Op) → AllByRecursion P (card_rows phase position ops)
+  cards-P phase position [] = tt
+  cards-P phase position (asked ∷ more) = (card-P phase position asked, cards-P phase (position + played_by asked) more)
+
+  reader-P : (phase number : ℕ) (asked : Op) (own : Option reading.CaptureStream) (answer : Answer) → P (readers.row_by phase number asked own answer)
+  reader-P phase number asked None answer = of-other _ (λ n who. absurd (cc))
+  reader-P phase number asked (Some r) answer = of-other _ (λ n who. absurd (cc))
+
+  reader-lines : (rules : Rules) (phase number : ℕ) (x y : AtPort × Reader) (ops : List Op) (rows : List Row) → LinesMay (reader_kind phase number) rules x ops y rows
+      → AllByRecursion P rows
+  reader-lines rules phase number x y [] rows (same, none) = rw none tt
+  reader-lines rules phase number x y (asked ∷ ops) rows (between, answer, others, may, rest, are) =
+      rw are (reader-P phase number asked between.1.own answer, reader-lines rules phase number between y ops others rest)
+
+  reader-rows : (stage : Stage) (rules : Rules) (ops : ℕ → List Op) (number : ℕ) (actors after : List (AtPort × Reader)) (rows : List Row)
+      → EachMay (reader_kinds stage) rules ops number actors after rows → AllByRecursion P rows
+  reader-rows stage rules ops number [] after rows (same, none) = rw none tt
+  reader-rows stage rules ops number (x ∷ actors) after rows (own, others, own_rows, other_rows, may, rest, same, are) =
+      rw are (each-append P own_rows other_rows (reader-lines rules (stage.phases + 1) number x own (ops number) own_rows may)
+      (reader-rows stage rules ops (number + 1) actors others other_rows rest))
+
+  -- the row of a client's line
+  row-actor : (phase n : ℕ) (asked : Op) (own : Option PlaybackStream) (answer : Answer) → (row_by phase n asked own answer).actor ≡ actor.Client n
+  row-actor phase n asked None answer = refl
+  row-actor phase n asked (Some c) answer = refl
+
+  row-op : (phase n : ℕ) (asked : Op) (own : Option PlaybackStream) (answer : Answer) → (row_by phase n asked own answer).op ≡ asked
+  row-op phase n asked None answer = refl
+  row-op phase n asked (Some c) answer = refl
+
+  row-answer : (phase n : ℕ) (asked : Op) (own : Option PlaybackStream) (answer : Answer) → (row_by phase n asked own answer).answer ≡ answer
+  row-answer phase n asked None answer = refl
+  row-answer phase n asked (Some c) answer = refl
+
+  -- it is that of the line
+  of-line : (n : ℕ) (before after : AtPort × Client) (asked : Op) (answer : Answer) (line : IsLineOf session body n before asked after answer) → IsFirst line.stage.rows all
+      → IsRowOfLine session body all (row_by (line.stage.phases + 1) n asked after.1.own answer) n
+  of-line n before after asked answer line first = record {
+    before = before;
+    after = after;
+    asked = asked;
+    answer = answer;
+    line = line;
+    later_rows = first.0;
+    rows_are = first.1;
+    row_is = refl;
+  }
+
+  line-listed : (n : ℕ) (before after : AtPort × Client) (asked : Op) (answer : Answer) (frame channel : ℕ) → IsLineOf session body n before asked after answer → ListsOf n after
+      → IsLate answer frame channel → ListsSegments report n after.1
+  line-listed n before after asked answer frame channel line lists is = is-listed n after.1 (lists (segments_of after.1)
+      (late-over (rules_of session line.stage line.lines) (line.stage.phases + 1) (slice_index_or session.sounds n no_sound) n before.0 after.0 before.1 after.1 asked answer frame channel is line.line))
+
+  -- of a rewind
+  line-last : (n : ℕ) (before after : AtPort × Client) (asked : Op) (answer : Answer) (frame channel : ℕ) (line : IsLineOf session body n before asked after answer)
+      → IsFirst line.stage.rows all → ListsOf n after → is_rewind asked ≡ true → IsLate answer frame channel
+      → RowNamesLast session body report (row_by (line.stage.phases + 1) n asked after.1.own answer) n frame channel
+  unfolding of-line
+  line-last n before after (op.Rewind m) answer frame channel line first lists rewind is = record {
+    of = of-line n before after (op.Rewind m) answer line first;
+    last = late.rewinds n before after m answer frame channel line is;
+    listed = line-listed n before after (op.Rewind m) answer frame channel line lists is;
+  }
+  line-last n before after other answer frame channel line first lists rewind is = absurd (cc)
+
+  client-P : (n : ℕ) (before after : AtPort × Client) (asked : Op) (answer : Answer) (line : IsLineOf session body n before asked after answer) → IsFirst line.stage.rows all
+      → ListsOf n after → P (row_by (line.stage.phases + 1) n asked after.1.own answer)
+  unfolding of-line
+  client-P n before after asked answer line first lists = record {
+    missed = λ number frame channel who not is.
+        subst (λ m. RowMisses session body report row m frame channel) (same number who)
+        (record {
+          of = of-line n before after asked answer line first;
+          none = late.missed n before after asked answer frame channel line (sym op_is ∙ not) (late_is frame channel is);
+          listed = line-listed n before after asked answer frame channel line lists (late_is frame channel is);
+        });
+    rewinds = λ number frame channel who rewind is.
+        subst (λ m. RowNamesLast session body report row m frame channel) (same number who)
+        (line-last n before after asked answer frame channel line first lists (sym op_is ∙ rewind) (late_is frame channel is));
+  }
+    where
+      row : Row
+      row = row_by (line.stage.phases + 1) n asked after.1.own answer
+
+      op_is : is_rewind row.op ≡ is_rewind asked
+      op_is = ap is_rewind (row-op (line.stage.phases + 1) n asked after.1.own answer)
+
+      same : (number : ℕ) → row.actor ≡ actor.Client number → n ≡ number
+      same number who = let own = row-actor (line.stage.phases + 1) n asked after.1.own answer in cc
+
+      late_is : (frame channel : ℕ) → IsLate row.answer frame channel → IsLate answer frame channel
+      late_is frame channel is = sym (row-answer (line.stage.phases + 1) n asked after.1.own answer) ∙ is
+
+  -- where a phase is in the body
+  record IsPhaseOf (lines : List Line) (stage : Stage) : Type 0 where
+    done : List Item
+    others : List Item
+    body_is : body ≡ done ++ item.Phase lines ∷ others
+    reached : ItemsMay session (first_stage session) done stage
+    first : IsFirst stage.rows all
+
+  client-lines : (lines : List Line) (stage : Stage) (phase : IsPhaseOf lines stage) (n : ℕ) (x y : AtPort × Client) (early ops : List Op) (so_far rows : List Row) → ListsOf n y
+      → ops_by (is_client n) lines ≡ early ++ ops → LinesMay (client_kinds session stage n) (rules_of session stage lines) (client_at session stage n) early x so_far
+      → LinesMay (client_kinds session stage n) (rules_of session stage lines) x ops y rows → AllByRecursion P rows
+  client-lines lines stage phase n x y early [] so_far rows lists ops_are before (same, none) = rw none tt
+  client-lines lines stage phase n x y early (asked ∷ ops) so_far rows lists ops_are before (between, answer, others, may, rest, are) =
+      rw are (
+        client-P n x between asked answer (record {
+          done = phase.done;
+          others = phase.others;
+          lines = lines;
+          body_is = phase.body_is;
+          stage = stage;
+          reached = phase.reached;
+          early = early;
+          rows = so_far;
+          later = ops;
+          lines_are = ops_are;
+          lines_so_far = before;
+          line = may;
+        }) phase.first (λ list over. lists list (over-lines list (rules_of session stage lines) (stage.phases + 1) (slice_index_or session.sounds n no_sound) n between y ops others over rest)),
+        client-lines lines stage phase n between y (early ++ asked ∷ []) ops (so_far ++ (client_kinds session stage n).row asked between.1 answer ∷ []) others lists
+            (ops_are ∙ sym (append_assoc early (asked ∷ []) ops))
+            (LinesMay-more (client_kinds session stage n) (rules_of session stage lines) (client_at session stage n) x between early asked answer so_far before may) rest,
+      )
+
+  client-rows : (lines : List Line) (stage : Stage) (phase : IsPhaseOf lines stage) (number : ℕ) (actors after : List (AtPort × Client)) (rows : List Row)
+      → ((i : ℕ) → slice_index_or actors i (no_client session.ring) ≡ client_at session stage (number + i))
+      → ((i : ℕ) → ListsOf (number + i) (slice_index_or after i (no_client session.ring)))
+      → EachMay (client_kinds session stage) (rules_of session stage lines) (λ n. ops_by (is_client n) lines) number actors after rows → AllByRecursion P rows
+  client-rows lines stage phase number [] after rows at lists (same, none) = rw none tt
+  client-rows lines stage phase number (x ∷ actors) after rows at lists (own, others, own_rows, other_rows, may, rest, same, are) =
+      let here : number + 0 ≡ number = omega arith in
+      let is : client_at session stage number ≡ x = ap (client_at session stage) (sym here) ∙ sym (at 0) in
+      rw are (each-append P own_rows other_rows
+      (client-lines lines stage phase number x own [] (ops_by (is_client number) lines) [] own_rows
+      (subst (λ k. ListsOf k own) here (subst (λ (xs : List (AtPort × Client)). ListsOf (number + 0) (slice_index_or xs 0 (no_client session.ring))) same (lists 0))) refl (sym is, refl) may)
+      (client-rows lines stage phase (number + 1) actors others other_rows
+      (λ i. let next : number + suc i ≡ (number + 1) + i = omega arith in at (suc i) ∙ ap (client_at session stage) next)
+      (λ i. let next : number + suc i ≡ (number + 1) + i = omega arith in
+      subst (λ k. ListsOf k (slice_index_or others i (no_client session.ring))) next
+      (subst (λ (xs : List (AtPort × Client)). ListsOf (number + suc i) (slice_index_or xs (suc i) (no_client session.ring))) same (lists (suc i)))) rest))
+
+  -- ---- rows of openings and closings
+
+  one-more : (rows : List Row) (row : Row) → AllByRecursion P rows → P row → AllByRecursion P (rows ++ row ∷ [])
+  one-more rows row are is = each-append P rows (row ∷ []) are (is, tt)
+
+  open-rows : (stage : Stage) (n : ℕ) (x : AtPort × Client) (own : Option PlaybackStream) → AllByRecursion P stage.rows → AllByRecursion P (open_client session stage n x own).rows
+  open-rows stage n x (Some c) are = one-more stage.rows _ are (answered-other _ (λ frame channel is. absurd (cc)))
+  open-rows stage n x None are = by_setup (slice_index_or session.clients n None)
+    where
+      by_answer : (setup : Setup) (at : Lobby × Result (Unit {0}) PcmError) → IsEarlyResult at.1 → AllByRecursion P (attached_client session stage n setup x at).rows
+      by_answer setup (lobby, Ok done) early = one-more stage.rows _ are (answered-other _ (λ frame channel is. absurd (cc)))
+      by_answer setup (lobby, Err e) early = one-more stage.rows _ are (answered-other _ (failed-early e early))
+
+      by_claim : (setup : Setup) (refusal : Option PcmError) → IfSome refusal IsEarly → AllByRecursion P (claimed_client session stage n setup x refusal).rows
+      by_claim setup (Some e) early = one-more stage.rows _ are (answered-other _ (failed-early e early))
+      by_claim setup None early = by_answer setup (after_attach n stage.position stage.lobby) (attached-early n stage.position stage.lobby)
+
+      by_setup : (setup : Option Setup) → AllByRecursion P (open_client_with session stage n setup x).rows
+      by_setup None = one-more stage.rows _ are (answered-other _ (λ frame channel is. absurd (cc)))
+      by_setup (Some setup) = by_claim setup (claim_refusal session.card.share stage.claims setup.bindings stage.position)
+          (claim-early session.card.share stage.claims setup.bindings stage.position)
+
+  close-rows : (stage : Stage) (n : ℕ) (x : AtPort × Client) (own : Option PlaybackStream) → AllByRecursion P stage.rows → AllByRecursion P (close_client session stage n x own).rows
+  close-rows stage n x None are = one-more stage.rows _ are (answered-other _ (λ frame channel is. absurd (cc)))
+  close-rows stage n x (Some c) are = one-more stage.rows _ are (answered-other _ (λ frame channel is. absurd (cc)))
+
+  open_reader-rows : (stage : Stage) (n : ℕ) (x : AtPort × Reader) (own : Option reading.CaptureStream) → AllByRecursion P stage.rows → AllByRecursion P (open_reader session stage n x own).rows
+  open_reader-rows stage n x (Some r) are = one-more stage.rows _ are (of-other _ (λ number who. absurd (cc)))
+  open_reader-rows stage n x None are = by_setup (slice_index_or session.readers n None)
+    where
+      by_setup : (setup : Option Setup) → AllByRecursion P (open_reader_with session stage n setup x).rows
+      by_setup None = one-more stage.rows _ are (of-other _ (λ number who. absurd (cc)))
+      by_setup (Some setup) = one-more stage.rows _ are (of-other _ (λ number who. absurd (cc)))
+
+  close_reader-rows : (stage : Stage) (n : ℕ) (x : AtPort × Reader) (own : Option reading.CaptureStream) → AllByRecursion P stage.rows → AllByRecursion P (close_reader session stage n x own).rows
+  close_reader-rows stage n x None are = one-more stage.rows _ are (of-other _ (λ number who. absurd (cc)))
+  close_reader-rows stage n x (Some r) are = one-more stage.rows _ are (of-other _ (λ number who. absurd (cc)))
+
+  -- ---- the body
+
+  item-rows : (stage after : Stage) (done others : List Item) (one : Item) → body ≡ done ++ one ∷ others → ItemsMay session (first_stage session) done stage → IsFirst stage.rows all
+      → ListsAt after → AllByRecursion P stage.rows → ItemMay session stage one after → AllByRecursion P after.rows
+  item-rows stage after done others (item.Opens number actor.Card) body_is reached first lists are is = rw is are
+  item-rows stage after done others (item.Opens number (actor.Client n)) body_is reached first lists are is =
+      rw is (open-rows stage n (client_at session stage n) (client_at session stage n).1.own are)
+  item-rows stage after done others (item.Opens number (actor.Reader n)) body_is reached first lists are is =
+      rw is (open_reader-rows stage n (reader_at session stage n) (reader_at session stage n).1.own are)
+  item-rows stage after done others (item.Closes number actor.Card) body_is reached first lists are is = rw is are
+  item-rows stage after done others (item.Closes number (actor.Client n)) body_is reached first lists are is =
+      rw is (close-rows stage n (client_at session stage n) (client_at session stage n).1.own are)
+  item-rows stage after done others (item.Closes number (actor.Reader n)) body_is reached first lists are is =
+      rw is (close_reader-rows stage n (reader_at session stage n) (reader_at session stage n).1.own are)
+  item-rows stage after done others (item.Phase lines) body_is reached first lists are may =
+      let phase : IsPhaseOf lines stage = record { done = done; others = others; body_is = body_is; reached = reached; first = first } in
+      let cards = card_rows (stage.phases + 1) stage.position (ops_by is_of_card lines) in
+      let zero_more : (i : ℕ) → slice_index_or stage.clients i (no_client session.ring) ≡ client_at session stage (0 + i) =
+      λ i. let same : i ≡ 0 + i = omega arith in ap (client_at session stage) same in
+      let at_end : ListsAt (phase_end session stage lines (may.clients, may.client_rows) (may.readers, may.reader_rows)) = subst ListsAt may.is lists in
+      rw may.is (each-append P (stage.rows ++ cards ++ may.client_rows) may.reader_rows
+      (each-append P (stage.rows ++ cards) may.client_rows
+      (each-append P stage.rows cards are (cards-P (stage.phases + 1) stage.position (ops_by is_of_card lines)))
+      (client-rows lines stage phase 0 stage.clients may.clients may.client_rows zero_more
+      (λ i list over. let same : i ≡ 0 + i = omega arith in subst (λ k. Lists k list) same (at_end i list (reaped-over session list i i may.clients over))) may.clients_may))
+      (reader-rows stage (rules_of session stage lines) (λ n. ops_by (is_reader n) lines) 0 stage.readers may.readers may.reader_rows may.readers_may))
+
+  items-rows : (stage after : Stage) (done items : List Item) → body ≡ done ++ items → ItemsMay session (first_stage session) done stage → IsFirst after.rows all
+      → ListsAt after → AllByRecursion P stage.rows → ItemsMay session stage items after → AllByRecursion P after.rows
+  items-rows stage after done [] body_is reached first lists are is = rw is are
+  items-rows stage after done (one ∷ items) body_is reached first lists are (between, may, rest) =
+      items-rows between after (done ++ one ∷ []) items (body_is ∙ sym (append_assoc done (one ∷ []) items))
+      (ItemsMay-more session (first_stage session) stage between done one reached may) first lists
+      (item-rows stage between done items one body_is reached (items-first session stage after (one ∷ items) all (between, may, rest) first)
+      (λ number list over. lists number list (items-over session list number between after items rest over)) are may) rest
+
+pub LabRun-late : (session : Session) (capture : Option Sound) (body : List Item) (client_stops reader_stops : ℕ → ℕ) (outcome : Outcome) → LateLinesMiss session body
+    → LabRun session capture body client_stops reader_stops outcome → LateRowsMiss session body outcome.report
+LabRun-late session capture body client_stops reader_stops outcome late run =
+    subst (λ (o : Outcome). LateRowsMiss session body o.report) (sym run.is)
+    (All-from_recursion (SaysWhereLate session body (report_of session run.end)) run.end.rows
+    (items-rows session body (report_of session run.end) late (first_stage session) run.end [] body refl refl ([], sym (append-nil run.end.rows))
+    (λ number list over. listed-at session run.end list number over) tt run.may))

@@ -1,0 +1,243 @@
+-- Each stage of a run of a script has the rows of the lines that are done, in the order of a report, and each has a text.
+use Rattle.std.proofs.Common.{◌≡◌, ℕ, ◌+◌, ◌<◌, ◌≤◌, refl, sym, ◌∙◌, ap, subst, arith, List, [], ◌∷◌, ◌++◌, length, map, append_assoc, Option}
+use Rattle.std.proofs.lemmas.List.{append-nil, length-map, map-append}
+use Rattle.std.proofs.lemmas.List.Elements.{All-append, All-cons, All-head, All-map, All-nil, All-tail}
+use Rattle.std.specs.Prelude.{All, Bool, true, false, slice_index_or, suc}
+use Rattle.snd_base.specs.declared.geometry.Geometry.{Geometry}
+use Rattle.wav_io.specs.Sound.{Sound}
+use Rattle.lab_lines.specs.declared.line.Actor.TheVariants as actor
+use Rattle.lab_lines.specs.declared.line.Item.{Item}
+use Rattle.lab_lines.specs.declared.line.Item.TheVariants as item
+use Rattle.lab_lines.specs.declared.line.Line.{Line}
+use Rattle.lab_lines.specs.declared.line.Op.{Op}
+use Rattle.lab_lines.specs.declared.line.Op.TheVariants as op
+use Rattle.lab_lines.specs.declared.script.CardLine.{CardLine}
+use Rattle.lab_lines.specs.declared.script.ClientLine.{ClientLine}
+use Rattle.lab_lines.specs.declared.script.ReaderLine.{ReaderLine}
+use Rattle.lab_lines.specs.declared.script.Script.{Script}
+use Rattle.lab_lines.specs.Limits.{IsActor, IsItem, IsPhase}
+use Rattle.lab_lines.specs.Script.{is_of_card, phases_of, played_by}
+use Rattle.lab_lines.specs.declared.request.Request.{Request}
+use Rattle.lab_lines.specs.declared.row.Row.{Row}
+use Rattle.lab_report.specs.Requests.{in_order, item_requests, of_place, request_of, requests_from}
+use Rattle.lab_lines.specs.Rows.{request_of_row}
+use Rattle.lab_report.specs.Text.{IsRowOf, IsRunOf, IsTailOf}
+use Rattle.lab_run.specs.Client.{Client, segments_of}
+use Rattle.lab_run.specs.Items.{ItemsMay, PhaseMay, client_kinds, is_reader_stopped, is_stopped, no_sound, reader_kinds, reaped_client, reaped_client_if, reaped_reader, reaped_reader_if, rules_of}
+use Rattle.lab_run.specs.LabRun.{with_numbers, report_of, runs_of}
+use Rattle.lab_run.specs.Openings.{AreClientOpenings, AreReaderOpenings, IsSessionOf}
+use Rattle.lab_run.specs.Phases.{card_row, card_rows, is_client, is_reader, ops_by}
+use Rattle.lab_run.specs.Reader.{Reader}
+use Rattle.lab_run.specs.Rules.{AtPort}
+use Rattle.lab_run.specs.ScriptWords.{IsReached}
+use Rattle.lab_run.specs.Stage.{Session, Setup, Stage, first_stage, no_client, no_reader}
+use Rattle.run_laws.specs.Reports.{StagesAreReported}
+use Rattle.run_laws.proofs.Borders.{AddsRow, IsClientReportable, IsReaderReportable, CanBeReported, close-adds, open-adds}
+use Rattle.run_laws.proofs.ClientCalls.{IsReportable}
+use Rattle.run_laws.proofs.Lines.{AreReported, client-reports, each-rows, reader-reports}
+use Rattle.run_laws.proofs.ReaderCalls as reader_calls
+use Rattle.run_laws.proofs.Requests.{asks, card_rows-requests, client_ops-requests, from_place, in_order-parts, reader_ops-requests}
+
+-- ---- the beginning
+
+client_openings-size : (card : CardLine) (lines : List ClientLine) (wavs : List Sound) (setups : List (Option Setup)) → AreClientOpenings card lines wavs setups
+    → length setups ≡ length lines
+client_openings-size card [] [] [] are = refl
+client_openings-size card (line ∷ lines) (wav ∷ wavs) (setup ∷ setups) are = ap suc (client_openings-size card lines wavs setups are.1)
+client_openings-size card [] [] (setup ∷ setups) are = absurd are
+client_openings-size card [] (wav ∷ wavs) setups are = absurd are
+client_openings-size card (line ∷ lines) [] setups are = absurd are
+client_openings-size card (line ∷ lines) (wav ∷ wavs) [] are = absurd are
+
+reader_openings-size : (card : CardLine) (lines : List ReaderLine) (setups : List (Option Setup)) → AreReaderOpenings card lines setups → length setups ≡ length lines
+reader_openings-size card [] [] are = refl
+reader_openings-size card (line ∷ lines) (setup ∷ setups) are = ap suc (reader_openings-size card lines setups are.1)
+reader_openings-size card [] (setup ∷ setups) are = absurd are
+reader_openings-size card (line ∷ lines) [] are = absurd are
+
+first-reportable : (script : Script) (wavs : List Sound) (session : Session) → IsSessionOf script wavs session → CanBeReported script (first_stage session)
+first-reportable script wavs session is = record {
+  all_clients = length-map session.clients (λ setup. no_client session.ring) ∙ client_openings-size script.card script.clients wavs session.clients is.clients;
+  all_readers = length-map session.readers (λ setup. no_reader session.ring) ∙ reader_openings-size script.card script.readers session.readers is.readers;
+  clients = All-map IsClientReportable (λ setup. no_client session.ring) session.clients (λ k d within. tt);
+  readers = All-map IsReaderReportable (λ setup. no_reader session.ring) session.readers (λ k d within. tt);
+  rows = All-nil (IsRowOf script);
+}
+
+-- ---- a phase
+
+card_row-of : (script : Script) (phase position : ℕ) (asked : Op) → IsRowOf script (card_row phase position asked)
+card_row-of script phase position op.Unplug = record { actor = tt; answer = tt; state = tt }
+card_row-of script phase position other = record { actor = tt; answer = tt; state = tt }
+
+card_rows-of : (script : Script) (phase position : ℕ) (ops : List Op) → All (IsRowOf script) (card_rows phase position ops)
+card_rows-of script phase position [] = All-nil (IsRowOf script)
+card_rows-of script phase position (asked ∷ more) =
+    All-cons (IsRowOf script) _ _ (card_row-of script phase position asked) (card_rows-of script phase (position + played_by asked) more)
+
+reaped_client-reportable : (ring : Geometry) (x : AtPort × Client) → IsClientReportable x → IsClientReportable (reaped_client ring x)
+reaped_client-reportable ring (a, client) is = by_stop (is_stopped client.own)
+  where
+    by_stop : (stopped : Bool) → IsClientReportable (reaped_client_if stopped ring (a, client))
+    by_stop true = tt
+    by_stop false = is
+
+reaped_reader-reportable : (ring : Geometry) (x : AtPort × Reader) → IsReaderReportable x → IsReaderReportable (reaped_reader ring x)
+reaped_reader-reportable ring (a, reader) is = by_stop (is_reader_stopped reader.own)
+  where
+    by_stop : (stopped : Bool) → IsReaderReportable (reaped_reader_if stopped ring (a, reader))
+    by_stop true = tt
+    by_stop false = is
+
+-- the requests of rows, after others, by those of three parts
+four-parts : (phase : ℕ) (before cards clients readers : List Row) (x y z : List Line)
+    → map request_of_row cards ≡ map (request_of phase) x → map request_of_row clients ≡ map (request_of phase) y → map request_of_row readers ≡ map (request_of phase) z
+    → map request_of_row (before ++ cards ++ clients ++ readers) ≡ map request_of_row before ++ map (request_of phase) ((x ++ y) ++ z)
+four-parts phase before cards clients readers x y z one two three =
+    map-append request_of_row (before ++ cards ++ clients) readers
+    ∙ ap (λ (rs : List Request). rs ++ map request_of_row readers)
+    (map-append request_of_row (before ++ cards) clients ∙ ap (λ (rs : List Request). rs ++ map request_of_row clients) (map-append request_of_row before cards))
+    ∙ (λ i. map request_of_row before ++ one i ++ two i ++ three i)
+    ∙ ap (λ (rs : List Request). rs ++ map (request_of phase) z) (append_assoc (map request_of_row before) (map (request_of phase) x) (map (request_of phase) y))
+    ∙ append_assoc (map request_of_row before) (map (request_of phase) x ++ map (request_of phase) y) (map (request_of phase) z)
+    ∙ ap (λ (rs : List Request). map request_of_row before ++ rs)
+    (sym (map-append (request_of phase) (x ++ y) z ∙ ap (λ (rs : List Request). rs ++ map (request_of phase) z) (map-append (request_of phase) x y)))
+
+-- what a phase leaves
+record AddsRows (script : Script) (stage : Stage) (lines : List Line) (after : Stage) : Type 0 where
+  pub reportable : CanBeReported script after
+  pub phases : after.phases ≡ stage.phases + 1
+  pub asked : map request_of_row after.rows ≡ map request_of_row stage.rows ++ map (request_of (stage.phases + 1)) (in_order lines)
+
+phase-adds : (script : Script) (session : Session) (stage after : Stage) (lines : List Line) → length script.clients ≤ 64 → length script.readers ≤ 64
+    → IsPhase (length script.clients) (length script.readers) lines → PhaseMay session stage lines after → CanBeReported script stage → AddsRows script stage lines after
+phase-adds script session stage after lines few few_readers is may reportable = subst (AddsRows script stage lines) (sym may.is) (record {
+  reportable = record {
+    all_clients = length-map may.clients (reaped_client session.ring) ∙ of_clients.count ∙ reportable.all_clients;
+    all_readers = length-map may.readers (reaped_reader session.ring) ∙ of_readers.count ∙ reportable.all_readers;
+    clients = All-map IsClientReportable (reaped_client session.ring) may.clients (λ k d within. reaped_client-reportable session.ring _ (of_clients.keep k d within));
+    readers = All-map IsReaderReportable (reaped_reader session.ring) may.readers (λ k d within. reaped_reader-reportable session.ring _ (of_readers.keep k d within));
+    rows = All-append (IsRowOf script) (stage.rows ++ cards ++ may.client_rows) may.reader_rows
+        (All-append (IsRowOf script) (stage.rows ++ cards) may.client_rows
+        (All-append (IsRowOf script) stage.rows cards reportable.rows (card_rows-of script phase stage.position (ops_by is_of_card lines))) of_clients.rows_are)
+        of_readers.rows_are;
+  };
+  phases = refl;
+  asked =
+      four-parts phase stage.rows cards may.client_rows may.reader_rows (of_place lines 0) (from_place lines 1 (length script.clients)) (from_place lines 65 (length script.readers))
+      (card_rows-requests (length script.clients) (length script.readers) phase stage.position lines each)
+      (of_clients.asked ∙ ap (λ (n : ℕ). map (request_of phase) (from_place lines 1 n)) reportable.all_clients)
+      (of_readers.asked ∙ ap (λ (n : ℕ). map (request_of phase) (from_place lines 65 n)) reportable.all_readers)
+      ∙ ap (λ (ls : List Line). map request_of_row stage.rows ++ map (request_of phase) ls) (sym (in_order-parts (length script.clients) (length script.readers) lines each few few_readers));
+})
+  where
+    phase : ℕ
+    phase = stage.phases + 1
+
+    cards : List Row
+    cards = card_rows phase stage.position (ops_by is_of_card lines)
+
+    each : All (λ (line : Line). IsActor (length script.clients) (length script.readers) line.actor) lines
+    each k d within = (is.each k d within).actor
+
+    of_clients : AreReported script phase (λ (client : Client). IsReportable client.own) lines 1 stage.clients may.clients may.client_rows
+    of_clients = each-rows script phase actor.Client (λ (client : Client). IsReportable client.own) (client_kinds session stage) (λ n. ops_by (is_client n) lines) lines
+        (length script.clients) 1 (λ n within. client-reports script phase (slice_index_or session.sounds n no_sound) n within)
+        (λ n place within at. client_ops-requests (length script.clients) (length script.readers) phase n place lines each few within at)
+        (rules_of session stage lines) 0 1 stage.clients may.clients may.client_rows refl (let all = reportable.all_clients in omega (arith, all)) may.clients_may reportable.clients
+
+    of_readers : AreReported script phase (λ (reader : Reader). reader_calls.IsReportable reader.own) lines 65 stage.readers may.readers may.reader_rows
+    of_readers = each-rows script phase actor.Reader (λ (reader : Reader). reader_calls.IsReportable reader.own) (reader_kinds stage) (λ n. ops_by (is_reader n) lines) lines
+        (length script.readers) 65 (λ n within. reader-reports script phase n within)
+        (λ n place within at. reader_ops-requests (length script.clients) (length script.readers) phase n place lines each few at)
+        (rules_of session stage lines) 0 65 stage.readers may.readers may.reader_rows refl (let all = reportable.all_readers in omega (arith, all)) may.readers_may reportable.readers
+
+-- ---- a body
+
+-- what items leave, after so many phases
+record Leaves (script : Script) (stage : Stage) (phases : ℕ) (items : List Item) (after : Stage) : Type 0 where
+  pub reportable : CanBeReported script after
+  pub asked : map request_of_row after.rows ≡ map request_of_row stage.rows ++ requests_from phases items
+
+then-items : (script : Script) (stage between after : Stage) (phases next : ℕ) (one : Item) (items : List Item) → next ≡ phases + length (phases_of (one ∷ []))
+    → map request_of_row between.rows ≡ map request_of_row stage.rows ++ item_requests phases one → Leaves script between next items after
+    → Leaves script stage phases (one ∷ items) after
+then-items script stage between after phases next one items is first rest = record {
+  reportable = rest.reportable;
+  asked = rest.asked ∙ (λ i. first i ++ requests_from (is i) items)
+      ∙ append_assoc (map request_of_row stage.rows) (item_requests phases one) (requests_from (phases + length (phases_of (one ∷ []))) items);
+}
+
+items-leave : (script : Script) (session : Session) (stage after : Stage) (phases : ℕ) (items : List Item) → stage.phases ≡ phases
+    → length script.clients ≤ 64 → length script.readers ≤ 64 → All (IsItem (length script.clients) (length script.readers)) items
+    → ItemsMay session stage items after → CanBeReported script stage → Leaves script stage phases items after
+items-leave script session stage after phases [] at few few_readers are may reportable = record {
+  reportable = subst (CanBeReported script) (sym may) reportable;
+  asked = ap (λ (s : Stage). map request_of_row s.rows) may ∙ sym (append-nil (map request_of_row stage.rows));
+}
+items-leave script session stage after phases (item.Opens number who ∷ items) at few few_readers are (between, is, rest) reportable =
+    let within = All-head (IsItem (length script.clients) (length script.readers)) (item.Opens number who) items are in
+    let one = subst (AddsRow script stage (asks stage.phases who op.Opens)) (sym is) (open-adds script session stage who within reportable) in
+    let same : between.phases ≡ phases + length (phases_of (item.Opens number who ∷ [])) = one.phases ∙ at ∙ omega arith in
+    then-items script stage between after phases between.phases (item.Opens number who) items same
+    (one.asked ∙ (λ i. map request_of_row stage.rows ++ asks (at i) who op.Opens ∷ []))
+    (items-leave script session between after between.phases items refl few few_readers
+    (All-tail (IsItem (length script.clients) (length script.readers)) (item.Opens number who) items are) rest one.reportable)
+items-leave script session stage after phases (item.Closes number who ∷ items) at few few_readers are (between, is, rest) reportable =
+    let within = All-head (IsItem (length script.clients) (length script.readers)) (item.Closes number who) items are in
+    let one = subst (AddsRow script stage (asks stage.phases who op.Closes)) (sym is) (close-adds script session stage who within reportable) in
+    let same : between.phases ≡ phases + length (phases_of (item.Closes number who ∷ [])) = one.phases ∙ at ∙ omega arith in
+    then-items script stage between after phases between.phases (item.Closes number who) items same
+    (one.asked ∙ (λ i. map request_of_row stage.rows ++ asks (at i) who op.Closes ∷ []))
+    (items-leave script session between after between.phases items refl few few_readers
+    (All-tail (IsItem (length script.clients) (length script.readers)) (item.Closes number who) items are) rest one.reportable)
+items-leave script session stage after phases (item.Phase lines ∷ items) at few few_readers are (between, may, rest) reportable =
+    let is = All-head (IsItem (length script.clients) (length script.readers)) (item.Phase lines) items are in
+    let one = phase-adds script session stage between lines few few_readers is may reportable in
+    let same : between.phases ≡ phases + length (phases_of (item.Phase lines ∷ [])) = one.phases ∙ omega (arith, at) in
+    then-items script stage between after phases between.phases (item.Phase lines) items same
+    (one.asked ∙ (λ i. map request_of_row stage.rows ++ map (request_of (at i + 1)) (in_order lines)))
+    (items-leave script session between after between.phases items refl few few_readers
+    (All-tail (IsItem (length script.clients) (length script.readers)) (item.Phase lines) items are) rest one.reportable)
+
+-- ---- segments and runs
+
+numbered-below : {X Y : Type 0} (of : X → List Y) (first most : ℕ) (xs : List X) → first + length xs ≤ most
+    → All (λ (pair : ℕ × Y). pair.0 < most) (with_numbers of first xs)
+numbered-below {Y = Y} of first most [] within = All-nil (λ (pair : ℕ × Y). pair.0 < most)
+numbered-below {Y = Y} of first most (x ∷ xs) within =
+    All-append (λ (pair : ℕ × Y). pair.0 < most) (map (λ y. (first, y)) (of x)) (with_numbers of (first + 1) xs)
+    (All-map (λ (pair : ℕ × Y). pair.0 < most) (λ y. (first, y)) (of x) (λ k d inside. omega (arith, within)))
+    (numbered-below of (first + 1) most xs (omega (arith, within)))
+
+tail-reportable : (script : Script) (session : Session) (stage : Stage) → CanBeReported script stage → IsTailOf script (report_of session stage)
+tail-reportable script session stage reportable = record {
+  segments = numbered-below (λ (client : AtPort × Client). segments_of client.1) 0 (length script.clients) stage.clients
+      (let all = reportable.all_clients in omega (arith, all));
+  runs = All-map (IsRunOf script) (λ (run : ℕ × (ℕ × ℕ)). (run.0, run.1.0, run.1.1)) _
+      (numbered-below (λ (reader : AtPort × Reader). runs_of reader.1.frames) 0 (length script.readers) stage.readers
+      (let all = reportable.all_readers in omega (arith, all)));
+}
+
+-- ---- a script
+
+All-first : {X : Type 0} (P : X → Type 0) (xs ys : List X) → All P (xs ++ ys) → All P xs
+All-first P [] ys all = All-nil P
+All-first P (x ∷ xs) ys all = All-cons P x xs (All-head P x (xs ++ ys) all) (All-first P xs ys (All-tail P x (xs ++ ys) all))
+
+reached-leaves : (script : Script) (wavs : List Sound) (session : Session) (done others : List Item) (stage : Stage) → IsReached script wavs session done others stage
+    → Leaves script (first_stage session) 0 done stage
+reached-leaves script wavs session done others stage is =
+    items-leave script session (first_stage session) stage 0 done refl is.script_is.clients is.script_is.readers
+    (All-first (IsItem (length script.clients) (length script.readers)) done others
+    (subst (λ (items : List Item). All (IsItem (length script.clients) (length script.readers)) items) is.body is.script_is.body))
+    is.may (first-reportable script wavs session is.session_is)
+
+pub reached-reportable : (script : Script) (wavs : List Sound) (session : Session) (done others : List Item) (stage : Stage) → IsReached script wavs session done others stage
+    → CanBeReported script stage
+reached-reportable script wavs session done others stage is = (reached-leaves script wavs session done others stage is).reportable
+
+pub stages-are_reported : StagesAreReported
+stages-are_reported script wavs session done others stage is =
+    let left = reached-leaves script wavs session done others stage is in
+    record { lines = left.asked; rows = left.reportable.rows; tail = tail-reportable script session stage left.reportable }

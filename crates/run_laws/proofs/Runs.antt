@@ -1,0 +1,17 @@
+-- What a run of a script leaves is of that script.
+use Rattle.std.proofs.Common.{sym, subst, []}
+use Rattle.std.proofs.lemmas.List.{append-nil}
+use Rattle.lab_run.specs.ScriptWords.{IsReached}
+use Rattle.run_laws.specs.Reports.{IsOutcomeOf, OutcomesAreOfScripts}
+use Rattle.run_laws.proofs.SampleSizes.{stages-have_sizes}
+use Rattle.run_laws.proofs.RowStages.{stages-are_reported}
+
+pub outcomes-are_of_scripts : OutcomesAreOfScripts
+outcomes-are_of_scripts script wavs session capture client_stops reader_stops outcome script_is session_is run =
+    let reached : IsReached script wavs session script.body [] run.end =
+    record { script_is = script_is; session_is = session_is; body = sym (append-nil script.body); may = run.may } in
+    let left = stages-are_reported script wavs session script.body [] run.end reached in
+    subst (IsOutcomeOf script) (sym run.is) (record {
+      report = record { lines = left.lines; rows = left.rows; tail = left.tail };
+      sizes = stages-have_sizes script wavs session capture script.body [] run.end reached;
+    })

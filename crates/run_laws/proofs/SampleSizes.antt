@@ -1,0 +1,179 @@
+-- The samples that a run leaves are whole frames, no more than a script may play.
+use Rattle.std.proofs.Common.{◌≡◌, ℕ, ◌+◌, ◌*◌, ◌%◌, ◌<◌, ◌≤◌, ◌==◌, mul-le-mul, refl, sym, ◌∙◌, ap, subst, arith, List, [], ◌∷◌, length, map, take, zero, suc, zero-add, Option, Some, None}
+use Rattle.std.proofs.Math.Nat.{mul-mod_left, suc-mul}
+use Rattle.std.proofs.lemmas.Bool.Decides.{nat_tests}
+use Rattle.std.proofs.lemmas.List.{length-append, length-map}
+use Rattle.std.proofs.lemmas.List.FromFn.{length-map-range_with_len, length-range_with_len}
+use Rattle.std.proofs.lemmas.List.Sums.{sum_by-cons}
+use Rattle.std.proofs.lemmas.Option.{get_or_from_slice_get, slice_get_within}
+use Rattle.std.specs.Prelude.{Bool, true, false, if◌then◌else◌, ℤ, nat_lt, slice_get, slice_index_or, unwrap_or, Ok, Err}
+use Rattle.std.specs.List.{flat_map}
+use Rattle.snd_base.specs.declared.errors.Why.TheVariants.{BindingsEmpty, BindingsTooMany}
+use Rattle.bindings.specs.Answers.{answer_of, entry_defects, or_first}
+use Rattle.bindings.specs.Bound.{identity}
+use Rattle.wav_io.specs.Sound.{Sound}
+use Rattle.lab_lines.specs.declared.line.Item.{Item}
+use Rattle.lab_lines.specs.declared.line.Line.{Line}
+use Rattle.lab_lines.specs.declared.script.CardLine.{CardLine}
+use Rattle.lab_lines.specs.declared.script.ReaderLine.{ReaderLine}
+use Rattle.lab_lines.specs.declared.script.Script.{Script}
+use Rattle.lab_lines.specs.Limits.{IsBoundWhere, IsCardLine, IsReaderLine}
+use Rattle.lab_lines.specs.Script.{first_frame, frames_played, phases_of}
+use Rattle.lab_lines.specs.Script as scripts
+use Rattle.lab_run.specs.LabRun.{all_segments, bindings_of, captured_sample, entries_of, mixed_at, outcome_of, recorded_by, recorded_from, report_of}
+use Rattle.lab_run.specs.Openings.{AreReaderOpenings, IsReaderOpening, read_by}
+use Rattle.lab_run.specs.Reader.{Reader}
+use Rattle.lab_run.specs.Rules.{AtPort}
+use Rattle.lab_run.specs.ScriptWords.{IsReached}
+use Rattle.lab_run.specs.Stage.{Session, Setup, Stage, no_reader, reader_at}
+use Rattle.lab_run.proofs.ScriptWords.{stages-of_scripts}
+use Rattle.run_laws.specs.Sizes.{AreWholeFrames, IsPlayed, IsRecorded, StagesHaveSizes}
+use Rattle.run_laws.proofs.Captured.{reader_at-within, run-within}
+use Rattle.run_laws.proofs.ReaderFrames.{frames-few}
+use Rattle.run_laws.proofs.RowStages.{reached-reportable}
+
+-- ---- the frames that were played
+
+-- so many phases play no more frames than all
+frames_played-take : (n : ℕ) (phases : List (List Line)) → frames_played (take n phases) ≤ frames_played phases
+frames_played-take zero phases = omega arith
+frames_played-take (suc n) [] = omega arith
+frames_played-take (suc n) (lines ∷ phases) =
+    let rest = frames_played-take n phases in
+    let few : frames_played (take (suc n) (lines ∷ phases)) ≡ scripts.played_in lines + frames_played (take n phases) = sum_by-cons scripts.played_in lines (take n phases) in
+    let all : frames_played (lines ∷ phases) ≡ scripts.played_in lines + frames_played phases = sum_by-cons scripts.played_in lines phases in
+    omega (arith, rest, few, all)
+
+reached-few : (script : Script) (wavs : List Sound) (session : Session) (done others : List Item) (stage : Stage) → IsReached script wavs session done others stage
+    → (report_of session stage).frames ≤ 4194304
+reached-few script wavs session done others stage is =
+    let after = stages-of_scripts script wavs session done others stage is in
+    let at : stage.position ≡ first_frame script.card + frames_played (take stage.phases (phases_of script.body)) = after.position in
+    let first : first_frame session.card ≡ first_frame script.card = ap first_frame is.session_is.card in
+    let few : frames_played (take stage.phases (phases_of script.body)) ≤ frames_played (phases_of script.body) = frames_played-take stage.phases (phases_of script.body) in
+    let most : frames_played (phases_of script.body) ≤ 4194304 = is.script_is.frames in
+    omega (arith, at, first, few, most)
+
+-- whole frames
+frames-whole : (channels frames : ℕ) (samples : List ℤ) → 1 ≤ channels → channels ≤ 8 → frames ≤ 4194304 → length samples ≡ frames * channels → AreWholeFrames channels samples
+frames-whole channels frames samples some few_channels few is = record {
+  some_channel = some;
+  few_channels = few_channels;
+  whole = ap (λ (n : ℕ). n % channels) is ∙ mul-mod_left frames channels;
+  few =
+      let most : frames * channels ≤ 4194304 * 8 = mul-le-mul {n₁ = frames} {m₁ = channels} {n₂ = 4194304} {m₂ = 8} few few_channels in
+      omega (arith, most, is);
+}
+
+played-frames : (script : Script) (wavs : List Sound) (session : Session) (capture : Option Sound) (done others : List Item) (stage : Stage)
+    → IsReached script wavs session done others stage → IsPlayed script (outcome_of session capture stage)
+played-frames script wavs session capture done others stage is =
+    let few = reached-few script wavs session done others stage is in
+    let frames : ℕ = (report_of session stage).frames in
+    let each : length (outcome_of session capture stage).played ≡ frames * script.card.channels =
+    length-map-range_with_len (mixed_at session.card.channels (first_frame session.card) (entries_of session (all_segments stage.clients))) 0 (frames * session.card.channels)
+    ∙ ap (λ (card : CardLine). frames * card.channels) is.session_is.card in
+    record {
+      first = ap first_frame is.session_is.card;
+      few_frames = few;
+      each = each;
+      frames = frames-whole script.card.channels frames (outcome_of session capture stage).played is.script_is.card.channels.low is.script_is.card.channels.high few each;
+    }
+
+-- ---- the frames that were read
+
+-- the samples of frames through bindings
+samples-size : (of : ℕ → ℕ → ℤ) (bindings frames : List ℕ) → length (flat_map (λ frame. map (of frame) bindings) frames) ≡ length frames * length bindings
+samples-size of bindings [] = omega arith
+samples-size of bindings (frame ∷ frames) =
+    let one : length (map (of frame) bindings) ≡ length bindings = length-map bindings (of frame) in
+    let rest : length (flat_map (λ f. map (of f) bindings) frames) ≡ length frames * length bindings = samples-size of bindings frames in
+    length-append (map (of frame) bindings) (flat_map (λ f. map (of f) bindings) frames)
+    ∙ (omega (arith, one, rest, suc-mul (length frames) (length bindings)))
+
+recorded-size : (session : Session) (capture : Option Sound) (number : ℕ) (readers : List (AtPort × Reader)) → length (recorded_from session capture number readers) ≡ length readers
+recorded-size session capture number [] = refl
+recorded-size session capture number (reader ∷ readers) = ap suc (recorded-size session capture (number + 1) readers)
+
+recorded-at : (session : Session) (capture : Option Sound) (number n : ℕ) (readers : List (AtPort × Reader)) (d : AtPort × Reader) → n < length readers
+    → slice_index_or (recorded_from session capture number readers) n [] ≡ recorded_by session capture (number + n) (slice_index_or readers n d).1
+recorded-at session capture number n [] d within = absurd (omega (arith, within))
+recorded-at session capture number zero (reader ∷ readers) d within =
+    let same : number ≡ number + 0 = omega arith in ap (λ (m : ℕ). recorded_by session capture m reader.1) same
+recorded-at session capture number (suc n) (reader ∷ readers) d within =
+    let same : number + 1 + n ≡ number + suc n = omega arith in
+    recorded-at session capture (number + 1) n readers d (omega (arith, within)) ∙ ap (λ (m : ℕ). recorded_by session capture m (slice_index_or readers n d).1) same
+
+-- the opening of the reader of a number
+opening-at : (card : CardLine) (lines : List ReaderLine) (setups : List (Option Setup)) (n : ℕ) (d : ReaderLine) → AreReaderOpenings card lines setups → n < length lines
+    → IsReaderOpening card (slice_index_or lines n d) (slice_index_or setups n None)
+opening-at card [] setups n d are within = absurd (omega (arith, within))
+opening-at card (line ∷ lines) [] n d are within = absurd are
+opening-at card (line ∷ lines) (setup ∷ setups) zero d are within = are.0
+opening-at card (line ∷ lines) (setup ∷ setups) (suc n) d are within = opening-at card lines setups n d are.1 (omega (arith, within))
+
+-- an open reader's bindings are those of its line
+bound-size : (card : CardLine) (line : ReaderLine) (setup : Option Setup) (frames : ℕ) → IsReaderOpening card line setup
+    → (m : ℕ) × (m ≤ frames) × (frames * length (bindings_of setup) ≡ m * length (read_by card line))
+bound-size card line None frames is = (0, omega arith, omega arith)
+bound-size card line (Some setup) frames is = (frames, omega arith, ap (λ (bindings : List ℕ). frames * length bindings) is.bindings)
+
+-- bindings that are read bind 1 to 8 channels
+read-some : (list : List ℕ) (channels : ℕ) → answer_of list channels ≡ Ok list → (1 ≤ length list) × (length list ≤ 8)
+read-some list channels is = by_tests (length list == 0) (nat_lt 8 (length list)) refl refl is
+  where
+    by_tests : (none many : Bool) → (length list == 0) ≡ none → nat_lt 8 (length list) ≡ many
+        → (if none then Err BindingsEmpty else (if many then Err BindingsTooMany else or_first list (entry_defects list channels))) ≡ Ok list
+        → (1 ≤ length list) × (length list ≤ 8)
+    by_tests true many none_is many_is is = absurd (cc)
+    by_tests false true none_is many_is is = absurd (cc)
+    by_tests false false none_is many_is is = (grind (arith, nat_tests, none_is), grind (arith, nat_tests, many_is))
+
+line-channels : (card : CardLine) (line : ReaderLine) → IsCardLine card → IsReaderLine card line → (1 ≤ length (read_by card line)) × (length (read_by card line) ≤ 8)
+line-channels card line is line_is = by_bindings line.bindings line_is.bindings
+  where
+    by_bindings : (given : Option (List ℕ)) → IsBoundWhere card.channels given
+        → (1 ≤ length (unwrap_or given (identity card.channels))) × (length (unwrap_or given (identity card.channels)) ≤ 8)
+    by_bindings None bound =
+        let low : 1 ≤ card.channels = is.channels.low in
+        let high : card.channels ≤ 8 = is.channels.high in
+        let size : length (identity card.channels) ≡ card.channels = length-range_with_len 0 card.channels in
+        (omega (arith, low, size), omega (arith, high, size))
+    by_bindings (Some list) bound = read-some list card.channels bound
+
+recorded-frames : (script : Script) (wavs : List Sound) (session : Session) (capture : Option Sound) (done others : List Item) (stage : Stage)
+    → IsReached script wavs session done others stage → (number : ℕ) (line : ReaderLine) → slice_get script.readers number ≡ Some line
+    → IsRecorded script (outcome_of session capture stage) number line
+recorded-frames script wavs session capture done others stage is number line there =
+    let few = reached-few script wavs session done others stage is in
+    let reportable = reached-reportable script wavs session done others stage is in
+    let within : number < length script.readers = slice_get_within script.readers number line there in
+    let is_line : slice_index_or script.readers number line ≡ line = get_or_from_slice_get script.readers number line line there in
+    let all : length stage.readers ≡ length script.readers = reportable.all_readers in
+    let channels = line-channels script.card line is.script_is.card (subst (IsReaderLine script.card) is_line (is.script_is.each_reader number line within)) in
+    let reader : Reader = (reader_at session stage number).1 in
+    let setup : Option Setup = slice_index_or session.readers number None in
+    let opening : IsReaderOpening script.card line setup =
+    subst (λ (l : ReaderLine). IsReaderOpening script.card l setup) is_line
+    (opening-at script.card script.readers session.readers number line is.session_is.readers within) in
+    let inside = reader_at-within (first_frame session.card) session stage number (run-within session stage done is.may) in
+    let below : first_frame session.card + length reader.frames ≤ stage.position =
+    frames-few (first_frame session.card) stage.position reader inside.1 in
+    let bound = bound-size script.card line setup (length reader.frames) opening in
+    let size : length (slice_index_or (outcome_of session capture stage).recorded number []) ≡ bound.0 * length (read_by script.card line) =
+    ap length (recorded-at session capture 0 number stage.readers (no_reader session.ring) (omega (arith, within, all)))
+    ∙ ap (λ (n : ℕ). length (recorded_by session capture n reader)) (zero-add number)
+    ∙ samples-size (captured_sample session capture) (bindings_of setup) reader.frames ∙ bound.2 in
+    let fewer : bound.0 ≤ (report_of session stage).frames = let low : bound.0 ≤ length reader.frames = bound.1 in omega (arith, below, low) in
+    record {
+      frames = frames-whole (length (read_by script.card line)) bound.0 _ channels.0 channels.1 (omega (arith, fewer, few)) size;
+      captured = subst (λ (n : ℕ). n ≤ (report_of session stage).frames * length (read_by script.card line)) (sym size)
+          (mul-le-mul {n₁ = bound.0} {m₁ = length (read_by script.card line)} {n₂ = (report_of session stage).frames} {m₂ = length (read_by script.card line)} fewer (omega arith));
+    }
+
+pub stages-have_sizes : StagesHaveSizes
+stages-have_sizes script wavs session capture done others stage is = record {
+  played = played-frames script wavs session capture done others stage is;
+  readers = recorded-size session capture 0 stage.readers ∙ (reached-reportable script wavs session done others stage is).all_readers;
+  recorded = recorded-frames script wavs session capture done others stage is;
+}

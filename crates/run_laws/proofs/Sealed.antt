@@ -1,0 +1,203 @@
+-- A stretch that ended by an xrun stays as it is until the client is prepared or closed: the report lists its segment.
+use Rattle.std.proofs.Common.{◌≡◌, ℕ, ◌⊎◌, inl, inr, refl, sym, ◌∙◌, ap, subst, List, [], ◌∷◌, ◌++◌, Option, Some, None}
+use Rattle.std.proofs.lemmas.Bool.{false≢true}
+use Rattle.std.proofs.lemmas.List.{append-nil, append_assoc}
+use Rattle.std.specs.Prelude.{Bool, true, false, ◌&&◌, nat_eq, if◌then◌else◌, Ok, Err}
+use Rattle.snd_base.specs.declared.errors.PcmError.{PcmError}
+use Rattle.snd_base.specs.declared.errors.PcmError.TheVariants as error
+use Rattle.snd_base.specs.declared.places.Segment.{Segment}
+use Rattle.mix_core.specs.declared.marks.Marks.{Marks}
+use Rattle.pcm_states.specs.declared.calls.Call.{Call}
+use Rattle.pcm_states.specs.declared.calls.Call.TheVariants as call
+use Rattle.pcm_states.specs.declared.states.State.{State}
+use Rattle.pcm_states.specs.declared.states.State.TheVariants.{Setup, Xrun}
+use Rattle.pcm_states.specs.Table.{next_of}
+use Rattle.pcm_stream.specs.declared.direction.Direction.TheVariants.{Playback}
+use Rattle.pcm_stream.specs.Status.{is_moving, nothing_found, refusal_in, refusal_of}
+use Rattle.course.specs.Course.{◌>>=◌, Course, ends}
+use Rattle.course.specs.Gives.{Gives, Gives-any, Gives-map}
+use Rattle.wav_io.specs.Sound.{Sound}
+use Rattle.dmix_client.specs.declared.stream.PlaybackStream.{PlaybackStream}
+use Rattle.dmix_client.specs.declared.stream.Stretch.{Stretch}
+use Rattle.dmix_client.specs.Calls.{Answered, after_drop, is_paused, is_prepared, after_prepare}
+use Rattle.dmix_client.specs.Course.{if_admitted, admitted_by, drain_course}
+use Rattle.lab_lines.specs.declared.line.Op.{Op}
+use Rattle.lab_lines.specs.declared.line.Op.TheVariants as op
+use Rattle.lab_lines.specs.declared.row.Answer.{Answer}
+use Rattle.lab_lines.specs.declared.row.Row.{Row}
+use Rattle.lab_run.specs.Client.{Client, after_call, call_answer, call_of, client_kind, count_answer, done_answer, ended_by, present_of, segments_of, stretch_of}
+use Rattle.lab_run.specs.Lines.{LineMay, LinesMay}
+use Rattle.lab_run.specs.Rules.{AtPort, Rules}
+use Rattle.lab_run.proofs.EachLine.{client-line}
+use Rattle.lab_run.proofs.CallParts.{some-none}
+use Rattle.run_laws.proofs.OnwardLines.{InOpen, unpaused-ends}
+
+-- a stream in these states places nothing and takes nothing back until it is prepared
+abbrev pub is_sealed : State → Bool
+is_sealed Xrun = true
+is_sealed Setup = true
+is_sealed other = false
+
+abbrev IsRefused : Call → Bool
+IsRefused call.Start = true
+IsRefused call.Transfer = true
+IsRefused call.Sync = true
+IsRefused call.Pause = true
+IsRefused call.Resume = true
+IsRefused other = false
+
+refused-by : (stopped : Bool) (s : State) (asked : Call) → is_sealed s ≡ true → IsRefused asked ≡ true
+    → (if stopped then Some error.Stopped else refusal_in (next_of s asked (nothing_found Playback)).answer) ≡ None → ⊥
+refused-by true s asked sealed is none = some-none none
+refused-by false Xrun call.Start sealed is none = some-none none
+refused-by false Xrun call.Transfer sealed is none = some-none none
+refused-by false Xrun call.Sync sealed is none = some-none none
+refused-by false Xrun call.Pause sealed is none = some-none none
+refused-by false Xrun call.Resume sealed is none = some-none none
+refused-by false Setup call.Start sealed is none = some-none none
+refused-by false Setup call.Transfer sealed is none = some-none none
+refused-by false Setup call.Sync sealed is none = some-none none
+refused-by false Setup call.Pause sealed is none = some-none none
+refused-by false Setup call.Resume sealed is none = some-none none
+refused-by false Xrun other sealed is none = absurd (false≢true is)
+refused-by false Setup other sealed is none = absurd (false≢true is)
+refused-by false other asked sealed is none = absurd (false≢true sealed)
+
+sealed-still : (s : State) → is_sealed s ≡ true → (is_moving s ≡ false) × (is_prepared s ≡ false) × (is_paused s ≡ false)
+sealed-still Xrun sealed = (refl, refl, refl)
+sealed-still Setup sealed = (refl, refl, refl)
+sealed-still other sealed = absurd (false≢true sealed)
+
+-- the segment of a stretch
+abbrev segment_in : Stretch → List Segment
+segment_in s = if nat_eq s.committed 0 && nat_eq s.part 0 then [] else (record { source = s.source; card = s.card; whole = s.committed; part = s.part }) ∷ []
+
+-- ---- a call of a sealed stream
+
+-- a call left the stretch as it was, or it ended it
+abbrev Leaves : PlaybackStream → Op → PlaybackStream × Answer → Type 0
+Leaves c asked (d, answer) =
+    ((ended_by asked answer c d ≡ []) × (d.stretch ≡ c.stretch) × (is_sealed d.status.state ≡ true))
+    ⊎ (ended_by asked answer c d ≡ stretch_of c)
+
+module _ (c : PlaybackStream) (sealed : is_sealed c.status.state ≡ true) where
+  still-resume : (asked : Op) (answer : Answer) → ((d : PlaybackStream) (given : Answer) → ended_by asked given c d ≡ []) → Leaves c asked (c, answer)
+  still-resume asked answer none = inl (none c answer, refl, sealed)
+
+  -- a refused call
+  refused-done : (asked : Op) (called : Call) (m : Course (Answered (Unit {0}))) → IsRefused called ≡ true → ((d : PlaybackStream) (given : Answer) → ended_by asked given c d ≡ [])
+      → Gives (Leaves c asked) (call_answer done_answer (if_admitted c called m))
+  unfolding ◌>>=◌
+  refused-done asked called m refused none = by_refusal (refusal_of Playback c.status called) refl
+    where
+      by_refusal : (refusal : Option PcmError) → refusal_of Playback c.status called ≡ refusal → Gives (Leaves c asked) (call_answer done_answer (admitted_by refusal c m))
+      by_refusal None is = absurd (refused-by c.status.stopped c.status.state called sealed refused is)
+      by_refusal (Some e) is = still-resume asked (done_answer (Err e)) none
+
+  refused-count : (asked : Op) (called : Call) (m : Course (Answered ℕ)) → IsRefused called ≡ true → ((d : PlaybackStream) (given : Answer) → ended_by asked given c d ≡ [])
+      → Gives (Leaves c asked) (call_answer count_answer (if_admitted c called m))
+  unfolding ◌>>=◌
+  refused-count asked called m refused none = by_refusal (refusal_of Playback c.status called) refl
+    where
+      by_refusal : (refusal : Option PcmError) → refusal_of Playback c.status called ≡ refusal → Gives (Leaves c asked) (call_answer count_answer (admitted_by refusal c m))
+      by_refusal None is = absurd (refused-by c.status.stopped c.status.state called sealed refused is)
+      by_refusal (Some e) is = still-resume asked (count_answer (Err e)) none
+
+  drop-leaves : (refusal : Option PcmError) → Gives (Leaves c op.Drop) (call_answer done_answer (admitted_by refusal c (ends (after_drop c, Ok tt))))
+  unfolding ◌>>=◌
+  drop-leaves None = inl (refl, refl, refl)
+  drop-leaves (Some e) = inl (refl, refl, sealed)
+
+  prepare-leaves : (refusal : Option PcmError) → Gives (Leaves c op.Prepare) (call_answer done_answer (admitted_by refusal c (ends (after_prepare c, Ok tt))))
+  unfolding ◌>>=◌
+  prepare-leaves None = inr refl
+  prepare-leaves (Some e) = inl (refl, refl, sealed)
+
+  drain-leaves : (marks : Marks) (refusal : Option PcmError) → Gives (Leaves c op.Drain) (call_answer done_answer (admitted_by refusal c (drain_course c [] marks.cursor)))
+  unfolding ◌>>=◌
+  drain-leaves marks None =
+      let still = sealed-still c.status.state sealed in rw still.0 (rw still.1 (inl (refl, refl, refl)))
+  drain-leaves marks (Some e) = inl (refl, refl, sealed)
+
+  call-leaves : (wav : Sound) (marks : Marks) (asked : Op) → Gives (Leaves c asked) (call_of wav marks c asked)
+  call-leaves wav marks (op.Write n) = refused-count (op.Write n) call.Transfer _ refl (λ d given. refl)
+  call-leaves wav marks op.Start = refused-done op.Start call.Start _ refl (λ d given. refl)
+  call-leaves wav marks op.Sync = refused-done op.Sync call.Sync _ refl (λ d given. refl)
+  call-leaves wav marks op.Avail = refused-count op.Avail call.Sync _ refl (λ d given. refl)
+  call-leaves wav marks op.Delay = refused-count op.Delay call.Sync _ refl (λ d given. refl)
+  call-leaves wav marks op.Drain = drain-leaves marks (refusal_of Playback c.status call.Drain)
+  call-leaves wav marks op.Drop = drop-leaves (refusal_of Playback c.status call.Drop)
+  call-leaves wav marks op.Prepare = prepare-leaves (refusal_of Playback c.status call.Prepare)
+  call-leaves wav marks op.Pause = refused-done op.Pause call.Pause _ refl (λ d given. refl)
+  call-leaves wav marks op.Resume = refused-done op.Resume call.Resume _ refl
+      (λ d given. unpaused-ends given c d (sealed-still c.status.state sealed).2)
+  call-leaves wav marks (op.Rewind n) = refused-count (op.Rewind n) call.Transfer _ refl (λ d given. refl)
+  call-leaves wav marks op.Rewindable = refused-count op.Rewindable call.Transfer _ refl (λ d given. refl)
+  call-leaves wav marks other = inl (refl, refl, sealed)
+
+-- ---- a client
+
+-- some segments are the first ones of others
+abbrev pub IsStart : List Segment → List Segment → Type 0
+IsStart list all = (more : List Segment) × (all ≡ list ++ more)
+
+-- these are the segments of a client so far, and its stretch is sealed, or they are the first ones that it ended
+abbrev pub Over : List Segment → Client → Type 0
+Over list client = IsStart list client.ended ⊎ ((segments_of client ≡ list) × InOpen client.own (λ d. is_sealed d.status.state ≡ true))
+
+pub over-start : (list : List Segment) (client : Client) → Over list client → IsStart list (segments_of client)
+over-start list client (inl (more, is)) =
+    (more ++ present_of client.own, ap (λ l. l ++ present_of client.own) is ∙ append_assoc list more (present_of client.own))
+over-start list client (inr (is, sealed)) = ([], is ∙ sym (append-nil list))
+
+after-leaves : (client : Client) (c d : PlaybackStream) (asked : Op) (answer : Answer) → client.own ≡ Some c → Leaves c asked (d, answer)
+    → Over (segments_of client) (after_call client c asked (d, answer)).0
+after-leaves client c d asked answer own (inl (none, same, sealed)) = rw own (rw none (inr (
+  ap (λ l. l ++ stretch_of d) (append-nil client.ended) ∙ ap (λ (s : Stretch). client.ended ++ segment_in s) same,
+  sealed,
+)))
+after-leaves client c d asked answer own (inr is) = rw own (rw is (inl ([], sym (append-nil (client.ended ++ stretch_of c)))))
+
+-- a line of a client whose stretch is sealed
+sealed-line : (rules : Rules) (phase : ℕ) (wav : Sound) (number : ℕ) (a b : AtPort) (client after : Client) (asked : Op) (answer : Answer)
+    → InOpen client.own (λ d. is_sealed d.status.state ≡ true) → LineMay (client_kind phase wav number) rules (a, client) asked (b, after) answer → Over (segments_of client) after
+sealed-line rules phase wav number a b client after asked answer sealed may =
+    client-line (λ (x : Client × Answer). Over (segments_of client) x.0) rules phase wav number a b client after asked answer
+    (λ none. inr (refl, sealed)) (λ c own. inr (refl, sealed)) (λ c own. inr (refl, sealed))
+    (λ c own marks. Gives-map (Leaves c asked) (λ (x : PlaybackStream × Answer). Over (segments_of client) (after_call client c asked x).0) (call_of wav marks c asked)
+    (call-leaves c (subst (λ (o : Option PlaybackStream). InOpen o (λ d. is_sealed d.status.state ≡ true)) own sealed) wav marks asked)
+    (λ done leaves. after-leaves client c done.0 asked done.1 own leaves)) may
+
+-- no line takes back what ended
+ended-line : (rules : Rules) (phase : ℕ) (wav : Sound) (number : ℕ) (a b : AtPort) (client after : Client) (asked : Op) (answer : Answer)
+    → LineMay (client_kind phase wav number) rules (a, client) asked (b, after) answer → IsStart client.ended after.ended
+ended-line rules phase wav number a b client after asked answer may =
+    client-line (λ (x : Client × Answer). IsStart client.ended x.0.ended) rules phase wav number a b client after asked answer (λ none. same) (λ c own. same) (λ c own. same)
+    (λ c own marks. Gives-any (λ (x : PlaybackStream × Answer). IsStart client.ended (after_call client c asked x).0.ended) (call_of wav marks c asked)
+    (λ x. (ended_by asked x.1 c x.0, refl))) may
+  where
+    same : IsStart client.ended client.ended
+    same = ([], sym (append-nil client.ended))
+
+over-line : (list : List Segment) (rules : Rules) (phase : ℕ) (wav : Sound) (number : ℕ) (a b : AtPort) (client after : Client) (asked : Op) (answer : Answer)
+    → Over list client → LineMay (client_kind phase wav number) rules (a, client) asked (b, after) answer → Over list after
+over-line list rules phase wav number a b client after asked answer (inl (more, is)) may =
+    let grows = ended-line rules phase wav number a b client after asked answer may in
+    inl (more ++ grows.0, grows.1 ∙ ap (λ l. l ++ grows.0) is ∙ append_assoc list more grows.0)
+over-line list rules phase wav number a b client after asked answer (inr (is, sealed)) may =
+    subst (λ l. Over l after) is (sealed-line rules phase wav number a b client after asked answer sealed may)
+
+pub over-lines : (list : List Segment) (rules : Rules) (phase : ℕ) (wav : Sound) (number : ℕ) (x y : AtPort × Client) (ops : List Op) (rows : List Row)
+    → Over list x.1 → LinesMay (client_kind phase wav number) rules x ops y rows → Over list y.1
+over-lines list rules phase wav number x y [] rows over (same, none) = subst (λ (z : AtPort × Client). Over list z.1) (sym same) over
+over-lines list rules phase wav number (a, client) y (asked ∷ ops) rows over ((b, between), answer, others, may, rest, are) =
+    over-lines list rules phase wav number (b, between) y ops others (over-line list rules phase wav number a b client between asked answer over may) rest
+
+-- ---- what an opening and a closing make of it
+
+pub over-opens : (list : List Segment) (client : Client) (own : Option PlaybackStream) → client.own ≡ None → Over list client → Over list (record client { own = own })
+over-opens list client own none (inl is) = inl is
+over-opens list client own none (inr (is, sealed)) = absurd (subst (λ o. InOpen o (λ d. is_sealed d.status.state ≡ true)) none sealed)
+
+pub over-ends : (list : List Segment) (client : Client) → Over list client → Over list (record { own = None; ended = segments_of client })
+over-ends list client over = inl (over-start list client over)
