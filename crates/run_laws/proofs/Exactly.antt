@@ -1,20 +1,18 @@
 -- A run that the script settles is the only one, and each actor does in it what it does by itself.
-use Rattle.std.proofs.Common.{◌≡◌, ℕ, sym, ap, ◌∙◌, refl, subst, List, [], ◌∷◌, length, Option, arith}
-use Rattle.std.specs.Prelude.{Bool, suc}
+use Rattle.std.proofs.Common.{◌≡◌, ℕ, sym, ap, ◌∙◌, subst, List, Option, arith}
+use Rattle.std.specs.Prelude.{Bool}
 use Rattle.wav_io.specs.Sound.{Sound}
 use Rattle.lab_lines.specs.declared.line.Actor.{Actor}
 use Rattle.lab_lines.specs.declared.line.Item.{Item}
-use Rattle.lab_lines.specs.declared.script.CardLine.{CardLine}
-use Rattle.lab_lines.specs.declared.script.ClientLine.{ClientLine}
-use Rattle.lab_lines.specs.declared.script.ReaderLine.{ReaderLine}
 use Rattle.lab_lines.specs.declared.script.Script.{Script}
 use Rattle.lab_lines.specs.declared.report.Report.{Report}
 use Rattle.lab_run.specs.LabRun.{IsOneRun, LabRun, Outcome, lab_text}
-use Rattle.lab_run.specs.Openings.{AreClientOpenings, AreReaderOpenings, IsSessionOf}
+use Rattle.lab_run.specs.Openings.{IsSessionOf}
 use Rattle.lab_run.specs.OwnRows.{AreAlone, HaveLines, IsClientAlone, IsReaderAlone, answers_of, client_alone, client_part, rows_by}
 use Rattle.lab_run.specs.Phases.{AreUnmixed, is_client, is_reader}
-use Rattle.lab_run.specs.Stage.{Session, Setup}
+use Rattle.lab_run.specs.Stage.{Session}
 use Rattle.run_laws.specs.Exact.{DoesTheSame, HasSameClient, IsExactRun, IsOwnRun, IsUnstoppedRun}
+use Rattle.run_laws.proofs.RowStages.{client_openings-size, reader_openings-size}
 
 unstopped-is : (session : Session) (capture : Option Sound) (body : List Item) (outcome : Outcome) → IsOneRun session capture body → AreUnmixed body
     → IsUnstoppedRun session capture body outcome → outcome ≡ lab_text session capture body
@@ -35,22 +33,6 @@ unstopped-exact session capture body outcome one run = record {
 
 -- ---- each actor by itself
 
-clients-size : (card : CardLine) (lines : List ClientLine) (wavs : List Sound) (setups : List (Option Setup)) → AreClientOpenings card lines wavs setups
-    → length setups ≡ length lines
-clients-size card [] [] [] are = refl
-clients-size card [] [] (x ∷ setups) are = absurd are
-clients-size card [] (wav ∷ wavs) setups are = absurd are
-clients-size card (line ∷ lines) [] setups are = absurd are
-clients-size card (line ∷ lines) (wav ∷ wavs) [] are = absurd are
-clients-size card (line ∷ lines) (wav ∷ wavs) (x ∷ setups) are = ap suc (clients-size card lines wavs setups are.1)
-
-readers-size : (card : CardLine) (lines : List ReaderLine) (setups : List (Option Setup)) → AreReaderOpenings card lines setups
-    → length setups ≡ length lines
-readers-size card [] [] are = refl
-readers-size card [] (x ∷ setups) are = absurd are
-readers-size card (line ∷ lines) [] are = absurd are
-readers-size card (line ∷ lines) (x ∷ setups) are = ap suc (readers-size card lines setups are.1)
-
 pub unstopped-own : (script : Script) (wavs : List Sound) (session : Session) (capture : Option Sound) (outcome : Outcome)
     → ((is_theirs : Actor → Bool) → HaveLines is_theirs script.body) → IsSessionOf script wavs session
     → IsOneRun session capture script.body → AreAlone session capture script.body
@@ -58,10 +40,10 @@ pub unstopped-own : (script : Script) (wavs : List Sound) (session : Session) (c
 unstopped-own script wavs session capture outcome lines is one alone run = record {
   clients = λ unmixed number low.
       subst (λ (o : Outcome). IsClientAlone session script.body o.report number) (sym (unstopped-is session capture script.body outcome one unmixed run))
-      (alone.clients number (omega (arith, low, clients-size script.card script.clients wavs session.clients is.clients)) (lines (is_client number)));
+      (alone.clients number (omega (arith, low, client_openings-size script.card script.clients wavs session.clients is.clients)) (lines (is_client number)));
   readers = λ unmixed number low.
       subst (λ (o : Outcome). IsReaderAlone session script.body o.report number) (sym (unstopped-is session capture script.body outcome one unmixed run))
-      (alone.readers number (omega (arith, low, readers-size script.card script.readers session.readers is.readers)) (lines (is_reader number)));
+      (alone.readers number (omega (arith, low, reader_openings-size script.card script.readers session.readers is.readers)) (lines (is_reader number)));
 }
 
 -- a client's part is settled by what is its own

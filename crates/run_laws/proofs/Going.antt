@@ -90,6 +90,10 @@ onward-less p q x y v w m c later less lower (inr is) = inr (record {
     less-high : (high : ℕ) → y ≤ high → w ≤ high
     less-high high less_so = omega (arith, lower, less_so)
 
+-- what is so of a client that is open
+pub own-fact : (own : Option PlaybackStream) (c : PlaybackStream) → own ≡ Some c → (F : PlaybackStream → Type 0) → IfSome own F → F c
+own-fact own c is F there = subst (λ o. IfSome o F) is there
+
 -- something is placed in the stretch
 abbrev pub IsPlaced : PlaybackStream → Type 0
 IsPlaced c = (nat_eq c.stretch.committed 0 && nat_eq c.stretch.part 0) ≡ false
@@ -169,7 +173,7 @@ module _ (rules : Rules) (p : ℕ) (least : (q : ℕ) → Contains rules.publish
       opened c is = by_end (goes 0 0 (some (λ d. Onward p 0 0 a.marks d) going.base)).1
         where
           some : (F : PlaybackStream → Type 0) → IfSome client.own F → F c
-          some F there = subst (λ o. IfSome o F) is there
+          some = own-fact client.own c is
 
           goes : (x y : ℕ) → Onward p x y a.marks c → After p x y client c b.marks after
           goes x y onward = line-after rules p least x y phase wav number a b client after asked answer c is onward may

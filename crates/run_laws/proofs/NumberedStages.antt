@@ -19,7 +19,7 @@ use Rattle.lab_run.specs.Places.{Lobby, after_attach}
 use Rattle.lab_run.specs.Rules.{AtPort, Rules}
 use Rattle.lab_run.specs.Stage.{Session, Setup, Stage, attached_client, claimed_client, client_at, close_client, first_stage, no_client, open_client, open_client_with, opened_client, reader_at}
 use Rattle.run_laws.proofs.PlayedStages.{IsBorderOf, closes-client, closes-reader, opens-client, opens-reader}
-use Rattle.run_laws.proofs.Sole.{published-least}
+use Rattle.run_laws.proofs.Sole.{published-past}
 use Rattle.run_laws.proofs.Stages.{reader-closes, reader-opens}
 
 -- a fact of the client of a number is so of one that was never open, and stays so by each line of a phase that publishes no position before the card's first
@@ -127,10 +127,7 @@ module _ (session : Session) (P : ℕ → Client → Type 0) (kept : IsKeptBy se
   )
     where
       least : (q : ℕ) → Contains (phase_positions session.card.period stage.position lines) q → first_frame session.card ≤ q
-      least q there = through (first_frame session.card) stage.position q so.0 (published-least session.card.period stage.position lines q there)
-        where
-          through : (x y z : ℕ) → x ≤ y → y ≤ z → x ≤ z
-          through x y z one two = omega (arith, one, two)
+      least q there = published-past session.card.period stage.position (first_frame session.card) lines so.0 q there
 
   items-so : (stage after : Stage) (items : List Item) → StageIsSo stage → ItemsMay session stage items after → StageIsSo after
   items-so stage after [] so is = rw is so

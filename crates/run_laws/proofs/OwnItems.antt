@@ -76,11 +76,12 @@ close-item given before after row closing rows is = record {
     none : is_opening row.op ≡ false → answers_of (row ∷ []) ≡ []
     none e = rw e refl
 
+-- no test has both answers
+pub both : {b : Bool} → b ≡ true → b ≡ false → ⊥
+both x y = absurd (cc)
+
 pub not-own : (n m : ℕ) → nat_eq m n ≡ false → n ≢ m
 not-own n m is same = absurd (both (eq-eqb m n (sym same)) is)
-  where
-    both : {b : Bool} → b ≡ true → b ≡ false → ⊥
-    both x y = absurd (cc)
 
 pub answers_of-append : (a b : List Row) → answers_of (a ++ b) ≡ answers_of a ++ answers_of b
 answers_of-append a b =

@@ -36,7 +36,7 @@ use Rattle.run_laws.specs.Played.{PlayedStays}
 use Rattle.run_laws.proofs.Onward.{Channels}
 use Rattle.run_laws.proofs.PlayedLines.{FitsWhere, clients-fit, lines-heard}
 use Rattle.run_laws.proofs.PlayedSegments.{heard}
-use Rattle.run_laws.proofs.Sole.{published-least}
+use Rattle.run_laws.proofs.Sole.{published-past}
 use Rattle.run_laws.proofs.Stages.{AreSo, item-kept, reached-so}
 
 -- ---- the segments of all clients
@@ -182,10 +182,7 @@ module _ (session : Session) (bound : AreBound session) (p : ℕ) where
   })
     where
       least : (q : ℕ) → Contains (phase_positions session.card.period stage.position lines) q → p ≤ q
-      least q there = through p stage.position q past (published-least session.card.period stage.position lines q there)
-        where
-          through : (x y z : ℕ) → x ≤ y → y ≤ z → x ≤ z
-          through x y z one two = omega (arith, one, two)
+      least q there = published-past session.card.period stage.position p lines past q there
 
   items-stay : (stage after : Stage) (items : List Item) → AreSo FitsWhere clients-fit session 0 stage.clients → p ≤ stage.position → ItemsMay session stage items after → Stays session p stage after
   items-stay stage after [] are past is = rw is (record { on = past; heard_so = λ frame channel before. refl })

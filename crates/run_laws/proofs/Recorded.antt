@@ -75,7 +75,7 @@ reader-recording session capture outcome number reads =
       stretches = subst (λ f. AreSlices None (rows_by (is_reader number) outcome.report.rows) f reads.after) (sym frames) reads.slices;
     }
 
-recorded-size : (session : Session) (capture : Option Sound) (number : ℕ) (readers : List (AtPort × Reader))
+pub recorded-size : (session : Session) (capture : Option Sound) (number : ℕ) (readers : List (AtPort × Reader))
     → length (recorded_from session capture number readers) ≡ length readers
 recorded-size session capture number [] = refl
 recorded-size session capture number (reader ∷ readers) = ap suc (recorded-size session capture (number + 1) readers)

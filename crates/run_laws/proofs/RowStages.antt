@@ -40,7 +40,7 @@ use Rattle.run_laws.proofs.Requests.{asks, card_rows-requests, client_ops-reques
 
 -- ---- the beginning
 
-client_openings-size : (card : CardLine) (lines : List ClientLine) (wavs : List Sound) (setups : List (Option Setup)) → AreClientOpenings card lines wavs setups
+pub client_openings-size : (card : CardLine) (lines : List ClientLine) (wavs : List Sound) (setups : List (Option Setup)) → AreClientOpenings card lines wavs setups
     → length setups ≡ length lines
 client_openings-size card [] [] [] are = refl
 client_openings-size card (line ∷ lines) (wav ∷ wavs) (setup ∷ setups) are = ap suc (client_openings-size card lines wavs setups are.1)
@@ -49,7 +49,7 @@ client_openings-size card [] (wav ∷ wavs) setups are = absurd are
 client_openings-size card (line ∷ lines) [] setups are = absurd are
 client_openings-size card (line ∷ lines) (wav ∷ wavs) [] are = absurd are
 
-reader_openings-size : (card : CardLine) (lines : List ReaderLine) (setups : List (Option Setup)) → AreReaderOpenings card lines setups → length setups ≡ length lines
+pub reader_openings-size : (card : CardLine) (lines : List ReaderLine) (setups : List (Option Setup)) → AreReaderOpenings card lines setups → length setups ≡ length lines
 reader_openings-size card [] [] are = refl
 reader_openings-size card (line ∷ lines) (setup ∷ setups) are = ap suc (reader_openings-size card lines setups are.1)
 reader_openings-size card [] (setup ∷ setups) are = absurd are

@@ -30,6 +30,7 @@ use Rattle.lab_run.proofs.ScriptWords.{stages-of_scripts}
 use Rattle.run_laws.specs.Sizes.{AreWholeFrames, IsPlayed, IsRecorded, StagesHaveSizes}
 use Rattle.run_laws.proofs.Captured.{reader_at-within, run-within}
 use Rattle.run_laws.proofs.ReaderFrames.{frames-few}
+use Rattle.run_laws.proofs.Recorded.{recorded-size}
 use Rattle.run_laws.proofs.RowStages.{reached-reportable}
 
 -- ---- the frames that were played
@@ -90,10 +91,6 @@ samples-size of bindings (frame ∷ frames) =
     let rest : length (flat_map (λ f. map (of f) bindings) frames) ≡ length frames * length bindings = samples-size of bindings frames in
     length-append (map (of frame) bindings) (flat_map (λ f. map (of f) bindings) frames)
     ∙ (omega (arith, one, rest, suc-mul (length frames) (length bindings)))
-
-recorded-size : (session : Session) (capture : Option Sound) (number : ℕ) (readers : List (AtPort × Reader)) → length (recorded_from session capture number readers) ≡ length readers
-recorded-size session capture number [] = refl
-recorded-size session capture number (reader ∷ readers) = ap suc (recorded-size session capture (number + 1) readers)
 
 recorded-at : (session : Session) (capture : Option Sound) (number n : ℕ) (readers : List (AtPort × Reader)) (d : AtPort × Reader) → n < length readers
     → slice_index_or (recorded_from session capture number readers) n [] ≡ recorded_by session capture (number + n) (slice_index_or readers n d).1

@@ -26,7 +26,7 @@ use Rattle.lab_run.specs.Reader.{Reader}
 use Rattle.lab_run.specs.Rules.{AtPort, Rules}
 use Rattle.lab_run.specs.Stage.{Session, Setup, Stage, after_close, after_open, client_at, close_reader, first_stage, no_reader, open_reader, open_reader_with, reader_at}
 use Rattle.lab_run.specs.Stretches.{AreSlices, ReadsInSlices, ReadersReadInSlices, ends_by_row, goes_on_after, got_by}
-use Rattle.run_laws.proofs.OwnItems.{view_of}
+use Rattle.run_laws.proofs.OwnItems.{both, view_of}
 use Rattle.run_laws.proofs.OwnLines.{AreNumbered, cards-other, constant-at, four-rows, map-at, map-size, numbered-at, own-row}
 use Rattle.run_laws.proofs.OwnReaders.{client_row-other, close_client-other, close_client-size, close_reader-other, close_reader-size, is-own, open_client-other, open_client-size, open_reader-other, open_reader-size, reader_view, reader_with, row-numbered, runs-members}
 use Rattle.run_laws.proofs.SliceLines.{AreSlices-append, first-of, IsGoing, lines-get, LinesGet}
@@ -168,9 +168,6 @@ reaped-goes : (ring : Geometry) (at : Option ℕ) (x : AtPort × Reader) → IsG
 reaped-goes ring None x goes = tt
 reaped-goes ring (Some next) (a, reader) goes = by_own reader.own refl goes
   where
-    both : {b : Bool} → b ≡ true → b ≡ false → ⊥
-    both x y = absurd (cc)
-
     by_own : (own : Option CaptureStream) → reader.own ≡ own → IsGoing (Some next) own → IsGoing (Some next) (reaped_reader_if (is_reader_stopped own) ring (a, reader)).1.own
     by_own None is goes = absurd goes
     by_own (Some r) is goes = by_stopped r.status.stopped refl

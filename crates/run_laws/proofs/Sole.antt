@@ -35,7 +35,7 @@ use Rattle.lab_run.specs.Stage.{Session, Setup, Stage, attached_client, claimed_
 use Rattle.run_laws.specs.Shares.{channels_of_client}
 use Rattle.run_laws.proofs.Apart.{Shares, free-unowned, item-shares, reaped-at, set-client}
 use Rattle.run_laws.proofs.Bound.{HasBindings}
-use Rattle.run_laws.proofs.Going.{Ascends, Going, IsPlaced, ascends-more, each-both, each-going, each-map, each-more, onward-less, placed-past, placed-some, seg_end, still-client, open-map}
+use Rattle.run_laws.proofs.Going.{Ascends, Going, IsPlaced, ascends-more, each-both, each-going, each-map, each-more, onward-less, own-fact, placed-past, placed-some, seg_end, still-client, open-map}
 use Rattle.run_laws.proofs.Onward.{Channels, Onward, end_of, free_frame, high_end}
 use Rattle.run_laws.proofs.OnwardCalls.{reached}
 use Rattle.run_laws.proofs.OnwardLines.{InOpen, ends-reached, waits-none}
@@ -72,6 +72,12 @@ each-at P (x ∷ xs) (suc k) d within each = each-at P xs k d (omega (arith, wit
 pub published-least : (period from : ℕ) (lines : List Line) (q : ℕ) → Contains (phase_positions period from lines) q → from ≤ q
 published-least period from lines q (k, within, is) =
     subst (λ r. from ≤ r) is (each-at (λ r. from ≤ r) (phase_positions period from lines) k q within (omega arith, lines-least period from from lines (omega arith)))
+
+pub published-past : (period from p : ℕ) (lines : List Line) → p ≤ from → (q : ℕ) → Contains (phase_positions period from lines) q → p ≤ q
+published-past period from p lines past q there = through q (published-least period from lines q there)
+  where
+    through : (q : ℕ) → from ≤ q → p ≤ q
+    through q later = omega (arith, past, later)
 
 -- ---- what is known of the clients of a stage
 
@@ -316,11 +322,8 @@ module _ (session : Session) (share : session.card.share ≡ Dshare) where
 
 module _ (session : Session) (clients : List (AtPort × Client)) (claims : List Claim) (position n : ℕ) (a : AtPort) (client : Client) (c : PlaybackStream) (is : client.own ≡ Some c)
     (placed : IsPlaced c) (going : GoesAt session clients claims position n (a, client)) where
-  own-fact : (F : PlaybackStream → Type 0) → IfSome client.own F → F c
-  own-fact F there = subst (λ o. IfSome o F) is there
-
   old-past : (e : ℕ) → Old session clients n e → e ≤ c.stretch.card
-  old-past e there = placed-past position e 0 a.marks c placed (own-fact (λ d. Onward position e 0 a.marks d) (going.old e there))
+  old-past e there = placed-past position e 0 a.marks c placed (own-fact client.own c is (λ d. Onward position e 0 a.marks d) (going.old e there))
 
   -- the segment of the present stretch is new, and begins after those that ended
   pub last-new : New session clients n (segment_of c)
@@ -333,7 +336,7 @@ module _ (session : Session) (clients : List (AtPort × Client)) (claims : List 
 
   pub last-ascends : Ascends (client.ended ++ segment_of c ∷ [])
   last-ascends = ascends-more client.ended (segment_of c) going.ascends (each-map _ (λ s. seg_end s ≤ c.stretch.card) client.ended
-      (λ s there. placed-past position (seg_end s) 0 a.marks c placed (own-fact (λ d. Onward position (seg_end s) 0 a.marks d) there)) going.own)
+      (λ s there. placed-past position (seg_end s) 0 a.marks c placed (own-fact client.own c is (λ d. Onward position (seg_end s) 0 a.marks d) there)) going.own)
 
 -- all segments of a client rise, and are new
 pub all-segments : (session : Session) (clients : List (AtPort × Client)) (claims : List Claim) (position n : ℕ) (a : AtPort) (client : Client) (own : Option PlaybackStream) → client.own ≡ own
@@ -375,9 +378,6 @@ module _ (session : Session) (clients : List (AtPort × Client)) (claims more : 
   ended-going a b client c is heard going = subst (λ own. GoesAt session clients more position n (b, record { own = None; ended = client.ended ++ present_of own })) (sym is)
       (by_placed (nat_eq c.stretch.committed 0 && nat_eq c.stretch.part 0) refl)
     where
-      some : (F : PlaybackStream → Type 0) → IfSome client.own F → F c
-      some F there = subst (λ o. IfSome o F) is there
-
       high : (e : ℕ) → Onward position 0 e a.marks c → e ≤ high_end a.marks
       high e onward = (reached position session.ring 0 e a.marks c onward).2
 
@@ -416,7 +416,7 @@ module _ (session : Session) (clients : List (AtPort × Client)) (claims more : 
           new_so = last-new session clients claims position n a client c is placed going
 
           last-high : end_of c ≤ high_end a.marks
-          last-high = by_begun (some (λ d. Onward position 0 0 a.marks d) going.base)
+          last-high = by_begun (own-fact client.own c is (λ d. Onward position 0 0 a.marks d) going.base)
             where
               by_begun : Onward position 0 0 a.marks c → end_of c ≤ high_end a.marks
               by_begun (inl begun) = omega (arith, ends-reached position 0 0 a.marks c begun placed, begun.lies.top)
