@@ -1,1 +1,11 @@
+mod Asks
+mod BoundTo
+mod ConfigRange
+mod LineCounts
+mod Narrowings
+mod OpeningLists
 mod PairLemmas
+mod ParamLaws
+mod RefusedLaws
+mod UniqueOpenings
+mod UsableOpenings

@@ -1,7 +1,7 @@
 -- Two lists item by item: each item of the one is in a relation, which may know its number, to that of the other.
 use Rattle.std.specs.Prelude.{◌≡◌, ℕ, zero, suc, ◌+◌, ◌<◌, ◌≤◌, List, [], ◌∷◌, length, slice_index_or, slice_set, ⊤}
 use Rattle.std.proofs.Common.{refl, sym, ◌∙◌, ap, subst, arith, inl, inr}
-use Rattle.std.proofs.lemmas.Bool.{cases_eq}
+use Rattle.std.proofs.lemmas.Bool.{cases_eq, cases_lt}
 use Rattle.std.proofs.lemmas.List.{get_or-set_other, get_or-set_same, length-set}
 
 -- the first items of both lists have a number
@@ -112,3 +112,12 @@ AreEach-joined R T number [] (y ∷ ys) zs first then = absurd first
 AreEach-joined R T number (x ∷ xs) [] zs first then = absurd first
 AreEach-joined R T number [] [] (z ∷ zs) first then = absurd then
 AreEach-joined R T number (x ∷ xs) (y ∷ ys) [] first then = absurd then
+
+-- a walk to a place, where a relation holds of each item and itself
+pub AreEach-part : {X : Type 0} (R : ℕ → X → X → Type 0) (xs ys : List X) (to : ℕ) → ((i : ℕ) (x : X) → R i x x) → HasWalked R xs ys to → AreEach R 0 xs ys
+AreEach-part R xs ys to still walked = AreEach-from R 0 xs ys walked.len
+    (λ i d inside. subst (λ (n : ℕ). R n (slice_index_or xs i d) (slice_index_or ys i d)) {x = i} (omega arith)
+    (elim (cases_lt i to) as (λ _. R i (slice_index_or xs i d) (slice_index_or ys i d)) [
+      | inl below ↦ walked.each i d below inside
+      | inr from ↦ subst (R i (slice_index_or xs i d)) (sym (walked.others i d from)) (still i (slice_index_or xs i d))
+    ]))

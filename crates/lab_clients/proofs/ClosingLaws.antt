@@ -31,13 +31,13 @@ use Rattle.lab_places.specs.HeldLaws.{HoldsPlace-one}
 use Rattle.lab_places.specs.Holdings.{AreHeld, AreHeld-closed, CanClose-held, Holding, Holdings}
 use Rattle.lab_places.specs.Laid.{laid_list, laid_lists}
 use Rattle.lab_actors.specs.Walks.{AreEach, AreEach-map}
-use Rattle.lab_client.specs.declared.client.LabClient.{LabClient}
-use Rattle.lab_client.specs.declared.open_client.OpenClient.{OpenClient}
-use Rattle.lab_client.specs.ClientPhase.{LastsAreOwn}
-use Rattle.lab_client.specs.Clients.{IsAt, IsAtBy, client_by, client_in, ended_of, is_open, number_of, open_of, seen_by}
-use Rattle.lab_client.specs.OpenClients.{IsOpenAt, stream_of}
-use Rattle.lab_client.specs.OpeningLaws.{IsAt-closed, IsOwnLast-closed}
-use Rattle.lab_client.specs.Openings.{HasClosed, IsHigh, closed_client}
+use Rattle.lab_clients.specs.declared.client.LabClient.{LabClient}
+use Rattle.lab_clients.specs.declared.open_client.OpenClient.{OpenClient}
+use Rattle.lab_clients.specs.OnePhase.{LastsAreOwn}
+use Rattle.lab_clients.specs.OneClient.{IsAt, IsAtBy, client_by, client_in, ended_of, is_open, number_of, open_of, seen_by}
+use Rattle.lab_clients.specs.OpenClient.{IsOpenAt, stream_of}
+use Rattle.lab_clients.specs.OneOpeningLaws.{IsAt-closed, IsOwnLast-closed}
+use Rattle.lab_clients.specs.OneOpening.{HasClosed, IsHigh, closed_client}
 use Rattle.lab_clients.specs.declared.clients.LabClients.{LabClients}
 use Rattle.lab_clients.specs.AtStage.{AreAfter, AreAt, AreIn, IsClientAt, IsClientIn, IsSetUp, clients_of, holding_by, places_of}
 use Rattle.lab_clients.specs.Exchanged.{AreIn-exchanged, ChangesAt-with_holding, IsAsOften-exchanged, IsClientAt-holding, IsClientAt-in_run, IsInRun, IsLaidWith, KeepsHolding, MovesLaid, Relation, with_holding, worth_all-with}
@@ -45,7 +45,7 @@ use Rattle.lab_clients.specs.Opening.{AreAtStage, AreOfRun, client_among, client
 use Rattle.lab_clients.specs.Placed.{IsReported, laid_for, worth_left, worth_of}
 use Rattle.lab_clients.specs.Steps.{sound_at}
 use Rattle.lab_clients.proofs.OpeningLaws.{AreAfter-still, IsClientAt-number, is_some-own, none-own, own-number}
-use Rattle.lab_clients.proofs.SeatLaws.{IsApart, IsPlacedFor-at, IsReported-closed}
+use Rattle.lab_clients.proofs.ReportedLaws.{IsApart, IsPlacedFor-at, IsReported-closed}
 
 -- a closing at the places, whichever client it is
 abbrev pub ClosesAny : Places → List ℕ → ℕ → MixSeat → Places → Type 0

@@ -32,10 +32,10 @@ use Rattle.lab_places.specs.Held.{AreAtPlaces, HoldsNone, IsHeldBy, key_of_place
 use Rattle.lab_places.specs.Holdings.{AreHeld-new, Holding, Holdings}
 use Rattle.lab_places.specs.Laid.{IsUnlaid, laid_list, laid_lists}
 use Rattle.lab_actors.specs.Walks.{AreEach}
-use Rattle.lab_client.specs.declared.client.LabClient.{LabClient}
-use Rattle.lab_client.specs.declared.open_client.OpenClient.{OpenClient}
-use Rattle.lab_client.specs.Clients.{IsAt, client_by, client_in, ended_of, number_of, open_of}
-use Rattle.lab_client.specs.OpeningLaws.{IsAt-closed}
+use Rattle.lab_clients.specs.declared.client.LabClient.{LabClient}
+use Rattle.lab_clients.specs.declared.open_client.OpenClient.{OpenClient}
+use Rattle.lab_clients.specs.OneClient.{IsAt, client_by, client_in, ended_of, number_of, open_of}
+use Rattle.lab_clients.specs.OneOpeningLaws.{IsAt-closed}
 use Rattle.lab_clients.specs.declared.clients.LabClients.{LabClients}
 use Rattle.lab_clients.specs.AtStage.{AreAt, IsClientAt, IsNewCardOf, IsSetUp, clients_of, holding_by, places_of}
 use Rattle.lab_clients.specs.End.{AreNewClients, HasEnded, IsNewClient, IsPlacedAll, segments_by}

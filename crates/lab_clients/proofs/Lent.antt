@@ -3,7 +3,7 @@ use Rattle.std.specs.Prelude.{◌≡◌, ℕ, ◌++◌, List, drop, length, take
 use Rattle.std.proofs.Common.{arith, subst, sym, ◌∙◌}
 use Rattle.std.proofs.lemmas.List.{take-append-le, take_all}
 use Rattle.lab_actors.specs.Walks.{AreEach}
-use Rattle.lab_client.specs.declared.client.LabClient.{LabClient}
+use Rattle.lab_clients.specs.declared.client.LabClient.{LabClient}
 
 pub AreEach-lent : (R : ℕ → LabClient → LabClient → Type 0) (clients lent after : List LabClient) (count : ℕ) → lent ≡ clients → length after ≡ count → AreEach R 0 lent after
     → AreEach R 0 clients (take count (after ++ drop (length after) clients))

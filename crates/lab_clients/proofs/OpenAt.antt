@@ -1,10 +1,9 @@
 -- The open client of a number, in a list of clients.
-use Rattle.std.specs.Prelude.{◌≡◌, ◌≢◌, ℕ, zero, suc, ◌+◌, ◌<◌, ◌≤◌, true, false, List, [], ◌∷◌, length, is_some, IsSome, Option, Some, None, Result, Ok, Err, OnErr, OnOk, slice_index_or, slice_set}
+use Rattle.std.specs.Prelude.{◌≡◌, ◌≢◌, ℕ, zero, suc, ◌<◌, ◌≤◌, true, false, List, [], ◌∷◌, length, is_some, IsSome, Option, Some, None, slice_index_or, slice_set}
 use Rattle.std.proofs.Common.{refl, sym, ◌∙◌, ap, subst, arith, length-set}
-use Rattle.lab_client.specs.declared.client.LabClient.{LabClient}
-use Rattle.lab_client.specs.declared.open_client.OpenClient.{OpenClient}
-use Rattle.lab_client.specs.Clients.{is_open, open_of}
-use Rattle.lab_actors.specs.Walks.{AreEach, AreEach-same}
+use Rattle.lab_clients.specs.declared.client.LabClient.{LabClient}
+use Rattle.lab_clients.specs.declared.open_client.OpenClient.{OpenClient}
+use Rattle.lab_clients.specs.OneClient.{is_open, open_of}
 use Rattle.lab_clients.specs.Opening.{IsClosedAt, open_at}
 
 -- the open client of a number is that in the list
@@ -69,23 +68,3 @@ pub open_at-inside : (ds : List LabClient) (n : ℕ) → IsSome (open_at ds n) �
 open_at-inside [] n opened = absurd (cc)
 open_at-inside (d ∷ ds) zero opened = omega arith
 open_at-inside (d ∷ ds) (suc n) opened = let more = open_at-inside ds n opened in omega (arith, more)
-
--- ---- one client of a list became another
-
-pub AreEach-set : {X : Type 0} (R : ℕ → X → X → Type 0) → ((n : ℕ) (x : X) → R n x x) → (number : ℕ) (xs : List X) (at : ℕ) (d e : X) → at < length xs → d ≡ slice_index_or xs at d
-    → R (number + at) d e → AreEach R number xs (slice_set xs at e)
-AreEach-set R same number [] at d e inside is step = absurd (omega (arith, inside))
-AreEach-set R same number (x ∷ xs) zero d e inside is step =
-    (subst (λ y. R number y e) is (subst (λ n. R n d e) (omega arith) step), AreEach-same R (number + 1) xs same)
-AreEach-set R same number (x ∷ xs) (suc at) d e inside is step =
-    (same number x, AreEach-set R same (number + 1) xs at d e (omega (arith, inside)) is (subst (λ n. R n d e) (omega arith) step))
-
--- ---- what a call answers
-
-pub OnOk-more : {X E : Type 0} (P Q : Type 0) (r : Result X E) → (P → Q) → OnOk r P → OnOk r Q
-OnOk-more P Q (Ok x) more is = more is
-OnOk-more P Q (Err e) more is = tt
-
-pub OnErr-always : {X E P : Type 0} (r : Result X E) → P → OnErr r P
-OnErr-always (Ok x) is = tt
-OnErr-always (Err e) is = is

@@ -29,18 +29,18 @@ use Rattle.lab_places.specs.Holdings.{AreHeld, AreHeld-opened, AreHeld-refused, 
 use Rattle.lab_places.specs.Laid.{laid_list, laid_lists}
 use Rattle.lab_places.specs.StageLaws.{came_of, open_client_with-done, open_client_with-refused, with_held, with_opened}
 use Rattle.lab_actors.specs.Walks.{AreEach-at}
-use Rattle.lab_client.specs.declared.client.LabClient.{LabClient}
-use Rattle.lab_client.specs.declared.open_client.OpenClient.{OpenClient}
-use Rattle.lab_client.specs.Clients.{IsAt, client_by, client_in, ended_of, is_open, number_of, open_of, rows_by}
-use Rattle.lab_client.specs.OpeningLaws.{IsAt-opened, client-opened, new_client}
-use Rattle.lab_client.specs.Openings.{HasOpened, IsNewlyOpen}
+use Rattle.lab_clients.specs.declared.client.LabClient.{LabClient}
+use Rattle.lab_clients.specs.declared.open_client.OpenClient.{OpenClient}
+use Rattle.lab_clients.specs.OneClient.{IsAt, client_by, client_in, ended_of, is_open, number_of, open_of, rows_by}
+use Rattle.lab_clients.specs.OneOpeningLaws.{IsAt-opened, client-opened, new_client}
+use Rattle.lab_clients.specs.OneOpening.{HasOpened, IsNewlyOpen}
 use Rattle.lab_clients.specs.declared.clients.LabClients.{LabClients}
 use Rattle.lab_clients.specs.AtStage.{AreAfter, AreAt, IsClientAt, IsSetUp, clients_of, holding_by, places_of}
 use Rattle.lab_clients.specs.Exchanged.{AreIn-exchanged, AreIn-places, ChangesAt-with_holding, IsAsOften, IsAsOften-exchanged, IsClientAt-holding, IsLaidAlike, IsLaidWith, MovesLaid, with_holding, worth_all-with}
 use Rattle.lab_clients.specs.Opening.{AreAtStage, AreBeforeOpening, client_among}
 use Rattle.lab_clients.specs.Placed.{IsReported, laid_for, worth_left, worth_of}
 use Rattle.lab_clients.specs.Steps.{sound_at}
-use Rattle.lab_clients.proofs.SeatLaws.{IsPlacedFor-at, IsReported-opened}
+use Rattle.lab_clients.proofs.ReportedLaws.{IsPlacedFor-at, IsReported-opened}
 
 -- ---- the client of a number
 

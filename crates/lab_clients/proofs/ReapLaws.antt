@@ -11,14 +11,13 @@ use Rattle.lab_run.specs.Client.{Client}
 use Rattle.lab_run.specs.Items.{Held, held_after, is_stopped, reaped_client, reaped_client_if, reaped_one}
 use Rattle.lab_run.specs.Rules.{AtPort}
 use Rattle.lab_run.specs.Stage.{Session, no_client}
-use Rattle.lab_places.specs.declared.places.Places.{Places}
 use Rattle.lab_places.specs.Held.{CanClose, IsSameCard, key_of_places, lobby_of, ring_of_places}
 use Rattle.lab_actors.specs.Walks.{AreEach-at, AreEach-length}
-use Rattle.lab_client.specs.declared.client.LabClient.{LabClient}
-use Rattle.lab_client.specs.declared.open_client.OpenClient.{OpenClient}
-use Rattle.lab_client.specs.ClientPhase.{LastsAreOwn}
-use Rattle.lab_client.specs.Clients.{client_by, client_in, ended_of, open_of}
-use Rattle.lab_client.specs.Openings.{HasClosed}
+use Rattle.lab_clients.specs.declared.client.LabClient.{LabClient}
+use Rattle.lab_clients.specs.declared.open_client.OpenClient.{OpenClient}
+use Rattle.lab_clients.specs.OnePhase.{LastsAreOwn}
+use Rattle.lab_clients.specs.OneClient.{client_by, client_in, ended_of, open_of}
+use Rattle.lab_clients.specs.OneOpening.{HasClosed}
 use Rattle.lab_clients.specs.declared.clients.LabClients.{LabClients}
 use Rattle.lab_clients.specs.AtStage.{AreAt, AreDone, IsClientDone, clients_of, places_of}
 use Rattle.lab_clients.specs.Exchanged.{IsLaidWith}
@@ -140,11 +139,3 @@ AreAt-end session held xs cs number all done =
     AreAt-reaped session (held_after session 0 xs held) xs cs
     (subst (λ (then_held : Held). AreDone session then_held (map (reaped_client session.ring) xs) cs) (held_to-all session 0 number xs held all)
     (subst (λ (ys : List (AtPort × Client)). AreDone session (held_to session 0 number xs held) ys cs) (reaped_to-all session.ring number xs all) done))
-
--- places at the same card
-pub IsSameCard-none : (p : Places) → IsSameCard p p
-IsSameCard-none p = record { ring = refl; key = refl; share = refl; channels = refl }
-
-pub IsSameCard-joined : (p q r : Places) → IsSameCard p q → IsSameCard q r → IsSameCard p r
-IsSameCard-joined p q r one two =
-    record { ring = two.ring ∙ one.ring; key = two.key ∙ one.key; share = two.share ∙ one.share; channels = two.channels ∙ one.channels }

@@ -12,8 +12,8 @@ use Rattle.lab_run.specs.Items.{no_sound}
 use Rattle.lab_actors.specs.Gates.{AsksGateAt, AsksGateAt-index, AsksGateAt-other, AsksGateAt-set}
 use Rattle.lab_actors.specs.Pairs.{AreEach-changed, ChangesPair, ChangesPair-holds, ChangesPairs}
 use Rattle.lab_actors.specs.Walks.{AreEach, HasWalked, HasWalked-map, HasWalked-step}
-use Rattle.lab_client.specs.declared.client.LabClient.{LabClient}
-use Rattle.lab_client.specs.Clients.{RunsLines}
+use Rattle.lab_clients.specs.declared.client.LabClient.{LabClient}
+use Rattle.lab_clients.specs.OneClient.{RunsLines}
 use Rattle.lab_clients.specs.Steps.{AreSameFrom, RunsAt, sound_at}
 
 -- the clients up to a place did their lines, and the gates from there on are as they were

@@ -12,15 +12,15 @@ use Rattle.lab_run.specs.Client.{Client}
 use Rattle.lab_run.specs.Items.{Held, held_of, is_stopped}
 use Rattle.lab_run.specs.Rules.{AtPort}
 use Rattle.lab_run.specs.Stage.{Session, Setup, Stage}
-use Rattle.lab_setup.specs.Usable.{IsUsable}
+use Rattle.lab_actors.specs.Usable.{IsUsable}
 use Rattle.lab_places.specs.declared.places.Places.{Places}
 use Rattle.lab_places.specs.Held.{IsHeldBy, key_of_places, lobby_of, ring_of_places, share_of, shares_of}
 use Rattle.lab_places.specs.Laid.{laid_lists}
 use Rattle.lab_places.specs.Holdings.{AreHeld, Holding, Holdings}
-use Rattle.lab_client.specs.declared.client.LabClient.{LabClient}
-use Rattle.lab_client.specs.declared.open_client.OpenClient.{OpenClient}
-use Rattle.lab_client.specs.Clients.{IsAt, client_in, number_of, open_of, rows_of}
-use Rattle.lab_client.specs.OpenClients.{stream_of}
+use Rattle.lab_clients.specs.declared.client.LabClient.{LabClient}
+use Rattle.lab_clients.specs.declared.open_client.OpenClient.{OpenClient}
+use Rattle.lab_clients.specs.OneClient.{IsAt, client_in, number_of, open_of, rows_of}
+use Rattle.lab_clients.specs.OpenClient.{stream_of}
 use Rattle.lab_clients.specs.declared.clients.LabClients.{LabClients}
 use Rattle.lab_clients.specs.Placed.{IsReported}
 use Rattle.lab_clients.specs.Steps.{sound_at}

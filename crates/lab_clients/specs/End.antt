@@ -15,8 +15,8 @@ use Rattle.lab_run.specs.Stage.{Session}
 use Rattle.lab_places.specs.Held.{key_of_places, ring_of_places}
 use Rattle.lab_places.specs.Holdings.{Holdings}
 use Rattle.lab_actors.specs.Walks.{AreEach}
-use Rattle.lab_client.specs.declared.client.LabClient.{LabClient}
-use Rattle.lab_client.specs.Clients.{client_in, number_of, rows_of}
+use Rattle.lab_clients.specs.declared.client.LabClient.{LabClient}
+use Rattle.lab_clients.specs.OneClient.{client_in, number_of, rows_of}
 use Rattle.lab_clients.specs.declared.clients.LabClients.{LabClients}
 use Rattle.lab_clients.specs.AtStage.{AreAt, IsClientAt, clients_of, places_of}
 use Rattle.lab_clients.specs.Placed.{IsPlacedBy, SeatSegment, client_segments, place_segments, worth_of}

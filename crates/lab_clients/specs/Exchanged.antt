@@ -21,38 +21,13 @@ pub use Rattle.lab_places.specs.Laid.{IsLaidAlike, IsLaidWith}
 use Rattle.lab_places.specs.Laid.{laid_list, laid_lists}
 use Rattle.lab_places.specs.Holdings.{AreHeld, ChangesAt, Holding, Holdings}
 use Rattle.lab_actors.specs.Walks.{AreEach}
-use Rattle.lab_client.specs.declared.client.LabClient.{LabClient}
-use Rattle.lab_client.specs.Clients.{open_of}
+use Rattle.lab_actors.specs.EachLaws.{AreEach-set_rest}
+use Rattle.lab_clients.specs.declared.client.LabClient.{LabClient}
+use Rattle.lab_clients.specs.OneClient.{open_of}
 use Rattle.lab_clients.specs.declared.clients.LabClients.{LabClients}
 use Rattle.lab_clients.specs.AtStage.{AreIn, IsCardOf, IsClientAt, IsClientIn, clients_of, places_of}
 use Rattle.lab_clients.specs.Placed.{IsReported, laid_for, open_lists, worth_all, worth_left, worth_of}
 use Rattle.lab_clients.specs.PlacedLaws.{worth_all-set}
-
--- ---- two lists item by item
-
--- a relation that follows from another at the numbers from one on
-pub AreEach-past : {X Y : Type 0} (R T : ℕ → X → Y → Type 0) (from number : ℕ) (xs : List X) (ys : List Y) → from ≤ number
-    → ((n : ℕ) (x : X) (y : Y) → from ≤ n → R n x y → T n x y) → AreEach R number xs ys → AreEach T number xs ys
-AreEach-past R T from number [] [] past follows are = tt
-AreEach-past R T from number (x ∷ xs) (y ∷ ys) past follows are =
-    (follows number x y past are.0, AreEach-past R T from (number + 1) xs ys (omega (arith, past)) follows are.1)
-AreEach-past R T from number [] (y ∷ ys) past follows are = absurd are
-AreEach-past R T from number (x ∷ xs) [] past follows are = absurd are
-
--- one item of each list is exchanged
-pub AreEach-set : {X Y : Type 0} (R T : ℕ → X → Y → Type 0) (number at : ℕ) (xs : List X) (ys : List Y) (x : X) (y : Y)
-    → ((n : ℕ) (a : X) (b : Y) → n ≢ number + at → R n a b → T n a b) → T (number + at) x y → AreEach R number xs ys → AreEach T number (slice_set xs at x) (slice_set ys at y)
-AreEach-set R T number at [] [] x y others own are = tt
-AreEach-set R T number at [] (b ∷ ys) x y others own are = absurd are
-AreEach-set R T number at (a ∷ xs) [] x y others own are = absurd are
-AreEach-set R T number zero (a ∷ xs) (b ∷ ys) x y others own are = (
-  subst (λ n. T n x y) (omega arith) own,
-  AreEach-past R T (number + 1) (number + 1) xs ys (omega arith) (λ n c d past is. others n c d (λ same. absurd (omega (arith, past, same))) is) are.1,
-)
-AreEach-set R T number (suc at) (a ∷ xs) (b ∷ ys) x y others own are = (
-  others number a b (λ same. absurd (omega (arith, same))) are.0,
-  AreEach-set R T (number + 1) at xs ys x y (λ n c d differ is. others n c d (λ same. differ (omega (arith, same))) is) (subst (λ n. T n x y) (omega arith) own) are.1,
-)
 
 -- ---- what was placed, and the segments
 
@@ -206,7 +181,7 @@ module _ (Is : Relation (AtPort × Client)) (keeps : KeepsHolding Is) (session :
     each = subst (λ items. AreEach (Is session (ring_of_places (places_of ds)) (key_of_places (places_of ds)) then_holdings) 0 items (slice_set xs number y)) (sym clients)
         (subst (λ key. AreEach (Is session (ring_of_places (places_of ds)) key then_holdings) 0 (slice_set (clients_of cs) number e) (slice_set xs number y)) (sym same.key)
         (subst (λ ring. AreEach (Is session ring (key_of_places (places_of cs)) then_holdings) 0 (slice_set (clients_of cs) number e) (slice_set xs number y)) (sym same.ring)
-        (AreEach-set (Is session (ring_of_places (places_of cs)) (key_of_places (places_of cs)) are.holdings) (Is session (ring_of_places (places_of cs)) (key_of_places (places_of cs)) then_holdings)
+        (AreEach-set_rest (Is session (ring_of_places (places_of cs)) (key_of_places (places_of cs)) are.holdings) (Is session (ring_of_places (places_of cs)) (key_of_places (places_of cs)) then_holdings)
         0 number (clients_of cs) xs e y
         (λ n d x differ is. keeps session (ring_of_places (places_of cs)) (key_of_places (places_of cs)) are.holdings then_holdings n d x
         ((ChangesAt-with_holding number now are.holdings).others n (λ client. differ (sym client ∙ omega arith))) is)

@@ -15,14 +15,14 @@ use Rattle.lab_run.specs.Stage.{Session, Setup}
 use Rattle.lab_places.specs.Holdings.{Holding, Holdings}
 use Rattle.lab_places.specs.Laid.{laid_list}
 use Rattle.lab_actors.specs.Walks.{AreEach}
-use Rattle.lab_client.specs.declared.client.LabClient.{LabClient}
-use Rattle.lab_client.specs.declared.open_client.OpenClient.{OpenClient}
-use Rattle.lab_client.specs.Clients.{AllRefused, IsAtBy, IsClientHeard, IsClientInformed, IsSameBut, RunsLines, GoesOrRests, number_of, open_of}
-use Rattle.lab_client.specs.Keeps.{IsAt-same, client_in-same}
-use Rattle.lab_client.specs.OpenClients.{HasRun, IsHeard, IsInformed, IsSameOpen, IsSameOpening, stream_of}
+use Rattle.lab_clients.specs.declared.client.LabClient.{LabClient}
+use Rattle.lab_clients.specs.declared.open_client.OpenClient.{OpenClient}
+use Rattle.lab_clients.specs.OneClient.{AllRefused, IsAtBy, IsClientHeard, IsClientInformed, IsSameBut, RunsLines, GoesOrRests, number_of, open_of}
+use Rattle.lab_clients.specs.OneClientLaws.{IsAt-same, client_in-same}
+use Rattle.lab_clients.specs.OpenClient.{HasRun, IsHeard, IsInformed, IsSameOpen, IsSameOpening, stream_of}
 use Rattle.lab_clients.specs.AtStage.{IsClientDone, IsClientIn, IsSetUp, holding_by}
 use Rattle.lab_clients.specs.Placed.{IsClientPlaced, IsPlacedBy, IsPlacedFor, IsReported, SeatSegment, laid_for, open_lists, place_segments, with_number, worth_all}
-use Rattle.lab_clients.specs.Steps.{HasClientRows, sound_at}
+use Rattle.lab_clients.specs.Steps.{HasGivenRows, sound_at}
 
 -- ---- an opening
 
@@ -132,7 +132,7 @@ IsPlacedFor-same session history number client d e same = by_open (open_of d) (o
 -- ---- clients whose rows were taken
 
 module _ (session : Session) (ring : TableId) (key : Key) (holdings : Holdings) where
-  pub AreEach-rows : (number : ℕ) (ds es : List LabClient) (xs : List (AtPort × Client)) → AreEach HasClientRows number ds es
+  pub AreEach-rows : (number : ℕ) (ds es : List LabClient) (xs : List (AtPort × Client)) → AreEach HasGivenRows number ds es
       → AreEach (IsClientIn session ring key holdings) number ds xs → AreEach (IsClientDone session ring key holdings) number es xs
   AreEach-rows number [] [] [] taken are = tt
   AreEach-rows number (d ∷ ds) (e ∷ es) (x ∷ xs) taken are = (

@@ -32,16 +32,16 @@ use Rattle.lab_card.specs.Stages.{CardPhase-rules, IsCardAt}
 use Rattle.lab_actors.specs.Gates.{AreCounted, HasAskedMore, HaveAskedMore, stops_at}
 use Rattle.lab_actors.specs.Rows.{EachMay-rows, lines_from}
 use Rattle.lab_actors.specs.Walks.{AreEach, AreEach-joined, AreEach-length, AreJoined}
-use Rattle.lab_client.specs.declared.client.LabClient.{LabClient}
-use Rattle.lab_client.specs.ClientPhase.{ClientRun, LastsAreOwn, client-phase}
-use Rattle.lab_client.specs.Clients.{IsAt, IsCardOf, client_in, ended_of, number_of, open_of, rows_of}
+use Rattle.lab_clients.specs.declared.client.LabClient.{LabClient}
+use Rattle.lab_clients.specs.OnePhase.{ClientRun, LastsAreOwn, client-phase}
+use Rattle.lab_clients.specs.OneClient.{IsAt, IsCardOfRing, client_in, ended_of, number_of, open_of, rows_of}
 use Rattle.lab_clients.specs.declared.clients.LabClients.{LabClients}
 use Rattle.lab_clients.specs.AtStage.{AreAt, AreDone, IsClientAt, IsClientIn, clients_of, places_of}
 use Rattle.lab_clients.specs.Kept.{AreEach-rows, IsClientIn-same, IsPlacedFor-same, IsReported-same, IsSameOpened-heard, IsSameOpened-informed, IsSameOpened-joined, IsSameOpened-run, IsSetUp-same, holding_by-same, laid_for-same}
 use Rattle.lab_clients.specs.Placed.{IsClientPlaced, IsReported, SeatSegment, laid_for, open_lists, worth_all, worth_left}
 use Rattle.lab_clients.specs.Reported.{AllLayAlike, IsPlacedFor-phase, given_by, given_by-append, own_segments, segments_from, worth_left-phase}
 use Rattle.lab_clients.specs.Same.{with_places}
-use Rattle.lab_clients.specs.Steps.{HasClientRows, HasTakenRoom, IsHeardBy, IsInformedBy, RunsAt, sound_at}
+use Rattle.lab_clients.specs.Steps.{HasGivenRows, HasTakenRoom, IsHeardBy, IsInformedBy, RunsAt, sound_at}
 
 -- ---- the card in a phase
 
@@ -79,7 +79,7 @@ pub record CardInPhase (session : Session) (stage : Stage) (lines : List Line)
   pub after : CardActor
   pub phase : CardPhase capture (stage.phases + 1) c before after d lines
   pub at : IsCardAt session stage c
-  pub of_ring : IsCardOf ring key c
+  pub of_ring : IsCardOfRing ring key c
 
 -- ---- one client
 
@@ -316,13 +316,13 @@ module _ (session : Session) (stage : Stage) (lines : List Line) (held : Held) (
   }
 
   -- Once their rows are the lab's, what the steps make of the clients of the lab is what the phase allows to those of a run.
-  pub clients-phase : (done : LabClients) → AreEach HasClientRows 0 (clients_of heard) (clients_of done) → places_of done ≡ places_of before
+  pub clients-phase : (done : LabClients) → AreEach HasGivenRows 0 (clients_of heard) (clients_of done) → places_of done ≡ places_of before
       → ClientsPhase session stage lines held base (stops_at G.stops after) (HaveAskedMore G.asked gates after) xs (flat_map rows_of (clients_of heard)) done
   clients-phase done take_rows same_places =
       let ring : TableId = ring_of_places (places_of before) in
       let key : Key = key_of_places (places_of before) in
       let len : length (clients_of done) ≡ length (clients_of before) =
-      AreEach-length HasClientRows 0 (clients_of heard) (clients_of done) take_rows
+      AreEach-length HasGivenRows 0 (clients_of heard) (clients_of done) take_rows
       ∙ AreEach-length (GoesThrough G gates after session.sounds (stage.phases + 1) lines c d) 0 (clients_of before) (clients_of heard) through in
       let at_same : AreDone session held go.next (with_places done (places_of before)) = record {
         card = are.card;
@@ -331,7 +331,7 @@ module _ (session : Session) (stage : Stage) (lines : List Line) (held : Held) (
         are_held = are.are_held;
         no_others = λ n past. are.no_others n (omega (arith, len, past));
         each = AreEach-rows session ring key are.holdings 0 (clients_of heard) (clients_of done) go.next take_rows go.are;
-        reported = IsReported-same HasClientRows (λ n d e taken. taken.same) session (laid_lists (free_seats (lobby_of (places_of before)))) (clients_of heard) (clients_of done) go.next
+        reported = IsReported-same HasGivenRows (λ n d e taken. taken.same) session (laid_lists (free_seats (lobby_of (places_of before)))) (clients_of heard) (clients_of done) go.next
             take_rows reported-heard;
       } in
       record {

@@ -11,7 +11,7 @@ use Rattle.lab_run.specs.Stage.{Session, no_client}
 use Rattle.lab_places.specs.Held.{key_of_places, ring_of_places}
 use Rattle.lab_places.specs.Holdings.{Holdings}
 use Rattle.lab_actors.specs.Walks.{AreEach}
-use Rattle.lab_client.specs.declared.client.LabClient.{LabClient}
+use Rattle.lab_clients.specs.declared.client.LabClient.{LabClient}
 use Rattle.lab_clients.specs.declared.clients.LabClients.{LabClients}
 use Rattle.lab_clients.specs.AtStage.{AreAt, AreDone, IsClientAt, IsClientDone, clients_of, places_of}
 use Rattle.lab_clients.specs.Exchanged.{IsClientIn-holding, IsInRun, KeepsHolding}

@@ -23,11 +23,11 @@ use Rattle.lab_run.specs.LabRun.{entries_by, entries_of, with_numbers}
 use Rattle.lab_run.specs.Members.{MembersLayAlike, of_member}
 use Rattle.lab_run.specs.Rules.{AtPort}
 use Rattle.lab_run.specs.Stage.{Session, Setup}
-use Rattle.lab_actor.specs.ClientLines.{entries_by as stretch_entries}
+use Rattle.lab_clients.specs.Lines.{entries_by as stretch_entries}
 use Rattle.lab_places.specs.Laid.{laid_list}
-use Rattle.lab_client.specs.declared.open_client.OpenClient.{OpenClient}
-use Rattle.lab_client.specs.Clients.{HasLaidBy, IsAtBy, GoesOrRests, client_by}
-use Rattle.lab_client.specs.OpenClients.{stream_of}
+use Rattle.lab_clients.specs.declared.open_client.OpenClient.{OpenClient}
+use Rattle.lab_clients.specs.OneClient.{HasLaidBy, IsAtBy, GoesOrRests, client_by}
+use Rattle.lab_clients.specs.OpenClient.{stream_of}
 use Rattle.lab_clients.specs.AtStage.{IsSetUp}
 use Rattle.lab_clients.specs.Kept.{IsSameOpened}
 use Rattle.lab_clients.specs.Placed.{ArePlacedAlike, IsPlacedFor, IsPlacedOpen, SeatSegment, client_segments, laid_for, place_segments, with_number, worth_left, worth_of}

@@ -13,7 +13,7 @@ use Rattle.lab_places.specs.Held.{key_of_places, lobby_of, ring_of_places}
 use Rattle.lab_places.specs.Holdings.{Holdings}
 use Rattle.lab_places.specs.Laid.{laid_lists}
 use Rattle.lab_actors.specs.Walks.{AreEach, AreEach-length}
-use Rattle.lab_client.specs.declared.client.LabClient.{LabClient}
+use Rattle.lab_clients.specs.declared.client.LabClient.{LabClient}
 use Rattle.lab_clients.specs.declared.clients.LabClients.{LabClients}
 use Rattle.lab_clients.specs.AtStage.{AreAt, IsClientAt, clients_of, places_of}
 use Rattle.lab_clients.specs.Kept.{IsClientIn-same, IsReported-same}

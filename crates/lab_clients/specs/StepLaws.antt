@@ -18,9 +18,9 @@ use Rattle.lab_run.specs.Stage.{Session}
 use Rattle.lab_places.specs.Held.{key_of_places, ring_of_places}
 use Rattle.lab_places.specs.Holdings.{Holdings}
 use Rattle.lab_actors.specs.Walks.{AreEach, AreEach-at, AreEach-length, AreEach-map}
-use Rattle.lab_client.specs.declared.client.LabClient.{LabClient}
-use Rattle.lab_client.specs.Clients.{CanRun, IsCardOf, number_of}
-use Rattle.lab_client.specs.Keeps.{CanRun-at, CanRun-informed, CanRun-same, HasRoom-informed, IsOfCard-ring, IsOfRing, IsOfRing-at, IsOfRing-informed, IsOfRing-run, IsOfRing-same}
+use Rattle.lab_clients.specs.declared.client.LabClient.{LabClient}
+use Rattle.lab_clients.specs.OneClient.{CanRun, IsCardOfRing, number_of}
+use Rattle.lab_clients.specs.OneClientLaws.{CanRun-at, CanRun-informed, CanRun-same, HasRoom-informed, IsOfCard-ring, IsOfRing, IsOfRing-at, IsOfRing-informed, IsOfRing-run, IsOfRing-same}
 use Rattle.lab_clients.specs.declared.clients.LabClients.{LabClients}
 use Rattle.lab_clients.specs.AtStage.{AreAt, IsClientAt, IsClientIn, clients_of, places_of}
 use Rattle.lab_clients.specs.Steps.{AreOfCard, AreReady, HasTakenRoom, IsInformedBy, RunsAt, has_lines, sound_at}
@@ -39,7 +39,7 @@ count_by-none p x xs none = none-pass (p x) (count_by p xs) (sym (sum_by-cons (�
 
 module _ (ring : TableId) (key : Key) where
   -- then it is of a card of that ring
-  pub AreOfCard-ring : (c : Card) (ds : List LabClient) → IsCardOf ring key c → AreOfRing ring key ds → AreOfCard c ds
+  pub AreOfCard-ring : (c : Card) (ds : List LabClient) → IsCardOfRing ring key c → AreOfRing ring key ds → AreOfCard c ds
   AreOfCard-ring c ds card are = λ i d inside. IsOfCard-ring ring key c (slice_index_or ds i d) card (are i d inside)
 
   -- a step that keeps each client of the ring keeps all of them

@@ -9,10 +9,10 @@ use Rattle.lab_run.specs.Items.{no_sound}
 use Rattle.lab_run.specs.Phases.{is_client, ops_by}
 use Rattle.lab_card.specs.Meets.{IsSameCard}
 use Rattle.lab_actors.specs.Gates.{AsksGateAt}
-use Rattle.lab_client.specs.declared.client.LabClient.{LabClient}
-use Rattle.lab_client.specs.declared.open_client.OpenClient.{OpenClient}
-use Rattle.lab_client.specs.Clients.{CanRun, HasRoom, IsClientHeard, IsClientInformed, IsOfCard, IsSameBut, RunsLines, GoesOrRests, number_of, open_of, rows_of}
-use Rattle.lab_client.specs.OpenClients.{IsSameOpen}
+use Rattle.lab_clients.specs.declared.client.LabClient.{LabClient}
+use Rattle.lab_clients.specs.declared.open_client.OpenClient.{OpenClient}
+use Rattle.lab_clients.specs.OneClient.{CanRun, HasRoom, IsClientHeard, IsClientInformed, IsOfCard, IsSameBut, RunsLines, GoesOrRests, number_of, open_of, rows_of}
+use Rattle.lab_clients.specs.OpenClient.{IsSameOpen}
 
 -- the file of a number
 abbrev pub sound_at : List Sound → ℕ → Sound
@@ -91,6 +91,6 @@ AreSameFrom {G = G} from gates after =
     (i : ℕ) (g : G) → from ≤ i → slice_index_or after i g ≡ slice_index_or gates i g
 
 -- a client's rows were taken
-pub record HasClientRows (i : ℕ) (d e : LabClient) : Type 0 where
+pub record HasGivenRows (i : ℕ) (d e : LabClient) : Type 0 where
   pub none : rows_of e ≡ []
   pub same : IsSameBut d e

@@ -2,13 +2,13 @@
 ghost use Rattle.std.specs.Prelude.{◌≡◌, ◌<◌, ◌≤◌, All, length};
 ghost use Rattle.lab_lines.specs.declared.line.Line.{Line};
 ghost use Rattle.lab_run.specs.GateAsks.{AsksGate};
-ghost use Rattle.lab_actor.specs.ClientLines.{IsFew};
-ghost use Rattle.lab_client.specs.Clients.{RunsLines};
+ghost use Rattle.lab_clients.specs.Lines.{IsFew};
+ghost use Rattle.lab_clients.specs.OneClient.{RunsLines};
 ghost use Rattle.lab_clients.specs.Steps.{AreReady, AreSameFrom, IsReadyAt, RunsAt, sound_at};
 ghost use Rattle.lab_actors.specs.Walks.{AreEach};
 
+use crate::client::LabClient;
 use lab_actors::for_each_pair;
-use lab_client::LabClient;
 use lab_lines::Line;
 use mix_core::Gate;
 use std::thread::Threads;

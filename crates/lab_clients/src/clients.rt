@@ -1,5 +1,5 @@
 //! All clients of a script, with the places and channels that they hold.
-use lab_client::LabClient;
+use crate::client::LabClient;
 use lab_places::Places;
 
 /// The clients of a script in the lab, in the order of their lines, and the places and channels of the card that they hold.

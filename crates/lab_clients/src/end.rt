@@ -2,8 +2,8 @@
 ghost use Rattle.std.specs.Prelude.{◌≡◌, IfErr, IfOk, length};
 ghost use Rattle.lab_clients.specs.End.{AreNewClients};
 
+use crate::client::LabClient;
 use crate::clients::LabClients;
-use lab_client::LabClient;
 use lab_lines::Share;
 use lab_places::Places;
 use snd_base::{PcmError, Segment};
@@ -20,7 +20,7 @@ impl<'r> LabClients<'r> {
     ghost use Rattle.lab_run.specs.LabRun.{all_segments};
     ghost use Rattle.lab_run.specs.Rules.{AtPort};
     ghost use Rattle.lab_run.specs.Stage.{Session, first_stage};
-    ghost use Rattle.lab_actor.specs.Room.{HasSpace};
+    ghost use Rattle.lab_actors.specs.Room.{HasSpace};
     ghost use Rattle.lab_places.specs.Held.{IsSameCard, key_of_places, ring_of_places};
     ghost use Rattle.lab_clients.specs.AtStage.{AreAt, IsNewCardOf, clients_of, places_of};
     ghost use Rattle.lab_clients.specs.End.{HasEnded, IsPlacedAll, segments_by};

@@ -1,8 +1,8 @@
 //! Openings of clients, between two phases.
 use crate::clients::LabClients;
 use dmix_client::Client;
+use lab_actors::Opening;
 use lab_lines::{Actor, Answer, Op, Row};
-use lab_setup::Opening;
 use pcm_states::State;
 use snd_base::{Geometry, PcmError, Why};
 use std::alloc::Global;
@@ -16,7 +16,7 @@ impl LabClients<'_> {
     ghost use Rattle.lobby.specs.Loads.{PlayerStays};
     ghost use Rattle.lab_lines.specs.declared.line.Actor.TheVariants as actor;
     ghost use Rattle.lab_run.specs.Stage.{Session, Stage, after_open};
-    ghost use Rattle.lab_setup.specs.Usable.{IsUsable};
+    ghost use Rattle.lab_actors.specs.Usable.{IsUsable};
     ghost use Rattle.lab_places.specs.Held.{IsSameCard, key_of_places, next_place, ring_of_places};
     ghost use Rattle.lab_clients.specs.AtStage.{AreAfter, clients_of, places_of};
     ghost use Rattle.lab_clients.specs.Opening.{AreBeforeOpening, AreOfRun, HasKeptLastAt, IsMadeFor, open_at};

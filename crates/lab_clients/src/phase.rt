@@ -16,12 +16,12 @@ impl LabClients<'_> {
     ghost use Rattle.std.specs.Prelude.{◌≡◌, ◌++◌, ◌↔◌, ◌≤◌, All, [], IfErr, IsTrue, OnErr, OnOk, count_by, length, vec_capacity};
     ghost use Rattle.std.specs.List.{flat_map};
     ghost use Rattle.lab_lines.specs.declared.line.Line.{Line};
-    ghost use Rattle.lab_actor.specs.ClientLines.{IsFew};
-    ghost use Rattle.lab_actor.specs.Room.{HasSpace};
+    ghost use Rattle.lab_clients.specs.Lines.{IsFew};
+    ghost use Rattle.lab_actors.specs.Room.{HasSpace};
     ghost use Rattle.lab_card.specs.Meets.{IsSameCard};
-    ghost use Rattle.lab_client.specs.Clients.{rows_of};
+    ghost use Rattle.lab_clients.specs.OneClient.{rows_of};
     ghost use Rattle.lab_clients.specs.AtStage.{clients_of, places_of};
-    ghost use Rattle.lab_clients.specs.Steps.{AreOfCard, AreReady, AreSameFrom, HasClientRows, HasTakenRoom, IsHeardBy, IsInformedBy, IsSameWithRows, RunsAt, has_lines};
+    ghost use Rattle.lab_clients.specs.Steps.{AreOfCard, AreReady, AreSameFrom, HasGivenRows, HasTakenRoom, IsHeardBy, IsInformedBy, IsSameWithRows, RunsAt, has_lines};
     ghost use Rattle.lab_actors.specs.Walks.{AreEach};
 
     /// How many clients there are, open or not.
@@ -132,7 +132,7 @@ impl LabClients<'_> {
         ensures rows { rows.new.items
             ≡ rows.old.items ++ flat_map rows_of (clients_of self.old) }
         ensures room { vec_capacity rows.old ≤ vec_capacity rows.new }
-        ensures clients { AreEach HasClientRows 0 (clients_of self.old) (clients_of self.new) }
+        ensures clients { AreEach HasGivenRows 0 (clients_of self.old) (clients_of self.new) }
     {
         take_client_rows(rows, self.clients.as_mut_slice());
     }

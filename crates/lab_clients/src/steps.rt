@@ -3,16 +3,16 @@ ghost use Rattle.std.specs.Prelude.{◌≡◌, ◌++◌, ◌<◌, ◌≤◌, ℕ
 ghost use Rattle.std.specs.List.{flat_map};
 ghost use Rattle.wav_io.specs.Sound.{Sound};
 ghost use Rattle.lab_lines.specs.declared.line.Line.{Line};
-ghost use Rattle.lab_actor.specs.ClientLines.{IsFew};
-ghost use Rattle.lab_actor.specs.Room.{HasSpace};
+ghost use Rattle.lab_clients.specs.Lines.{IsFew};
+ghost use Rattle.lab_actors.specs.Room.{HasSpace};
 ghost use Rattle.lab_card.specs.Meets.{IsSameCard};
-ghost use Rattle.lab_client.specs.declared.client.LabClient.{LabClient};
-ghost use Rattle.lab_client.specs.Clients.{HasRoom, rows_of};
-ghost use Rattle.lab_clients.specs.Steps.{AreOfCard, AreReady, AreSameFrom, HasClientRows, HasTakenRoom, IsHeardBy, IsInformedBy, IsSameWithRows, RunsAt, has_lines};
+ghost use Rattle.lab_clients.specs.declared.client.LabClient.{LabClient};
+ghost use Rattle.lab_clients.specs.OneClient.{HasRoom, rows_of};
+ghost use Rattle.lab_clients.specs.Steps.{AreOfCard, AreReady, AreSameFrom, HasGivenRows, HasTakenRoom, IsHeardBy, IsInformedBy, IsSameWithRows, RunsAt, has_lines};
 ghost use Rattle.lab_actors.specs.Walks.{AreEach};
 
+use crate::client::LabClient;
 use card_sim::Card;
-use lab_client::LabClient;
 use lab_lines::{Line, Op, Row};
 use mix_core::Gate;
 use snd_base::PcmError;
@@ -116,7 +116,7 @@ pub(crate) fn take_client_rows(rows: &mut Vec<Row>, clients: &mut [LabClient<'_>
     requires { HasSpace (length (flat_map rows_of clients.old)) rows.old }
     ensures rows { rows.new.items ≡ rows.old.items ++ flat_map rows_of clients.old }
     ensures room { vec_capacity rows.old ≤ vec_capacity rows.new }
-    ensures clients { AreEach HasClientRows 0 clients.old clients.new }
+    ensures clients { AreEach HasGivenRows 0 clients.old clients.new }
 {
     for index in 0..clients.len() {
         clients[index].take_rows(rows);

@@ -25,11 +25,11 @@ use Rattle.lab_card.specs.Meets.{IsSameCard}
 use Rattle.lab_card.specs.Moves.{frame_of_card, seat_of_card}
 use Rattle.lab_clients.specs.AtStage as clients
 use Rattle.lab_clients.specs.Phase.{ClientsRest, clients-still}
-use Rattle.lab_reader.specs.declared.reader.LabReader.{LabReader}
-use Rattle.lab_reader.specs.Readers.{number_of, ops_of}
+use Rattle.lab_readers.specs.declared.reader.LabReader.{LabReader}
+use Rattle.lab_readers.specs.OneReader.{number_of, ops_of}
 use Rattle.lab_readers.specs.AtStage as readers
 use Rattle.lab_readers.specs.Idle.{AreStill, readers-still}
-use Rattle.lab_readers.specs.Steps.{is_busy, is_some_op}
+use Rattle.lab_readers.specs.Steps.{has_lines, is_some_op}
 use Rattle.lab_phase.specs.declared.lab.Lab.{Lab}
 use Rattle.lab_phase.specs.Alone.{ops_by-alone_client, ops_by-alone_reader}
 use Rattle.lab_phase.specs.AtStage.{AreActorsOf, IsAtStage, IsNextItem, IsSameScript, capture_of, played_by, played_of, session_of}
@@ -43,7 +43,7 @@ abbrev busy_ops : List Op → ℕ
 busy_ops ops = cond (is_some_op ops) 1 0
 
 -- no reader of a list is busy where none of them has a line
-idle-count : (lines : List Line) → ((number : ℕ) → ops_by (is_reader number) lines ≡ []) → (rs : List LabReader) → count_by (is_busy lines) rs ≡ 0
+idle-count : (lines : List Line) → ((number : ℕ) → ops_by (is_reader number) lines ≡ []) → (rs : List LabReader) → count_by (has_lines lines) rs ≡ 0
 idle-count lines none [] = refl
 idle-count lines none (r ∷ rs) =
     let rest = idle-count lines none rs in

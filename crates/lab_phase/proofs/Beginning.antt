@@ -24,7 +24,7 @@ use Rattle.lab_run.specs.Stage.{Session, first_stage}
 use Rattle.lab_card.specs.declared.card.CardActor.{CardActor}
 use Rattle.lab_card.specs.Moves.{frame_of_card, geometry_of_card, is_gone, seat_of_card}
 use Rattle.lab_card.specs.Rests.{Rests-new}
-use Rattle.lab_reader.specs.RecordedLaws.{IsCapturedUpTo-new}
+use Rattle.lab_readers.specs.RecordedLaws.{IsCapturedUpTo-new}
 use Rattle.lab_phase.specs.CardStage.{IsCardIn, PlaysAll-new, first_word, has_readers}
 
 -- a card over new rings, that did no line yet and stores where the session has a reader, is the card of the first stage

@@ -11,8 +11,8 @@ use Rattle.lab_lines.specs.Script.{first_frame}
 use Rattle.lab_run.specs.Items.{no_sound}
 use Rattle.lab_run.specs.Openings.{AreClientOpenings, IsRingOf}
 use Rattle.lab_run.specs.Stage.{Session, Setup}
-use Rattle.lab_setup.specs.Sessions.{AreUsable}
-use Rattle.lab_setup.specs.Usable.{IsUsable}
+use Rattle.lab_actors.specs.Sessions.{AreUsable}
+use Rattle.lab_actors.specs.Usable.{IsUsable}
 use Rattle.lab_clients.specs.AtStage.{AllFitCard}
 
 -- a client that has an opening has as many bindings as its file has channels

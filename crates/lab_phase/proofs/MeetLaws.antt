@@ -21,17 +21,17 @@ use Rattle.lab_card.specs.MeetLaws.{frame-same, geometry-same}
 use Rattle.lab_card.specs.Meets.{IsSameCard}
 use Rattle.lab_card.specs.Moves.{frame_of_card, geometry_of_card, seat_of_card}
 use Rattle.lab_card.specs.Room.{FitsRing, HasRoom}
-use Rattle.lab_client.specs.Keeps.{IsOfRing-card}
+use Rattle.lab_clients.specs.OneClientLaws.{IsOfRing-card}
 use Rattle.lab_clients.specs.declared.clients.LabClients.{LabClients}
 use Rattle.lab_clients.specs.AtStage.{clients_of}
 use Rattle.lab_clients.specs.StepLaws.{AreOfCard-ring, AreOfRing, AreOfRing-informed, AreOfRing-run}
 use Rattle.lab_clients.specs.Steps as clients
 use Rattle.lab_clients.specs.Steps.{AreOfCard}
-use Rattle.lab_reader.specs.OfCards.{IsOf-moved}
-use Rattle.lab_reader.specs.Readers.{IsOf}
+use Rattle.lab_readers.specs.OneReaderLaws.{IsOfCard-moved}
+use Rattle.lab_readers.specs.OneReader.{IsOfCard}
 use Rattle.lab_readers.specs.declared.readers.LabReaders.{LabReaders}
 use Rattle.lab_readers.specs.AtStage.{readers_of}
-use Rattle.lab_readers.specs.Ready.{AreOf-informed, AreOf-ran, AreOf-same}
+use Rattle.lab_readers.specs.StepLaws.{AreOf-informed, AreOf-ran, AreOf-same}
 use Rattle.lab_readers.specs.Steps as readers
 use Rattle.lab_readers.specs.Steps.{EachReader}
 use Rattle.lab_phase.specs.declared.steps.Asked.{Asked}
@@ -103,14 +103,14 @@ AreOfCard-ran G gates after asked a b d cs ds es same card informed run are =
 
 -- so are the readers, also once it met others
 pub AreOf-lines : {T : Type 0} (G : gate.Ghosts T) (gates after : List T) (asked : Asks) (a b d : CardActor) (between heard : Card) (rs ss ts : LabReaders) → IsSameCard a.card b.card
-    → CardHasRun asked b d → IsSameCard d.card heard → EachReader (readers.IsInformedBy between) rs ss → ReadersHaveRun G gates after asked ss ts → All (IsOf a.card) (readers_of rs)
-    → All (IsOf heard) (readers_of ts)
+    → CardHasRun asked b d → IsSameCard d.card heard → EachReader (readers.IsInformedBy between) rs ss → ReadersHaveRun G gates after asked ss ts → All (IsOfCard a.card) (readers_of rs)
+    → All (IsOfCard heard) (readers_of ts)
 AreOf-lines G gates after asked a b d between heard rs ss ts same card hears informed run are =
-    let met : All (IsOf a.card) (readers_of ss) = AreOf-informed a.card between rs ss informed are in
-    let here : All (IsOf b.card) (readers_of ss) = AreOf-same a.card b.card (readers_of ss) same met in
-    let ran : All (IsOf b.card) (readers_of ts) = AreOf-ran G gates after b.card asked.phase asked.lines ss ts run here in
-    let moved : All (IsOf d.card) (readers_of ts) =
-    λ k r inside. IsOf-moved b.card d.card (slice_index_or (readers_of ts) k r) _ _ _ _ _ card.did.moves (ran k r inside) in
+    let met : All (IsOfCard a.card) (readers_of ss) = AreOf-informed a.card between rs ss informed are in
+    let here : All (IsOfCard b.card) (readers_of ss) = AreOf-same a.card b.card (readers_of ss) same met in
+    let ran : All (IsOfCard b.card) (readers_of ts) = AreOf-ran G gates after b.card asked.phase asked.lines ss ts run here in
+    let moved : All (IsOfCard d.card) (readers_of ts) =
+    λ k r inside. IsOfCard-moved b.card d.card (slice_index_or (readers_of ts) k r) _ _ _ _ _ card.did.moves (ran k r inside) in
     AreOf-same d.card heard (readers_of ts) hears moved
 
 -- ---- the gates of clients, and those of readers after them

@@ -12,7 +12,7 @@ use Rattle.lab_run.specs.Openings.{AreClientOpenings, AreReaderOpenings}
 use Rattle.lab_run.specs.Stage.{Setup, Stage}
 use Rattle.lab_actors.specs.Walks.{AreEach-length}
 use Rattle.lab_places.specs.Held.{key_of_places}
-use Rattle.lab_setup.specs.Usable.{IsUsable}
+use Rattle.lab_actors.specs.Usable.{IsUsable}
 use Rattle.lab_clients.specs.AtStage as clients
 use Rattle.lab_readers.specs.AtStage as readers
 use Rattle.lab_phase.specs.declared.lab.Lab.{Lab}

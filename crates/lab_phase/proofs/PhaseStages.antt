@@ -29,10 +29,10 @@ use Rattle.lab_card.specs.declared.card.CardActor.{CardActor}
 use Rattle.lab_card.specs.Moves.{seat_of_card}
 use Rattle.lab_card.specs.Room.{FitsRing}
 use Rattle.lab_places.specs.Held.{key_of_places, ring_of_places}
-use Rattle.lab_client.specs.Clients as client
+use Rattle.lab_clients.specs.OneClient as client
 use Rattle.lab_clients.specs.AtStage as clients
 use Rattle.lab_clients.specs.declared.clients.LabClients.{LabClients}
-use Rattle.lab_reader.specs.Readers as reader
+use Rattle.lab_readers.specs.OneReader as reader
 use Rattle.lab_readers.specs.AtStage as readers
 use Rattle.lab_readers.specs.declared.readers.LabReaders.{LabReaders}
 use Rattle.lab_phase.specs.declared.lab.Lab.{Lab}

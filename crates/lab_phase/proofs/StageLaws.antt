@@ -35,11 +35,11 @@ use Rattle.lab_clients.specs.AtStage.{IsClientAt, clients_of, places_of}
 use Rattle.lab_clients.specs.StepLaws.{AreOfCard-ring, AreOfRing-at, AreOfRing-room, AreReady-at}
 use Rattle.lab_clients.specs.Steps as clients
 use Rattle.lab_clients.specs.Steps.{AreOfCard, AreReady}
-use Rattle.lab_reader.specs.OfCards.{IsOver}
-use Rattle.lab_reader.specs.Readers.{IsOf}
+use Rattle.lab_readers.specs.OneReaderLaws.{IsOver}
+use Rattle.lab_readers.specs.OneReader.{IsOfCard}
 use Rattle.lab_readers.specs.declared.readers.LabReaders.{LabReaders}
 use Rattle.lab_readers.specs.AtStage.{IsReaderAt, readers_of, ring_of, spare_of}
-use Rattle.lab_readers.specs.Ready.{AreOf-at, AreOf-room, AreReady-informed}
+use Rattle.lab_readers.specs.StepLaws.{AreOf-at, AreOf-room, AreReady-informed}
 use Rattle.lab_readers.specs.Steps as readers
 use Rattle.lab_phase.specs.declared.steps.Asked.{Asked}
 use Rattle.lab_phase.specs.Asked.{CanMeet}
@@ -79,7 +79,7 @@ module _ (session : Session) (capture : Option Sound) (stage : Stage) (gates cli
     of_geometry = ap (λ (c : Card). writer_geometry (writer_of c)) room.card ∙ (sym are.card_is.rings.snoop_geometry ∙ are.readers_are.card.ring);
   }
 
-  readers-of_card : All (IsOf a.card) (readers_of rs)
+  readers-of_card : All (IsOfCard a.card) (readers_of rs)
   readers-of_card = AreOf-room a.card asked.lines.now rs0 rs room.readers (AreOf-at session capture stage.readers rs0 a.card are.readers_are over)
 
   client-count : length (clients_of cs) ≡ length stage.clients

@@ -5,8 +5,8 @@ use Rattle.card_sim.specs.declared.card.Card.{Card}
 use Rattle.lab_lines.specs.declared.line.Line.{Line}
 use Rattle.lab_lines.specs.Script.{is_of_card}
 use Rattle.lab_run.specs.Phases.{ops_by}
-use Rattle.lab_actor.specs.ClientLines.{IsFew}
-use Rattle.lab_actor.specs.ReaderLines.{IsFewRead}
+use Rattle.lab_clients.specs.Lines.{IsFew}
+use Rattle.lab_readers.specs.Lines.{IsFewRead}
 use Rattle.lab_card.specs.declared.card.CardActor.{CardActor}
 use Rattle.lab_card.specs.CardLines.{frames_by}
 use Rattle.lab_card.specs.Room.{FitsRing, HasRoom}
@@ -14,11 +14,11 @@ use Rattle.lab_clients.specs.declared.clients.LabClients.{LabClients}
 use Rattle.lab_clients.specs.AtStage.{clients_of}
 use Rattle.lab_actors.specs.Walks.{AreEach}
 use Rattle.lab_clients.specs.Steps.{AreOfCard, AreReady, IsInformedBy, has_lines}
-use Rattle.lab_reader.specs.Readers.{IsOf}
+use Rattle.lab_readers.specs.OneReader.{IsOfCard}
 use Rattle.lab_readers.specs.declared.readers.LabReaders.{LabReaders}
 use Rattle.lab_readers.specs.AtStage.{readers_of}
 use Rattle.lab_readers.specs.Steps as readers
-use Rattle.lab_readers.specs.Steps.{EachReader, IsReady, is_busy}
+use Rattle.lab_readers.specs.Steps.{EachReader, IsReady, has_lines as reader_has_lines}
 use Rattle.lab_phase.specs.declared.steps.Asked.{Asked}
 use Rattle.lab_phase.specs.PhaseSteps.{Asks}
 
@@ -54,7 +54,7 @@ pub record CanMeet (gates : ℕ) (asked : Asked) (a : CardActor) (cs : LabClient
     (rs : LabReaders) : Type 0 where
   pub card : CardCanRun asked.lines.now a
   pub clients_of_card : AreOfCard a.card (clients_of cs)
-  pub readers_of_card : All (IsOf a.card) (readers_of rs)
+  pub readers_of_card : All (IsOfCard a.card) (readers_of rs)
   pub few_clients : length (clients_of cs) ≤ 64
   pub few_readers : 64 + length (readers_of rs) ≤ gates
   pub files : length asked.wavs.now ≡ length (clients_of cs)
@@ -70,4 +70,4 @@ pub record CanMeet (gates : ℕ) (asked : Asked) (a : CardActor) (cs : LabClient
 abbrev pub busy_in : List Line → LabClients → LabReaders → ℕ
 busy_in lines cs rs =
     (if nat_lt 0 (length (ops_by is_of_card lines)) then 1 else 0)
-    + count_by (has_lines lines) (clients_of cs) + count_by (is_busy lines) (readers_of rs)
+    + count_by (has_lines lines) (clients_of cs) + count_by (reader_has_lines lines) (readers_of rs)

@@ -18,7 +18,7 @@ use Rattle.lab_run.specs.Stage.{Session, Stage, after_close, after_open}
 use Rattle.lab_card.specs.declared.card.CardActor.{CardActor}
 use Rattle.lab_card.specs.Moves.{seat_of_card}
 use Rattle.lab_places.specs.Held.{key_of_places, ring_of_places}
-use Rattle.lab_setup.specs.Sessions.{AreUsable, session_with}
+use Rattle.lab_actors.specs.Sessions.{AreUsable, session_with}
 use Rattle.lab_clients.specs.AtStage as clients
 use Rattle.lab_clients.specs.declared.clients.LabClients.{LabClients}
 use Rattle.lab_readers.specs.AtStage as readers

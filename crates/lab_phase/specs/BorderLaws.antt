@@ -14,8 +14,8 @@ use Rattle.lab_run.specs.Items.{Held, ItemMay, held_of}
 use Rattle.lab_run.specs.ScriptWords.{IsReached}
 use Rattle.lab_run.specs.Stage.{Session, Stage}
 use Rattle.lab_card.specs.declared.card.CardActor.{CardActor}
-use Rattle.lab_setup.specs.declared.session.Openings.{Openings}
-use Rattle.lab_setup.specs.Sessions.{AreUsable, session_with}
+use Rattle.lab_actors.specs.declared.session.Openings.{Openings}
+use Rattle.lab_actors.specs.Sessions.{AreUsable, session_with}
 use Rattle.lab_places.specs.Held.{IsSameCard}
 use Rattle.lab_clients.specs.AtStage as clients
 use Rattle.lab_clients.specs.declared.clients.LabClients.{LabClients}

@@ -31,8 +31,8 @@ use Rattle.lab_card.specs.Moves.{frame_of_card, frames_since_first, geometry_of_
 use Rattle.lab_card.specs.MovesLaws.{CardMoves-geometry, frame-least}
 use Rattle.lab_card.specs.Rests.{Rests, Rests-after}
 use Rattle.lab_card.specs.Stages.{IsCardAt, IsCardAt-after, IsCardAt-same}
-use Rattle.lab_reader.specs.Recorded.{IsCapturedUpTo}
-use Rattle.lab_reader.specs.RecordedLaws.{IsCapturedUpTo-part, IsCapturedUpTo-same}
+use Rattle.lab_readers.specs.Recorded.{IsCapturedUpTo}
+use Rattle.lab_readers.specs.RecordedLaws.{IsCapturedUpTo-part, IsCapturedUpTo-same}
 use Rattle.lab_phase.specs.Borders.{IsSameAtCard}
 
 -- the first word of the sum ring of a shape

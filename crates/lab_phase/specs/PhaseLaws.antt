@@ -28,13 +28,13 @@ use Rattle.lab_card.specs.Meets.{IsSameCard}
 use Rattle.lab_card.specs.Moves.{frame_of_card}
 use Rattle.lab_card.specs.Stages.{IsCardAt-same}
 use Rattle.lab_places.specs.Held.{key_of_places, ring_of_places}
-use Rattle.lab_client.specs.Clients as client
+use Rattle.lab_clients.specs.OneClient as client
 use Rattle.lab_clients.specs.declared.clients.LabClients.{LabClients}
 use Rattle.lab_clients.specs.AtStage as clients
 use Rattle.lab_clients.specs.Phase.{CardInPhase, ClientSteps, ClientsPhase, PhaseLaws, clients-phase, length-client_rows}
-use Rattle.lab_reader.specs.OfCards.{IsOver}
-use Rattle.lab_reader.specs.Readers as reader
-use Rattle.lab_reader.specs.RecordedLaws.{IsCapturedUpTo-same}
+use Rattle.lab_readers.specs.OneReaderLaws.{IsOver}
+use Rattle.lab_readers.specs.OneReader as reader
+use Rattle.lab_readers.specs.RecordedLaws.{IsCapturedUpTo-same}
 use Rattle.lab_readers.specs.declared.readers.LabReaders.{LabReaders}
 use Rattle.lab_readers.specs.AtStage as readers
 use Rattle.lab_readers.specs.Phase.{CardPhase-between, ReaderPartsAreRuns, ReadersMay, ReadersSteps, length-reader_rows, readers-phase}

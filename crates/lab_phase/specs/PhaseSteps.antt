@@ -15,11 +15,11 @@ use Rattle.lab_card.specs.declared.card.CardActor.{CardActor}
 use Rattle.lab_card.specs.CardLines.{CardPart, frames_by}
 use Rattle.lab_card.specs.Meets.{IsSameCard}
 use Rattle.lab_card.specs.Room as card_room
-use Rattle.lab_client.specs.Clients as client
+use Rattle.lab_clients.specs.OneClient as client
 use Rattle.lab_clients.specs.declared.clients.LabClients.{LabClients}
 use Rattle.lab_clients.specs.AtStage.{clients_of, places_of}
 use Rattle.lab_clients.specs.Steps as clients
-use Rattle.lab_reader.specs.Readers as reader
+use Rattle.lab_readers.specs.OneReader as reader
 use Rattle.lab_readers.specs.declared.readers.LabReaders.{LabReaders}
 use Rattle.lab_readers.specs.AtStage.{readers_of}
 use Rattle.lab_readers.specs.Steps as readers
@@ -56,7 +56,7 @@ pub record AreSameButRoom (a b : CardActor) (cs ds : LabClients)
   pub card : IsSameButRoom a b
   pub clients : AreEach clients.IsSameWithRows 0 (clients_of cs) (clients_of ds)
   pub places : places_of ds ≡ places_of cs
-  pub readers : EachReader readers.HasKept rs ss
+  pub readers : EachReader readers.IsSameWithRows rs ss
 
 pub AreSameButRoom-card : (a b : CardActor) (cs : LabClients) (rs : LabReaders) → IsSameButRoom a b
     → AreSameButRoom a b cs cs rs rs
@@ -64,7 +64,7 @@ AreSameButRoom-card a b cs rs same = record {
   card = same;
   clients = AreEach-same clients.IsSameWithRows 0 (clients_of cs) clients.IsSameWithRows-none;
   places = refl;
-  readers = record { spare = refl; each = AreEach-same readers.HasKept 0 (readers_of rs) readers.HasKept-none };
+  readers = record { spare = refl; each = AreEach-same readers.IsSameWithRows 0 (readers_of rs) readers.IsSameWithRows-none };
 }
 
 -- the card did its lines; the clients, and the readers, did theirs, each with its gate
@@ -80,7 +80,7 @@ pub record ClientsHaveRun {T : Type 0} (G : gate.Ghosts T) (gates after : List T
 abbrev pub ReadersHaveRun : {T : Type 0} → gate.Ghosts T → List T → List T → Asks
     → LabReaders → LabReaders → Type 0
 ReadersHaveRun G gates after asked rs ss =
-    EachReader (readers.RunsBehind G gates after asked.phase asked.lines) rs ss
+    EachReader (readers.RunsAt G gates after asked.phase asked.lines) rs ss
 
 -- all did their lines
 pub record HaveRun {T : Type 0} (G : gate.Ghosts T) (near near_after far far_after : List T)
@@ -146,9 +146,9 @@ pub record HaveGivenRows (rows after : List Row) (a b : CardActor) (cs ds : LabC
   pub card : b.card ≡ a.card
   pub played : b.played ≡ a.played
   pub none : b.rows.items ≡ []
-  pub clients : AreEach clients.HasClientRows 0 (clients_of cs) (clients_of ds)
+  pub clients : AreEach clients.HasGivenRows 0 (clients_of cs) (clients_of ds)
   pub places : places_of ds ≡ places_of cs
-  pub readers : EachReader readers.HasRowsTaken rs ss
+  pub readers : EachReader readers.HasGivenRows rs ss
 
 -- so many they are then
 pub length-given : (rows after : List Row) (a b : CardActor) (cs ds : LabClients) (rs ss : LabReaders) → HaveGivenRows rows after a b cs ds rs ss

@@ -1,7 +1,7 @@
 -- The room for what the end of a run leaves.
 use Rattle.std.specs.Prelude.{◌≡◌, ℕ, ◌≤◌, []}
 use Rattle.std.proofs.Common.{arith}
-use Rattle.lab_actor.specs.Room.{HasSpace}
+use Rattle.lab_actors.specs.Room.{HasSpace}
 use Rattle.lab_phase.specs.declared.report_room.ReportRoom.{ReportRoom}
 
 -- the lists are empty, and have room for as many segments and runs as a report of so many rows may have, and for the samples of so many readers

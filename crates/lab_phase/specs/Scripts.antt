@@ -17,8 +17,8 @@ use Rattle.lab_lines.specs.Script.{frames_played, phases_of, position_after_phas
 use Rattle.lab_run.specs.Phases.{played_in}
 use Rattle.lab_run.specs.ScriptWords.{IsReached, PhasesAreOfScripts}
 use Rattle.lab_run.specs.Stage.{Session, Stage}
-use Rattle.lab_actor.specs.ClientLines.{IsFew}
-use Rattle.lab_actor.specs.ReaderLines.{IsFewRead}
+use Rattle.lab_clients.specs.Lines.{IsFew}
+use Rattle.lab_readers.specs.Lines.{IsFewRead}
 
 -- what holds of each item of a list holds of one in the middle
 All-middle : {X : Type 0} (P : X → Type 0) (xs : List X) (y : X) (ys : List X) → All P (xs ++ y ∷ ys) → P y

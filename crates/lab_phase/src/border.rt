@@ -9,7 +9,7 @@ impl<'r> Lab<'r, '_> {
     ghost use Rattle.lab_lines.specs.declared.line.Actor.TheVariants as whose;
     ghost use Rattle.lab_lines.specs.Limits.{IsBorder};
     ghost use Rattle.lab_run.specs.Stage.{after_close, after_open};
-    ghost use Rattle.lab_actor.specs.Room.{HasSpace};
+    ghost use Rattle.lab_actors.specs.Room.{HasSpace};
     ghost use Rattle.lab_phase.specs.AtStage.{AddsRow, DoesItem, DoesRow, HasEndRoom, IsNextItem, IsBorderItem, IsLab, border_after, played_of, session_of};
     ghost use Rattle.lab_phase.specs.PhaseRuns.{StaysAtStage};
 

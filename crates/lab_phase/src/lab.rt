@@ -4,11 +4,11 @@ mod end;
 use crate::report_room::ReportRoom;
 use card_player::CardPlayer;
 use card_sim::Card;
+use lab_actors::{Openings, openings_of};
 use lab_card::CardActor;
 use lab_clients::LabClients;
 use lab_lines::{Row, Script};
 use lab_readers::LabReaders;
-use lab_setup::{Openings, openings_of};
 use snd_base::PcmError;
 use snoop_table::{ReaderSeat, WriterSeat};
 use std::alloc::Global;
@@ -66,9 +66,8 @@ impl<'r, 's> Lab<'r, 's> {
     ghost use Rattle.lab_run.specs.Openings.{IsRingOf};
     ghost use Rattle.lab_run.specs.Reader.{Reader};
     ghost use Rattle.lab_run.specs.Rules.{AtPort};
-    ghost use Rattle.lab_run.specs.Stage.{first_stage};
+    ghost use Rattle.lab_run.specs.Stage.{first_stage, Stage};
     ghost use Rattle.lab_run.specs.LabRun.{recorded_by};
-    ghost use Rattle.lab_run.specs.Stage.{Stage};
     ghost use Rattle.lab_readers.specs.AtStage.{readers_of};
     ghost use Rattle.lab_phase.specs.AtStage.{IsAtStage, IsOfScript, capture_of, items_done, played_of, readers_in, rows_of, session_of};
 

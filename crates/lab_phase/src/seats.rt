@@ -5,7 +5,7 @@ ghost use Rattle.sum_table.specs.Joins.{OneRing};
 ghost use Rattle.sum_table.specs.Players.{player_key, player_ring};
 ghost use Rattle.lab_lines.specs.declared.line.Actor.TheVariants as whose;
 ghost use Rattle.lab_run.specs.Stage.{Session, Stage, after_open};
-ghost use Rattle.lab_setup.specs.Usable.{IsUsable};
+ghost use Rattle.lab_actors.specs.Usable.{IsUsable};
 ghost use Rattle.lab_card.specs.Moves.{frame_of_card, seat_of_card};
 ghost use Rattle.lab_places.specs.Held.{IsSameCard, key_of_places, ring_of_places};
 ghost use Rattle.lab_clients.specs.AtStage.{AreAfter, clients_of, places_of};
@@ -16,10 +16,10 @@ ghost use Rattle.lab_phase.specs.CardStage.{IsSameActor};
 
 use card_player::CardPlayer;
 use card_sim::Card;
+use lab_actors::Opening;
 use lab_card::CardActor;
 use lab_clients::LabClients;
 use lab_lines::Row;
-use lab_setup::Opening;
 use snd_base::PcmError;
 use std::alloc::Global;
 

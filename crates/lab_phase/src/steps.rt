@@ -3,7 +3,7 @@ ghost use Rattle.std.specs.Prelude.{◌≡◌, ◌≤◌, ◌++◌, IfErr, OnErr
 ghost use Rattle.std.specs.Thread.{IsSend, IsSync};
 ghost use Rattle.lab_lines.specs.Script.{is_of_card};
 ghost use Rattle.lab_run.specs.Phases.{ops_by};
-ghost use Rattle.lab_actor.specs.Room.{HasSpace};
+ghost use Rattle.lab_actors.specs.Room.{HasSpace};
 ghost use Rattle.lab_card.specs.Room.{FitsRing};
 ghost use Rattle.lab_phase.specs.Asked.{CardCanRun, ClientsCanRun, CanMeet, ReadersCanRun, asks_of, busy_in};
 ghost use Rattle.lab_phase.specs.PhaseSteps.{AreSameButRoom, CardHasRun, ClientsHaveRun, HaveGivenRows, HaveMet, HaveRoom, HaveRun, ReadersHaveRun, rows_by};

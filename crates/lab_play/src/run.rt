@@ -23,12 +23,12 @@ ghost use Rattle.lab_play.specs.Stops.{rises};
 
 use crate::items::do_items;
 use crate::samples::samples_are_of_16_bits;
+use lab_actors::ring_of;
 use lab_input::Input;
 use lab_lines::Script;
 use lab_output::{Outputs, outputs_of};
 use lab_phase::{Lab, Outcome};
 use lab_run::one_run;
-use lab_setup::ring_of;
 use lab_shelf::{Shelf, Sink};
 use lab_stop::Stop;
 use mix_core::Gate;

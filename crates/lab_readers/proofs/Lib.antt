@@ -1,1 +1,9 @@
-mod Openings
+mod Answered
+mod AskedFrames
+mod CallProgress
+mod Called
+mod OpeningLaws
+mod Params
+mod PartLaws
+mod Rooms
+mod RunLists

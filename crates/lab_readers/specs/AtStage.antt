@@ -13,12 +13,12 @@ use Rattle.lab_run.specs.LabRun.{bindings_of}
 use Rattle.lab_run.specs.Reader.{Reader}
 use Rattle.lab_run.specs.Rules.{AtPort}
 use Rattle.lab_run.specs.Stage.{Session, Stage}
-use Rattle.lab_setup.specs.Sessions.{AreUsable}
+use Rattle.lab_actors.specs.Sessions.{AreUsable}
 use Rattle.lab_actors.specs.Gates.{AreCounted}
 use Rattle.lab_actors.specs.Walks.{AreEach}
-use Rattle.lab_reader.specs.declared.reader.LabReader.{LabReader}
-use Rattle.lab_reader.specs.Readers.{IsAt, OnSeat, number_of, reader_in, rows_of, seat_of}
-use Rattle.lab_reader.specs.Recorded.{IsRecorded}
+use Rattle.lab_readers.specs.declared.reader.LabReader.{LabReader}
+use Rattle.lab_readers.specs.OneReader.{IsAt, OnSeat, number_of, reader_in, rows_of, seat_of}
+use Rattle.lab_readers.specs.Recorded.{IsRecorded}
 use Rattle.lab_readers.specs.declared.readers.LabReaders.{LabReaders}
 
 -- the readers, in the order of their lines, and the seat from which theirs are split

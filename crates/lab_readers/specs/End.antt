@@ -14,9 +14,9 @@ use Rattle.lab_run.specs.Reader.{Reader}
 use Rattle.lab_run.specs.Rules.{AtPort}
 use Rattle.lab_run.specs.Stage.{Session}
 use Rattle.lab_actors.specs.Walks.{AreEach, AreEach-at}
-use Rattle.lab_reader.specs.declared.reader.LabReader.{LabReader}
-use Rattle.lab_reader.specs.Readers.{actor_of, number_of, reader_in}
-use Rattle.lab_reader.specs.Recorded.{recorded-by}
+use Rattle.lab_readers.specs.declared.reader.LabReader.{LabReader}
+use Rattle.lab_readers.specs.OneReader.{actor_of, number_of, reader_in}
+use Rattle.lab_readers.specs.Recorded.{recorded-by}
 use Rattle.lab_readers.specs.declared.readers.LabReaders.{LabReaders}
 use Rattle.lab_readers.specs.AtStage.{AreAt, IsReaderAt, readers_of, spare_of}
 

@@ -13,11 +13,11 @@ use Rattle.lab_run.specs.Reader.{Reader}
 use Rattle.lab_run.specs.Rules.{AtPort}
 use Rattle.lab_run.specs.Stage.{Session, Stage}
 use Rattle.lab_actors.specs.Walks.{AreEach}
-use Rattle.lab_reader.specs.declared.reader.LabReader.{LabReader}
-use Rattle.lab_reader.specs.Readers.{ops_of}
+use Rattle.lab_readers.specs.declared.reader.LabReader.{LabReader}
+use Rattle.lab_readers.specs.OneReader.{ops_of}
 use Rattle.lab_readers.specs.declared.readers.LabReaders.{LabReaders}
 use Rattle.lab_readers.specs.AtStage.{AreAt, IsReaderAt, readers_of, spare_of}
-use Rattle.lab_readers.specs.Steps.{is_busy, is_some_op}
+use Rattle.lab_readers.specs.Steps.{has_lines, is_some_op}
 
 -- readers do nothing in a phase, and none of them was stopped before it
 pub record AreStill (session : Session) (stage : Stage) (lines : List Line)
@@ -31,12 +31,12 @@ abbrev AreIdle : List Line → List LabReader → Type 0
 AreIdle lines [] = Unit {0}
 AreIdle lines (r ∷ rs) = (ops_of r lines ≡ []) × AreIdle lines rs
 
-AreIdle-none : (lines : List Line) (rs : List LabReader) → count_by (is_busy lines) rs ≡ 0 → AreIdle lines rs
+AreIdle-none : (lines : List Line) (rs : List LabReader) → count_by (has_lines lines) rs ≡ 0 → AreIdle lines rs
 AreIdle-none lines [] none = tt
 AreIdle-none lines (r ∷ rs) none =
-    by_ops (ops_of r lines) refl (sym (sum_by-cons (λ (s : LabReader). cond (is_busy lines s) 1 0) r rs) ∙ none) (AreIdle-none lines rs)
+    by_ops (ops_of r lines) refl (sym (sum_by-cons (λ (s : LabReader). cond (has_lines lines s) 1 0) r rs) ∙ none) (AreIdle-none lines rs)
   where
-    by_ops : (ops : List Op) → ops_of r lines ≡ ops → cond (is_some_op ops) 1 0 + count_by (is_busy lines) rs ≡ 0 → (count_by (is_busy lines) rs ≡ 0 → AreIdle lines rs)
+    by_ops : (ops : List Op) → ops_of r lines ≡ ops → cond (is_some_op ops) 1 0 + count_by (has_lines lines) rs ≡ 0 → (count_by (has_lines lines) rs ≡ 0 → AreIdle lines rs)
         → (ops_of r lines ≡ []) × AreIdle lines rs
     by_ops [] is none_busy others = (is, others (omega (arith, none_busy)))
     by_ops (asked ∷ more) is none_busy others = absurd (omega (arith, none_busy))
@@ -74,7 +74,7 @@ reaped-still session capture spare number (r ∷ rs) [] are = absurd are
 
 -- Where none of the readers has a line in a phase they may stay as they are, with no row, and none is reaped.
 pub readers-still : (session : Session) (stage : Stage) (capture : Option Sound) (lines : List Line) (xs : List (AtPort × Reader)) (rs : LabReaders) → AreAt session capture xs rs
-    → count_by (is_busy lines) (readers_of rs) ≡ 0 → AreStill session stage lines xs
+    → count_by (has_lines lines) (readers_of rs) ≡ 0 → AreStill session stage lines xs
 readers-still session stage capture lines xs rs are none = record {
   may = may-still session stage capture (spare_of rs) lines 0 (readers_of rs) xs are.each (AreIdle-none lines (readers_of rs) none);
   reaped = reaped-still session capture (spare_of rs) 0 (readers_of rs) xs are.each;

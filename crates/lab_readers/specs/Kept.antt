@@ -14,17 +14,17 @@ use Rattle.lab_run.specs.Rules.{AtPort}
 use Rattle.lab_run.specs.Stage.{Session}
 use Rattle.lab_actors.specs.Walks.{AreEach}
 use Rattle.lab_card.specs.Meets.{IsSameReader}
-use Rattle.lab_reader.specs.declared.reader.LabReader.{LabReader}
-use Rattle.lab_reader.specs.ReaderLaws.{IsAt-same, IsRecorded-more, IsRecorded-same, reader_in-same}
-use Rattle.lab_reader.specs.Readers.{IsAt, OnSeat}
+use Rattle.lab_readers.specs.declared.reader.LabReader.{LabReader}
+use Rattle.lab_readers.specs.OneOpeningLaws.{IsAt-same, IsRecorded-more, IsRecorded-same, reader_in-same}
+use Rattle.lab_readers.specs.OneReader.{IsAt, OnSeat}
 use Rattle.lab_readers.specs.declared.readers.LabReaders.{LabReaders}
 use Rattle.lab_readers.specs.AtStage.{AreAt, HasGotAllOf, IsLaterSpare, IsOfRing, IsReaderAt, IsReaderIn, readers_of, spare_of}
-use Rattle.lab_readers.specs.Lists.{AreEach-moved}
-use Rattle.lab_readers.specs.Steps.{EachReader, HasKept, IsReaped}
-use Rattle.lab_reader.specs.Runs.{IsSameButRows}
+use Rattle.lab_actors.specs.EachLaws.{AreEach-moved}
+use Rattle.lab_readers.specs.Steps.{EachReader, IsSameWithRows, IsReaped}
+use Rattle.lab_readers.specs.OpenReader.{IsSameBut}
 
 -- it is the same reader of a run
-pub IsReaderIn-same : (session : Session) (capture : Option Sound) (spare : ReaderSeat) (number : ℕ) (r s : LabReader) (x : AtPort × Reader) → IsSameButRows r s
+pub IsReaderIn-same : (session : Session) (capture : Option Sound) (spare : ReaderSeat) (number : ℕ) (r s : LabReader) (x : AtPort × Reader) → IsSameBut r s
     → IsReaderIn session capture spare session.ring number r x → IsReaderIn session capture spare session.ring number s x
 IsReaderIn-same session capture spare number r s x same is = record {
   numbered = same.file.number ∙ is.numbered;
@@ -33,12 +33,12 @@ IsReaderIn-same session capture spare number r s x same is = record {
   recorded = IsRecorded-same capture session.ring (bindings_of (slice_index_or session.readers number None)) (seats.view_of spare).got r s same is.recorded;
 }
 
-pub AreAt-kept : (session : Session) (capture : Option Sound) (xs : List (AtPort × Reader)) (rs ss : LabReaders) → EachReader HasKept rs ss → AreAt session capture xs rs
+pub AreAt-kept : (session : Session) (capture : Option Sound) (xs : List (AtPort × Reader)) (rs ss : LabReaders) → EachReader IsSameWithRows rs ss → AreAt session capture xs rs
     → AreAt session capture xs ss
 AreAt-kept session capture xs rs ss kept are = record {
   card = record { ring = ap seats.geometry_of kept.spare ∙ are.card.ring; first = are.card.first };
   each = subst (λ (own : ReaderSeat). AreEach (IsReaderAt session capture own session.ring) 0 (readers_of ss) xs) (sym kept.spare)
-      (AreEach-moved (IsReaderAt session capture (spare_of rs) session.ring) HasKept (IsReaderAt session capture (spare_of rs) session.ring) 0 (readers_of rs) (readers_of ss) xs
+      (AreEach-moved (IsReaderAt session capture (spare_of rs) session.ring) IsSameWithRows (IsReaderAt session capture (spare_of rs) session.ring) 0 (readers_of rs) (readers_of ss) xs
       (λ n r s x is has. record { is = IsReaderIn-same session capture (spare_of rs) n r s x has.same is.is; goes = is.goes; rows = has.rows ∙ is.rows }) are.each kept.each);
 }
 

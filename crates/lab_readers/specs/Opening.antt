@@ -21,17 +21,17 @@ use Rattle.lab_run.specs.LabRun.{bindings_of}
 use Rattle.lab_run.specs.Reader.{Reader, row_by}
 use Rattle.lab_run.specs.Rules.{AtPort}
 use Rattle.lab_run.specs.Stage.{Session, Setup, Stage, after_close, after_open, close_reader, ended_reader, first_stage, no_reader, open_reader, open_reader_with, opened_reader, reader_at, renewed_port, with_reader, with_row}
-use Rattle.lab_setup.specs.Sessions.{AreUsable}
-use Rattle.lab_setup.specs.Usable.{IsUsable}
+use Rattle.lab_actors.specs.Sessions.{AreUsable}
+use Rattle.lab_actors.specs.Usable.{IsUsable}
 use Rattle.lab_actors.specs.Walks.{AreEach, AreEach-at, AreEach-map}
-use Rattle.lab_reader.specs.declared.reader.LabReader.{LabReader}
-use Rattle.lab_reader.specs.ReaderLaws.{IsAt-new, IsAt-opened, IsRecorded-new, IsRecorded-opened, reader_in-new, reader_in-opened}
-use Rattle.lab_reader.specs.Readers.{number_of, reader_in}
-use Rattle.lab_reader.specs.Runs.{HasOpened, IsNeverOpen}
+use Rattle.lab_readers.specs.declared.reader.LabReader.{LabReader}
+use Rattle.lab_readers.specs.OneOpeningLaws.{IsAt-new, IsAt-opened, IsRecorded-new, IsRecorded-opened, reader_in-new, reader_in-opened}
+use Rattle.lab_readers.specs.OneReader.{number_of, reader_in}
+use Rattle.lab_readers.specs.OneOpening.{HasOpened, IsNeverOpen}
 use Rattle.lab_readers.specs.declared.readers.LabReaders.{LabReaders}
 use Rattle.lab_readers.specs.AtStage.{AreAfter, AreAt, IsLaterSpare, IsNewCardOf, IsReaderAt, readers_of, ring_of, spare_of}
 use Rattle.lab_readers.specs.Counted.{AreCounted-set}
-use Rattle.lab_readers.specs.Lists.{AreEach-set, AreEach-set_left}
+use Rattle.lab_actors.specs.EachLaws.{AreEach-set, AreEach-set_left}
 use Rattle.lab_readers.specs.Kept.{IsReaderAt-later}
 use Rattle.lab_readers.specs.Reaped.{IsReaderAt-closed}
 use Rattle.lab_readers.specs.Steps.{ClosesInto}

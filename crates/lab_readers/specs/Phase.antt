@@ -29,19 +29,19 @@ use Rattle.lab_card.specs.Findings.{CardPhase, records-between, rules_between}
 use Rattle.lab_card.specs.MeetLaws.{IsSameCard-joined, Rests-same, rules_between-same}
 use Rattle.lab_card.specs.Meets.{IsSameCard}
 use Rattle.lab_card.specs.Stages.{CardPhase-rules, IsCardAt}
-use Rattle.lab_reader.specs.declared.reader.LabReader.{LabReader}
-use Rattle.lab_reader.specs.OfCards.{IsOver, IsOver-moved, IsOver-same}
-use Rattle.lab_reader.specs.ReaderLaws.{IsAt-same, IsRecorded-same, reader_in-same}
-use Rattle.lab_reader.specs.ReaderPhase.{ReaderMay, Steps, reader-may}
-use Rattle.lab_reader.specs.Readers.{number_of, ops_of, reader_in, rows_of}
-use Rattle.lab_reader.specs.Recorded.{IsCapturedUpTo, IsRecorded}
-use Rattle.lab_reader.specs.RecordedLaws.{IsCapturedUpTo-phase, IsCapturedUpTo-same, IsRecorded-phase}
+use Rattle.lab_readers.specs.declared.reader.LabReader.{LabReader}
+use Rattle.lab_readers.specs.OneReaderLaws.{IsOver, IsOver-moved, IsOver-same}
+use Rattle.lab_readers.specs.OneOpeningLaws.{IsAt-same, IsRecorded-same, reader_in-same}
+use Rattle.lab_readers.specs.OnePhase.{ReaderMay, Steps, reader-may}
+use Rattle.lab_readers.specs.OneReader.{number_of, ops_of, reader_in, rows_of}
+use Rattle.lab_readers.specs.Recorded.{IsCapturedUpTo, IsRecorded}
+use Rattle.lab_readers.specs.RecordedLaws.{IsCapturedUpTo-phase, IsCapturedUpTo-same, IsRecorded-phase}
 use Rattle.lab_readers.specs.declared.readers.LabReaders.{LabReaders}
 use Rattle.lab_readers.specs.AtStage.{AreAt, AreDone, IsReaderAt, IsReaderDone, IsReaderIn, readers_of, ring_of, spare_of}
 use Rattle.lab_readers.specs.Counted.{AreCounted-each, AreEach-counted, IsCounted}
 use Rattle.lab_readers.specs.Kept.{IsReaderIn-same}
-use Rattle.lab_readers.specs.Lists.{AreEach-moved}
-use Rattle.lab_readers.specs.Steps.{EachReader, HasRowsTaken, HasTakenRoom, IsHeardBy, IsInformedBy, RunsBehind}
+use Rattle.lab_actors.specs.EachLaws.{AreEach-moved}
+use Rattle.lab_readers.specs.Steps.{EachReader, HasGivenRows, HasTakenRoom, IsHeardBy, IsInformedBy, RunsAt}
 
 -- a reader's part in a phase is what the phase allows to it (lab_run: `parts_are_runs`)
 abbrev pub ReaderPartsAreRuns : Type 0
@@ -87,7 +87,7 @@ pub record ReadersSteps {T : Type 0} (G : gate.Ghosts T) (gates after : List T) 
   pub run : LabReaders
   pub take_room : EachReader (HasTakenRoom lines) before roomy
   pub inform : EachReader (IsInformedBy c) roomy informed
-  pub run_lines : EachReader (RunsBehind G gates after phase lines) informed run
+  pub run_lines : EachReader (RunsAt G gates after phase lines) informed run
   pub hear : EachReader (IsHeardBy d) run heard
 
 -- Readers may do their lines of a phase so, with these rows, and are so afterwards; their gates had stopped them so often before the lab began, and
@@ -108,14 +108,14 @@ abbrev StepsOf : {T : Type 0} → gate.Ghosts T → List T → List T → Card �
     → ℕ → LabReader → LabReader → Type 0
 StepsOf G gates after c d phase lines =
     AreJoined (AreJoined (AreJoined (HasTakenRoom lines) (IsInformedBy c))
-    (RunsBehind G gates after phase lines)) (IsHeardBy d)
+    (RunsAt G gates after phase lines)) (IsHeardBy d)
 
 module _ (session : Session) (stage : Stage) (capture : Option Sound) (spare : ReaderSeat) (lines : List Line) (base : ℕ → ℕ) {T : Type 0} (G : gate.Ghosts T) (gates after : List T) (c : Card) (a b : CardActor) (d : Card)
     (is : CardPhase capture (stage.phases + 1) c a b d lines) (card : IsCardAt session stage c) (over : IsOver (seats.ring_of spare) session.ring c) (up_to : IsCapturedUpTo capture c)
     (runs : ReaderPartsAreRuns) where
   -- a reader's part between its meets with the card, which stores what it captures
   module _ (records : records_of c ≡ true) (number : ℕ) (r s t u v : LabReader) (took : HasTakenRoom lines number r s) (informed : IsInformedBy c number s t)
-      (ran : RunsBehind G gates after (stage.phases + 1) lines number t u) (heard : IsHeardBy d number u v) (x : AtPort × Reader)
+      (ran : RunsAt G gates after (stage.phases + 1) lines number t u) (heard : IsHeardBy d number u v) (x : AtPort × Reader)
       (at : IsReaderAt session capture spare session.ring number r x) (counted : IsCounted base (stops_at G.stops gates) number x) where
     own-phase : CardPhase capture (stage.phases + 1) informed.card a b heard.card lines
     own-phase = CardPhase-between capture (stage.phases + 1) c a b d informed.card heard.card lines informed.same heard.same is
@@ -210,7 +210,7 @@ module _ (session : Session) (stage : Stage) (capture : Option Sound) (spare : R
 
 -- rows that are taken leave a reader as it is
 IsReaderDone-taken : (session : Session) (capture : Option Sound) (spare : ReaderSeat) (number : ℕ) (r s : LabReader) (x : AtPort × Reader)
-    → IsReaderIn session capture spare session.ring number r x → HasRowsTaken number r s → IsReaderDone session capture spare session.ring number s x
+    → IsReaderIn session capture spare session.ring number r x → HasGivenRows number r s → IsReaderDone session capture spare session.ring number s x
 IsReaderDone-taken session capture spare number r s x is taken = record {
   is = IsReaderIn-same session capture spare number r s x taken.same is;
   rows = taken.rows;
@@ -224,10 +224,10 @@ steps-through G gates after c d phase lines before heard steps =
     let first : List LabReader = readers_of before in
     let inform : AreEach (AreJoined (HasTakenRoom lines) (IsInformedBy c)) 0 first (readers_of steps.informed) =
     AreEach-joined (HasTakenRoom lines) (IsInformedBy c) 0 first (readers_of steps.roomy) (readers_of steps.informed) steps.take_room.each steps.inform.each in
-    let run : AreEach (AreJoined (AreJoined (HasTakenRoom lines) (IsInformedBy c)) (RunsBehind G gates after phase lines)) 0 first (readers_of steps.run) =
-    AreEach-joined (AreJoined (HasTakenRoom lines) (IsInformedBy c)) (RunsBehind G gates after phase lines) 0 first (readers_of steps.informed) (readers_of steps.run) inform
+    let run : AreEach (AreJoined (AreJoined (HasTakenRoom lines) (IsInformedBy c)) (RunsAt G gates after phase lines)) 0 first (readers_of steps.run) =
+    AreEach-joined (AreJoined (HasTakenRoom lines) (IsInformedBy c)) (RunsAt G gates after phase lines) 0 first (readers_of steps.informed) (readers_of steps.run) inform
     steps.run_lines.each in
-    AreEach-joined (AreJoined (AreJoined (HasTakenRoom lines) (IsInformedBy c)) (RunsBehind G gates after phase lines)) (IsHeardBy d) 0 first (readers_of steps.run)
+    AreEach-joined (AreJoined (AreJoined (HasTakenRoom lines) (IsInformedBy c)) (RunsAt G gates after phase lines)) (IsHeardBy d) 0 first (readers_of steps.run)
     (readers_of heard) run steps.hear.each
 
 -- Whichever meets with the card the readers had in a phase: the card gave notes and met some from c on, did its lines, and gave notes and met some up to d
@@ -254,13 +254,13 @@ module _ (session : Session) (stage : Stage) (capture : Option Sound) (lines : L
       EachMay-rows (reader_kinds stage) (rules_of session stage lines) (λ n. ops_by (is_reader n) lines) 0 xs parts.next (flat_map rows_of (readers_of heard)) rows-may
 
   -- Once their rows were taken, what the steps make of all readers is what the phase may make of the readers of a run.
-  pub readers-phase : (ss : LabReaders) → EachReader HasRowsTaken heard ss
+  pub readers-phase : (ss : LabReaders) → EachReader HasGivenRows heard ss
       → ReadersMay session stage capture lines base (stops_at G.stops after) (HaveAskedMore G.asked gates after) xs (flat_map rows_of (readers_of heard)) ss
   readers-phase ss take_rows =
       let seat : spare_of ss ≡ spare_of rs =
       take_rows.spare ∙ (steps.hear.spare ∙ (steps.run_lines.spare ∙ (steps.inform.spare ∙ steps.take_room.spare))) in
       let done : AreEach (IsReaderDone session capture (spare_of rs) session.ring) 0 (readers_of ss) parts.next =
-      AreEach-moved IsNext HasRowsTaken (IsReaderDone session capture (spare_of rs) session.ring) 0 (readers_of heard) (readers_of ss) parts.next
+      AreEach-moved IsNext HasGivenRows (IsReaderDone session capture (spare_of rs) session.ring) 0 (readers_of heard) (readers_of ss) parts.next
       (λ n r s x now taken. IsReaderDone-taken session capture (spare_of rs) n r s x now.0 taken) parts.are take_rows.each in
       record {
         next = parts.next;

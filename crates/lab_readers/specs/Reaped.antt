@@ -9,13 +9,13 @@ use Rattle.lab_run.specs.LabRun.{bindings_of}
 use Rattle.lab_run.specs.Reader.{Reader}
 use Rattle.lab_run.specs.Rules.{AtPort}
 use Rattle.lab_run.specs.Stage.{Session}
-use Rattle.lab_reader.specs.declared.reader.LabReader.{LabReader}
-use Rattle.lab_reader.specs.ReaderLaws.{IsAt-closed, IsRecorded-closed, reader_in-closed}
-use Rattle.lab_actor.specs.declared.reader.ReaderActor.{ReaderActor}
+use Rattle.lab_readers.specs.declared.reader.LabReader.{LabReader}
+use Rattle.lab_readers.specs.OneOpeningLaws.{IsAt-closed, IsRecorded-closed, reader_in-closed}
+use Rattle.lab_readers.specs.declared.lines.ReaderActor.{ReaderActor}
 use Rattle.lab_readers.specs.declared.readers.LabReaders.{LabReaders}
 use Rattle.lab_readers.specs.AtStage.{AreAt, AreDone, IsLaterSpare, IsReaderAt, IsReaderDone, readers_of, spare_of}
 use Rattle.lab_readers.specs.Kept.{IsReaderIn-later}
-use Rattle.lab_readers.specs.Lists.{AreEach-image, AreEach-moved}
+use Rattle.lab_actors.specs.EachLaws.{AreEach-image, AreEach-moved}
 use Rattle.lab_readers.specs.Steps.{AreReaped, ClosesInto, IsReaped}
 
 module _ (session : Session) (capture : Option Sound) (spare later : ReaderSeat) (more : IsLaterSpare spare later) (number : ℕ) (r s : LabReader) (x : AtPort × Reader)

@@ -10,9 +10,10 @@ use Rattle.lab_run.specs.Items.{is_reader_stopped}
 use Rattle.lab_actors.specs.Gates.{AsksGateAt}
 use Rattle.lab_actors.specs.Walks.{AreEach}
 use Rattle.lab_card.specs.Meets.{IsSameCard}
-use Rattle.lab_reader.specs.declared.reader.LabReader.{LabReader}
-use Rattle.lab_reader.specs.Readers.{CanRun, HasRoom, ops_of, reader_in, rows_of}
-use Rattle.lab_reader.specs.Runs.{HasClosed, HasRun, IsHeard, IsInformed, IsSameButRows}
+use Rattle.lab_readers.specs.declared.reader.LabReader.{LabReader}
+use Rattle.lab_readers.specs.OneReader.{CanRun, HasRoom, ops_of, reader_in, rows_of}
+use Rattle.lab_readers.specs.OneOpening.{HasClosed}
+use Rattle.lab_readers.specs.OpenReader.{RunsLines, IsReaderHeard, IsReaderInformed, IsSameBut}
 use Rattle.lab_readers.specs.AtStage.{HasGotAllOf, IsLaterSpare, readers_of, spare_of}
 use Rattle.lab_readers.specs.declared.readers.LabReaders.{LabReaders}
 
@@ -23,12 +24,12 @@ pub record EachReader (R : ℕ → LabReader → LabReader → Type 0)
   pub each : AreEach R 0 (readers_of before) (readers_of after)
 
 -- a reader is as before, but for its room
-pub record HasKept (number : ℕ) (r s : LabReader) : Type 0 where
-  pub same : IsSameButRows r s
+pub record IsSameWithRows (number : ℕ) (r s : LabReader) : Type 0 where
+  pub same : IsSameBut r s
   pub rows : rows_of s ≡ rows_of r
 
-pub HasKept-none : (number : ℕ) (r : LabReader) → HasKept number r r
-HasKept-none number r = record {
+pub IsSameWithRows-none : (number : ℕ) (r : LabReader) → IsSameWithRows number r r
+IsSameWithRows-none number r = record {
   same = record { seat = refl; stream = refl; left = refl; file = record { number = refl; frames = refl; samples = refl }; read_before = refl };
   rows = refl;
 }
@@ -36,7 +37,7 @@ HasKept-none number r = record {
 -- a reader took the room of its lines
 pub record HasTakenRoom (lines : List Line) (number : ℕ) (r s : LabReader) : Type 0 where
   pub room : HasRoom s lines
-  pub kept : HasKept number r s
+  pub kept : IsSameWithRows number r s
 
 -- a reader can use its seat, and has the room of its lines
 pub record IsReady (lines : List Line) (r : LabReader) : Type 0 where
@@ -47,23 +48,23 @@ pub record IsReady (lines : List Line) (r : LabReader) : Type 0 where
 pub record IsInformedBy (c : Card) (number : ℕ) (r s : LabReader) : Type 0 where
   pub card : Card
   pub same : IsSameCard c card
-  pub informed : IsInformed card r s
+  pub informed : IsReaderInformed card r s
 
 pub record IsHeardBy (c : Card) (number : ℕ) (r s : LabReader) : Type 0 where
   pub card : Card
   pub same : IsSameCard c card
-  pub heard : IsHeard card r s
+  pub heard : IsReaderHeard card r s
 
 -- a reader did its lines with the gate of its number
-abbrev pub RunsBehind : {T : Type 0} → gate.Ghosts T → List T → List T → ℕ → List Line → ℕ
+abbrev pub RunsAt : {T : Type 0} → gate.Ghosts T → List T → List T → ℕ → List Line → ℕ
     → LabReader → LabReader → Type 0
-RunsBehind G gates after phase lines number r s =
+RunsAt G gates after phase lines number r s =
     AsksGateAt G gates after number
-    (λ before later asks. HasRun phase before later asks lines r s)
+    (λ before later asks. RunsLines phase before later asks lines r s)
 
 -- a reader's rows were taken
-pub record HasRowsTaken (number : ℕ) (r s : LabReader) : Type 0 where
-  pub same : IsSameButRows r s
+pub record HasGivenRows (number : ℕ) (r s : LabReader) : Type 0 where
+  pub same : IsSameBut r s
   pub rows : rows_of s ≡ []
 
 -- some of a phase's lines are a reader's
@@ -71,8 +72,8 @@ abbrev pub is_some_op : List Op → Bool
 is_some_op [] = false
 is_some_op (asked ∷ more) = true
 
-abbrev pub is_busy : List Line → LabReader → Bool
-is_busy lines r = is_some_op (ops_of r lines)
+abbrev pub has_lines : List Line → LabReader → Bool
+has_lines lines r = is_some_op (ops_of r lines)
 
 -- a reader was closed, and the spare seat took its seat over: it has got all that its seat had got
 pub record ClosesInto (spare : ReaderSeat) (r s : LabReader) : Type 0 where

@@ -1,12 +1,17 @@
-//! What the readers of the lab recorded.
-ghost use Rattle.std.specs.Prelude.{◌≡◌, ◌≤◌, ◌++◌, length, map, vec_capacity, ℤ};
+//! The readers at the beginning of a run, and what they recorded at its end.
+ghost use Rattle.std.specs.Prelude.{◌≡◌, ◌≤◌, ◌++◌, length, map, vec_capacity, ℤ, IfErr, IfOk};
 ghost use Rattle.std.specs.Global.{Vec};
 ghost use Rattle.std.specs.List.{flat_map};
-ghost use Rattle.lab_actor.specs.Room.{HasSpace};
+ghost use Rattle.lab_actors.specs.Room.{HasSpace};
 ghost use Rattle.lab_readers.specs.End.{read_samples, runs_by};
+ghost use Rattle.lab_readers.specs.Opening.{AreNew};
 
+use crate::reader::LabReader;
 use crate::readers::LabReaders;
-use lab_reader::LabReader;
+use snd_base::{Geometry, PcmError};
+use snoop_core::SnoopPort;
+use snoop_table::ReaderSeat;
+use std::alloc::Global;
 
 /// Appends the runs of a reader's frames, each with the reader's number. The caller has room for them.
 fn push_runs(all: &mut Vec<(u32, u64, u64)>, reader: &LabReader<'_>)
@@ -44,18 +49,32 @@ fn list_samples(all: &mut Vec<Vec<i16>>, readers: Vec<LabReader<'_>>)
     }
 }
 
-impl LabReaders<'_> {
-    ghost use Rattle.std.specs.Prelude.{◌≡◌, ◌<◌, ◌++◌, List, Option, length, map, slice_index_or, ℤ};
+impl<'r> LabReaders<'r> {
+    ghost use Rattle.std.specs.Prelude.{◌≡◌, IfErr, IfOk, Option, length, ◌<◌, ◌++◌, List, map, slice_index_or, ℤ};
+    ghost use Rattle.wav_io.specs.Sound.{Sound};
+    ghost use Rattle.lab_run.specs.Stage.{Session, first_stage};
+    ghost use Rattle.lab_readers.specs.AtStage.{AreAt, IsNewCardOf, readers_of, spare_of};
     ghost use Rattle.std.specs.Global.{Vec};
     ghost use Rattle.std.specs.List.{flat_map};
-    ghost use Rattle.wav_io.specs.Sound.{Sound};
     ghost use Rattle.lab_run.specs.LabRun.{all_runs, recorded_by, recorded_from};
     ghost use Rattle.lab_run.specs.Reader.{Reader};
     ghost use Rattle.lab_run.specs.Rules.{AtPort};
-    ghost use Rattle.lab_run.specs.Stage.{Session};
-    ghost use Rattle.lab_actor.specs.Room.{HasSpace};
-    ghost use Rattle.lab_readers.specs.AtStage.{AreAt, readers_of};
+    ghost use Rattle.lab_actors.specs.Room.{HasSpace};
     ghost use Rattle.lab_readers.specs.End.{runs_by};
+
+    /// So many readers that were never open, by a seat of the snoop ring of a new card. It refuses, with `Memory`, only where no memory is left; the
+    /// seat is let go then.
+    pub fn new(alloc: Global, count: u32, seat: ReaderSeat<'r>) -> Result<LabReaders<'r>, PcmError>
+        ensures spare { IfOk result (λ readers. spare_of readers ≡ seat.entry) }
+        ensures count { IfOk result (λ readers. length (readers_of readers) ≡ count) }
+        ensures stage { IfOk result (λ readers. (session : Session) (capture : Option Sound) →
+            IsNewCardOf session seat.entry count →
+            AreAt session capture (first_stage session).readers readers) }
+        ensures only { IfErr result (λ e. e ≡ PcmError.Memory) }
+    {
+        let readers = new_readers(alloc, count, seat.geometry())?;
+        Ok(LabReaders { seat, readers })
+    }
 
     /// Appends all frames that the readers read, as the runs of a report: each with the reader's number, its first frame and how many frames
     /// it has, by reader and then by time. It takes no memory.
@@ -97,4 +116,21 @@ impl LabReaders<'_> {
         let LabReaders { seat: _, readers } = self;
         list_samples(all, readers);
     }
+}
+
+/// So many readers that were never open, of a ring of a geometry.
+fn new_readers<'r>(
+    alloc: Global,
+    count: u32,
+    geometry: Geometry,
+) -> Result<Vec<LabReader<'r>>, PcmError>
+    ensures new { IfOk result (λ readers. AreNew 0 readers.items) }
+    ensures count { IfOk result (λ readers. length readers.items ≡ count) }
+    ensures only { IfErr result (λ e. e ≡ PcmError.Memory) }
+{
+    let mut readers = Vec::new(alloc);
+    for number in 0..count {
+        readers.push(LabReader::new(alloc, number, geometry))?;
+    }
+    Ok(readers)
 }

@@ -1,10 +1,9 @@
-//! The readers of the lab in a phase.
+//! All readers of a script in the lab, in a phase: the steps of it, in their order.
+use crate::at_once::run_at_once;
 use crate::readers::LabReaders;
 use crate::steps::{
-    count_busy, hear_readers, inform_readers, reap_readers, run_in_turn, take_reader_room,
-    take_reader_rows,
+    busy_count, hear_readers, inform_readers, run_in_turn, take_reader_room, take_reader_rows,
 };
-use crate::threads::run_at_once;
 use card_sim::Card;
 use lab_lines::{Line, Row};
 use mix_core::Gate;
@@ -13,20 +12,15 @@ use std::marker::{Send, Sync};
 use std::thread::Threads;
 
 impl LabReaders<'_> {
-    ghost use Rattle.std.specs.Prelude.{◌≡◌, ◌++◌, ◌≤◌, All, IfErr, List, OnOk, Option, count_by, length, map, vec_capacity, ℕ};
+    ghost use Rattle.std.specs.Prelude.{◌≡◌, ◌++◌, ◌≤◌, All, IfErr, OnOk, count_by, length, vec_capacity};
     ghost use Rattle.std.specs.List.{flat_map};
-    ghost use Rattle.wav_io.specs.Sound.{Sound};
     ghost use Rattle.lab_lines.specs.declared.line.Line.{Line};
-    ghost use Rattle.lab_run.specs.Items.{reaped_reader};
-    ghost use Rattle.lab_run.specs.Reader.{Reader};
-    ghost use Rattle.lab_run.specs.Rules.{AtPort};
-    ghost use Rattle.lab_run.specs.Stage.{Session};
-    ghost use Rattle.lab_actor.specs.ReaderLines.{IsFewRead};
-    ghost use Rattle.lab_actor.specs.Room.{HasSpace};
+    ghost use Rattle.lab_readers.specs.Lines.{IsFewRead};
+    ghost use Rattle.lab_actors.specs.Room.{HasSpace};
     ghost use Rattle.lab_card.specs.Meets.{IsSameCard};
-    ghost use Rattle.lab_reader.specs.Readers.{IsOf, rows_of};
-    ghost use Rattle.lab_readers.specs.AtStage.{AreAt, AreDone, AreOfRing, readers_of};
-    ghost use Rattle.lab_readers.specs.Steps.{AreReaped, EachReader, HasKept, HasRowsTaken, HasTakenRoom, IsHeardBy, IsInformedBy, IsReady, RunsBehind, is_busy};
+    ghost use Rattle.lab_readers.specs.OneReader.{IsOfCard, rows_of};
+    ghost use Rattle.lab_readers.specs.AtStage.{readers_of};
+    ghost use Rattle.lab_readers.specs.Steps.{EachReader, IsSameWithRows, HasGivenRows, HasTakenRoom, IsHeardBy, IsInformedBy, IsReady, RunsAt, has_lines};
 
     /// How many readers there are.
     pub fn len(&self) -> usize
@@ -37,17 +31,17 @@ impl LabReaders<'_> {
 
     /// How many of them have lines among those of a phase. Where none has, the phase leaves all as they are (`readers-still`).
     pub fn busy_count(&self, lines: &[Line]) -> usize
-        ensures value { result ≡ count_by (is_busy lines.now) (readers_of self.now) }
+        ensures value { result ≡ count_by (has_lines lines.now) (readers_of self.now) }
         ensures most { result ≤ length (readers_of self.now) }
     {
-        count_busy(self.readers.as_slice(), lines)
+        busy_count(self.readers.as_slice(), lines)
     }
 
     /// Takes the room that their lines of a phase want, so that `run_lines` takes no memory. It refuses, with `Memory`, only where no
     /// memory is left; then too they are as before, but for their room.
     pub fn take_room(&mut self, lines: &[Line]) -> Result<(), PcmError>
         ensures room { OnOk result (EachReader (HasTakenRoom lines.now) self.old self.new) }
-        ensures kept { EachReader HasKept self.old self.new }
+        ensures kept { EachReader IsSameWithRows self.old self.new }
         ensures only { IfErr result (λ e. e ≡ PcmError.Memory) }
     {
         take_reader_room(self.readers.as_mut_slice(), lines)
@@ -57,7 +51,7 @@ impl LabReaders<'_> {
     ///
     /// The caller has readers of the card's snoop ring.
     pub fn inform(&mut self, card: &mut Card<'_, '_>)
-        requires { All (IsOf card.old) (readers_of self.old) }
+        requires { All (IsOfCard card.old) (readers_of self.old) }
         ensures card { IsSameCard card.old card.new }
         ensures informed { EachReader (IsInformedBy card.old) self.old self.new }
     {
@@ -72,7 +66,7 @@ impl LabReaders<'_> {
         requires few { All (λ (line : Line). IsFewRead line.op) lines.now }
         requires gates { length (readers_of self.old) ≤ length gates.old }
         requires ready { All (IsReady lines.now) (readers_of self.old) }
-        ensures { EachReader (RunsBehind G.Gate gates.old gates.new phase lines.now)
+        ensures { EachReader (RunsAt G.Gate gates.old gates.new phase lines.now)
             self.old self.new }
     {
         run_in_turn(self.readers.as_mut_slice(), gates, phase, lines);
@@ -90,7 +84,7 @@ impl LabReaders<'_> {
         requires few { All (λ (line : Line). IsFewRead line.op) lines.now }
         requires gates { length (readers_of self.old) ≤ length gates.old }
         requires ready { All (IsReady lines.now) (readers_of self.old) }
-        ensures { EachReader (RunsBehind G.Gate gates.old gates.new phase lines.now)
+        ensures { EachReader (RunsAt G.Gate gates.old gates.new phase lines.now)
             self.old self.new }
     {
         run_at_once(rt, self.readers.as_mut_slice(), gates, phase, lines);
@@ -100,7 +94,7 @@ impl LabReaders<'_> {
     ///
     /// The caller has readers of the card's snoop ring.
     pub fn hear(&mut self, card: &mut Card<'_, '_>)
-        requires { All (IsOf card.old) (readers_of self.old) }
+        requires { All (IsOfCard card.old) (readers_of self.old) }
         ensures card { IsSameCard card.old card.new }
         ensures heard { EachReader (IsHeardBy card.old) self.old self.new }
     {
@@ -115,30 +109,8 @@ impl LabReaders<'_> {
         ensures rows { rows.new.items
             ≡ rows.old.items ++ flat_map rows_of (readers_of self.old) }
         ensures room { vec_capacity rows.old ≤ vec_capacity rows.new }
-        ensures readers { EachReader HasRowsTaken self.old self.new }
+        ensures readers { EachReader HasGivenRows self.old self.new }
     {
         take_reader_rows(rows, self.readers.as_mut_slice());
-    }
-
-    /// Closes each that was stopped, by its gate or by a `die`, at the end of a phase; the spare seat takes over all that its seat has got.
-    ///
-    /// After the lines of a phase they are then the readers of a run at the end of it.
-    ///
-    /// The caller has readers that did their lines of a run's phase (`AreOfRing-done`).
-    pub fn reap(&mut self)
-        requires { AreOfRing self.old }
-        ensures each { AreReaped self.old self.new }
-        ensures stage { (session : Session) (capture : Option Sound) (xs : List (AtPort × Reader)) →
-            AreDone session capture xs self.old →
-            AreAt session capture (map (reaped_reader session.ring) xs) self.new }
-    {
-        self.close_stopped();
-    }
-
-    fn close_stopped(&mut self)
-        requires { AreOfRing self.old }
-        ensures { AreReaped self.old self.new }
-    {
-        reap_readers(self.readers.as_mut_slice(), &mut self.seat);
     }
 }

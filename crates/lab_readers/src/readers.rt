@@ -1,5 +1,5 @@
 //! All readers of a script.
-use lab_reader::LabReader;
+use crate::reader::LabReader;
 use snoop_table::ReaderSeat;
 
 /// The readers of a script in the lab, in the order of their lines, and the seat of the card's snoop ring from which their seats are split, and which takes

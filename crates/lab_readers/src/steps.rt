@@ -1,21 +1,36 @@
-//! Lists of readers, in a phase.
-ghost use Rattle.std.specs.Prelude.{◌≡◌, ◌++◌, ◌≤◌, All, IfErr, OnOk, count_by, length, vec_capacity};
+//! All readers of a script, in a phase.
+ghost use Rattle.std.specs.Prelude.{◌↔◌, All, IsTrue, ◌≡◌, ◌++◌, ◌≤◌, IfErr, OnOk, count_by, length, vec_capacity};
 ghost use Rattle.std.specs.List.{flat_map};
 ghost use Rattle.lab_lines.specs.declared.line.Line.{Line};
-ghost use Rattle.lab_actor.specs.ReaderLines.{IsFewRead};
-ghost use Rattle.lab_actor.specs.Room.{HasSpace};
-ghost use Rattle.lab_actors.specs.Walks.{AreEach};
 ghost use Rattle.lab_card.specs.Meets.{IsSameCard};
-ghost use Rattle.lab_reader.specs.Readers.{IsOf, rows_of};
-ghost use Rattle.lab_readers.specs.AtStage.{IsLaterSpare, IsOfRing};
-ghost use Rattle.lab_readers.specs.Steps.{HasKept, HasRowsTaken, HasTakenRoom, IsHeardBy, IsInformedBy, IsReady, IsReaped, RunsBehind, is_busy};
+ghost use Rattle.lab_actors.specs.Room.{HasSpace};
+ghost use Rattle.lab_actors.specs.Walks.{AreEach};
+ghost use Rattle.lab_readers.specs.Lines.{IsFewRead};
+ghost use Rattle.lab_readers.specs.OneReader.{IsOfCard, rows_of};
+ghost use Rattle.lab_readers.specs.Steps.{IsSameWithRows, HasGivenRows, HasTakenRoom, IsHeardBy, IsInformedBy, IsReady, RunsAt, has_lines};
 
+use crate::reader::LabReader;
 use card_sim::Card;
-use lab_lines::{Line, Row};
-use lab_reader::LabReader;
+use lab_lines::{Line, Op, Row};
 use mix_core::Gate;
 use snd_base::PcmError;
-use snoop_table::ReaderSeat;
+
+/// Whether a line asks to read no more than 4,194,304 frames, as many as a call takes.
+fn is_few_read(asked: Op) -> bool
+    ensures { IsTrue result ↔ IsFewRead asked }
+{
+    match asked {
+        Op::Read(frames) => frames <= 4194304,
+        _ => true,
+    }
+}
+
+/// Whether each of some lines asks to read no more than 4,194,304 frames.
+pub fn reads_are_few(lines: &[Line]) -> bool
+    ensures { IsTrue result ↔ All (λ (line : Line). IsFewRead line.op) lines.now }
+{
+    lines.iter().all(|line| is_few_read(line.op))
+}
 
 /// Takes the room of all readers' lines. It refuses, with `Memory`, only where no memory is left.
 pub(crate) fn take_reader_room(
@@ -23,7 +38,7 @@ pub(crate) fn take_reader_room(
     lines: &[Line],
 ) -> Result<(), PcmError>
     ensures room { OnOk result (AreEach (HasTakenRoom lines.now) 0 readers.old readers.new) }
-    ensures kept { AreEach HasKept 0 readers.old readers.new }
+    ensures kept { AreEach IsSameWithRows 0 readers.old readers.new }
     ensures only { IfErr result (λ e. e ≡ PcmError.Memory) }
 {
     for index in 0..readers.len() {
@@ -34,7 +49,7 @@ pub(crate) fn take_reader_room(
 
 /// Before a phase each reader's seat meets a note of the card.
 pub(crate) fn inform_readers(card: &mut Card<'_, '_>, readers: &mut [LabReader<'_>])
-    requires { All (IsOf card.old) readers.old }
+    requires { All (IsOfCard card.old) readers.old }
     ensures card { IsSameCard card.old card.new }
     ensures informed { AreEach (IsInformedBy card.old) 0 readers.old readers.new }
 {
@@ -45,7 +60,7 @@ pub(crate) fn inform_readers(card: &mut Card<'_, '_>, readers: &mut [LabReader<'
 
 /// After a phase the card meets a note of each reader's seat.
 pub(crate) fn hear_readers(card: &mut Card<'_, '_>, readers: &mut [LabReader<'_>])
-    requires { All (IsOf card.old) readers.old }
+    requires { All (IsOfCard card.old) readers.old }
     ensures card { IsSameCard card.old card.new }
     ensures heard { AreEach (IsHeardBy card.old) 0 readers.old readers.new }
 {
@@ -64,7 +79,7 @@ pub(crate) fn run_in_turn<G: Gate>(
     requires few { All (λ (line : Line). IsFewRead line.op) lines.now }
     requires gates { length readers.old ≤ length gates.old }
     requires ready { All (IsReady lines.now) readers.old }
-    ensures { AreEach (RunsBehind G.Gate gates.old gates.new phase lines.now) 0
+    ensures { AreEach (RunsAt G.Gate gates.old gates.new phase lines.now) 0
         readers.old readers.new }
 {
     for index in 0..readers.len() {
@@ -77,7 +92,7 @@ pub(crate) fn take_reader_rows(rows: &mut Vec<Row>, readers: &mut [LabReader<'_>
     requires { HasSpace (length (flat_map rows_of readers.old)) rows.old }
     ensures rows { rows.new.items ≡ rows.old.items ++ flat_map rows_of readers.old }
     ensures room { vec_capacity rows.old ≤ vec_capacity rows.new }
-    ensures readers { AreEach HasRowsTaken 0 readers.old readers.new }
+    ensures readers { AreEach HasGivenRows 0 readers.old readers.new }
 {
     for index in 0..readers.len() {
         readers[index].take_rows(rows);
@@ -85,8 +100,8 @@ pub(crate) fn take_reader_rows(rows: &mut Vec<Row>, readers: &mut [LabReader<'_>
 }
 
 /// How many readers have lines among those of a phase.
-pub(crate) fn count_busy(readers: &[LabReader<'_>], lines: &[Line]) -> usize
-    ensures value { result ≡ count_by (is_busy lines.now) readers.now }
+pub(crate) fn busy_count(readers: &[LabReader<'_>], lines: &[Line]) -> usize
+    ensures value { result ≡ count_by (has_lines lines.now) readers.now }
     ensures most { result ≤ length readers.now }
 {
     let mut count = 0;
@@ -96,27 +111,4 @@ pub(crate) fn count_busy(readers: &[LabReader<'_>], lines: &[Line]) -> usize
         }
     }
     count
-}
-
-/// Closes a reader if it was stopped; the spare seat takes its seat over.
-fn reap_reader(reader: &mut LabReader<'_>, spare: &mut ReaderSeat<'_>)
-    requires { IsOfRing spare.old reader.old }
-    ensures reaped { IsReaped spare.new 0 reader.old reader.new }
-    ensures spare { IsLaterSpare spare.old spare.new }
-{
-    if reader.is_stopped() {
-        let seat = reader.close();
-        spare.join(seat);
-    }
-}
-
-/// Closes each reader that was stopped; the spare seat takes their seats over.
-pub(crate) fn reap_readers(readers: &mut [LabReader<'_>], spare: &mut ReaderSeat<'_>)
-    requires { All (IsOfRing spare.old) readers.old }
-    ensures reaped { AreEach (IsReaped spare.new) 0 readers.old readers.new }
-    ensures spare { IsLaterSpare spare.old spare.new }
-{
-    for index in 0..readers.len() {
-        reap_reader(&mut readers[index], spare);
-    }
 }

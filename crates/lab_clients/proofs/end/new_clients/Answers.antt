@@ -1,5 +1,5 @@
 use Rattle.std.proofs.Common.{◌+◌, [], ◌∷◌, arith, ap, length, length-append, subst, sym, ◌∙◌}
-use Rattle.lab_client.specs.declared.client.LabClient.{LabClient}
+use Rattle.lab_clients.specs.declared.client.LabClient.{LabClient}
 use Rattle.std.specs.Prelude.{List}
 use Rattle.lab_clients.specs.End.{AreNewClients}
 use Rattle.lab_clients.proofs.EndLaws.{AreNewClients-more}

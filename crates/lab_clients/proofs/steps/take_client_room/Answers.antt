@@ -1,6 +1,6 @@
-use Rattle.lab_actors.specs.Walks.{AreEach-walked, HasWalked-map, HasWalked-step}
+use Rattle.lab_actors.specs.Walks.{AreEach-walked, HasWalked-map, HasWalked-step, AreEach-part}
 use Rattle.lab_clients.specs.Steps.{HasTakenRoom, IsSameWithRows, IsSameWithRows-none}
-use Rattle.lab_clients.proofs.SameLemmas.{AreEach-part, OnErr-always}
+use Rattle.lab_clients.proofs.Results.{OnErr-always}
 use Rattle.lab_clients.proofs.steps.take_client_room.Goals as goal
 
 pub loop-index-preserved : goal.loop-index-preserved

@@ -3,7 +3,7 @@ use Rattle.lab_actors.specs.Walks.{AreEach-map, AreEach-same}
 use Rattle.lab_clients.specs.AtStage.{clients_of}
 use Rattle.lab_clients.specs.Steps.{HasTakenRoom, IsSameWithRows}
 use Rattle.lab_readers.specs.AtStage.{readers_of}
-use Rattle.lab_readers.specs.Steps.{HasKept, HasKept-none}
+use Rattle.lab_readers.specs.Steps.{IsSameWithRows as IsSameReaderWithRows, IsSameWithRows-none}
 use Rattle.lab_phase.specs.BorderLaws.{OnErr-always}
 use Rattle.lab_phase.specs.PhaseSteps.{AreSameButRoom, AreSameButRoom-card}
 use Rattle.lab_phase.proofs.steps.take_room.Goals as goal
@@ -24,7 +24,7 @@ returns-in_err-take_room-2-clause-kept c =
       card = record { card = c.take_room.ensures.card; played = c.take_room.ensures.played; rows = c.take_room.ensures.rows };
       clients = c.in_err-take_room-2.ensures.same;
       places = c.take_room-2.ensures.places;
-      readers = record { spare = refl; each = AreEach-same HasKept 0 (readers_of c.args.readers.now) HasKept-none };
+      readers = record { spare = refl; each = AreEach-same IsSameReaderWithRows 0 (readers_of c.args.readers.now) IsSameWithRows-none };
     } in
     OnErr-always _ kept
 

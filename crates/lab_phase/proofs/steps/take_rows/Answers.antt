@@ -4,10 +4,10 @@ use Rattle.std.proofs.Common.{ap, arith, refl, ◌∙◌}
 use Rattle.std.proofs.lemmas.List.{length-append}
 use Rattle.lab_lines.specs.declared.row.Row.{Row}
 use Rattle.lab_card.specs.declared.card.CardActor.{CardActor}
-use Rattle.lab_client.specs.Clients as client
+use Rattle.lab_clients.specs.OneClient as client
 use Rattle.lab_clients.specs.AtStage.{clients_of}
 use Rattle.lab_clients.specs.declared.clients.LabClients.{LabClients}
-use Rattle.lab_reader.specs.Readers as reader
+use Rattle.lab_readers.specs.OneReader as reader
 use Rattle.lab_readers.specs.AtStage.{readers_of}
 use Rattle.lab_readers.specs.declared.readers.LabReaders.{LabReaders}
 use Rattle.lab_phase.specs.PhaseSteps.{rows_by}

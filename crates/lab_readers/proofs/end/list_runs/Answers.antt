@@ -1,7 +1,7 @@
 use Rattle.std.proofs.Common.{arith, subst, sym}
-use Rattle.lab_actor.specs.Room.{HasSpace}
+use Rattle.lab_actors.specs.Room.{HasSpace}
 use Rattle.lab_actors.specs.Rows.{lists-room}
-use Rattle.lab_reader.specs.declared.reader.LabReader.{LabReader}
+use Rattle.lab_readers.specs.declared.reader.LabReader.{LabReader}
 use Rattle.lab_readers.specs.End.{runs_by}
 use Rattle.lab_readers.proofs.end.list_runs.Goals as goal
 use Rattle.std.specs.Prelude.{length}

@@ -1,5 +1,5 @@
 use Rattle.std.proofs.Common.{◌≡◌, ◌≤◌, ◌++◌, ℕ, map, take, vec_capacity}
-use Rattle.lab_reader.specs.Readers.{number_of}
+use Rattle.lab_readers.specs.OneReader.{number_of}
 use Rattle.lab_readers.proofs.end.push_runs.Given as goal
 
 abbrev pub invariant-loop-index : goal.invariant-loop-index

@@ -1,6 +1,6 @@
 use Rattle.std.proofs.Common.{ap}
 use Rattle.std.specs.Option.{option_copied}
-use Rattle.lab_readers.proofs.Openings.{no_seat, opening-done}
+use Rattle.lab_readers.proofs.OpeningLaws.{no_seat, opening-done}
 use Rattle.lab_readers.proofs.opening.open_reader.Goals as goal
 
 pub returns-clause-opening : goal.returns-clause-opening

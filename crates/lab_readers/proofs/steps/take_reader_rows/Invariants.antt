@@ -1,13 +1,13 @@
 use Rattle.std.proofs.Common.{◌≡◌, ◌++◌, ◌≤◌, take, vec_capacity}
 use Rattle.std.specs.List.{flat_map}
 use Rattle.lab_actors.specs.Walks.{HasWalked}
-use Rattle.lab_reader.specs.Readers.{rows_of}
-use Rattle.lab_readers.specs.Steps.{HasRowsTaken}
+use Rattle.lab_readers.specs.OneReader.{rows_of}
+use Rattle.lab_readers.specs.Steps.{HasGivenRows}
 use Rattle.lab_readers.proofs.steps.take_reader_rows.Given as goal
 
 abbrev pub invariant-loop-index : goal.invariant-loop-index
 invariant-loop-index l = record {
-  walked : HasWalked HasRowsTaken l.fn.readers l.readers l.index;
+  walked : HasWalked HasGivenRows l.fn.readers l.readers l.index;
   rows : l.rows.items ≡ l.fn.rows.items ++ flat_map rows_of (take l.index l.fn.readers);
   room : vec_capacity l.fn.rows ≤ vec_capacity l.rows;
 }

@@ -4,7 +4,7 @@ use Rattle.lab_lines.specs.declared.line.Actor.TheVariants as actor
 use Rattle.lab_lines.specs.declared.row.Row.{Row}
 use Rattle.lab_run.specs.Items.{held_of}
 use Rattle.lab_run.specs.Stage.{after_close}
-use Rattle.lab_client.specs.Clients.{is_open}
+use Rattle.lab_clients.specs.OneClient.{is_open}
 use Rattle.lab_clients.specs.AtStage.{AreAfter, clients_of}
 use Rattle.lab_clients.proofs.ClosingLaws.{AreAfter-closed, AreAfter-closed_already}
 use Rattle.lab_clients.proofs.OpenAt.{open_at-some, open_of-none}

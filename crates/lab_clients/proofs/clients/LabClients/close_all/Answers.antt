@@ -1,6 +1,6 @@
 use Rattle.std.proofs.Common.{◌≡◌, ◌<◌, ◌≤◌, true, false, length, arith, refl, ◌∙◌}
 use Rattle.std.proofs.lemmas.Bool.Decides.{nat_tests}
-use Rattle.lab_client.specs.Clients.{is_open}
+use Rattle.lab_clients.specs.OneClient.{is_open}
 use Rattle.lab_clients.specs.AtStage.{clients_of, places_of}
 use Rattle.lab_clients.specs.Exchanged.{IsSameCard-joined, IsSameCard-same}
 use Rattle.lab_clients.proofs.EndLaws.{AllClosed-more, AllClosed-past, AllClosed-still, AreOfRun-ended, HasEnded-more, HasEnded-none}

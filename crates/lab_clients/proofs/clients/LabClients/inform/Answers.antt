@@ -1,6 +1,6 @@
 use Rattle.std.specs.Prelude.{List}
 use Rattle.std.proofs.Common.{arith, subst, sym}
-use Rattle.lab_client.specs.declared.client.LabClient.{LabClient}
+use Rattle.lab_clients.specs.declared.client.LabClient.{LabClient}
 use Rattle.lab_clients.specs.Steps.{AreOfCard, IsInformedBy}
 use Rattle.lab_clients.proofs.Lent.{AreEach-lent}
 use Rattle.lab_clients.proofs.clients.LabClients.inform.Goals as goal

@@ -3,13 +3,15 @@ use Rattle.std.proofs.Common.{sym, ap, subst, ◌∙◌}
 use Rattle.std.proofs.lemmas.List.{get_or-set_same}
 use Rattle.std.proofs.lemmas.Result.{IfOk-weaker}
 use Rattle.lab_run.specs.Stage.{opened_client}
-use Rattle.lab_client.specs.declared.client.LabClient.{LabClient}
-use Rattle.lab_client.specs.Openings.{HasKeptLast}
+use Rattle.lab_clients.specs.declared.client.LabClient.{LabClient}
+use Rattle.lab_clients.specs.OneOpening.{HasKeptLast}
 use Rattle.lab_places.specs.Held.{next_place}
 use Rattle.lab_clients.specs.AtStage.{clients_of, places_of}
 use Rattle.lab_clients.specs.Opening.{HasKeptLastAt, IsMadeFor}
 use Rattle.lab_clients.specs.Steps.{IsSameWithRows, IsSameWithRows-none}
-use Rattle.lab_clients.proofs.OpenAt.{AreEach-set, OnOk-more, open_at-read, open_at-set_same}
+use Rattle.lab_actors.specs.EachLaws.{AreEach-set_same}
+use Rattle.lab_clients.proofs.Results.{OnOk-more}
+use Rattle.lab_clients.proofs.OpenAt.{open_at-read, open_at-set_same}
 use Rattle.lab_clients.proofs.clients.LabClients.make_stream.Goals as goal
 
 pub make_stream-requires-clause-closed : goal.make_stream-requires-clause-closed
@@ -39,5 +41,5 @@ returns-clause-closed c =
 
 pub returns-clause-same : goal.returns-clause-same
 returns-clause-same c =
-    AreEach-set IsSameWithRows IsSameWithRows-none 0 (clients_of c.args.self.now) c.args.number c.index_mut.result.now c.make_stream.new.self c.requires.number c.index_mut.ensures.value
+    AreEach-set_same IsSameWithRows IsSameWithRows-none 0 (clients_of c.args.self.now) c.args.number c.index_mut.result.now c.make_stream.new.self c.requires.number c.index_mut.ensures.value
     (record { same = c.make_stream.ensures.same; rows = c.make_stream.ensures.same_rows })

@@ -9,7 +9,7 @@ use Rattle.lab_lines.specs.declared.row.Row.{Row}
 use Rattle.lab_run.specs.Items.{held_of}
 use Rattle.lab_run.specs.Stage.{Setup, after_open, opened_client}
 use Rattle.lab_places.specs.Held.{Opens, share_of}
-use Rattle.lab_client.specs.Openings.{HasKeptLast, HasOpened}
+use Rattle.lab_clients.specs.OneOpening.{HasKeptLast, HasOpened}
 use Rattle.lab_clients.specs.declared.clients.LabClients.{LabClients}
 use Rattle.lab_clients.specs.AtStage.{AreAfter, clients_of}
 use Rattle.lab_clients.proofs.OpenAt.{open_at-read}

@@ -1,11 +1,12 @@
 use Rattle.std.proofs.Common.{arith, refl, ◌∙◌}
 use Rattle.lab_clients.specs.AtStage.{places_of}
 use Rattle.lab_clients.specs.Reaped.{held_to, reaped_to}
-use Rattle.lab_clients.proofs.ReapLaws.{AreAt-end, AreDone-next, IsSameCard-joined, IsSameCard-none, length-done}
+use Rattle.lab_clients.proofs.ReapLaws.{AreAt-end, AreDone-next, length-done}
+use Rattle.lab_clients.specs.Exchanged.{IsSameCard-joined, IsSameCard-same}
 use Rattle.lab_clients.proofs.clients.LabClients.reap.Goals as goal
 
 pub loop-number-init : goal.loop-number-init
-loop-number-init c = record { reaped = λ session held xs done. done; len = refl; card = IsSameCard-none (places_of c.args.self.now) }
+loop-number-init c = record { reaped = λ session held xs done. done; len = refl; card = IsSameCard-same (places_of c.args.self.now) }
 
 pub reap_at-requires-clause-run : goal.reap_at-requires-clause-run
 reap_at-requires-clause-run c =

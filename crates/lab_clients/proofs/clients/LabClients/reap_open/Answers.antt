@@ -1,7 +1,7 @@
 use Rattle.std.proofs.Common.{IsSome, Option, refl, subst}
 use Rattle.std.specs.Vec.{with_item}
-use Rattle.lab_client.specs.declared.open_client.OpenClient.{OpenClient}
-use Rattle.lab_client.specs.Clients.{open_of}
+use Rattle.lab_clients.specs.declared.open_client.OpenClient.{OpenClient}
+use Rattle.lab_clients.specs.OneClient.{open_of}
 use Rattle.lab_clients.specs.declared.clients.LabClients.{LabClients}
 use Rattle.lab_clients.specs.AtStage.{clients_of}
 use Rattle.lab_clients.proofs.OpenAt.{open_at-read}

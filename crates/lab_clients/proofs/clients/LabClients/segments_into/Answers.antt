@@ -1,7 +1,7 @@
 use Rattle.std.proofs.Common.{◌≡◌, ◌++◌, ◌+◌, ◌<◌, ◌≤◌, List, ap, arith, length, slice_index_or, subst, vec_capacity, vec_len, ◌∙◌}
 use Rattle.std.specs.List.{flat_map}
 use Rattle.lab_actors.specs.Rows.{lists-next, lists-room}
-use Rattle.lab_client.specs.declared.client.LabClient.{LabClient}
+use Rattle.lab_clients.specs.declared.client.LabClient.{LabClient}
 use Rattle.lab_clients.specs.AtStage.{clients_of}
 use Rattle.lab_clients.specs.End.{all_segments-listed, segments_by}
 use Rattle.lab_clients.proofs.EndLaws.{length-segments_by, take-past}

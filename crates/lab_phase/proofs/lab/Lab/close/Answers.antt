@@ -7,7 +7,7 @@ use Rattle.lab_phase.specs.declared.lab.Lab.{Lab}
 use Rattle.lab_phase.specs.AtStage.{DoesRow, capture_of, session_of}
 use Rattle.lab_phase.specs.Borders.{after_close-keeps_clients, after_close-keeps_readers}
 use Rattle.lab_phase.specs.BorderLaws.{DoesRow-clients, DoesRow-reader}
-use Rattle.lab_readers.specs.Ready.{AreOfRing-at}
+use Rattle.lab_readers.specs.StepLaws.{AreOfRing-at}
 use Rattle.lab_phase.proofs.Numbers.{client_count, reader_count}
 use Rattle.lab_phase.proofs.lab.Lab.close.Goals as goal
 

@@ -3,7 +3,7 @@ use Rattle.std.specs.Global.{Vec}
 use Rattle.lab_lines.specs.declared.row.Row.{Row}
 use Rattle.lab_lines.specs.declared.line.Item.{Item}
 use Rattle.lab_lines.specs.declared.script.Script.{Script}
-use Rattle.lab_actor.specs.Room.{HasSpace}
+use Rattle.lab_actors.specs.Room.{HasSpace}
 use Rattle.lab_phase.specs.declared.lab.Lab.{Lab}
 use Rattle.lab_phase.specs.AtStage.{border_after, played_by, session_of}
 use Rattle.lab_phase.specs.BorderLaws.{DoesItem-row, ItemMay-border, OnErr-always, next-inside}

@@ -15,7 +15,7 @@ use Rattle.wav_io.specs.Sound.{Sound}
 use Rattle.lab_run.specs.Stage.{Session}
 use Rattle.lab_card.specs.declared.card.CardActor.{CardActor}
 use Rattle.lab_card.specs.Moves.{seat_of_card}
-use Rattle.lab_setup.specs.Sessions.{session_with}
+use Rattle.lab_actors.specs.Sessions.{session_with}
 use Rattle.lab_phase.specs.CardStage.{has_readers}
 use Rattle.lab_phase.specs.ReportRoom.{HasReportRoom, HasReportRoom-fewer}
 use Rattle.lab_phase.proofs.Beginning.{IsCardIn-new}

@@ -1,6 +1,6 @@
 use Rattle.lab_run.specs.Items.{held_of}
 use Rattle.lab_phase.specs.declared.lab.Lab.{Lab}
-use Rattle.lab_readers.specs.Ready.{AreOfRing-done}
+use Rattle.lab_readers.specs.StepLaws.{AreOfRing-done}
 use Rattle.lab_phase.specs.AtStage.{capture_of, session_of}
 use Rattle.lab_phase.specs.PhaseLaws.{ActorLaws}
 use Rattle.lab_phase.proofs.PhaseStages.{RunsPhase-reaped, done-lines}

@@ -7,7 +7,7 @@ use Rattle.lab_readers.specs.declared.readers.LabReaders.{LabReaders}
 use Rattle.lab_readers.specs.AtStage.{readers_of}
 use Rattle.lab_readers.specs.Kept.{IsLaterSpare-same}
 use Rattle.lab_readers.specs.Opening.{AreAt-same}
-use Rattle.lab_readers.proofs.Openings.{opened-ok}
+use Rattle.lab_readers.proofs.OpeningLaws.{opened-ok}
 use Rattle.lab_readers.proofs.readers.LabReaders.open.Goals as goal
 
 pub returns-clause-opened : goal.returns-clause-opened

@@ -1,7 +1,0 @@
-use Rattle.std.proofs.Common.{◌≡◌, take}
-use Rattle.lab_run.specs.Phases.{ops_by}
-use Rattle.lab_actor.specs.Room.{frames_wanted, is_actor}
-use Rattle.lab_actor.proofs.room.frames_wanted.Given as goal
-
-abbrev pub invariant-loop-index : goal.invariant-loop-index
-invariant-loop-index l = l.frames ≡ frames_wanted l.most (ops_by (is_actor l.actor) (take l.index l.lines))

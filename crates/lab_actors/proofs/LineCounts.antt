@@ -1,0 +1,18 @@
+-- How many lines of a phase's are an actor's.
+use mir.Val.{bool_byte}
+use Rattle.std.proofs.Common.{◌≡◌, ℕ, ◌+◌, ◌<◌, ◌≤◌, List, sym, ap, arith, length, get_or, take}
+use Rattle.std.specs.Prelude.{Bool, true, false}
+use Rattle.lab_lines.specs.declared.line.Actor.{Actor}
+use Rattle.lab_lines.specs.declared.line.Line.{Line}
+use Rattle.lab_run.specs.Phases.{ops_by}
+use Rattle.lab_actors.specs.LineLaws.{other-line, own-size}
+
+-- how many lines of an actor's there are up to the next one
+pub counted-next : (mine : Actor → Bool) (lines : List Line) (k : ℕ) (line : Line) → k < length lines → get_or lines k line ≡ line → (test : Bool) → test ≡ mine line.actor
+    → length (ops_by mine (take k lines)) + bool_byte test ≡ length (ops_by mine (take (k + 1) lines))
+counted-next mine lines k line within is true same = sym (own-size mine lines k line within is (sym same))
+counted-next mine lines k line within is false same = let size = ap length (other-line mine lines k line within is (sym same)) in omega (arith, size)
+
+pub bool_byte-most : (test : Bool) → bool_byte test ≤ 1
+bool_byte-most true = omega arith
+bool_byte-most false = omega arith

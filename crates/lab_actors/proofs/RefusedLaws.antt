@@ -1,0 +1,73 @@
+-- The rows of an actor that isn't open are its part of a run.
+use Rattle.std.proofs.Common.{◌≡◌, ℕ, ◌+◌, ◌<◌, List, [], ◌∷◌, ◌++◌, refl, sym, ◌∙◌, ap, append_assoc, get_or, length, take}
+use Rattle.std.proofs.lemmas.List.{map-append}
+use Rattle.std.specs.Prelude.{Bool, true, false, None, Option}
+use Rattle.snd_base.specs.declared.errors.PcmError.TheVariants.{BadState}
+use Rattle.snd_base.specs.declared.geometry.Geometry.{Geometry}
+use Rattle.wav_io.specs.Sound.{Sound}
+use Rattle.dmix_client.specs.declared.stream.PlaybackStream.{PlaybackStream}
+use Rattle.dsnoop_client.specs.declared.stream.CaptureStream as reading
+use Rattle.lab_lines.specs.declared.line.Actor.{Actor}
+use Rattle.lab_lines.specs.declared.line.Actor.TheVariants as actor
+use Rattle.lab_lines.specs.declared.line.Line.{Line}
+use Rattle.lab_lines.specs.declared.line.Op.{Op}
+use Rattle.lab_lines.specs.declared.row.Answer.TheVariants.{Failed}
+use Rattle.lab_lines.specs.declared.row.Row.{Row}
+use Rattle.lab_run.specs.ActorPart.{ActorPart, Findings}
+use Rattle.lab_run.specs.Client as clients
+use Rattle.lab_run.specs.ClientAtPort.{ClientLinesWithoutCall}
+use Rattle.lab_run.specs.Phases.{ops_by}
+use Rattle.lab_run.specs.Reader as readers
+use Rattle.lab_run.specs.ReaderAtPort.{ReaderLinesWithoutCall}
+use Rattle.lab_run.specs.Rules.{AtPort}
+use Rattle.lab_actors.specs.Refused.{AreRefused, refused_row, refused_rows}
+use Rattle.lab_actors.specs.LineLaws.{other-line, own-line}
+
+client-refused : (ring : Geometry) (phase : ℕ) (wav : Sound) (number : ℕ) → ClientLinesWithoutCall ring phase wav number → (a : AtPort) (found : Findings) (client : clients.Client)
+    → client.own ≡ None → (ops : List Op)
+    → ActorPart (clients.client_kind phase wav number) ring ((a, client), found) ops ((a, client), found) (refused_rows phase (actor.Client number) ops)
+client-refused ring phase wav number laws a found client closed [] = (refl, refl)
+client-refused ring phase wav number laws a found client closed (asked ∷ ops) = (
+  ((a, client), found),
+  Failed BadState,
+  refused_rows phase (actor.Client number) ops,
+  laws.closed a found client asked closed,
+  client-refused ring phase wav number laws a found client closed ops,
+  ap (λ (own : Option PlaybackStream). clients.row_by phase number asked own (Failed BadState) ∷ refused_rows phase (actor.Client number) ops) (sym closed),
+)
+
+reader-refused : (ring : Geometry) (phase number : ℕ) → ReaderLinesWithoutCall ring phase number → (a : AtPort) (found : Findings) (reader : readers.Reader)
+    → reader.own ≡ None → (ops : List Op)
+    → ActorPart (readers.reader_kind phase number) ring ((a, reader), found) ops ((a, reader), found) (refused_rows phase (actor.Reader number) ops)
+reader-refused ring phase number laws a found reader closed [] = (refl, refl)
+reader-refused ring phase number laws a found reader closed (asked ∷ ops) = (
+  ((a, reader), found),
+  Failed BadState,
+  refused_rows phase (actor.Reader number) ops,
+  laws.closed a found reader asked closed,
+  reader-refused ring phase number laws a found reader closed ops,
+  ap (λ (own : Option reading.CaptureStream). readers.row_by phase number asked own (Failed BadState) ∷ refused_rows phase (actor.Reader number) ops) (sym closed),
+)
+
+pub are-refused : ((ring : Geometry) (phase : ℕ) (wav : Sound) (number : ℕ) → ClientLinesWithoutCall ring phase wav number)
+    → ((ring : Geometry) (phase number : ℕ) → ReaderLinesWithoutCall ring phase number) → (phase number : ℕ) (ops : List Op) → AreRefused phase number ops
+are-refused client_laws reader_laws phase number ops = record {
+  clients = λ wav ring a found client closed. client-refused ring phase wav number (client_laws ring phase wav number) a found client closed ops;
+  readers = λ ring a found reader closed. reader-refused ring phase number (reader_laws ring phase number) a found reader closed ops;
+}
+
+-- the rows of the lines so far, after one line more
+pub refused-next : (phase : ℕ) (who : Actor) (mine : Actor → Bool) (lines : List Line) (k : ℕ) (line : Line) → k < length lines → get_or lines k line ≡ line
+    → (start before after : List Row) → before ≡ start ++ refused_rows phase who (ops_by mine (take k lines))
+    → (mine line.actor ≡ true → after ≡ before ++ refused_row phase who line.op ∷ []) → (mine line.actor ≡ false → after ≡ before)
+    → after ≡ start ++ refused_rows phase who (ops_by mine (take (k + 1) lines))
+refused-next phase who mine lines k line within is start before after were own others = by_test (mine line.actor) refl
+  where
+    by_test : (test : Bool) → mine line.actor ≡ test → after ≡ start ++ refused_rows phase who (ops_by mine (take (k + 1) lines))
+    by_test true own_is =
+        own own_is
+        ∙ ap (λ (rows : List Row). rows ++ refused_row phase who line.op ∷ []) were
+        ∙ append_assoc start (refused_rows phase who (ops_by mine (take k lines))) (refused_row phase who line.op ∷ [])
+        ∙ ap (λ (rows : List Row). start ++ rows)
+        (sym (ap (refused_rows phase who) (own-line mine lines k line within is own_is) ∙ map-append (refused_row phase who) (ops_by mine (take k lines)) (line.op ∷ [])))
+    by_test false other_is = others other_is ∙ were ∙ ap (λ (ops : List Op). start ++ refused_rows phase who ops) (sym (other-line mine lines k line within is other_is))

@@ -1,0 +1,10 @@
+use Rattle.std.proofs.Common.{◌≡◌, ◌≤◌, length, take}
+use Rattle.lab_run.specs.Phases.{ops_by}
+use Rattle.lab_actors.specs.Lines.{is_actor}
+use Rattle.lab_actors.proofs.room.line_count.Given as goal
+
+abbrev pub invariant-loop-index : goal.invariant-loop-index
+invariant-loop-index l = record {
+  value : l.count ≡ length (ops_by (is_actor l.actor) (take l.index l.lines));
+  most : l.count ≤ l.index;
+}

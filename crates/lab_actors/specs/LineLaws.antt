@@ -1,0 +1,73 @@
+-- An actor's lines among the first of a phase's, and the room for what they leave.
+use Rattle.std.proofs.Common.{◌≡◌, ℕ, ◌+◌, ◌<◌, ◌≤◌, List, [], ◌∷◌, ◌++◌, refl, sym, ◌∙◌, ap, arith, append_assoc, length, get_or, take, drop, suc}
+use Rattle.std.proofs.Math.Seq.{take-suc}
+use Rattle.std.proofs.lemmas.List.{append-nil, length-append, take-append-drop}
+use Rattle.std.specs.Prelude.{Bool, true, false, if◌then◌else◌, vec_capacity, vec_len}
+use Rattle.std.specs.Global.{Vec}
+use Rattle.lab_lines.specs.declared.line.Actor.{Actor}
+use Rattle.lab_lines.specs.declared.line.Line.{Line}
+use Rattle.lab_lines.specs.declared.line.Op.{Op}
+use Rattle.lab_run.specs.Phases.{ops_by}
+use Rattle.lab_actors.specs.Room.{GrowsBy, HasSpace}
+
+-- the lines of an actor among the first of a phase's
+pub ops_by-append : (mine : Actor → Bool) (xs ys : List Line) → ops_by mine (xs ++ ys) ≡ ops_by mine xs ++ ops_by mine ys
+ops_by-append mine [] ys = refl
+ops_by-append mine (x ∷ xs) ys =
+    ap (λ (ops : List Op). (if mine x.actor then x.op ∷ [] else []) ++ ops) (ops_by-append mine xs ys)
+    ∙ sym (append_assoc (if mine x.actor then x.op ∷ [] else []) (ops_by mine xs) (ops_by mine ys))
+
+next-line : (mine : Actor → Bool) (lines : List Line) (k : ℕ) (line : Line) → k < length lines → get_or lines k line ≡ line
+    → ops_by mine (take (k + 1) lines) ≡ ops_by mine (take k lines) ++ ((if mine line.actor then line.op ∷ [] else []) ++ [])
+next-line mine lines k line within is =
+    ap (λ (j : ℕ). ops_by mine (take j lines)) (let e : k + 1 ≡ suc k = omega arith in e)
+    ∙ ap (ops_by mine) (take-suc lines k line within ∙ ap (λ (x : Line). take k lines ++ x ∷ []) is)
+    ∙ ops_by-append mine (take k lines) (line ∷ [])
+
+pub own-line : (mine : Actor → Bool) (lines : List Line) (k : ℕ) (line : Line) → k < length lines → get_or lines k line ≡ line → mine line.actor ≡ true
+    → ops_by mine (take (k + 1) lines) ≡ ops_by mine (take k lines) ++ line.op ∷ []
+own-line mine lines k line within is own =
+    next-line mine lines k line within is ∙ ap (λ (test : Bool). ops_by mine (take k lines) ++ ((if test then line.op ∷ [] else []) ++ [])) own
+
+pub other-line : (mine : Actor → Bool) (lines : List Line) (k : ℕ) (line : Line) → k < length lines → get_or lines k line ≡ line → mine line.actor ≡ false
+    → ops_by mine (take (k + 1) lines) ≡ ops_by mine (take k lines)
+other-line mine lines k line within is other =
+    next-line mine lines k line within is ∙ ap (λ (test : Bool). ops_by mine (take k lines) ++ ((if test then line.op ∷ [] else []) ++ [])) other
+    ∙ append-nil (ops_by mine (take k lines))
+
+-- there is one line more of an actor's where the next one is its own
+pub few-lines : (mine : Actor → Bool) (lines : List Line) (k : ℕ) → length (ops_by mine (take k lines)) ≤ length (ops_by mine lines)
+few-lines mine lines k =
+    let all : ops_by mine lines ≡ ops_by mine (take k lines) ++ ops_by mine (drop k lines) =
+    ap (ops_by mine) (sym (take-append-drop k lines)) ∙ ops_by-append mine (take k lines) (drop k lines) in
+    let size : length (ops_by mine lines) ≡ length (ops_by mine (take k lines)) + length (ops_by mine (drop k lines)) =
+    ap length all ∙ length-append (ops_by mine (take k lines)) (ops_by mine (drop k lines)) in
+    omega (arith, size)
+
+pub own-size : (mine : Actor → Bool) (lines : List Line) (k : ℕ) (line : Line) → k < length lines → get_or lines k line ≡ line → mine line.actor ≡ true
+    → length (ops_by mine (take (k + 1) lines)) ≡ length (ops_by mine (take k lines)) + 1
+own-size mine lines k line within is own =
+    ap length (own-line mine lines k line within is own) ∙ length-append (ops_by mine (take k lines)) (line.op ∷ [])
+
+-- the room that is left then
+pub room-next : {X : Type 0} (mine : Actor → Bool) (lines : List Line) (k : ℕ) (line : Line) (xs ys : Vec X) → k < length lines → get_or lines k line ≡ line
+    → vec_len xs + length (ops_by mine lines) ≤ vec_capacity xs + length (ops_by mine (take k lines))
+    → (mine line.actor ≡ true → GrowsBy 1 xs ys) → (mine line.actor ≡ false → (vec_len ys ≡ vec_len xs) × (vec_capacity ys ≡ vec_capacity xs))
+    → vec_len ys + length (ops_by mine lines) ≤ vec_capacity ys + length (ops_by mine (take (k + 1) lines))
+room-next mine lines k line xs ys within is before own others = by_test (mine line.actor) refl
+  where
+    by_test : (test : Bool) → mine line.actor ≡ test → vec_len ys + length (ops_by mine lines) ≤ vec_capacity ys + length (ops_by mine (take (k + 1) lines))
+    by_test true own_is =
+        let few = (own own_is).few in
+        let kept = (own own_is).kept in
+        omega (arith, before, few, kept, own-size mine lines k line within is own_is)
+    by_test false other_is =
+        let one = (others other_is).0 in
+        let two = (others other_is).1 in
+        omega (arith, before, one, two, ap length (other-line mine lines k line within is other_is))
+
+-- there is room for an own line
+pub room-own : {X : Type 0} (mine : Actor → Bool) (lines : List Line) (k : ℕ) (line : Line) (xs : Vec X) → k < length lines → get_or lines k line ≡ line
+    → vec_len xs + length (ops_by mine lines) ≤ vec_capacity xs + length (ops_by mine (take k lines)) → mine line.actor ≡ true → HasSpace 1 xs
+room-own mine lines k line xs within is before own_is =
+    omega (arith, before, own-size mine lines k line within is own_is, few-lines mine lines (k + 1))

@@ -1,3 +1,0 @@
-mod Choices
-mod Params
-mod Parts

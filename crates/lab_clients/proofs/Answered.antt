@@ -1,0 +1,103 @@
+-- What a line of an open client is answered, as a run has it.
+use Rattle.std.proofs.Common.{◌≡◌, ℕ, List, [], ◌++◌, refl, sym, ◌∙◌, ap, subst}
+use Rattle.std.proofs.lemmas.List.{append-nil}
+use Rattle.std.specs.Prelude.{◌&&◌, not, Bool, true, false, Option, Some, if◌then◌else◌}
+use Rattle.snd_base.specs.declared.errors.PcmError.{PcmError}
+use Rattle.snd_base.specs.declared.errors.PcmError.TheVariants.{Stopped}
+use Rattle.snd_base.specs.declared.geometry.Geometry.{Geometry}
+use Rattle.snd_base.specs.declared.places.Segment.{Segment}
+use Rattle.snd_base.specs.Relations.{Composes}
+use Rattle.mix_core.specs.declared.gate.Gate as gates
+use Rattle.mix_core.specs.declared.port.MixPort as mixport
+use Rattle.wav_io.specs.Sound.{Sound}
+use Rattle.dmix_client.specs.declared.stream.PlaybackStream.{PlaybackStream}
+use Rattle.dmix_client.specs.Calls.{is_paused}
+use Rattle.dmix_client.specs.View.{ClientView}
+use Rattle.lab_lines.specs.declared.line.Op.{Op}
+use Rattle.lab_lines.specs.declared.line.Op.TheVariants as op
+use Rattle.lab_lines.specs.declared.row.Answer.{Answer}
+use Rattle.lab_lines.specs.declared.row.Answer.TheVariants.{Done, Failed}
+use Rattle.lab_run.specs.ActorPart.{Doing}
+use Rattle.lab_run.specs.Client.{ended_by, stretch_of}
+use Rattle.lab_run.specs.ClientAtPort.{ClientLinesAreParts, ClientLinesWithoutCall, IsClientLine}
+use Rattle.lab_run.specs.Members.{with_member}
+use Rattle.lab_run.specs.PortSteps.{IsAtPort}
+use Rattle.lab_actors.specs.Lines.{CanCall}
+use Rattle.lab_clients.specs.Lines.{ExtendsStretches, HasClientAnswered, HasClientCalled, IsReady, ends_stretch}
+use Rattle.lab_clients.proofs.StretchLaws.{ExtendsStretches-still}
+
+-- a line that is refused and changes nothing ends no stretch
+no_end : (asked : Op) (e : PcmError) (c : PlaybackStream) → ended_by asked (Failed e) c c ≡ []
+no_end op.Resume e c = ap (λ (test : Bool). if test then stretch_of c else []) (neither (is_paused c.status.state))
+  where
+    neither : (test : Bool) → (test && not test) ≡ false
+    neither true = refl
+    neither false = refl
+no_end op.Prepare e c = refl
+no_end other e c = refl
+
+-- whether a line ended the stretch
+pub ended_by-test : (asked : Op) (answer : Answer) (c d : PlaybackStream)
+    → ended_by asked answer c d ≡ (if ends_stretch asked answer (is_paused c.status.state) (is_paused d.status.state) then stretch_of c else [])
+ended_by-test op.Prepare Done c d = refl
+ended_by-test op.Prepare other c d = refl
+ended_by-test op.Resume answer c d = refl
+ended_by-test other answer c d = refl
+
+module _ {S T : Type 0} (P : mixport.Ghosts S) (composes : Composes P.laid) (left : T → Option ℕ) (by_gate at_gate : T → ℕ) where
+  pub answered-call : (G : gates.Ghosts T) → ((first : S) (ring : Geometry) (from : ℕ) → ClientLinesAreParts P G left by_gate at_gate first ring from)
+      → (s t : S × T) (wav : Sound) (c d : ClientView) (asked : Op) (answer : Answer) → CanCall c.stream.status.stopped asked → HasClientCalled P G s t wav c d asked answer
+      → HasClientAnswered P left by_gate at_gate s t wav c d asked answer
+  answered-call G parts s t wav c d asked answer can called = record {
+    line = λ phase number ended first ring from before at.
+        parts first ring from s t phase wav number before (record { own = Some (with_member number c.stream); ended = ended }) c.stream c.ring called.samples asked d.stream answer
+        (record { is_open = refl; goes = can.goes; asks = can.asks }) called.offered at called.takes;
+    ready = called.ready;
+    extends = called.extends;
+  }
+
+  still : (s t : S × T) (wav : Sound) (c : ClientView) (asked : Op) (answer : Answer) → t.0 ≡ s.0 → IsReady P wav s.0 c → ended_by asked answer c.stream c.stream ≡ []
+      → ((phase number : ℕ) (ended : List Segment) (first : S) (ring : Geometry) (from : ℕ) (before : Doing) → IsAtPort P left by_gate at_gate first ring from s before
+      → IsClientLine P left by_gate at_gate first ring from t phase wav number before (record { own = Some (with_member number c.stream); ended = ended }) asked (record { own = Some (with_member number c.stream); ended = ended }) answer)
+      → HasClientAnswered P left by_gate at_gate s t wav c c asked answer
+  still s t wav c asked answer same ready none line = record {
+    line = λ phase number ended first ring from before at.
+        subst (λ (segments : List Segment). IsClientLine P left by_gate at_gate first ring from t phase wav number before (record { own = Some (with_member number c.stream); ended = ended }) asked (record { own = Some (with_member number c.stream); ended = segments }) answer)
+        (sym (ap (λ (more : List Segment). ended ++ more) none ∙ append-nil ended)) (line phase number ended first ring from before at);
+    ready = subst (λ (p : S). IsReady P wav p c) (sym same) ready;
+    extends = subst (λ (ended : List Segment). ExtendsStretches P wav.samples s.0 t.0 c.stream c.stream ended) (sym none)
+        (subst (λ (p : S). ExtendsStretches P wav.samples s.0 p c.stream c.stream []) (sym same) (ExtendsStretches-still P composes s.0 c.stream c.stream wav.samples [] refl refl refl));
+  }
+
+  -- a line of a client that was stopped
+  pub answered-stopped : ((ring : Geometry) (phase : ℕ) (wav : Sound) (number : ℕ) → ClientLinesWithoutCall ring phase wav number)
+      → (s : S × T) (wav : Sound) (c : ClientView) (asked : Op) → c.stream.status.stopped ≡ true → IsReady P wav s.0 c
+      → HasClientAnswered P left by_gate at_gate s s wav c c asked (Failed Stopped)
+  answered-stopped laws s wav c asked stopped ready = still s s wav c asked (Failed Stopped) refl ready (no_end asked Stopped c.stream)
+      (λ phase number ended first ring from before at. record {
+        doing = before;
+        done = (laws ring phase wav number).stopped before.0 before.1 (record { own = Some (with_member number c.stream); ended = ended }) (with_member number c.stream) asked refl stopped;
+        at = at;
+      })
+
+  -- a `die`
+  pub answered-die : ((ring : Geometry) (phase : ℕ) (wav : Sound) (number : ℕ) → ClientLinesWithoutCall ring phase wav number)
+      → (p : S) (g h : T) (wav : Sound) (c : ClientView) (asks : ℕ) → c.stream.status.stopped ≡ false → left h ≡ Some asks → by_gate h ≡ by_gate g → at_gate h ≡ at_gate g → IsReady P wav p c
+      → HasClientAnswered P left by_gate at_gate (p, g) (p, h) wav c c (op.Die asks) Done
+  answered-die laws p g h wav c asks going left_is gate_is asks_are ready = still (p, g) (p, h) wav c (op.Die asks) Done refl ready refl
+      (λ phase number ended first ring from before at. record {
+        doing = (record before.0 { left = Some asks }, before.1);
+        done = (laws ring phase wav number).dies before.0 before.1 (record { own = Some (with_member number c.stream); ended = ended }) (with_member number c.stream) asks refl going;
+        at = record {
+          geometry = at.geometry;
+          after = at.after;
+          seen = at.seen;
+          marks = at.marks;
+          left_is = sym left_is;
+          by_gate_is = at.by_gate_is ∙ sym gate_is;
+          at_gate_is = at.at_gate_is ∙ sym asks_are;
+          loads = at.loads;
+          late = at.late;
+          overtaken = at.overtaken;
+        };
+      })

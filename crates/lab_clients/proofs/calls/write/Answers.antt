@@ -1,0 +1,55 @@
+use Rattle.std.proofs.Common.{◌≡◌, ℕ, ◌≤◌, ◌+◌, ◌*◌, List, refl, ap, arith, drop, length, subst, sym, take, ◌∙◌}
+use Rattle.std.proofs.lemmas.Bool.Decides.{nat_tests}
+use Rattle.std.specs.Prelude.{ℤ, ◌-◌, min}
+use Rattle.wav_io.specs.Sound.{Sound}
+use Rattle.course.specs.AtPort.{LaysAt, LoadsAt, NoGet}
+use Rattle.dmix_client.specs.declared.stream.PlaybackStream.{PlaybackStream}
+use Rattle.dmix_client.specs.Growth.{Follows}
+use Rattle.dmix_client.specs.Writes.{IsOffer, frames_in}
+use Rattle.lab_lines.specs.declared.line.Op.TheVariants as op
+use Rattle.lab_run.specs.Client.{count_answer, frames_of}
+use Rattle.lab_clients.proofs.Called.{answer-taken, called-keeps}
+use Rattle.lab_clients.proofs.Fed.{IsFed, write-fed}
+use Rattle.course.specs.Gives.{Gives-taken}
+use Rattle.lab_clients.proofs.Offering.{Offers, Offers-Follows, Offers-IsOffer, slice-Offers}
+use Rattle.lab_actors.specs.GateLaws.{both}
+use Rattle.lab_clients.proofs.calls.write.Goals as goal
+
+-- the frames that are offered, of the client's own count of frames
+offered : (wav : Sound) (c : PlaybackStream) (offer : List ℤ) (fed frames : ℕ) → fed ≡ c.fed → offer ≡ take (min frames (frames_of wav - fed) * wav.channels) (drop (fed * wav.channels) wav.samples)
+    → offer ≡ take (min frames (frames_of wav - c.fed) * wav.channels) (drop (c.fed * wav.channels) wav.samples)
+offered wav c offer fed frames same is = is ∙ ap (λ (k : ℕ). take (min frames (frames_of wav - k) * wav.channels) (drop (k * wav.channels) wav.samples)) same
+
+pub writei-answer-requires-clause-offer : goal.writei-answer-requires-clause-offer
+writei-answer-requires-clause-offer g c = λ configured.
+    let stream = c.args.client.now.stream in
+    subst (λ (samples : List ℤ). IsOffer stream samples)
+    (sym (offered c.args.wav.now stream c.next_frames-offer.result.now c.fed.result c.args.frames c.fed.ensures c.next_frames-offer.ensures.frames))
+    (Offers-IsOffer c.args.wav.now stream c.args.frames (subst (λ (k : ℕ). 1 ≤ k) (sym c.requires.ready.channels) c.next_frames-offer.ensures.some) c.requires.ready.channels c.requires.ready.fed c.next_frames-offer.ensures.room c.requires.few)
+
+pub returns : goal.returns
+returns g c =
+    let P = g.P.MixPort in
+    let G = g.G.Gate in
+    let met = g.met.P.MixPort in
+    let call = c.writei-answer.ensures in
+    let stream = c.args.client.now.stream in
+    let wav = c.args.wav.now in
+    let offer = c.next_frames-offer.result.now in
+    let n = min c.args.frames (frames_of wav - stream.fed) in
+    let s = both c.args.port.now c.args.gate.now in
+    let t = both c.writei-answer.new.port c.writei-answer.new.gate in
+    let most : stream.fed + n ≤ frames_of wav = let fed = c.requires.ready.fed in grind (arith, nat_tests) in
+    let some : 1 ≤ length stream.setup.bindings = subst (λ (k : ℕ). 1 ≤ k) (sym c.requires.ready.channels) c.next_frames-offer.ensures.some in
+    let offers : Offers wav stream offer n =
+    subst (λ (samples : List ℤ). Offers wav stream samples n)
+    (sym (offered wav stream offer c.fed.result c.args.frames c.fed.ensures c.next_frames-offer.ensures.frames))
+    (slice-Offers wav stream n some c.requires.ready.channels most) in
+    let fed = (Gives-taken (LoadsAt P G) (LaysAt P G) NoGet (IsFed (stream.fed + frames_in stream offer)) s t _ _
+    (write-fed stream c.args.client.now.ring offer _) call.takes).most in
+    called-keeps P G met.laid_composes met.held_laid met.ends_in_part s t wav c.args.client.now c.writei-answer.new.self (op.Write c.args.frames) c.moved_answer.result c.writei-answer.result
+    (λ all. Follows stream all offer (frames_in stream offer)) offer c.requires.ready offers.frames
+    (answer-taken P G met.laid_composes met.held_laid met.ends_in_part count_answer s t _ c.writei-answer.new.self.stream c.writei-answer.result c.moved_answer.result call.takes c.moved_answer.ensures)
+    call.keeps
+    (subst (λ (k : ℕ). Follows stream wav.samples offer k) (sym offers.frames) (Offers-Follows wav stream offer n c.counts_are_sound.ensures.fed offers))
+    refl (omega (arith, fed, offers.frames, most))

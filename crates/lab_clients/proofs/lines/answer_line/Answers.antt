@@ -1,0 +1,26 @@
+use Rattle.std.proofs.Common.{sym, subst, ◌∙◌}
+use Rattle.lab_lines.specs.declared.line.Op.{Op}
+use Rattle.lab_lines.specs.declared.row.Answer.TheVariants.{Done}
+use Rattle.lab_clients.specs.Lines.{HasClientAnswered}
+use Rattle.lab_actors.specs.Countdown.{at_gate_of, by_gate_of, left_of}
+use Rattle.lab_actors.specs.CountdownLaws.{KeepsGate-none, KeepsGate-passing}
+use Rattle.lab_actors.specs.GateLaws.{both}
+use Rattle.lab_clients.proofs.Answered.{answered-die, answered-stopped}
+use Rattle.lab_clients.proofs.lines.answer_line.Goals as goal
+
+pub returns-then-is_stopped-clause-answered : goal.returns-then-is_stopped-clause-answered
+returns-then-is_stopped-clause-answered g c =
+    answered-stopped g.P.MixPort g.met.P.MixPort.laid_composes left_of (by_gate_of g.G.Gate.stops) at_gate_of c.lines_without_calls.ensures.clients
+    (both c.args.port.now c.args.gate.now) c.args.wav.now c.args.client.now c.args.asked (sym c.is_stopped.ensures ∙ c.if-is_stopped.true) c.requires.ready
+
+pub returns-then-is_stopped-clause-own_gate : goal.returns-then-is_stopped-clause-own_gate
+returns-then-is_stopped-clause-own_gate g c = KeepsGate-none g.G.Gate.asked c.args.gate.now
+
+pub returns-in-Die : goal.returns-in-Die
+returns-in-Die g c = record {
+  answered = subst (λ (asked : Op). HasClientAnswered g.P.MixPort left_of (by_gate_of g.G.Gate.stops) at_gate_of (both c.args.port.now c.args.gate.now) (both c.args.port.now c.let_pass.new.self) c.args.wav.now c.args.client.now c.args.client.now asked Done)
+      (sym c.in-Die.is)
+      (answered-die g.P.MixPort g.met.P.MixPort.laid_composes left_of (by_gate_of g.G.Gate.stops) at_gate_of c.lines_without_calls.ensures.clients
+      c.args.port.now c.args.gate.now c.let_pass.new.self c.args.wav.now c.args.client.now _ (sym c.is_stopped.ensures ∙ c.if-is_stopped.false) c.let_pass.ensures.left c.let_pass.ensures.by_gate c.let_pass.ensures.at_gate c.requires.ready);
+  own_gate = KeepsGate-passing g.G.Gate.asked c.args.gate.now c.let_pass.new.self c.let_pass.ensures.same_gate c.let_pass.ensures.gate c.let_pass.ensures.at_gate;
+}

@@ -1,0 +1,30 @@
+use Rattle.std.specs.Prelude.{◌≡◌, ℕ, None, Result}
+use Rattle.std.proofs.Common.{refl, sym, ◌∙◌, ap, subst}
+use Rattle.snd_base.specs.declared.errors.PcmError.{PcmError}
+use Rattle.pcm_states.specs.declared.calls.Call.TheVariants as call
+use Rattle.pcm_stream.specs.declared.direction.Direction.TheVariants.{Playback}
+use Rattle.pcm_stream.specs.Setup.{Checks}
+use Rattle.pcm_stream.specs.Status.{refusal_of}
+use Rattle.sw_limits.specs.declared.params.SwParams.{SwParams}
+use Rattle.sw_limits.specs.Boundary.{IsBoundary}
+use Rattle.sw_limits.specs.Params.{IsValid}
+use Rattle.dmix_client.specs.Calls.{configured_with}
+use Rattle.dmix_client.specs.View.{ClientView}
+use Rattle.lab_run.specs.Stage.{Setup}
+use Rattle.lab_clients.proofs.Params.{valid-checks}
+use Rattle.lab_clients.proofs.stream.set_up.Goals as goal
+
+-- the parameters are valid for the configuration's boundary, so that they aren't refused
+pub unreachable-requires : goal.unreachable-requires
+unreachable-requires c =
+    let inside = c.opening.inside in
+    let given = c.opening.view_is in
+    let came = c.in_ok-hw_params.ensures.ok in
+    let admitted = subst (λ (v : ClientView). refusal_of Playback v.stream.status call.SwParams ≡ None) (sym came)
+    (subst (λ (v : ClientView). refusal_of Playback (configured_with v.stream inside.config inside.bindings).status call.SwParams ≡ None) (sym c.new-client.ensures) refl) in
+    let found = c.sw_params.ensures.checked admitted in
+    let boundary = subst (λ (n : ℕ). IsBoundary n found.0)
+    (ap (λ (v : ClientView). v.stream.setup.config.buffer_size) came ∙ ap (λ (s : Setup). s.config.buffer_size) given) found.1 in
+    valid-checks c.in_default.field-0 inside.params found.0
+    (subst (λ (p : SwParams). IsValid p found.0) (ap (λ (s : Setup). s.params) (sym given)) (c.requires.params found.0 boundary))
+    (subst (λ (r : Result (Unit {0}) PcmError). Checks r inside.params found.0) c.in_default.is found.2)

@@ -1,0 +1,36 @@
+-- How many frames an actor's lines ask to read.
+use Rattle.std.proofs.Common.{◌≡◌, ℕ, ◌+◌, ◌<◌, ◌≤◌, List, [], ◌∷◌, ◌++◌, refl, sym, ◌∙◌, ap, arith, length, get_or, take, drop}
+use Rattle.std.proofs.lemmas.List.{take-append-drop}
+use Rattle.std.proofs.lemmas.List.Sums.{sum_by-append, sum_by-cons, sum_by_push}
+use Rattle.std.specs.Prelude.{Bool, true, false, if◌then◌else◌, sum_by}
+use Rattle.lab_lines.specs.declared.line.Actor.{Actor}
+use Rattle.lab_lines.specs.declared.line.Line.{Line}
+use Rattle.lab_run.specs.Phases.{ops_by}
+use Rattle.lab_actors.specs.LineLaws.{ops_by-append, own-line, other-line}
+use Rattle.lab_readers.specs.Room.{asked_by}
+
+-- how many frames they ask to read up to the next one
+pub asked-next : (mine : Actor → Bool) (lines : List Line) (k : ℕ) (line : Line) → k < length lines → get_or lines k line ≡ line
+    → sum_by asked_by (ops_by mine (take k lines)) + (if mine line.actor then asked_by line.op else 0) ≡ sum_by asked_by (ops_by mine (take (k + 1) lines))
+asked-next mine lines k line within is = by_test (mine line.actor) refl
+  where
+    by_test : (test : Bool) → mine line.actor ≡ test
+        → sum_by asked_by (ops_by mine (take k lines)) + (if mine line.actor then asked_by line.op else 0) ≡ sum_by asked_by (ops_by mine (take (k + 1) lines))
+    by_test true own_is =
+        ap (λ (test : Bool). sum_by asked_by (ops_by mine (take k lines)) + (if test then asked_by line.op else 0)) own_is
+        ∙ sym (ap (sum_by asked_by) (own-line mine lines k line within is own_is)
+        ∙ sum_by-append asked_by (ops_by mine (take k lines)) (line.op ∷ [])
+        ∙ ap (λ (n : ℕ). sum_by asked_by (ops_by mine (take k lines)) + n) (sum_by-cons asked_by line.op [] ∙ (let none : asked_by line.op + 0 ≡ asked_by line.op = omega arith in none)))
+    by_test false other_is =
+        ap (λ (test : Bool). sum_by asked_by (ops_by mine (take k lines)) + (if test then asked_by line.op else 0)) other_is
+        ∙ (let none : (n : ℕ) → n + 0 ≡ n = λ n. omega arith in none (sum_by asked_by (ops_by mine (take k lines))))
+        ∙ ap (sum_by asked_by) (sym (other-line mine lines k line within is other_is))
+
+pub asked-within : (mine : Actor → Bool) (lines : List Line) (k : ℕ) (line : Line) → k < length lines → get_or lines k line ≡ line → mine line.actor ≡ true
+    → sum_by asked_by (ops_by mine (take k lines)) + asked_by line.op ≤ sum_by asked_by (ops_by mine lines)
+asked-within mine lines k line within is own =
+    let next = ap (sum_by asked_by) (own-line mine lines k line within is own) ∙ sum_by_push asked_by (ops_by mine (take k lines)) line.op in
+    let all : ops_by mine lines ≡ ops_by mine (take (k + 1) lines) ++ ops_by mine (drop (k + 1) lines) =
+    ap (ops_by mine) (sym (take-append-drop (k + 1) lines)) ∙ ops_by-append mine (take (k + 1) lines) (drop (k + 1) lines) in
+    let whole = ap (sum_by asked_by) all ∙ sum_by-append asked_by (ops_by mine (take (k + 1) lines)) (ops_by mine (drop (k + 1) lines)) in
+    omega (arith, next, whole)

@@ -1,0 +1,15 @@
+use Rattle.std.proofs.Common.{drop, length, take}
+use Rattle.dsnoop_client.specs.View.{CanUse}
+use Rattle.lab_run.specs.Phases.{is_reader, ops_by, played_in}
+use Rattle.lab_actors.specs.Countdown.{KeepsGate, at_gate_of, by_gate_of, left_of}
+use Rattle.lab_readers.specs.Parts.{HasGot, HasRowsFor, ReaderPart}
+use Rattle.lab_readers.proofs.lines.ReaderActor.do_lines.Given as goal
+
+abbrev pub invariant-loop-index : goal.invariant-loop-index
+invariant-loop-index g l = record {
+  part : ReaderPart g.P.SnoopPort left_of (by_gate_of g.G.Gate.stops) at_gate_of (l.fn.port, l.fn.gate) (l.port, l.gate) l.phase (played_in l.lines) l.fn.self l.self (ops_by (is_reader l.fn.self.number) (take l.index l.lines));
+  usable : CanUse l.self.reader (g.P.SnoopPort.view l.port);
+  own_gate : KeepsGate g.G.Gate.asked l.fn.gate l.gate;
+  room : HasRowsFor l.self (length (ops_by (is_reader l.fn.self.number) (drop l.index l.lines)));
+  got : HasGot (g.P.SnoopPort.view l.fn.port) (g.P.SnoopPort.view l.port) l.fn.self l.self (ops_by (is_reader l.fn.self.number) (take l.index l.lines));
+}

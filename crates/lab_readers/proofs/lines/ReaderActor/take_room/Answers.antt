@@ -1,0 +1,13 @@
+use Rattle.std.specs.Prelude.{ℕ, ◌≤◌}
+use Rattle.std.proofs.Common.{rules, subst}
+use Rattle.lab_actors.specs.Room.{HasSpace}
+use Rattle.lab_readers.proofs.lines.ReaderActor.take_room.Goals as goal
+
+pub returns-clause-room : goal.returns-clause-room
+returns-clause-room c = record {
+  lines = record {
+    rows = subst (λ (count : ℕ). HasSpace count c.reserve.new.self) c.line_count-count.ensures.value c.in_ok-reserve.ensures.ok;
+    runs = subst (λ (count : ℕ). count ≤ c.reserve-2.new.self.room) c.line_count-count.ensures.value c.in_ok-reserve-2.ensures.room;
+  };
+  samples = search rules;
+}

@@ -1,0 +1,33 @@
+use Rattle.std.proofs.Common.{sym, subst, ◌∙◌}
+use Rattle.lab_lines.specs.declared.line.Op.{Op}
+use Rattle.lab_lines.specs.declared.row.Answer.TheVariants.{Done}
+use Rattle.lab_readers.specs.Lines.{HasReaderAnswered}
+use Rattle.lab_actors.specs.Countdown.{at_gate_of, by_gate_of, left_of}
+use Rattle.lab_actors.specs.CountdownLaws.{KeepsGate-none, KeepsGate-passing}
+use Rattle.lab_readers.specs.Room.{spare_frames}
+use Rattle.lab_actors.specs.GateLaws.{both}
+use Rattle.lab_readers.proofs.Answered.{answered-die, answered-stopped}
+use Rattle.lab_readers.proofs.lines.answer_line.Goals as goal
+
+pub returns-then-is_stopped-clause-answered : goal.returns-then-is_stopped-clause-answered
+returns-then-is_stopped-clause-answered g c =
+    answered-stopped g.P.SnoopPort g.met.P.SnoopPort.got_composes g.met.P.SnoopPort.loaded_composes left_of (by_gate_of g.G.Gate.stops) at_gate_of c.lines_without_calls.ensures.readers
+    (both c.args.port.now c.args.gate.now) c.args.reader.now c.args.samples.now.items c.args.asked (spare_frames c.args.reader.now c.args.samples.now)
+    (sym c.is_stopped.ensures ∙ c.if-is_stopped.true) c.requires.usable
+
+pub returns-then-is_stopped-clause-own_gate : goal.returns-then-is_stopped-clause-own_gate
+returns-then-is_stopped-clause-own_gate g c = KeepsGate-none g.G.Gate.asked c.args.gate.now
+
+pub returns-in-Die-clause-answered : goal.returns-in-Die-clause-answered
+returns-in-Die-clause-answered g c =
+    subst (λ (asked : Op). HasReaderAnswered g.P.SnoopPort left_of (by_gate_of g.G.Gate.stops) at_gate_of (both c.args.port.now c.args.gate.now) (both c.args.port.now c.let_pass.new.self)
+    c.args.reader.now c.args.reader.now c.args.samples.now.items c.args.samples.now.items asked (spare_frames c.args.reader.now c.args.samples.now) Done)
+    (sym c.in-Die.is)
+    (answered-die g.P.SnoopPort g.met.P.SnoopPort.got_composes g.met.P.SnoopPort.loaded_composes left_of (by_gate_of g.G.Gate.stops) at_gate_of c.lines_without_calls.ensures.readers
+    c.args.port.now c.args.gate.now c.let_pass.new.self c.args.reader.now c.args.samples.now.items _ (spare_frames c.args.reader.now c.args.samples.now)
+    (sym c.is_stopped.ensures ∙ c.if-is_stopped.false)
+    c.let_pass.ensures.left c.let_pass.ensures.by_gate c.let_pass.ensures.at_gate c.requires.usable)
+
+pub returns-in-Die-clause-own_gate : goal.returns-in-Die-clause-own_gate
+returns-in-Die-clause-own_gate g c =
+    KeepsGate-passing g.G.Gate.asked c.args.gate.now c.let_pass.new.self c.let_pass.ensures.same_gate c.let_pass.ensures.gate c.let_pass.ensures.at_gate
