@@ -189,7 +189,7 @@ module _ {S : Type 0} (kind : Kind S) (ring : Geometry) (blind : IsBlind kind) (
       (subst (λ (x : AtPort). ActorPart kind ring ((x, between.0.1), between.1) ops ((b, t), after) others) low.1.is rest) in
       (last.0, last.1, (((low.0, between.0.1), between.1), answer, others, low.2, last.2, rows_are))
 
--- a client and a reader don't ask it
+-- what a `die` leaves doesn't depend on it
 pub dies_if-raised : (k n : ℕ) (stopped : Bool) (asked : Op) (a : AtPort) → dies_if stopped asked (with_counts k n a) ≡ with_counts k n (dies_if stopped asked a)
 dies_if-raised k n false (op.Die j) a = refl
 dies_if-raised k n stopped asked a = refl

@@ -1,5 +1,5 @@
 -- Meets one after the other: what stays of a card, of its rings and of what a phase allows.
-use Rattle.std.specs.Prelude.{◌≡◌, ℕ, ◌≤◌, Bool, true, List}
+use Rattle.std.specs.Prelude.{◌≡◌, ℕ, ◌≤◌, Bool, true, List, Option}
 use Rattle.std.proofs.Common.{refl, sym, ap, subst, ◌∙◌}
 use Rattle.snd_base.specs.declared.geometry.Geometry.{Geometry}
 use Rattle.snd_base.specs.declared.places.Cursor.{Cursor}
@@ -14,11 +14,13 @@ use Rattle.snoop_table.specs.Writers.{writer_track}
 use Rattle.sum_table.specs.Players.{track_of}
 use Rattle.card_sim.specs.declared.card.Card.{Card}
 use Rattle.card_sim.specs.Runs.{period_of, records_of, writer_of}
+use Rattle.wav_io.specs.Sound.{Sound}
 use Rattle.lab_lines.specs.declared.line.Line.{Line}
 use Rattle.lab_run.specs.ActorPart.{Each}
 use Rattle.lab_run.specs.Phases.{phase_positions}
 use Rattle.lab_run.specs.Rules.{Rules}
-use Rattle.lab_card.specs.Findings.{rules_between}
+use Rattle.lab_card.specs.declared.card.CardActor.{CardActor}
+use Rattle.lab_card.specs.Findings.{CardPhase, rules_between}
 use Rattle.lab_card.specs.Meets.{IsClientOf, IsReaderOf, IsSameCard}
 use Rattle.lab_card.specs.Moves.{CardMoves, frame_of_card, geometry_of_card, is_gone, seat_of_card}
 use Rattle.lab_card.specs.Rests.{Rests}
@@ -48,6 +50,15 @@ IsSameCard-joined c d e first then_ = record {
   };
   period = then_.period ∙ first.period;
   records = then_.records ∙ first.records;
+}
+
+-- a card that gave notes and met some is the same, seen from either end
+pub IsSameCard-back : (c d : Card) → IsSameCard c d → IsSameCard d c
+IsSameCard-back c d same = record {
+  player = record { ring = sym same.player.ring; key = sym same.player.key; track = sym same.player.track; next = sym same.player.next };
+  writer = record { ring = sym same.writer.ring; geometry = sym same.writer.geometry; track = sym same.writer.track; next = sym same.writer.next };
+  period = sym same.period;
+  records = sym same.records;
 }
 
 -- it plays the same frame next, and its rings have the same shape
@@ -93,3 +104,14 @@ rules_between-same c e d lines same =
   where
     rules_by : Geometry → Bool → ℕ → ℕ → Rules
     rules_by g gone period from = record { at = record { ring = g; position = frame_of_card d; gone = gone }; published = phase_positions period from lines }
+
+-- a phase of a card, from any of the meets before it to any of those after it
+pub CardPhase-between : (capture : Option Sound) (phase : ℕ) (c : Card) (a b : CardActor) (d e f : Card) (lines : List Line) → IsSameCard c e → IsSameCard d f
+    → CardPhase capture phase c a b d lines → CardPhase capture phase e a b f lines
+CardPhase-between capture phase c a b d e f lines before after is = record {
+  rests = Rests-same c e before is.rests;
+  before = IsSameCard-joined e c a.card (IsSameCard-back c e before) is.before;
+  part = is.part;
+  plugged = is.plugged;
+  after = IsSameCard-joined b.card d f is.after after;
+}

@@ -26,7 +26,7 @@ use Rattle.lab_places.specs.Holdings.{Holdings}
 use Rattle.lab_places.specs.Laid.{laid_lists}
 use Rattle.lab_card.specs.declared.card.CardActor.{CardActor}
 use Rattle.lab_card.specs.Findings.{CardPhase, rules_between}
-use Rattle.lab_card.specs.MeetLaws.{IsSameCard-joined, Rests-same, rules_between-same}
+use Rattle.lab_card.specs.MeetLaws.{CardPhase-between, rules_between-same}
 use Rattle.lab_card.specs.Meets.{IsSameCard}
 use Rattle.lab_card.specs.Stages.{CardPhase-rules, IsCardAt}
 use Rattle.lab_actors.specs.Gates.{AreCounted, HasAskedMore, HaveAskedMore, stops_at}
@@ -51,25 +51,6 @@ pub record PhaseLaws : Type 0 where
   pub parts : (phase : ℕ) (wav : Sound) (number : ℕ) (rules : Rules)
       → PartsAreRuns (client_kind phase wav number) rules
   pub alike : AllLayAlike
-
-IsSameCard-back : (c d : Card) → IsSameCard c d → IsSameCard d c
-IsSameCard-back c d same = record {
-  player = record { ring = sym same.player.ring; key = sym same.player.key; track = sym same.player.track; next = sym same.player.next };
-  writer = record { ring = sym same.writer.ring; geometry = sym same.writer.geometry; track = sym same.writer.track; next = sym same.writer.next };
-  period = sym same.period;
-  records = sym same.records;
-}
-
--- a card in a phase, from one of the meets before it to one of those after it
-CardPhase-met : {capture : Option Sound} {phase : ℕ} (c : Card) (a b : CardActor) (d : Card) (lines : List Line) (e f : Card) → CardPhase capture phase c a b d lines
-    → IsSameCard c e → IsSameCard d f → CardPhase capture phase e a b f lines
-CardPhase-met c a b d lines e f is before after = record {
-  rests = Rests-same c e before is.rests;
-  before = IsSameCard-joined e c a.card (IsSameCard-back c e before) is.before;
-  part = is.part;
-  plugged = is.plugged;
-  after = IsSameCard-joined b.card d f is.after after;
-}
 
 -- The card in a phase of a stage: it is that of the stage and of the clients' ring, it did its lines, and no line unplugged it.
 pub record CardInPhase (session : Session) (stage : Stage) (lines : List Line)
@@ -127,7 +108,7 @@ module _ (session : Session) (stage : Stage) (lines : List Line) (ring : TableId
       at w z
   run-of number w x y z at last informed run heard is counts =
       client-phase informed.card card.before card.after heard.card lines
-      (CardPhase-met c card.before card.after d lines informed.card heard.card card.phase informed.same heard.same) ring key
+      (CardPhase-between card.capture phase_of c card.before card.after d informed.card heard.card lines informed.same heard.same card.phase) ring key
       (record { of_ring = informed.same.player.ring ∙ card.of_ring.of_ring; of_key = informed.same.player.key ∙ card.of_ring.of_key })
       (sound_at session.sounds number) last (base number) (stops_at G.stops gates number) (stops_at G.stops after number) run.asks laws.lasts
       (λ n. laws.parts phase_of (sound_at session.sounds number) n (rules_between informed.card card.after.card lines)) w x y z at is counts informed.informed run.then heard.heard

@@ -48,7 +48,7 @@ impl<'r> Drop for LabClient<'r> {
 }
 
 impl<'r> LabClient<'r> {
-    ghost use Rattle.std.specs.Prelude.{◌≡◌, ◌↔◌, ◌++◌, ◌+◌, ◌^◌, ◌<◌, ◌≤◌, [], All, IfErr, IfOk, IfSome, IsSome, IsTrue, OnOk, length, map, vec_capacity, vec_len};
+    ghost use Rattle.std.specs.Prelude.{◌≡◌, ◌↔◌, ◌++◌, ◌+◌, ◌<◌, ◌≤◌, [], All, IfErr, IfOk, IfSome, IsSome, IsTrue, OnOk, length, map, vec_capacity, vec_len};
     ghost use Rattle.sum_table.specs.Seats.{geometry_of, member_of};
     ghost use Rattle.std.specs.Option.{option_to_list};
     ghost use Rattle.lab_actors.specs.Usable.{IsUsable};
@@ -81,13 +81,6 @@ impl<'r> LabClient<'r> {
         }
     }
 
-    /// Its number.
-    pub(crate) fn number(&self) -> u32
-        ensures { result ≡ number_of self.now }
-    {
-        self.number
-    }
-
     /// Whether it is open.
     pub(crate) fn is_open(&self) -> bool
         ensures { result ≡ is_open self.now }
@@ -112,17 +105,7 @@ impl<'r> LabClient<'r> {
         line_count(lines, Actor::Client(self.number)) > 0
     }
 
-    /// The rows of its lines that weren't taken yet.
-    pub(crate) fn rows(&self) -> &[Row]
-        ensures { result.now ≡ rows_of self.now }
-    {
-        match &self.own {
-            Some(own) => own.actor.rows.as_slice(),
-            None => self.rows.as_slice(),
-        }
-    }
-
-    /// Takes the room that the lines of a phase want, so that `run_lines` takes no memory. It refuses, with `Memory`, only where no memory
+    /// Takes the room that its lines of a phase want, so that `run_lines` takes no memory. It refuses, with `Memory`, only where no memory
     /// is left. Whatever it answers, the client is as it was.
     pub(crate) fn take_room(&mut self, lines: &[Line]) -> Result<(), PcmError>
         ensures room { OnOk result (HasRoom lines.now self.new) }
@@ -198,7 +181,7 @@ impl<'r> LabClient<'r> {
         }
     }
 
-    /// The row of a line of it that isn't in a phase, as it is after the line: an opening or a closing that was refused.
+    /// The row of a line of it that isn't in a phase, as it is after the line: an opening or a closing.
     pub(crate) fn row(&self, phase: u32, op: Op, answer: Answer) -> Row
         ensures { result ≡ row_by phase (number_of self.now) op (client_in self.now).own answer }
     {
@@ -246,31 +229,9 @@ impl<'r> LabClient<'r> {
         }
     }
 
-    // How many stretches ended, but that of its last closing.
-    fn ended_count(&self) -> usize
-        ensures count { result ≡ length (ended_segments self.now (open_of self.now)) }
-        ensures few { result < 2 ^ 63 }
-    {
-        match &self.own {
-            Some(own) => own.actor.ended.len(),
-            None => self.ended.len(),
-        }
-    }
-
-    /// How many segments it has.
-    pub(crate) fn segment_count(&self) -> usize
-        ensures { result ≡ length (segments_of (client_in self.now)) }
-    {
-        let ended = self.ended_count();
-        match self.last_segment() {
-            Some(_) => ended + 1,
-            None => ended,
-        }
-    }
-
     /// Appends all its segments with its number: those of the stretches that ended, and then that of the present one. It takes no memory.
     ///
-    /// The caller has room for them (`segment_count`).
+    /// The caller has room for them.
     pub(crate) fn segments_into(&self, all: &mut Vec<(u32, Segment)>)
         requires { HasSpace (length (segments_of (client_in self.now))) all.old }
         ensures segments { all.new.items ≡ all.old.items

@@ -52,13 +52,6 @@ impl<'r> LabClients<'r> {
         Ok(LabClients { places, clients })
     }
 
-    /// How many clients there are, open or not.
-    pub fn count(&self) -> usize
-        ensures { result ≡ length (clients_of self.now) }
-    {
-        self.clients.len()
-    }
-
     /// Appends the segments of all clients, each with its client's number, by client and then by time. It takes no memory.
     ///
     /// The caller has room for them.

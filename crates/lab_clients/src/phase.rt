@@ -13,7 +13,7 @@ use std::thread::Threads;
 use wav_io::Wav;
 
 impl LabClients<'_> {
-    ghost use Rattle.std.specs.Prelude.{◌≡◌, ◌++◌, ◌↔◌, ◌≤◌, All, [], IfErr, IsTrue, OnErr, OnOk, count_by, length, vec_capacity};
+    ghost use Rattle.std.specs.Prelude.{◌≡◌, ◌++◌, ◌≤◌, All, IfErr, OnErr, OnOk, count_by, length, vec_capacity};
     ghost use Rattle.std.specs.List.{flat_map};
     ghost use Rattle.lab_lines.specs.declared.line.Line.{Line};
     ghost use Rattle.lab_clients.specs.Lines.{IsFew};
@@ -29,13 +29,6 @@ impl LabClients<'_> {
         ensures { result ≡ length (clients_of self.now) }
     {
         self.clients.len()
-    }
-
-    /// Whether there is no client.
-    pub fn is_empty(&self) -> bool
-        ensures { IsTrue result ↔ (clients_of self.now ≡ []) }
-    {
-        self.clients.is_empty()
     }
 
     /// How many clients have lines among those of a phase, open or not.

@@ -23,7 +23,7 @@ use Rattle.lab_actors.specs.Rows.{lines-most}
 use Rattle.lab_card.specs.declared.card.CardActor.{CardActor}
 use Rattle.lab_card.specs.CardLines.{unplugs_by}
 use Rattle.lab_card.specs.Findings.{CardPhase}
-use Rattle.lab_card.specs.MeetLaws.{IsSameCard-none}
+use Rattle.lab_card.specs.MeetLaws.{CardPhase-between, IsSameCard-none}
 use Rattle.lab_card.specs.Meets.{IsSameCard}
 use Rattle.lab_card.specs.Moves.{frame_of_card}
 use Rattle.lab_card.specs.Stages.{IsCardAt-same}
@@ -37,7 +37,7 @@ use Rattle.lab_readers.specs.OneReader as reader
 use Rattle.lab_readers.specs.RecordedLaws.{IsCapturedUpTo-same}
 use Rattle.lab_readers.specs.declared.readers.LabReaders.{LabReaders}
 use Rattle.lab_readers.specs.AtStage as readers
-use Rattle.lab_readers.specs.Phase.{CardPhase-between, ReaderPartsAreRuns, ReadersMay, ReadersSteps, length-reader_rows, readers-phase}
+use Rattle.lab_readers.specs.Phase.{ReaderPartsAreRuns, ReadersMay, ReadersSteps, length-reader_rows, readers-phase}
 use Rattle.lab_phase.specs.AtStage.{AreActorsOf}
 use Rattle.lab_phase.specs.CardStage.{IsCardIn, IsCardIn-after, IsCardIn-same}
 use Rattle.lab_phase.specs.PhaseSteps.{Asks, HaveGivenRows, HaveMet, HaveRoom, rows_by}

@@ -160,7 +160,7 @@ IsRecorded-closed capture geometry bindings ended_got more seat r s closed kept 
 -- ---- one that met a note
 
 -- it has the room that it had
-pub HasRoom-informed : (card : Card) (r s : LabReader) (lines : List Line) → IsReaderInformed card r s → HasRoom r lines → HasRoom s lines
+pub HasRoom-informed : (card : Card) (r s : LabReader) (lines : List Line) → IsReaderInformed card r s → HasRoom lines r → HasRoom lines s
 HasRoom-informed card r s lines informed room =
     subst (λ (x : ReaderActor). HasRoomAt s.seat x played (ops_by (is_reader x.number) lines)) (sym informed.actor) (by_seats r.seat s.seat informed.seats room)
   where

@@ -94,5 +94,5 @@ HasRoomAt None actor played ops = HasSpace (length ops) actor.rows
 HasRoomAt (Some seat) actor played ops =
     actors.HasRoomFor actor (geometry_of seat).frames played ops
 
-abbrev pub HasRoom : LabReader → List Line → Type 0
-HasRoom r lines = HasRoomAt r.seat r.actor (played_in lines) (ops_of r lines)
+abbrev pub HasRoom : List Line → LabReader → Type 0
+HasRoom lines r = HasRoomAt r.seat r.actor (played_in lines) (ops_of r lines)

@@ -26,8 +26,7 @@ use Rattle.lab_actors.specs.Rows.{EachMay-rows, lines_from}
 use Rattle.lab_actors.specs.Walks.{AreEach, AreEach-joined, AreEach-map, AreJoined}
 use Rattle.lab_card.specs.declared.card.CardActor.{CardActor}
 use Rattle.lab_card.specs.Findings.{CardPhase, records-between, rules_between}
-use Rattle.lab_card.specs.MeetLaws.{IsSameCard-joined, Rests-same, rules_between-same}
-use Rattle.lab_card.specs.Meets.{IsSameCard}
+use Rattle.lab_card.specs.MeetLaws.{CardPhase-between, rules_between-same}
 use Rattle.lab_card.specs.Stages.{CardPhase-rules, IsCardAt}
 use Rattle.lab_readers.specs.declared.reader.LabReader.{LabReader}
 use Rattle.lab_readers.specs.OneReaderLaws.{IsOver, IsOver-moved, IsOver-same}
@@ -49,26 +48,6 @@ ReaderPartsAreRuns =
     (phase number : ℕ) (rules : Rules) → PartsAreRuns (reader_kind phase number) rules
 
 -- ---- the card
-
--- a card that gave notes and met some is the same, seen from either end
-pub IsSameCard-back : (c d : Card) → IsSameCard c d → IsSameCard d c
-IsSameCard-back c d same = record {
-  player = record { ring = sym same.player.ring; key = sym same.player.key; track = sym same.player.track; next = sym same.player.next };
-  writer = record { ring = sym same.writer.ring; geometry = sym same.writer.geometry; track = sym same.writer.track; next = sym same.writer.next };
-  period = sym same.period;
-  records = sym same.records;
-}
-
--- a phase of a card, from any of the meets before it to any of those after it
-pub CardPhase-between : (capture : Option Sound) (phase : ℕ) (c : Card) (a b : CardActor) (d e f : Card) (lines : List Line) → IsSameCard c e → IsSameCard d f
-    → CardPhase capture phase c a b d lines → CardPhase capture phase e a b f lines
-CardPhase-between capture phase c a b d e f lines before after is = record {
-  rests = Rests-same c e before is.rests;
-  before = IsSameCard-joined e c a.card (IsSameCard-back c e before) is.before;
-  part = is.part;
-  plugged = is.plugged;
-  after = IsSameCard-joined b.card d f is.after after;
-}
 
 -- it is over its snoop ring after it
 pub IsOver-phase : (ring : TableId) (geometry : Geometry) (capture : Option Sound) (phase : ℕ) (c : Card) (a b : CardActor) (d : Card) (lines : List Line)

@@ -36,13 +36,13 @@ IsSameWithRows-none number r = record {
 
 -- a reader took the room of its lines
 pub record HasTakenRoom (lines : List Line) (number : ℕ) (r s : LabReader) : Type 0 where
-  pub room : HasRoom s lines
+  pub room : HasRoom lines s
   pub kept : IsSameWithRows number r s
 
 -- a reader can use its seat, and has the room of its lines
 pub record IsReady (lines : List Line) (r : LabReader) : Type 0 where
   pub usable : CanRun r
-  pub room : HasRoom r lines
+  pub room : HasRoom lines r
 
 -- a reader met a note of the card, which met notes of others before it; or the card met its note, before it met those of others
 pub record IsInformedBy (c : Card) (number : ℕ) (r s : LabReader) : Type 0 where

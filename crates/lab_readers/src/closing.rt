@@ -46,7 +46,7 @@ impl<'r> LabReaders<'r> {
     pub fn close(&mut self, number: u32, phase: u32) -> Row
         requires number { number < length (readers_of self.old) }
         requires rings { AreOfRing self.old }
-        ensures closed { (session : Session) (capture : Option Sound) (stage : Stage) →
+        ensures after { (session : Session) (capture : Option Sound) (stage : Stage) →
             IsItemAt session capture stage phase self.old →
             AreAfter session capture stage (after_close session stage (actor.Reader number)) result
             self.new }

@@ -67,7 +67,7 @@ impl<'r> LabReaders<'r> {
     pub fn new(alloc: Global, count: u32, seat: ReaderSeat<'r>) -> Result<LabReaders<'r>, PcmError>
         ensures spare { IfOk result (λ readers. spare_of readers ≡ seat.entry) }
         ensures count { IfOk result (λ readers. length (readers_of readers) ≡ count) }
-        ensures stage { IfOk result (λ readers. (session : Session) (capture : Option Sound) →
+        ensures first { IfOk result (λ readers. (session : Session) (capture : Option Sound) →
             IsNewCardOf session seat.entry count →
             AreAt session capture (first_stage session).readers readers) }
         ensures only { IfErr result (λ e. e ≡ PcmError.Memory) }
@@ -83,7 +83,8 @@ impl<'r> LabReaders<'r> {
     pub fn runs_into(&self, all: &mut Vec<(u32, u64, u64)>)
         requires { HasSpace (length (flat_map runs_by (readers_of self.now))) all.old }
         ensures items { all.new.items ≡ all.old.items ++ flat_map runs_by (readers_of self.now) }
-        ensures report { (session : Session) (capture : Option Sound) (xs : List (AtPort × Reader)) →
+        ensures report { (session : Session) (capture : Option Sound)
+            (xs : List (AtPort × Reader)) →
             AreAt session capture xs self.now → all.new.items ≡ all.old.items ++ all_runs xs }
     {
         list_runs(all, self.readers.as_slice());

@@ -29,7 +29,7 @@ fn open_reader<'r>(
         IfSome (option_copied opening) (IsUsable ring.channels ring.frames) }
     ensures opening { IfOk result (λ row. HasOpening spare.old phase reader.old reader.new row
         (reader_in reader.old).own (option_copied opening.entry)) }
-    ensures err { OnErr result (reader.new ≡ reader.old) }
+    ensures same { OnErr result (reader.new ≡ reader.old) }
     ensures spare { IsSameReader spare.old spare.new }
     ensures only { IfErr result (λ e. e ≡ PcmError.Memory) }
 {
@@ -72,13 +72,13 @@ impl<'r> LabReaders<'r> {
         requires number { number < length (readers_of self.old) }
         requires usable { let ring = geometry_of self.old in
             IfSome (option_copied opening) (IsUsable ring.channels ring.frames) }
-        ensures opened { IfOk result (λ row.
+        ensures after { IfOk result (λ row.
             (session : Session) (capture : Option Sound) (stage : Stage) →
             IsItemAt session capture stage phase self.old →
             slice_index_or session.readers number None ≡ option_copied opening.entry →
             AreAfter session capture stage (after_open session stage (actor.Reader number)) row
             self.new) }
-        ensures err { OnErr result (
+        ensures same { OnErr result (
             (session : Session) (capture : Option Sound) (xs : List (AtPort × Reader)) →
             AreAt session capture xs self.old → AreAt session capture xs self.new) }
         ensures card { SameReader (spare_of self.old) (spare_of self.new) }

@@ -22,14 +22,14 @@ impl LabReaders<'_> {
     ghost use Rattle.lab_readers.specs.AtStage.{readers_of};
     ghost use Rattle.lab_readers.specs.Steps.{EachReader, IsSameWithRows, HasGivenRows, HasTakenRoom, IsHeardBy, IsInformedBy, IsReady, RunsAt, has_lines};
 
-    /// How many readers there are.
+    /// How many readers there are, open or not.
     pub fn len(&self) -> usize
         ensures { result ≡ length (readers_of self.now) }
     {
         self.readers.len()
     }
 
-    /// How many of them have lines among those of a phase. Where none has, the phase leaves all as they are (`readers-still`).
+    /// How many readers have lines among those of a phase, open or not.
     pub fn busy_count(&self, lines: &[Line]) -> usize
         ensures value { result ≡ count_by (has_lines lines.now) (readers_of self.now) }
         ensures most { result ≤ length (readers_of self.now) }
@@ -37,19 +37,19 @@ impl LabReaders<'_> {
         busy_count(self.readers.as_slice(), lines)
     }
 
-    /// Takes the room that their lines of a phase want, so that `run_lines` takes no memory. It refuses, with `Memory`, only where no
-    /// memory is left; then too they are as before, but for their room.
+    /// Takes the room that the lines of a phase want, so that `run_lines` and `run_lines_at_once` take no memory. It refuses, with
+    /// `Memory`, only where no memory is left; then too the readers are as they were, but for their room.
     pub fn take_room(&mut self, lines: &[Line]) -> Result<(), PcmError>
         ensures room { OnOk result (EachReader (HasTakenRoom lines.now) self.old self.new) }
-        ensures kept { EachReader IsSameWithRows self.old self.new }
+        ensures same { EachReader IsSameWithRows self.old self.new }
         ensures only { IfErr result (λ e. e ≡ PcmError.Memory) }
     {
         take_reader_room(self.readers.as_mut_slice(), lines)
     }
 
-    /// Each that is open meets a note of the card, before a phase.
+    /// Before the lines of a phase: the seat of each open reader meets a note of the card.
     ///
-    /// The caller has readers of the card's snoop ring.
+    /// The caller has a card of the seats' ring.
     pub fn inform(&mut self, card: &mut Card<'_, '_>)
         requires { All (IsOfCard card.old) (readers_of self.old) }
         ensures card { IsSameCard card.old card.new }
@@ -58,10 +58,11 @@ impl LabReaders<'_> {
         inform_readers(card, self.readers.as_mut_slice());
     }
 
-    /// They do their lines of a phase, one reader after the other, each at its seat and with the gate of its number.
+    /// All readers do their lines of a phase, one reader after the other, each with the gate of its number. A reader that isn't open is
+    /// refused each of its lines with `BadState`.
     ///
-    /// The caller has taken the room of the lines (`take_room`), and then had each meet a note of the card (`inform`); there is a gate
-    /// for each reader, and no read is of more than 4,194,304 frames (`reads_are_few`).
+    /// The caller has taken the room of the lines (`take_room`), and then had each meet a note of the card (`inform`); there are at least as
+    /// many gates as readers, and no read is of more than 4,194,304 frames (`reads_are_few`).
     pub fn run_lines<G: Gate>(&mut self, gates: &mut [G], phase: u32, lines: &[Line])
         requires few { All (λ (line : Line). IsFewRead line.op) lines.now }
         requires gates { length (readers_of self.old) ≤ length gates.old }
@@ -72,8 +73,7 @@ impl LabReaders<'_> {
         run_in_turn(self.readers.as_mut_slice(), gates, phase, lines);
     }
 
-    /// They do their lines of a phase at once, each in a thread of its own where one can be made. Else it is as `run_lines`, also in what
-    /// it asks of the caller.
+    /// Does what `run_lines` does, with each reader in a thread of its own where one can be made. It returns once all readers are done.
     pub fn run_lines_at_once<R: Threads + Sync, G: Gate + Send>(
         &mut self,
         rt: &R,
@@ -90,9 +90,9 @@ impl LabReaders<'_> {
         run_at_once(rt, self.readers.as_mut_slice(), gates, phase, lines);
     }
 
-    /// The card meets a note of each that is open, after a phase.
+    /// After the lines of a phase: the card meets a note of the seat of each open reader.
     ///
-    /// The caller has readers of the card's snoop ring.
+    /// The caller has a card of the seats' ring.
     pub fn hear(&mut self, card: &mut Card<'_, '_>)
         requires { All (IsOfCard card.old) (readers_of self.old) }
         ensures card { IsSameCard card.old card.new }
@@ -101,7 +101,7 @@ impl LabReaders<'_> {
         hear_readers(card, self.readers.as_mut_slice());
     }
 
-    /// Moves the rows of their lines to the end of others, in the order of the readers: they have none then. It takes no memory.
+    /// Moves the rows of all readers to the end of the lab's, reader by reader: they have none then. It takes no memory.
     ///
     /// The caller has room for them.
     pub fn take_rows(&mut self, rows: &mut Vec<Row>)

@@ -1,4 +1,4 @@
-//! One reader of a script, whether it is open or not.
+//! A reader of the lab, whether it is open or not.
 ghost use Rattle.std.specs.Prelude.{◌≡◌, ◌≢◌, ◌++◌, ◌≤◌, ◌↔◌, [], All, IfErr, IsSome, IsTrue, None, OnErr, OnOk, Some, length, vec_capacity};
 ghost use Rattle.snd_base.specs.declared.geometry.Geometry.{Geometry};
 ghost use Rattle.snoop_table.specs.Readers.{geometry_of};
@@ -109,13 +109,6 @@ impl<'r> LabReader<'r> {
         line_count(lines, Actor::Reader(self.actor.number)) != 0
     }
 
-    /// The rows of its lines since they were taken last.
-    pub(crate) fn rows(&self) -> &[Row]
-        ensures { result.now ≡ rows_of self.now }
-    {
-        self.actor.rows.as_slice()
-    }
-
     /// The row of a line of it that isn't in a phase, as it is after the line: an opening or a closing.
     pub(crate) fn row(&self, phase: u32, op: Op, answer: Answer) -> Row
         ensures { result ≡ row_by phase (number_of self.now) op (reader_in self.now).own answer }
@@ -163,10 +156,10 @@ impl<'r> LabReader<'r> {
         self.actor.frames.as_slice()
     }
 
-    /// Takes the room that its lines of a phase want, so that `run_lines` takes no memory. It refuses, with `Memory`, only where
-    /// no memory is left.
+    /// Takes the room that its lines of a phase want, so that `run_lines` takes no memory. It refuses, with `Memory`, only where no memory
+    /// is left. Whatever it answers, the reader is as it was.
     pub(crate) fn take_room(&mut self, lines: &[Line]) -> Result<(), PcmError>
-        ensures room { OnOk result (HasRoom self.new lines.now) }
+        ensures room { OnOk result (HasRoom lines.now self.new) }
         ensures same { IsSameBut self.old self.new }
         ensures rows { rows_of self.new ≡ rows_of self.old }
         ensures only { IfErr result (λ e. e ≡ PcmError.Memory) }
@@ -179,51 +172,41 @@ impl<'r> LabReader<'r> {
         Ok(())
     }
 
-    /// Meets a note of the card before a phase, where it is open (`inform_reader`).
+    /// Before a phase: where it is open, its seat meets a note of the card (`inform_reader`).
     ///
-    /// The caller has a reader of the card's snoop ring.
+    /// The caller has a card of the seat's ring.
     pub(crate) fn inform(&mut self, card: &mut Card<'_, '_>)
         requires { IsOfCard card.old self.old }
         ensures card { IsSameCard card.old card.new }
-        ensures reader { IsReaderInformed card.old self.old self.new }
+        ensures informed { IsReaderInformed card.old self.old self.new }
     {
         if let Some(seat) = &mut self.seat {
             inform_reader(card, seat);
         }
     }
 
-    /// The card meets its note after a phase, where it is open (`hear_reader`).
+    /// After a phase: where it is open, the card meets a note of its seat (`hear_reader`).
     ///
-    /// The caller has a reader of the card's snoop ring.
+    /// The caller has a card of the seat's ring.
     pub(crate) fn hear(&mut self, card: &mut Card<'_, '_>)
         requires { IsOfCard card.old self.old }
         ensures card { IsSameCard card.old card.new }
-        ensures reader { IsReaderHeard card.new self.old self.new }
+        ensures heard { IsReaderHeard card.new self.old self.new }
     {
         if let Some(seat) = &mut self.seat {
             hear_reader(card, seat);
         }
     }
 
-    /// Whether it can use its seat, where it is open, as `run_lines` asks.
-    pub(crate) fn can_run(&self) -> bool
-        ensures { IsTrue result ↔ CanRun self.now }
-    {
-        match &self.seat {
-            Some(seat) => self.actor.reader.can_use(seat),
-            None => true,
-        }
-    }
-
-    /// Does its lines of a phase, in order, at its seat and with its gate; where it isn't open, each is answered `BadState`
-    /// (EBADFD), and nothing is done.
+    /// Does its lines of a phase with its gate, at its seat (`ReaderActor::run_lines`); where it isn't open, each of them is refused
+    /// with `BadState` and nothing is done.
     ///
-    /// The caller has taken the room of the lines (`take_room`) and has a reader that can use its seat (`can_run`); no read is of
-    /// more than 4,194,304 frames (`reads_are_few`).
+    /// The caller has taken the room of the lines (`take_room`), and has a reader that can use its seat; no read is of more than 4,194,304
+    /// frames.
     pub(crate) fn run_lines<G: Gate>(&mut self, gate: &mut G, phase: u32, lines: &[Line])
         requires few { All (λ (line : Line). IsFewRead line.op) lines.now }
         requires usable { CanRun self.old }
-        requires room { HasRoom self.old lines.now }
+        requires room { HasRoom lines.now self.old }
         ensures { AsksGate G.Gate gate.old gate.new (λ stops after asks.
             RunsLines phase stops after asks lines.now self.old self.new) }
     {
@@ -236,12 +219,12 @@ impl<'r> LabReader<'r> {
         }
     }
 
-    /// Moves the rows of its lines to the end of others, which have the room for them.
+    /// Moves its rows to the end of the lab's, for which there is room: it has none then.
     pub(crate) fn take_rows(&mut self, all: &mut Vec<Row>)
         requires { HasSpace (length (rows_of self.old)) all.old }
-        ensures all { all.new.items ≡ all.old.items ++ rows_of self.old }
+        ensures rows { all.new.items ≡ all.old.items ++ rows_of self.old }
         ensures room { vec_capacity all.old ≤ vec_capacity all.new }
-        ensures rows { rows_of self.new ≡ [] }
+        ensures none { rows_of self.new ≡ [] }
         ensures same { IsSameBut self.old self.new }
     {
         all.append(&mut self.actor.rows).unwrap();
@@ -261,7 +244,7 @@ impl<'r> LabReader<'r> {
         requires usable { let ring = geometry_of seat in
             IsUsable ring.channels ring.frames opening.now }
         ensures opened { OnOk result (HasOpened seat.entry opening.now self.old self.new) }
-        ensures err { OnErr result (self.new ≡ self.old) }
+        ensures same { OnErr result (self.new ≡ self.old) }
         ensures only { IfErr result (λ e. e ≡ PcmError.Memory) }
     {
         let reader = set_up(alloc, seat.geometry(), opening)?;

@@ -26,7 +26,8 @@ impl LabReaders<'_> {
     pub fn reap(&mut self)
         requires { AreOfRing self.old }
         ensures each { AreReaped self.old self.new }
-        ensures stage { (session : Session) (capture : Option Sound) (xs : List (AtPort × Reader)) →
+        ensures reaped { (session : Session) (capture : Option Sound)
+            (xs : List (AtPort × Reader)) →
             AreDone session capture xs self.old →
             AreAt session capture (map (reaped_reader session.ring) xs) self.new }
     {

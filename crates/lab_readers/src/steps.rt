@@ -16,7 +16,7 @@ use mix_core::Gate;
 use snd_base::PcmError;
 
 /// Whether a line asks to read no more than 4,194,304 frames, as many as a call takes.
-fn is_few_read(asked: Op) -> bool
+fn is_few(asked: Op) -> bool
     ensures { IsTrue result ↔ IsFewRead asked }
 {
     match asked {
@@ -25,20 +25,21 @@ fn is_few_read(asked: Op) -> bool
     }
 }
 
-/// Whether each of some lines asks to read no more than 4,194,304 frames.
+/// Whether each line of a phase reads no more than 4,194,304 frames, as many as a call takes.
 pub fn reads_are_few(lines: &[Line]) -> bool
     ensures { IsTrue result ↔ All (λ (line : Line). IsFewRead line.op) lines.now }
 {
-    lines.iter().all(|line| is_few_read(line.op))
+    lines.iter().all(|line| is_few(line.op))
 }
 
-/// Takes the room of all readers' lines. It refuses, with `Memory`, only where no memory is left.
+/// Takes the room of all readers' lines. It refuses, with `Memory`, only where no memory is left; then too the readers are as they were, but
+/// for their room.
 pub(crate) fn take_reader_room(
     readers: &mut [LabReader<'_>],
     lines: &[Line],
 ) -> Result<(), PcmError>
     ensures room { OnOk result (AreEach (HasTakenRoom lines.now) 0 readers.old readers.new) }
-    ensures kept { AreEach IsSameWithRows 0 readers.old readers.new }
+    ensures same { AreEach IsSameWithRows 0 readers.old readers.new }
     ensures only { IfErr result (λ e. e ≡ PcmError.Memory) }
 {
     for index in 0..readers.len() {

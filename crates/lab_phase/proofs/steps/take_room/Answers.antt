@@ -35,6 +35,6 @@ returns-clause-kept c =
       clients = AreEach-map (HasTakenRoom c.args.lines.now) IsSameWithRows 0 (clients_of c.args.clients.now) (clients_of c.take_room-2.new.self)
           (λ n d e taken. record { same = taken.same; rows = taken.rows }) c.in_ok-take_room-2.ensures.room;
       places = c.take_room-2.ensures.places;
-      readers = c.take_room-3.ensures.kept;
+      readers = c.take_room-3.ensures.same;
     } in
     OnErr-always c.take_room-3.result kept

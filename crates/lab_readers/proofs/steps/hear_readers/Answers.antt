@@ -9,7 +9,7 @@ loop-index-preserved c =
     let index = c.loop-index.index in let before = c.args.readers.now in let reader = c.index-readers-index.result in let after = c.hear.new.self in
     let inside : index < length before = omega arith in
     let same = IsSameCard-joined c.args.card.now c.loop-index.card c.hear.new.card c.loop-index.invariant.0 c.hear.ensures.card in
-    let own : IsHeardBy c.args.card.now index (slice_index_or c.loop-index.readers index reader) after = record { card = c.hear.new.card; same = same; heard = c.hear.ensures.reader } in (
+    let own : IsHeardBy c.args.card.now index (slice_index_or c.loop-index.readers index reader) after = record { card = c.hear.new.card; same = same; heard = c.hear.ensures.heard } in (
       same,
       HasWalked-step (IsHeardBy c.args.card.now) before c.loop-index.readers index after reader inside c.loop-index.invariant.1 own,
     )

@@ -8,7 +8,7 @@ pub loop-index-preserved : goal.loop-index-preserved
 loop-index-preserved c =
     let index = c.loop-index.index in let before = c.args.readers.now in let reader = c.index-readers-index.result in let after = c.inform.new.self in
     let inside : index < length before = omega arith in
-    let own : IsInformedBy c.args.card.now index (slice_index_or c.loop-index.readers index reader) after = record { card = c.loop-index.card; same = c.loop-index.invariant.0; informed = c.inform.ensures.reader } in (
+    let own : IsInformedBy c.args.card.now index (slice_index_or c.loop-index.readers index reader) after = record { card = c.loop-index.card; same = c.loop-index.invariant.0; informed = c.inform.ensures.informed } in (
       IsSameCard-joined c.args.card.now c.loop-index.card c.inform.new.card c.loop-index.invariant.0 c.inform.ensures.card,
       HasWalked-step (IsInformedBy c.args.card.now) before c.loop-index.readers index after reader inside c.loop-index.invariant.1 own,
     )

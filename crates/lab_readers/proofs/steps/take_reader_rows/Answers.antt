@@ -20,8 +20,8 @@ loop-index-preserved c =
     let grown = c.take_rows.ensures.room in
     record {
       walked = HasWalked-step HasGivenRows old l.readers l.index c.take_rows.new.self next (omega arith) l.invariant.walked
-          (record { same = c.take_rows.ensures.same; rows = c.take_rows.ensures.rows });
-      rows = c.take_rows.ensures.all
+          (record { same = c.take_rows.ensures.same; rows = c.take_rows.ensures.none });
+      rows = c.take_rows.ensures.rows
           ∙ rows-next rows_of HasGivenRows c.args.rows.now.items l.rows.items old l.readers l.index next (omega arith) l.invariant.walked l.invariant.rows;
       room = omega (arith, was, grown);
     }

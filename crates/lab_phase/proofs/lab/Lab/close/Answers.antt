@@ -58,6 +58,6 @@ returns-in-Reader c =
           (record { script = refl; wavs = refl; capture = refl; openings = refl }) (record { rows = refl; room = refl; phases = refl; next = refl }) refl refl
           (record { ring = c.close-in-Reader.ensures.spare.same_ring.0; geometry = c.close-in-Reader.ensures.spare.same_ring.1 })
           (λ stage. after_close-keeps_clients (session_of lab) stage number)
-          (λ stage at. c.close-in-Reader.ensures.closed (session_of lab) (capture_of lab) stage (record { are = at.actors.readers_are; phases = at.phases })));
+          (λ stage at. c.close-in-Reader.ensures.after (session_of lab) (capture_of lab) stage (record { are = at.actors.readers_are; phases = at.phases })));
       played = refl;
     }

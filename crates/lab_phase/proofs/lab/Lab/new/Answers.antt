@@ -67,7 +67,7 @@ returns-clause-first c =
               share_is = refl;
             })
             (AreClientOpenings-length script.card script.clients c.args.wavs.now session.clients is.clients ∙ ap length (sym c.as_slice.ensures));
-        readers_are = c.in_ok-readers.ensures.stage session capture
+        readers_are = c.in_ok-readers.ensures.first session capture
             (record {
               card = record { ring = c.requires.one_shape ∙ shape; first = first };
               usable = usable_readers;

@@ -51,7 +51,7 @@ returns-clause-does c =
     (record { ring = c.open.ensures.card.0; geometry = c.open.ensures.card.1 }) (λ stage. after_open-keeps_clients (session_of lab) stage number)
     (λ stage at. done (session_of lab) (capture_of lab) stage (record { are = at.actors.readers_are; phases = at.phases })
     (reader_opening-any lab stage at number (option_copied c.as_ref-opening.result) c.index.result.now c.requires.number c.index.ensures c.as_ref-opening.ensures.value)))
-    c.open.ensures.opened
+    c.open.ensures.after
 
 pub returns-clause-kept : goal.returns-clause-kept
 returns-clause-kept c =
@@ -62,4 +62,4 @@ returns-clause-kept c =
     OnErr-both Kept Kept (StaysAtStage lab after) c.open.result
     (λ kept same. StaysAtStage-reader lab after (record { script = refl; wavs = refl; capture = refl; openings = refl }) (record { rows = refl; room = refl; phases = refl; next = refl }) refl refl
     (record { ring = c.open.ensures.card.0; geometry = c.open.ensures.card.1 }) kept)
-    c.open.ensures.err c.open.ensures.err
+    c.open.ensures.same c.open.ensures.same
