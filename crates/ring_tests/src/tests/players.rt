@@ -7,11 +7,11 @@ use card_player::CardPlayer;
 use mix_core::{MixPort, NeverStops, Placed};
 use snd_base::{Geometry, PcmError};
 use std::alloc::Global;
-use std::test::Fail;
-use sum_table::SumRing;
+use std::process::Abort;
+use sum_table::{MixSeat, SumRing};
 
 // A ring of 64 frames.
-fn new_ring(alloc: Global, channels: u8, first_lap: u32) -> Result<SumRing, Fail>
+fn new_ring(alloc: Global, channels: u8, first_lap: u32) -> Result<SumRing, PcmError>
     requires one { 1 ≤ channels }
     requires most { channels ≤ 8 }
     requires lap { first_lap ≤ 4294967294 }
@@ -22,38 +22,45 @@ fn new_ring(alloc: Global, channels: u8, first_lap: u32) -> Result<SumRing, Fail
         channels,
         first_lap,
     };
-    Ok(SumRing::new(alloc, geometry, 1)?)
+    SumRing::new(alloc, geometry, 1)
 }
 
-// Plays as many frames as a buffer has room for.
-fn play(player: &mut CardPlayer<'_>, out: &mut [i16]) -> Result<Result<(), PcmError>, Fail> {
+// Plays as many frames as a buffer has room for, and does nothing within a frame.
+fn play(player: &mut CardPlayer<'_>, out: &mut [i16]) -> Option<Result<(), PcmError>> {
     if !player.is_at_frame() {
-        return Err("within a frame".into());
+        return None;
     }
-    Ok(player.play(out))
+    Some(player.play(out))
 }
 
-// Takes one frame.
-fn take_frame(player: &mut CardPlayer<'_>, out: &mut [i16]) -> Result<Result<(), PcmError>, Fail> {
+// Takes one frame where the player may, and does nothing elsewhere.
+fn take_frame(player: &mut CardPlayer<'_>, out: &mut [i16]) -> Option<Result<(), PcmError>> {
     if !player.is_at_frame() || out.len() < player.geometry().channels as usize {
-        return Err("no frame".into());
+        return None;
     }
-    Ok(player.take_frame(out))
+    Some(player.take_frame(out))
+}
+
+// Plays up to frame `end`, before which a sample is placed, and tries to play on.
+fn play_to(rt: &impl Abort, player: &mut CardPlayer<'_>, mix: &mut MixSeat<'_>, end: u64)
+    requires { 1 ≤ end }
+{
+    assert!(rt; try_place(mix, end - 1, 0, 3) == Some(Placed::In));
+    let mut out = [1i16; 100];
+    assert!(rt; play(player, &mut out) == Some(Err(PcmError::LapEnd)));
+    assert!(rt; [out[0], out[62], out[63], out[64]] == [0, 0, 3, 1]);
+    let _ = mix.position(&mut NeverStops);
+    assert!(rt; mix.seen() == end);
+    assert!(rt; take_frame(player, &mut out) == Some(Err(PcmError::LapEnd)));
+    assert!(rt; out[0] == 0);
 }
 
 // A ring whose first lap is the last one ends after its 64 frames: they are played, and the rest is refused.
 #[test]
-fn the_frames_before_the_last_lap_are_played(rt: HostRuntime) -> Result<(), Fail> {
+fn the_frames_before_the_last_lap_are_played(rt: HostRuntime) -> Result<(), PcmError> {
     let mut ring = new_ring(rt.alloc(), 1, 4294967294)?;
     let (seat, mut mix) = ring.seats();
     let mut player = CardPlayer::new(seat, 100);
-    let end = 4294967295 * 64;
-    assert!(rt; try_place(&mut mix, end - 1, 0, 3) == Some(Placed::In));
-    let mut out = [1i16; 100];
-    assert!(rt; play(&mut player, &mut out)? == Err(PcmError::LapEnd));
-    assert!(rt; [out[0], out[62], out[63], out[64]] == [0, 0, 3, 1]);
-    assert!(rt; mix.position(&mut NeverStops)?.frame == end);
-    assert!(rt; take_frame(&mut player, &mut out)? == Err(PcmError::LapEnd));
-    assert!(rt; out[0] == 0);
+    play_to(&rt, &mut player, &mut mix, 4294967295 * 64);
     Ok(())
 }

@@ -7,13 +7,12 @@ mod between;
 mod threads;
 
 use mix_core::{MixPort, NeverStops, Placed};
-use snd_base::Geometry;
+use snd_base::{Geometry, PcmError};
 use std::alloc::Global;
-use std::test::Fail;
 use sum_table::{MixSeat, PlayerSeat, SumRing};
 
 // A ring of 64 frames from lap 0 on.
-fn new_ring(alloc: Global, channels: u8, places: u32) -> Result<SumRing, Fail>
+fn new_ring(alloc: Global, channels: u8, places: u32) -> Result<SumRing, PcmError>
     requires one { 1 ≤ channels }
     requires most { channels ≤ 8 }
     requires least { 1 ≤ places }
@@ -26,7 +25,7 @@ fn new_ring(alloc: Global, channels: u8, places: u32) -> Result<SumRing, Fail>
         channels,
         first_lap: 0,
     };
-    Ok(SumRing::new(alloc, geometry, places)?)
+    SumRing::new(alloc, geometry, places)
 }
 
 // Places a sample where the seat may, as seen at run time, and does nothing elsewhere.

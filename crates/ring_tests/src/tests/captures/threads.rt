@@ -1,7 +1,8 @@
 //! Seats in threads of their own.
 
 use super::*;
-use std::thread::{Threads, join_mut, yield_now};
+use std::alloc::AllocError;
+use std::thread::{Threads, for_each_mut, join_mut, yield_now};
 
 // How many frames are stored, of a ring of 64, and how often a reader looks before it gives up.
 const STORED: u64 = 20_000;
@@ -28,39 +29,25 @@ fn is_wanted(frame: u64, samples: &[i16]) -> bool {
     true
 }
 
-// Stores a frame where it is one, and says whether it was stored.
-fn is_stored(writer: &mut WriterSeat<'_>, frame: &[i16]) -> bool {
-    if frame.len() != writer.geometry().channels as usize {
-        return false;
-    }
-    writer.store_frame(frame).is_ok()
-}
-
-// Loads a frame where the reader may, and says whether it was got.
-fn is_got(reader: &mut ReaderSeat<'_>, frame: u64, out: &mut [i16]) -> bool {
-    let geometry = reader.geometry();
-    if frame < geometry.first_frame() || frame >= reader.seen() {
-        return false;
-    }
-    if out.len() != geometry.channels as usize {
-        return false;
-    }
-    reader.load_frame(&mut NeverStops, frame, out) == Ok(Loaded::Got)
-}
-
 // The writer, and room for a frame.
-#[derive(Drop)]
 struct Storing<'a> {
     seat: WriterSeat<'a>,
     frame: Vec<i16>,
+}
+
+// One call wherever it is let go.
+impl Drop for Storing<'_> {
+    fn drop(self) {
+        let Storing { seat: _, frame: _ } = self;
+    }
 }
 
 impl Storing<'_> {
     // Stores all frames, publishes every four of them, and lets the readers go on in between.
     fn store_all(&mut self) {
         for number in 0..STORED {
-            fill(number, self.frame.as_mut_slice());
-            if !is_stored(&mut self.seat, self.frame.as_slice()) {
+            fill(number, &mut self.frame);
+            if try_store(&mut self.seat, &self.frame) != Some(Ok(())) {
                 return;
             }
             if number % 4 == 3 {
@@ -72,7 +59,6 @@ impl Storing<'_> {
 }
 
 // A reader: it loads frame after frame, and compares each that it gets.
-#[derive(Drop)]
 struct Reading<'a> {
     seat: ReaderSeat<'a>,
     out: Vec<i16>,
@@ -81,14 +67,26 @@ struct Reading<'a> {
     wrong: u64,
 }
 
+impl Drop for Reading<'_> {
+    fn drop(self) {
+        let Reading {
+            seat: _,
+            out: _,
+            next: _,
+            got: _,
+            wrong: _,
+        } = self;
+    }
+}
+
 impl Reading<'_> {
     // Loads the next frame. Where it was overtaken, the reader goes on with the newest one.
     fn load_next(&mut self) {
-        if !is_got(&mut self.seat, self.next, self.out.as_mut_slice()) {
+        if try_load(&mut self.seat, self.next, &mut self.out) != Some(Loaded::Got) {
             self.next = self.seat.seen();
             return;
         }
-        if is_wanted(self.next, self.out.as_slice()) {
+        if is_wanted(self.next, &self.out) {
             self.got = self.got.saturating_add(1);
         } else {
             self.wrong = self.wrong.saturating_add(1);
@@ -122,106 +120,72 @@ impl Reading<'_> {
     }
 }
 
-fn new_reading<'a>(alloc: Global, seat: ReaderSeat<'a>) -> Result<Reading<'a>, Fail> {
-    let out = vec![in alloc; 0i16; seat.geometry().channels as usize]?;
-    Ok(Reading {
+fn new_reading<'a>(seat: ReaderSeat<'a>, out: Vec<i16>) -> Reading<'a> {
+    Reading {
         seat,
         out,
         next: 0,
         got: 0,
         wrong: 0,
-    })
-}
-
-fn load_both<R: Threads + Sync>(rt: &R, a: &mut Reading<'_>, b: &mut Reading<'_>) {
-    join_mut(rt, &mut || a.load_all(), &mut || b.load_all());
-}
-
-// Each frame that was got is the stored one, and the last lap is got whole.
-fn check(reading: &mut Reading<'_>) -> Result<(), Fail> {
-    reading.load_last_lap();
-    if reading.wrong > 0 || reading.got != 64 {
-        return Err("another frame was got".into());
     }
+}
+
+fn silence(alloc: Global, channels: usize) -> Result<Vec<i16>, AllocError> {
+    vec![in alloc; 0; channels]
+}
+
+// Each reader loads in a thread of its own.
+fn load_beside<R: Threads + Sync>(rt: &R, readers: &mut [Reading<'_>]) {
+    for_each_mut(rt, readers, 4, &|_, reading| reading.load_all());
+}
+
+// The readers load while the writer stores.
+fn store_beside<R: Threads + Sync>(rt: &R, writer: &mut Storing<'_>, readers: &mut [Reading<'_>]) {
+    join_mut(
+        rt,
+        &mut || writer.store_all(),
+        &mut || load_beside(rt, readers),
+    );
+}
+
+// Whether each frame that the readers got is the stored one, and each of them gets the last lap whole.
+fn are_right(readers: &mut [Reading<'_>]) -> bool {
+    for reading in readers.iter_mut() {
+        reading.load_last_lap();
+        if reading.wrong > 0 || reading.got != 64 {
+            return false;
+        }
+    }
+    true
+}
+
+#[test]
+fn two_readers_get_what_is_stored(rt: HostRuntime) -> Result<(), PcmError> {
+    let frame = silence(rt.alloc(), 2)?;
+    let (out_a, out_b) = (silence(rt.alloc(), 2)?, silence(rt.alloc(), 2)?);
+    let mut ring = new_ring(rt.alloc(), 2, 0)?;
+    let (seat, mut reader) = ring.seats();
+    let mut writer = Storing { seat, frame };
+    let b = new_reading(reader.split(), out_b);
+    let mut readers = [new_reading(reader, out_a), b];
+    store_beside(&rt, &mut writer, &mut readers);
+    assert!(rt; are_right(&mut readers));
     Ok(())
 }
 
-fn run_two<R: Threads + Sync>(
-    rt: &R,
-    writer: &mut Storing<'_>,
-    a: &mut Reading<'_>,
-    b: &mut Reading<'_>,
-) {
-    join_mut(
-        rt,
-        &mut || writer.store_all(),
-        &mut || {
-            load_both(rt, a, b);
-        },
-    );
-}
-
 #[test]
-fn two_readers_get_what_is_stored(rt: HostRuntime) -> Result<(), Fail> {
-    let mut ring = new_ring(rt.alloc(), 2, 0)?;
-    let (seat, mut reader) = ring.seats();
-    let frame = vec![in rt.alloc(); 0i16; 2]?;
-    let mut writer = Storing { seat, frame };
-    let mut b = new_reading(rt.alloc(), reader.split())?;
-    let mut a = new_reading(rt.alloc(), reader)?;
-    run_two(&rt, &mut writer, &mut a, &mut b);
-    check(&mut a)?;
-    check(&mut b)
-}
-
-fn load_four<R: Threads + Sync>(
-    rt: &R,
-    first: (&mut Reading<'_>, &mut Reading<'_>),
-    second: (&mut Reading<'_>, &mut Reading<'_>),
-) {
-    let (a, b) = first;
-    let (c, d) = second;
-    join_mut(
-        rt,
-        &mut || {
-            load_both(rt, a, b);
-        },
-        &mut || {
-            load_both(rt, c, d);
-        },
-    );
-}
-
-#[test]
-fn four_readers_get_what_is_stored(rt: HostRuntime) -> Result<(), Fail> {
+fn four_readers_get_what_is_stored(rt: HostRuntime) -> Result<(), PcmError> {
+    let frame = silence(rt.alloc(), 8)?;
+    let (out_a, out_b) = (silence(rt.alloc(), 8)?, silence(rt.alloc(), 8)?);
+    let (out_c, out_d) = (silence(rt.alloc(), 8)?, silence(rt.alloc(), 8)?);
     let mut ring = new_ring(rt.alloc(), 8, 0)?;
     let (seat, mut reader) = ring.seats();
-    let frame = vec![in rt.alloc(); 0i16; 8]?;
     let mut writer = Storing { seat, frame };
-    let mut b = new_reading(rt.alloc(), reader.split())?;
-    let mut c = new_reading(rt.alloc(), reader.split())?;
-    let mut d = new_reading(rt.alloc(), reader.split())?;
-    let mut a = new_reading(rt.alloc(), reader)?;
-    run_four(&rt, &mut writer, (&mut a, &mut b), (&mut c, &mut d));
-    check(&mut a)?;
-    check(&mut b)?;
-    check(&mut c)?;
-    check(&mut d)
-}
-
-fn run_four<R: Threads + Sync>(
-    rt: &R,
-    writer: &mut Storing<'_>,
-    first: (&mut Reading<'_>, &mut Reading<'_>),
-    second: (&mut Reading<'_>, &mut Reading<'_>),
-) {
-    let (a, b) = first;
-    let (c, d) = second;
-    join_mut(
-        rt,
-        &mut || writer.store_all(),
-        &mut || {
-            load_four(rt, (a, b), (c, d));
-        },
-    );
+    let b = new_reading(reader.split(), out_b);
+    let c = new_reading(reader.split(), out_c);
+    let d = new_reading(reader.split(), out_d);
+    let mut readers = [new_reading(reader, out_a), b, c, d];
+    store_beside(&rt, &mut writer, &mut readers);
+    assert!(rt; are_right(&mut readers));
+    Ok(())
 }

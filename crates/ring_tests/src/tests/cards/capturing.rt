@@ -1,12 +1,13 @@
 //! Random stores, publications and loads at a capture ring between threads and at a core: both give the same answers.
 use super::dice::Dice;
-use crate::tests::captures::try_store;
+use super::{LAST_LAPS, MONO, STEREO, WIDE};
+use crate::tests::captures::{try_load, try_store};
 use mix_core::NeverStops;
-use snd_base::PcmError;
+use snd_base::{Geometry, PcmError};
 use snoop_core::{Loaded, SnoopCore, SnoopPort};
 use snoop_table::{ReaderSeat, WriterSeat};
+use std::alloc::Global;
 use std::process::Abort;
-use std::test::Fail;
 
 /// How many events happen at a ring.
 const EVENTS: usize = 3000;
@@ -15,30 +16,23 @@ const EVENTS: usize = 3000;
 type Given = Option<(Loaded, [i16; 8])>;
 
 /// Loads a frame where the port may, as seen at run time, and gives nothing elsewhere.
-fn load<P: SnoopPort>(port: &mut P, frame: u64) -> Result<Given, Fail> {
+fn load<P: SnoopPort>(port: &mut P, frame: u64) -> Given {
     let geometry = port.geometry();
-    if frame < geometry.first_frame() || frame >= port.seen() {
-        return Ok(None);
-    }
     let mut out = [0; 8];
-    let loaded = port.load_frame(
-        &mut NeverStops,
-        frame,
-        &mut out[..geometry.channels as usize],
-    )?;
-    Ok(Some((loaded, out)))
+    let loaded = try_load(port, frame, &mut out[..geometry.channels as usize])?;
+    Some((loaded, out))
 }
 
-/// Stores a frame in a core, of as many samples as it has channels, as seen at run time.
-fn store_in_core(core: &mut SnoopCore, frame: &[i16]) -> Result<Result<(), PcmError>, Fail> {
+/// Stores a frame in a core, of as many samples as it has channels, as seen at run time, and does nothing with another one.
+fn store_in_core(core: &mut SnoopCore, frame: &[i16]) -> Option<Result<(), PcmError>> {
     if frame.len() != core.geometry().channels as usize {
-        return Err("no frame".into());
+        return None;
     }
-    Ok(core.store(frame))
+    Some(core.store(frame))
 }
 
 /// How often frames were stored, loaded, overtaken, and neither: of these a load gives nothing.
-#[derive(Debug, Default, Drop)]
+#[derive(Default, Drop)]
 struct Counts {
     stored: u32,
     got: u32,
@@ -55,66 +49,106 @@ impl Counts {
         };
         *count = count.saturating_add(1);
     }
+
+    /// Whether each of these came often enough for a comparison.
+    fn are_many(&self) -> bool {
+        self.stored > 300 && self.got > 300 && self.overtaken > 300 && self.nothing > 1
+    }
 }
 
-/// Lets random events happen at a core and at the seats of a ring of its geometry, and compares each answer.
-fn compare(
-    rt: &impl Abort,
+/// Stores a random frame in both, and says whether they answered the same.
+fn store_both(
+    dice: &mut Dice,
+    core: &mut SnoopCore,
+    writer: &mut WriterSeat<'_>,
+    counts: &mut Counts,
+) -> bool {
+    let mut frame = [0; 8];
+    for sample in frame.iter_mut() {
+        *sample = dice.sample();
+    }
+    let geometry = core.geometry();
+    let frame = &frame[..geometry.channels as usize];
+    let stored = store_in_core(core, frame);
+    if stored == Some(Ok(())) {
+        counts.stored = counts.stored.saturating_add(1);
+    }
+    try_store(writer, frame) == stored
+}
+
+/// Publishes both positions, and says whether they are the same.
+fn publish_both(
+    core: &mut SnoopCore,
+    writer: &mut WriterSeat<'_>,
+    reader: &mut ReaderSeat<'_>,
+) -> bool {
+    core.publish();
+    writer.publish();
+    reader.position(&mut NeverStops) == Ok(core.position())
+}
+
+/// Loads a random frame of the last two laps or the next frame from both, and says whether they gave the same.
+fn load_both(
+    dice: &mut Dice,
+    core: &mut SnoopCore,
+    reader: &mut ReaderSeat<'_>,
+    counts: &mut Counts,
+) -> bool {
+    let back = dice.below(2 * core.geometry().frames as u64);
+    let frame = core.position().frame.saturating_sub(back).saturating_add(1);
+    let given = load(&mut core.turn(), frame);
+    counts.count(given);
+    load(reader, frame) == given
+}
+
+/// Lets a random event happen at a core and at the seats of a ring of its geometry, and says whether their answers are the same.
+fn is_same(
+    dice: &mut Dice,
+    core: &mut SnoopCore,
+    writer: &mut WriterSeat<'_>,
+    reader: &mut ReaderSeat<'_>,
+    counts: &mut Counts,
+) -> bool {
+    match dice.below(8) {
+        0..=2 => store_both(dice, core, writer, counts),
+        3 => publish_both(core, writer, reader),
+        _ => load_both(dice, core, reader, counts),
+    }
+}
+
+/// Lets the random events of a seed happen, and says whether all answers are the same and each of them came often.
+fn are_same(
     seed: u64,
     core: &mut SnoopCore,
     writer: &mut WriterSeat<'_>,
     reader: &mut ReaderSeat<'_>,
-) -> Result<Counts, Fail> {
+) -> bool {
     let mut dice = Dice::new(seed);
     let mut counts = Counts::default();
-    let geometry = core.geometry();
     for _ in 0..EVENTS {
-        match dice.below(8) {
-            0..=2 => {
-                let mut frame = [0; 8];
-                for sample in frame.iter_mut() {
-                    *sample = dice.sample();
-                }
-                let frame = &frame[..geometry.channels as usize];
-                let stored = store_in_core(core, frame)?;
-                assert!(rt; try_store(writer, frame)? == stored, "{seed}");
-                counts.stored = counts.stored.saturating_add(stored.is_ok() as u32);
-            }
-            3 => {
-                core.publish();
-                writer.publish();
-                assert!(rt;
-                    reader.position(&mut NeverStops)? == core.position(),
-                    "{seed}"
-                );
-            }
-            _ => {
-                let back = dice.below(2 * geometry.frames as u64);
-                let frame = core.position().frame.saturating_sub(back).saturating_add(1);
-                let given = load(&mut core.turn(), frame)?;
-                assert!(rt; load(reader, frame)? == given, "{seed}");
-                counts.count(given);
-            }
+        if !is_same(&mut dice, core, writer, reader, &mut counts) {
+            return false;
         }
     }
-    Ok(counts)
+    counts.are_many()
 }
 
-// Rings of one to eight channels, from their first lap on, and of which the last reaches its end.
-#[test]
-fn ring_and_core_give_the_same_frames(rt: HostRuntime) -> Result<(), Fail> {
-    let table = [(64, 1, 0), (96, 2, 7), (64, 8, 0), (64, 1, 4294967290)];
-    for (seed, (frames, channels, first_lap)) in table.into_iter().enumerate() {
-        let geometry = super::new_geometry(frames, channels, first_lap)?;
-        let mut core = SnoopCore::new(rt.alloc(), geometry)?;
-        let mut ring = super::new_snoop_ring(rt.alloc(), geometry)?;
-        let (mut writer, mut reader) = ring.seats();
-        let counts = compare(&rt, seed as u64, &mut core, &mut writer, &mut reader)?;
-        assert!(rt; counts.stored > 300, "{counts:?}");
-        assert!(rt;
-            counts.got > 300 && counts.overtaken > 300 && counts.nothing > 1,
-            "{counts:?}"
-        );
-    }
+/// Compares a core and a ring of a geometry, with the random events of a seed.
+fn compare(rt: &impl Abort, alloc: Global, seed: u64, geometry: Geometry) -> Result<(), PcmError> {
+    let mut core = SnoopCore::new(alloc, geometry)?;
+    let mut ring = super::new_snoop_ring(alloc, geometry)?;
+    let (mut writer, mut reader) = ring.seats();
+    assert!(rt;
+        are_same(seed, &mut core, &mut writer, &mut reader),
+        "ring {seed}"
+    );
     Ok(())
+}
+
+#[test]
+fn ring_and_core_give_the_same_frames(rt: HostRuntime) -> Result<(), PcmError> {
+    compare(&rt, rt.alloc(), 0, MONO)?;
+    compare(&rt, rt.alloc(), 1, STEREO)?;
+    compare(&rt, rt.alloc(), 2, WIDE)?;
+    compare(&rt, rt.alloc(), 3, LAST_LAPS)
 }

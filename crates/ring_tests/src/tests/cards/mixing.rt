@@ -1,22 +1,22 @@
 //! Random events at a sum ring between threads and at a core: both give the same answers.
-ghost use Rattle.std.specs.Prelude.{[], ◌∷◌, Ok, IfOk};
+ghost use Rattle.std.specs.Prelude.{[], ◌∷◌, Ok, IfSome};
 ghost use Rattle.mix_core.specs.Laid.{an_add};
 ghost use Rattle.mix_core.specs.Port.{OnWhole, ended_of};
-ghost use Rattle.sum_table.specs.Seats.{SeatLaid, member_of};
+ghost use Rattle.sum_table.specs.Seats.{SeatEndsIn, SeatLaid, member_of};
 
 use super::dice::Dice;
+use super::{LAST_LAPS, MONO, STEREO, WIDE};
 use mix_core::{Core, Event, MixPort, NeverStops, Placed, Reply, can_place};
-use snd_base::Cursor;
+use snd_base::{Cursor, Geometry, PcmError};
 use std::alloc::Global;
 use std::process::Abort;
-use std::test::Fail;
 use sum_table::{MixSeat, PlayerSeat};
 
 /// How many events happen at a ring.
 const EVENTS: usize = 3000;
 
 /// An add that is tried: by one of two members, at a frame and channel.
-#[derive(Clone, Copy, Debug)]
+#[derive(Clone, Copy)]
 struct Add {
     member: u32,
     frame: u64,
@@ -45,36 +45,26 @@ impl Add {
     }
 }
 
-/// Whether a seat may place a sample, as seen at run time.
-fn may_place(seat: &MixSeat<'_>, add: Add) -> bool {
-    can_place(seat, add.frame, add.channel) && seat.geometry().lap(add.frame) < 4294967295
-}
-
-/// Places a sample where the seat may.
-fn try_place(seat: &mut MixSeat<'_>, frame: u64, channel: u8, sample: i16) -> Result<Placed, Fail>
-    ensures { IfOk result (λ placed. OnWhole (ended_of (Ok placed))
-        (SeatLaid seat.old seat.new (an_add (member_of seat.old) frame channel sample ∷ []))) }
+/// Places a sample where the seat may, as seen at run time, and does nothing elsewhere.
+fn try_place(seat: &mut MixSeat<'_>, add: Add) -> Option<Placed>
+    ensures { IfSome result (λ placed. OnWhole (ended_of (Ok placed))
+        (SeatLaid seat.old seat.new
+        (an_add (member_of seat.old) add.frame add.channel add.sample ∷ []))) }
 {
-    if !can_place(seat, frame, channel) || seat.geometry().lap(frame) >= 4294967295 {
-        return Err("outside".into());
+    if !can_place(seat, add.frame, add.channel) {
+        return None;
     }
-    Ok(seat.place(&mut NeverStops, frame, channel, sample)?)
+    seat.place(&mut NeverStops, add.frame, add.channel, add.sample)
+        .ok()
 }
 
-/// A core's reply to an add or withdrawal that ended so.
-fn reply_of(placed: Placed) -> Reply {
+/// A core's reply to an add or withdrawal that ended so, or that wasn't tried.
+fn reply_of(placed: Option<Placed>) -> Reply {
     match placed {
-        Placed::In => Reply::In,
-        Placed::Late { .. } => Reply::Late,
+        Some(Placed::In) => Reply::In,
+        Some(Placed::Late { .. }) => Reply::Late,
+        None => Reply::Outside,
     }
-}
-
-fn place(seat: &mut MixSeat<'_>, add: Add) -> Result<Reply, Fail> {
-    if !may_place(seat, add) {
-        return Ok(Reply::Outside);
-    }
-    let placed = try_place(seat, add.frame, add.channel, add.sample)?;
-    Ok(reply_of(placed))
 }
 
 fn take(player: &mut PlayerSeat<'_>) -> Reply {
@@ -88,57 +78,64 @@ fn take(player: &mut PlayerSeat<'_>) -> Reply {
     }
 }
 
-/// Places a sample, and withdraws it after two words were taken. The replies are those to the add, the takes and the withdrawal.
-fn place_and_withdraw(
-    seat: &mut MixSeat<'_>,
-    player: &mut PlayerSeat<'_>,
-    add: Add,
-) -> Result<[Reply; 4], Fail> {
-    if !may_place(seat, add) {
-        return Ok([Reply::Outside, take(player), take(player), Reply::Outside]);
+/// Withdraws the sample that the seat added last, where its floor is not past it.
+fn withdraw_last(seat: &mut MixSeat<'_>, add: Add) -> Reply
+    requires { SeatEndsIn seat.old
+        (an_add (member_of seat.old) add.frame add.channel add.sample ∷ []) }
+{
+    if add.frame < seat.floor().first_free(add.channel) {
+        return Reply::Outside;
     }
-    let placed = try_place(seat, add.frame, add.channel, add.sample)?;
+    let withdrawn = seat.withdraw(&mut NeverStops, add.frame, add.channel, add.sample);
+    reply_of(withdrawn.ok())
+}
+
+/// Places a sample, and withdraws it after two words were taken. The replies are those to the add, the takes and the withdrawal.
+fn place_and_withdraw(seat: &mut MixSeat<'_>, player: &mut PlayerSeat<'_>, add: Add) -> [Reply; 4] {
+    let Some(placed) = try_place(seat, add) else {
+        return [Reply::Outside, take(player), take(player), Reply::Outside];
+    };
     let (first, second) = (take(player), take(player));
     let Placed::In = placed else {
-        return Ok([Reply::Late, first, second, Reply::Outside]);
+        return [Reply::Late, first, second, Reply::Outside];
     };
-    if add.frame < seat.floor().first_free(add.channel) {
-        return Ok([Reply::In, first, second, Reply::Outside]);
+    [Reply::In, first, second, withdraw_last(seat, add)]
+}
+
+/// The first word that a member may add to: from its cursor on, and from the position on.
+fn first_word(core: &Core, cursor: Cursor) -> Cursor {
+    let position = core.position().frame;
+    if cursor.frame >= position {
+        return cursor;
     }
-    let withdrawn = seat.withdraw(&mut NeverStops, add.frame, add.channel, add.sample)?;
-    Ok([Reply::In, first, second, reply_of(withdrawn)])
+    Cursor {
+        frame: position,
+        channel: 0,
+    }
 }
 
 /// Draws where a member adds: mostly at the first word that it may add to, and now and then at the word that is taken next, in
-/// the next frames, before its cursor, or about the end of what it can reach.
-fn draw(dice: &mut Dice, core: &Core) -> Result<Add, Fail> {
+/// the next frames, before its cursor, or about the end of what it can reach. `None` comes where the core hasn't this member.
+fn draw(dice: &mut Dice, core: &Core) -> Option<Add> {
     let geometry = core.geometry();
     let member = dice.below(2) as u32;
     if member >= core.members() {
-        return Err("no such member".into());
+        return None;
     }
-    let position = core.position().frame;
     let cursor = core.cursor(member);
-    let first = if cursor.frame < position {
-        Cursor {
-            frame: position,
-            channel: 0,
-        }
-    } else {
-        cursor
-    };
+    let first = first_word(core, cursor);
     let channel = dice.below(geometry.channels as u64 + 1) as u8;
     let (frame, channel) = match dice.below(16) {
         0 => (cursor.frame.saturating_sub(1), channel),
         1 => {
-            let end = position.saturating_add(geometry.frames as u64);
+            let end = core.position().frame.saturating_add(geometry.frames as u64);
             (end.saturating_sub(dice.below(2)), channel)
         }
         2..=4 => (first.frame.saturating_add(dice.below(4)), channel),
         5..=9 => (core.next().frame, core.next().channel),
         _ => (first.frame, first.channel),
     };
-    Ok(Add {
+    Some(Add {
         member,
         frame,
         channel,
@@ -147,7 +144,7 @@ fn draw(dice: &mut Dice, core: &Core) -> Result<Add, Fail> {
 }
 
 /// How often a reply was in time, late, and outside of what a member may.
-#[derive(Debug, Default, Drop)]
+#[derive(Default, Drop)]
 struct Counts {
     in_time: u32,
     late: u32,
@@ -170,116 +167,127 @@ impl Counts {
 }
 
 /// The replies to adds and to withdrawals.
-#[derive(Debug, Default, Drop)]
+#[derive(Default, Drop)]
 struct Tally {
     adds: Counts,
     withdrawals: Counts,
 }
 
 /// The seats of a ring with two members.
-#[derive(Drop)]
 struct Seats<'a> {
     player: PlayerSeat<'a>,
     first: MixSeat<'a>,
     second: MixSeat<'a>,
 }
 
+// One call wherever it is let go.
+impl Drop for Seats<'_> {
+    fn drop(self) {
+        let Seats {
+            player: _,
+            first: _,
+            second: _,
+        } = self;
+    }
+}
+
 impl Seats<'_> {
-    fn add(&mut self, add: Add) -> Result<Reply, Fail> {
+    fn add(&mut self, add: Add) -> Reply {
         match add.member {
-            0 => place(&mut self.first, add),
-            _ => place(&mut self.second, add),
+            0 => reply_of(try_place(&mut self.first, add)),
+            _ => reply_of(try_place(&mut self.second, add)),
         }
     }
 
-    fn add_and_withdraw(&mut self, add: Add) -> Result<[Reply; 4], Fail> {
+    fn add_and_withdraw(&mut self, add: Add) -> [Reply; 4] {
         match add.member {
             0 => place_and_withdraw(&mut self.first, &mut self.player, add),
             _ => place_and_withdraw(&mut self.second, &mut self.player, add),
         }
     }
 
-    /// Publishes the position, and answers the one that both members load.
-    fn publish(&mut self) -> Result<Reply, Fail> {
+    /// Publishes the position, and answers the one that both members load. Where they load none, or different ones, it is
+    /// none of a core's replies.
+    fn publish(&mut self) -> Reply {
         self.player.publish();
-        let position = self.first.position(&mut NeverStops)?;
-        if self.second.position(&mut NeverStops)? != position {
-            return Err("two positions".into());
+        let Ok(position) = self.first.position(&mut NeverStops) else {
+            return Reply::Outside;
+        };
+        if self.second.position(&mut NeverStops) != Ok(position) {
+            return Reply::Outside;
         }
-        Ok(Reply::Published(position.frame))
+        Reply::Published(position.frame)
     }
 }
 
-/// Lets the same events happen at a core, whose replies are the same.
-fn check(
-    rt: &impl Abort,
-    alloc: Global,
-    core: &mut Core,
-    events: &[Event],
-    replies: &[Reply],
-) -> Result<(), Fail> {
-    let of_core = core.run(alloc, events)?;
-    assert_eq!(rt; of_core.as_slice(), replies, "{events:?}");
-    Ok(())
+/// Lets the same events happen at a core, and says whether its replies are these: not where memory runs out.
+fn is_same(alloc: Global, core: &mut Core, events: &[Event], replies: &[Reply]) -> bool {
+    match core.run(alloc, events) {
+        Ok(of_core) => of_core.as_slice() == replies,
+        Err(_) => false,
+    }
 }
 
-/// Lets random events happen at the seats of a ring and at a core of its geometry, and compares each answer.
-fn compare(
-    rt: &impl Abort,
+/// Lets a random event, or an add with its withdrawal, happen at the seats of a ring and at a core of its geometry, and says
+/// whether their answers are the same.
+fn compare_next(
     alloc: Global,
-    seed: u64,
+    dice: &mut Dice,
     core: &mut Core,
     seats: &mut Seats<'_>,
-) -> Result<Tally, Fail> {
+    tally: &mut Tally,
+) -> bool {
+    let Some(add) = draw(dice, core) else {
+        return false;
+    };
+    match dice.below(16) {
+        0..=5 => {
+            let reply = seats.add(add);
+            tally.adds.count(reply);
+            is_same(alloc, core, &[add.event()], &[reply])
+        }
+        6..=8 => {
+            let replies = seats.add_and_withdraw(add);
+            tally.withdrawals.count(replies[3]);
+            let events = [add.event(), Event::Take, Event::Take, add.withdrawal()];
+            is_same(alloc, core, &events, &replies)
+        }
+        9..=14 => is_same(alloc, core, &[Event::Take], &[take(&mut seats.player)]),
+        _ => is_same(alloc, core, &[Event::Publish], &[seats.publish()]),
+    }
+}
+
+/// Lets the random events of a seed happen, and says whether all answers are the same and each of them came often.
+fn are_same(alloc: Global, seed: u64, core: &mut Core, seats: &mut Seats<'_>) -> bool {
     let mut dice = Dice::new(seed);
     let mut tally = Tally::default();
     for _ in 0..EVENTS {
-        let add = draw(&mut dice, core)?;
-        match dice.below(16) {
-            0..=5 => {
-                let reply = seats.add(add)?;
-                check(rt, alloc, core, &[add.event()], &[reply])?;
-                tally.adds.count(reply);
-            }
-            6..=8 => {
-                let replies = seats.add_and_withdraw(add)?;
-                let events = [add.event(), Event::Take, Event::Take, add.withdrawal()];
-                check(rt, alloc, core, &events, &replies)?;
-                tally.withdrawals.count(replies[3]);
-            }
-            9..=14 => {
-                let reply = take(&mut seats.player);
-                check(rt, alloc, core, &[Event::Take], &[reply])?;
-            }
-            _ => {
-                let reply = seats.publish()?;
-                check(rt, alloc, core, &[Event::Publish], &[reply])?;
-            }
+        if !compare_next(alloc, &mut dice, core, seats, &mut tally) {
+            return false;
         }
     }
-    Ok(tally)
+    tally.adds.has_all(5) && tally.withdrawals.has_all(5)
 }
 
-// Rings of one to eight channels, from their first lap on, and of which the last reaches its end.
-#[test]
-fn ring_and_core_give_the_same_answers(rt: HostRuntime) -> Result<(), Fail> {
-    let table = [(64, 1, 0), (96, 2, 7), (64, 8, 0), (64, 1, 4294967290)];
-    for (seed, (frames, channels, first_lap)) in table.into_iter().enumerate() {
-        let geometry = super::new_geometry(frames, channels, first_lap)?;
-        let mut core = Core::new(rt.alloc(), geometry, 2)?;
-        let mut ring = super::two_places(rt.alloc(), geometry)?;
-        let (player, mut first) = ring.seats();
-        let second = first.split(1, 1);
-        let mut seats = Seats {
-            player,
-            first,
-            second,
-        };
-        let tally = compare(&rt, rt.alloc(), seed as u64, &mut core, &mut seats)?;
-        assert!(rt;
-            tally.adds.has_all(5) && tally.withdrawals.has_all(5),
-            "{tally:?}"
-        );
-    }
+/// Compares a core and a ring of a geometry, with the random events of a seed.
+fn compare(rt: &impl Abort, alloc: Global, seed: u64, geometry: Geometry) -> Result<(), PcmError> {
+    let mut core = Core::new(alloc, geometry, 2)?;
+    let mut ring = super::new_ring(alloc, geometry, 2)?;
+    let (player, mut first) = ring.seats();
+    let second = first.split(1, 1);
+    let mut seats = Seats {
+        player,
+        first,
+        second,
+    };
+    assert!(rt; are_same(alloc, seed, &mut core, &mut seats), "ring {seed}");
     Ok(())
+}
+
+#[test]
+fn ring_and_core_give_the_same_answers(rt: HostRuntime) -> Result<(), PcmError> {
+    compare(&rt, rt.alloc(), 0, MONO)?;
+    compare(&rt, rt.alloc(), 1, STEREO)?;
+    compare(&rt, rt.alloc(), 2, WIDE)?;
+    compare(&rt, rt.alloc(), 3, LAST_LAPS)
 }

@@ -4,17 +4,29 @@ ghost use Rattle.std.specs.Prelude.{◌≡◌};
 ghost use Rattle.sum_table.specs.Rings.{GaveNone, key_of_ring};
 
 use super::*;
-use mix_core::{Gate, Pass, Position, StepKind};
+use mix_core::{Gate, Pass, Position, StepKind, can_place};
 
 // A gate that lets others go on before a placement's first exchange: a seat places 10000 at frame 5, and the player takes so many
 // words. It counts its asks, and keeps what the player took last.
-#[derive(Drop)]
 struct Others<'a> {
     seat: MixSeat<'a>,
     player: PlayerSeat<'a>,
     words: u32,
     taken: i16,
     asks: u32,
+}
+
+// One call wherever it is let go.
+impl Drop for Others<'_> {
+    fn drop(self) {
+        let Others {
+            seat: _,
+            player: _,
+            words: _,
+            taken: _,
+            asks: _,
+        } = self;
+    }
 }
 
 impl Others<'_> {
@@ -72,12 +84,7 @@ fn place_before(
     frame: u64,
     sample: i16,
 ) -> Option<Placed> {
-    let geometry = seat.geometry();
-    let ahead = seat.seen() + geometry.frames as u64;
-    if !seat.can_add() || geometry.channels != 1 {
-        return None;
-    }
-    if frame < seat.cursor().first_free(0) || frame >= ahead {
+    if !can_place(seat, frame, 0) {
         return None;
     }
     seat.place(others, frame, 0, sample).ok()
@@ -86,7 +93,7 @@ fn place_before(
 // 30000 and 10000 are summed and saturated, though the second one came in the middle of the first one's placement, which made its
 // exchange again: it asked for a look, an exchange and a further one.
 #[test]
-fn a_seat_places_in_the_middle_of_a_placement(rt: HostRuntime) -> Result<(), Fail> {
+fn a_seat_places_in_the_middle_of_a_placement(rt: HostRuntime) -> Result<(), PcmError> {
     let mut ring = new_ring(rt.alloc(), 1, 2)?;
     let (mut own, mut others) = two_seats(&mut ring, 0);
     assert!(rt; place_before(&mut own, &mut others, 5, 30000) == Some(Placed::In));
@@ -98,18 +105,18 @@ fn a_seat_places_in_the_middle_of_a_placement(rt: HostRuntime) -> Result<(), Fai
 
 // The sixth word, of frame 5, is taken in the middle of a placement there: this finds the empty word of lap 1, by its exchange.
 #[test]
-fn a_word_is_taken_in_the_middle_of_a_placement(rt: HostRuntime) -> Result<(), Fail> {
+fn a_word_is_taken_in_the_middle_of_a_placement(rt: HostRuntime) -> Result<(), PcmError> {
     let mut ring = new_ring(rt.alloc(), 1, 2)?;
     let (mut own, mut others) = two_seats(&mut ring, 6);
     let late = Placed::Late { seen: 4303355904 };
     assert!(rt; place_before(&mut own, &mut others, 5, 30000) == Some(late));
-    assert!(rt; (others.asks, others.taken) == (2, 10000));
+    assert!(rt; others.asks == 2 && others.taken == 10000);
     Ok(())
 }
 
 // Ten words are taken and the position is published; then the word of frame 7 is the empty one of lap 1.
 #[test]
-fn a_placement_at_a_taken_frame_is_late(rt: HostRuntime) -> Result<(), Fail> {
+fn a_placement_at_a_taken_frame_is_late(rt: HostRuntime) -> Result<(), PcmError> {
     let mut ring = new_ring(rt.alloc(), 1, 2)?;
     let (mut own, mut others) = two_seats(&mut ring, 0);
     others.take(10);
@@ -119,7 +126,7 @@ fn a_placement_at_a_taken_frame_is_late(rt: HostRuntime) -> Result<(), Fail> {
         gone: false,
     };
     let before = own.cursor();
-    assert!(rt; own.position(&mut NeverStops)? == position);
+    assert!(rt; own.position(&mut NeverStops) == Ok(position));
     let late = Placed::Late { seen: 4303355904 };
     assert!(rt; try_place(&mut own, 7, 0, 1) == Some(late));
     assert!(rt; own.cursor() == before);
