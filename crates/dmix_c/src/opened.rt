@@ -38,7 +38,8 @@ impl Opened {
             (Kind::Ring, Opened::Ring(_)) => true,
             (Kind::Client, Opened::Client(_)) => true,
             (Kind::Reader, Opened::Reader(_)) => true,
-            (Kind::Card, Opened::Card(_) | Opened::Duplex(_)) => true,
+            (Kind::Card, Opened::Card(_)) => true,
+            (Kind::Card, Opened::Duplex(_)) => true,
             _ => false,
         }
     }
