@@ -16,7 +16,7 @@ pub record AreBuffers (a : DuplexCard) (captured out : List ℤ) : Type 0 where
   pub whole : length out % (geometry_of (player_of a.card)).channels ≡ 0
 
 -- a card ran for as many frames as buffers hold, and answers how many, or that the rings' end came before
-pub record RunsFrames (captured old new : List ℤ) (a b : DuplexCard) (made : Result ℕ PcmError) : Type 0 where
+pub record RunsFittingBuffers (captured old new : List ℤ) (a b : DuplexCard) (made : Result ℕ PcmError) : Type 0 where
   pub runs : RunsThrough a.card b.card captured old new
   pub count : IfOk made (λ n. n ≡ frames_in (player_of a.card) old)
   pub lap_end : IsErrOf made LapEnd ↔ EndsEarly (player_of a.card) old
@@ -25,7 +25,7 @@ pub record RunsFrames (captured old new : List ℤ) (a b : DuplexCard) (made : R
 -- a card ran, or refused the buffers with nothing changed
 pub record RunsBuffers (captured old new : List ℤ) (a b : DuplexCard) (made : Result ℕ PcmError) : Type 0 where
   pub defect : (AreBuffers a captured old → ⊥) → (made ≡ Err (Invalid Config)) × (b ≡ a) × (new ≡ old)
-  pub ran : AreBuffers a captured old → RunsFrames captured old new a b made
+  pub ran : AreBuffers a captured old → RunsFittingBuffers captured old new a b made
   pub period : period_of b.card ≡ period_of a.card
 
 pub record HasRunCard (captured old new : List ℤ) (a b : DuplexCard) (answer : ℤ) : Type 0 where
