@@ -83,13 +83,13 @@ pub record HasState (p q : Playback) (answer : ℤ) : Type 0 where
   pub same : q ≡ p
   pub answered : answer ≡ pos (state_number p.client.stream.status.state)
 
--- a client did what it was asked, and gave what the call answers
-abbrev pub HasDone : ClientRequest → Playback → Playback → ℤ → Type 0
-HasDone (request.Call asked) = HasCalled asked
-HasDone (request.HwParams params list) = HasHwParams params.now list.now
-HasDone (request.SwParams params) = HasSwParams params.now
-HasDone request.State = HasState
-HasDone (request.Write samples) = HasWritten samples.now
+-- a client served a request, and gave what the call answers
+abbrev pub HasServed : ClientRequest → Playback → Playback → ℤ → Type 0
+HasServed (request.Call asked) = HasCalled asked
+HasServed (request.HwParams params list) = HasHwParams params.now list.now
+HasServed (request.SwParams params) = HasSwParams params.now
+HasServed request.State = HasState
+HasServed (request.Write samples) = HasWritten samples.now
 
 -- what a client is after a sync: its state, the frames that a write can take, the frames before the next one that is written, and the
 -- position; where the sync was refused, both numbers of frames are 0

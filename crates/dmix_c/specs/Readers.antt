@@ -82,12 +82,12 @@ pub record ReaderHasState (p q : Recording) (answer : ℤ) : Type 0 where
   pub same : q ≡ p
   pub answered : answer ≡ pos (state_number p.reader.status.state)
 
--- a reader did what it was asked, and gave what the call answers
-abbrev pub ReaderHasDone : ReaderRequest → Recording → Recording → ℤ → Type 0
-ReaderHasDone (request.Call asked) = ReaderHasCalled asked
-ReaderHasDone (request.HwParams params list) = ReaderHasHwParams params.now list.now
-ReaderHasDone (request.SwParams params) = ReaderHasSwParams params.now
-ReaderHasDone request.State = ReaderHasState
+-- a reader served a request, and gave what the call answers
+abbrev pub ReaderHasServed : ReaderRequest → Recording → Recording → ℤ → Type 0
+ReaderHasServed (request.Call asked) = ReaderHasCalled asked
+ReaderHasServed (request.HwParams params list) = ReaderHasHwParams params.now list.now
+ReaderHasServed (request.SwParams params) = ReaderHasSwParams params.now
+ReaderHasServed request.State = ReaderHasState
 
 -- what a reader is after a sync: its state, the frames that a read can give, which are the delay too, and the position; where the sync was
 -- refused, both numbers of frames are 0

@@ -46,7 +46,7 @@ impl Drop for Playback {
 impl Playback {
     ghost use Rattle.dmix_client.specs.Calls.{delay_answer};
     ghost use Rattle.dmix_c.specs.Channels.{stream_channels};
-    ghost use Rattle.dmix_c.specs.Clients.{HasDone, IsNewPlayback, IsStatus, KeepsPlace, SetsSwParams, Written};
+    ghost use Rattle.dmix_c.specs.Clients.{HasServed, IsNewPlayback, IsStatus, KeepsPlace, SetsSwParams, Written};
     ghost use Rattle.dmix_c.specs.ClientCalls.{HasMade, HasSetUp};
     ghost use Rattle.dmix_c.specs.declared.client_calls.ClientCall.TheVariants.{AvailUpdate};
 
@@ -76,7 +76,7 @@ impl Playback {
 
     /// Does what is asked, and gives what the call answers.
     pub(crate) fn answer(&mut self, alloc: Global, request: ClientRequest<'_>) -> i64
-        ensures { HasDone request.entry self.old self.new result }
+        ensures { HasServed request.entry self.old self.new result }
     {
         match request {
             ClientRequest::Call(call) => number_of(self.call(call)),

@@ -37,7 +37,7 @@ impl Drop for Recording {
 impl Recording {
     ghost use Rattle.dmix_c.specs.Channels.{stream_channels};
     ghost use Rattle.dmix_c.specs.ReaderCalls.{ReaderHasMade, ReaderHasSetUp};
-    ghost use Rattle.dmix_c.specs.Readers.{IsNewRecording, IsReaderStatus, KeepsSource, ReaderHasDone, ReaderSetsSwParams, WasRead};
+    ghost use Rattle.dmix_c.specs.Readers.{IsNewRecording, IsReaderStatus, KeepsSource, ReaderHasServed, ReaderSetsSwParams, WasRead};
     ghost use Rattle.dmix_c.specs.declared.reader_calls.ReaderCall.TheVariants.{AvailUpdate};
 
     /// A reader in OPEN at a seat.
@@ -50,7 +50,7 @@ impl Recording {
 
     /// Does what is asked, and gives what the call answers.
     pub(crate) fn answer(&mut self, alloc: Global, request: ReaderRequest<'_>) -> i64
-        ensures { ReaderHasDone request.entry self.old self.new result }
+        ensures { ReaderHasServed request.entry self.old self.new result }
     {
         match request {
             ReaderRequest::Call(call) => number_of(self.call(call)),

@@ -5,7 +5,7 @@
 //! A call that loads the position answers -ENODEV where the card is gone, and the state is DISCONNECTED then. Where it answers
 //! -EPIPE after a load, the state is XRUN.
 ghost use Rattle.std.specs.Prelude.{◌≡◌, Some, ⊤};
-ghost use Rattle.dmix_c.specs.Clients.{HasCalled, HasDone, HasWritten};
+ghost use Rattle.dmix_c.specs.Clients.{HasCalled, HasServed, HasWritten};
 ghost use Rattle.dmix_c.specs.Handles.{OnClient};
 ghost use Rattle.dmix_c.specs.Stands.{stands_for};
 ghost use Rattle.dmix_c.specs.ClientCalls.{pause_of};
@@ -21,14 +21,14 @@ use crate::opened::Opened;
 use std::alloc::Global;
 
 fn ask_client(alloc: Global, client: &mut Handle, request: ClientRequest<'_>) -> i64
-    ensures { OnClient ⊤ (HasDone request.entry) (stands_for client.old) (stands_for client.new)
+    ensures { OnClient ⊤ (HasServed request.entry) (stands_for client.old) (stands_for client.new)
         result }
 {
     by_handle!(alloc, client, opened => ask_opened(alloc, &mut opened, request))
 }
 
 fn ask_opened(alloc: Global, opened: &mut Opened, request: ClientRequest<'_>) -> i64
-    ensures { OnClient ⊤ (HasDone request.entry) (Some opened.old) (Some opened.new) result }
+    ensures { OnClient ⊤ (HasServed request.entry) (Some opened.old) (Some opened.new) result }
 {
     match opened {
         Opened::Client(playback) => playback.answer(alloc, request),

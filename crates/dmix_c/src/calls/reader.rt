@@ -6,7 +6,7 @@
 //! -EPIPE after a load, the state is XRUN.
 ghost use Rattle.std.specs.Prelude.{◌≡◌, Some, ⊤};
 ghost use Rattle.dmix_c.specs.Handles.{OnReader};
-ghost use Rattle.dmix_c.specs.Readers.{ReaderHasCalled, ReaderHasDone, ReaderHasRead};
+ghost use Rattle.dmix_c.specs.Readers.{ReaderHasCalled, ReaderHasRead, ReaderHasServed};
 ghost use Rattle.dmix_c.specs.Stands.{stands_for};
 ghost use Rattle.dmix_c.specs.declared.reader_calls.ReaderCall.TheVariants as asked;
 
@@ -20,14 +20,15 @@ use crate::reader_calls::{ReaderCall, ReaderRequest};
 use std::alloc::Global;
 
 fn ask_reader(alloc: Global, reader: &mut Handle, request: ReaderRequest<'_>) -> i64
-    ensures { OnReader ⊤ (ReaderHasDone request.entry) (stands_for reader.old)
+    ensures { OnReader ⊤ (ReaderHasServed request.entry) (stands_for reader.old)
         (stands_for reader.new) result }
 {
     by_handle!(alloc, reader, opened => ask_opened(alloc, &mut opened, request))
 }
 
 fn ask_opened(alloc: Global, opened: &mut Opened, request: ReaderRequest<'_>) -> i64
-    ensures { OnReader ⊤ (ReaderHasDone request.entry) (Some opened.old) (Some opened.new) result }
+    ensures { OnReader ⊤ (ReaderHasServed request.entry) (Some opened.old) (Some opened.new)
+        result }
 {
     match opened {
         Opened::Reader(recording) => recording.answer(alloc, request),

@@ -2,11 +2,11 @@ use Rattle.std.proofs.Common.{refl, to_z-of_z, w64}
 use Rattle.std.specs.Prelude.{⊤}
 use Rattle.dmix_c.specs.declared.opened.Opened.TheVariants.{Client}
 use Rattle.dmix_c.specs.Handles.{OnClient}
-use Rattle.dmix_c.specs.Clients.{HasDone}
+use Rattle.dmix_c.specs.Clients.{HasServed}
 use Rattle.dmix_c.proofs.Handed.{called}
 use Rattle.dmix_c.proofs.calls.client.ask_opened.Goals as goal
 
 pub returns-in-Client : goal.returns-in-Client
 returns-in-Client c =
-    called (OnClient ⊤ (HasDone c.args.request)) _ _ (Client c.in-Client.playback) (Client c.answer.new.self) c.answer.result _ c.in-Client.is refl
+    called (OnClient ⊤ (HasServed c.args.request)) _ _ (Client c.in-Client.playback) (Client c.answer.new.self) c.answer.result _ c.in-Client.is refl
     (to_z-of_z {w = w64} {z = c.answer.result} (record { sfits = c.answer.type_inv })) (c.answer.new.self, refl, c.answer.ensures)

@@ -2,11 +2,11 @@ use Rattle.std.proofs.Common.{refl, to_z-of_z, w64}
 use Rattle.std.specs.Prelude.{⊤}
 use Rattle.dmix_c.specs.declared.opened.Opened.TheVariants.{Reader}
 use Rattle.dmix_c.specs.Handles.{OnReader}
-use Rattle.dmix_c.specs.Readers.{ReaderHasDone}
+use Rattle.dmix_c.specs.Readers.{ReaderHasServed}
 use Rattle.dmix_c.proofs.Handed.{called}
 use Rattle.dmix_c.proofs.calls.reader.ask_opened.Goals as goal
 
 pub returns-in-Reader : goal.returns-in-Reader
 returns-in-Reader c =
-    called (OnReader ⊤ (ReaderHasDone c.args.request)) _ _ (Reader c.in-Reader.recording) (Reader c.answer.new.self) c.answer.result _ c.in-Reader.is refl
+    called (OnReader ⊤ (ReaderHasServed c.args.request)) _ _ (Reader c.in-Reader.recording) (Reader c.answer.new.self) c.answer.result _ c.in-Reader.is refl
     (to_z-of_z {w = w64} {z = c.answer.result} (record { sfits = c.answer.type_inv })) (c.answer.new.self, refl, c.answer.ensures)

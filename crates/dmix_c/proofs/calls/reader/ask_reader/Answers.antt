@@ -1,12 +1,12 @@
 use Rattle.std.proofs.Common.{to_z-of_z, w64}
 use Rattle.std.specs.Prelude.{⊤}
 use Rattle.dmix_c.specs.Handles.{OnReader}
-use Rattle.dmix_c.specs.Readers.{ReaderHasDone}
+use Rattle.dmix_c.specs.Readers.{ReaderHasServed}
 use Rattle.dmix_c.proofs.Handed.{handed}
 use Rattle.dmix_c.proofs.calls.reader.ask_reader.Goals as goal
 
 -- what was taken from the handle was asked, and put back
 pub returns : goal.returns
 returns c =
-    handed (OnReader ⊤ (ReaderHasDone c.args.request)) _ _ _ _ _ c.ask_opened-answer.result _ c.in-Some.ensures.value c.deref_mut.ensures.value c.put.ensures
+    handed (OnReader ⊤ (ReaderHasServed c.args.request)) _ _ _ _ _ c.ask_opened-answer.result _ c.in-Some.ensures.value c.deref_mut.ensures.value c.put.ensures
     (to_z-of_z {w = w64} {z = c.ask_opened-answer.result} (record { sfits = c.ask_opened-answer.type_inv })) c.ask_opened-answer.ensures

@@ -5,31 +5,31 @@ use Rattle.pcm_states.specs.declared.states.State.{State}
 use Rattle.pcm_states.specs.States.{state_number}
 use Rattle.dmix_c.specs.declared.reader_calls.ReaderRequest.TheVariants as request
 use Rattle.dmix_c.specs.Answers.{number_of}
-use Rattle.dmix_c.specs.Readers.{ReaderHasDone}
+use Rattle.dmix_c.specs.Readers.{ReaderHasServed}
 use Rattle.dmix_c.proofs.Handed.{answered}
 use Rattle.dmix_c.proofs.recording.Recording.answer.Goals as goal
 
 pub returns-in-Call : goal.returns-in-Call
 returns-in-Call c =
-    answered ReaderHasDone _ (request.Call c.in-Call.call) c.args.self.now c.call.new.self c.number_of.result _ c.in-Call.is
+    answered ReaderHasServed _ (request.Call c.in-Call.call) c.args.self.now c.call.new.self c.number_of.result _ c.in-Call.is
     (to_z-of_z {w = w64} {z = c.number_of.result} (record { sfits = c.number_of.type_inv }))
     (record { made = c.call.result; answered = c.number_of.ensures; call = c.call.ensures.made; same = c.call.ensures.same })
 
 pub returns-in-HwParams : goal.returns-in-HwParams
 returns-in-HwParams c =
     let made = c.hw_params.ensures in
-    answered ReaderHasDone _ (request.HwParams c.in-HwParams.params c.in-HwParams.list) c.args.self.now c.hw_params.new.self c.number_of-in-HwParams.result _ c.in-HwParams.is
+    answered ReaderHasServed _ (request.HwParams c.in-HwParams.params c.in-HwParams.list) c.args.self.now c.hw_params.new.self c.number_of-in-HwParams.result _ c.in-HwParams.is
     (to_z-of_z {w = w64} {z = c.number_of-in-HwParams.result} (record { sfits = c.number_of-in-HwParams.type_inv }))
     (record { made = c.hw_params.result; answered = c.number_of-in-HwParams.ensures; set_up = made.set_up; seat = made.seat; rate = made.rate })
 
 pub returns-in-SwParams : goal.returns-in-SwParams
 returns-in-SwParams c =
-    answered ReaderHasDone _ (request.SwParams c.in-SwParams.params) c.args.self.now c.sw_params.new.self c.number_of-in-SwParams.result _ c.in-SwParams.is
+    answered ReaderHasServed _ (request.SwParams c.in-SwParams.params) c.args.self.now c.sw_params.new.self c.number_of-in-SwParams.result _ c.in-SwParams.is
     (to_z-of_z {w = w64} {z = c.number_of-in-SwParams.result} (record { sfits = c.number_of-in-SwParams.type_inv }))
     (record { made = c.sw_params.result; answered = c.number_of-in-SwParams.ensures ∙ ap number_of c.done_of.ensures; set = c.sw_params.ensures })
 
 pub returns-in-State : goal.returns-in-State
 returns-in-State c =
     let p = c.args.self.now in
-    answered ReaderHasDone _ request.State p p (pos c.number.result) _ c.in-State.is (to_z_pos w64 c.number.result (omega (arith, c.number.type_inv)))
+    answered ReaderHasServed _ request.State p p (pos c.number.result) _ c.in-State.is (to_z_pos w64 c.number.result (omega (arith, c.number.type_inv)))
     (record { same = refl; answered = ap (λ (n : ℕ). pos n) (c.number.ensures ∙ ap (λ (s : State). state_number s) c.state.ensures) })
