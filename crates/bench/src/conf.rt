@@ -1,6 +1,6 @@
 //! Times the reader of configuration files.
 
-use crate::{ROUNDS, nanos_since};
+use crate::ROUNDS;
 use asound_conf::{ConfError, read_conf};
 use std::alloc::Global;
 use std::fs::Files;
@@ -14,10 +14,9 @@ fn time_read<R: Clock + Alloc<A = Global>>(
 ) -> io::Result<(u128, u128, Option<ConfError>)> {
     let start = Instant::now(rt)?;
     let answer = read_conf(rt.alloc(), text);
-    let reading = nanos_since(rt, start);
+    let reading = start.elapsed(rt)?.as_nanos();
     let refusal = answer.err();
-    let whole = nanos_since(rt, start);
-    Ok((reading?, whole?, refusal))
+    Ok((reading, start.elapsed(rt)?.as_nanos(), refusal))
 }
 
 /// `bench conf FILE` prints the nanoseconds of the fastest of some readings of a file, those of the fastest with what was read

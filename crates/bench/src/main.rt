@@ -13,7 +13,6 @@ mod wav;
 use lab_shelf::FileShelf;
 use std::alloc::Global;
 use std::rt::Env;
-use std::time::{Clock, Instant};
 use std::{env, io};
 
 /// A text is read so often; the fastest counts.
@@ -28,11 +27,6 @@ bench script FILE
 bench report SCRIPT REPORT
 bench sum time
 bench snoop time";
-
-/// The nanoseconds since an instant.
-pub(crate) fn nanos_since<R: Clock>(rt: &R, start: Instant) -> io::Result<u128> {
-    Ok(start.elapsed(rt)?.as_nanos())
-}
 
 /// The program's words after its name.
 fn words<R: Env + Alloc<A = Global>>(rt: &R) -> io::Result<Vec<String>> {

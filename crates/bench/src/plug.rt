@@ -3,7 +3,6 @@
 mod convert;
 mod job;
 
-use crate::nanos_since;
 use convert::{convert, little_endian};
 use job::Job;
 use std::alloc::Global;
@@ -11,36 +10,22 @@ use std::fs::Files;
 use std::time::{Clock, Instant};
 use std::{fs, io};
 
-/// Converts the bytes as often as the job says, each time into the same samples, and answers the nanoseconds of the fastest round.
+/// Converts the bytes `rounds` times, and returns the samples and the nanoseconds of the fastest round.
 fn time<R: Clock + Alloc<A = Global>>(
     rt: &R,
     job: &Job,
     bytes: &[u8],
-    samples: &mut Vec<i16>,
-) -> io::Result<u128> {
+    rounds: u32,
+) -> io::Result<(Vec<i16>, u128)> {
+    let mut samples = Vec::new(rt.alloc());
     let mut best = u128::MAX;
-    for _ in 0..job.rounds {
+    for _ in 0..rounds {
         samples.clear();
         let start = Instant::now(rt)?;
-        convert(rt.alloc(), job, bytes, samples)?;
-        best = best.min(nanos_since(rt, start)?);
+        convert(rt.alloc(), job, bytes, &mut samples)?;
+        best = best.min(start.elapsed(rt)?.as_nanos());
     }
-    Ok(best)
-}
-
-/// Converts the bytes of a file, stores the samples in another one, and answers the nanoseconds of the fastest round.
-fn convert_file<R: Clock + Files + Alloc<A = Global>>(
-    rt: &R,
-    job: &Job,
-    from: &str,
-    to: &str,
-) -> io::Result<u128> {
-    let bytes = fs::read(rt, from)?;
-    let mut samples = Vec::new(rt.alloc());
-    let best = time(rt, job, &bytes, &mut samples)?;
-    let converted = little_endian(rt.alloc(), &samples)?;
-    fs::write(rt, to, &converted)?;
-    Ok(best)
+    Ok((samples, best))
 }
 
 /// `bench plug FROM TO FORMAT INPUTS OUTPUTS IN_RATE OUT_RATE PIECE ROUNDS` converts the bytes of the file FROM, in pieces
@@ -57,6 +42,12 @@ pub(crate) fn run<R: Clock + Files + Print + Alloc<A = Global>>(
     let Some(job) = Job::read(words) else {
         return Err(io::ErrorKind::InvalidInput.into());
     };
-    let best = convert_file(rt, &job, words[0].as_str(), words[1].as_str())?;
+    let bytes = fs::read(rt, words[0].as_str())?;
+    let (samples, best) = time(rt, &job, bytes.as_slice(), job.rounds)?;
+    fs::write(
+        rt,
+        words[1].as_str(),
+        little_endian(rt.alloc(), samples.as_slice())?.as_slice(),
+    )?;
     println!(rt; "{best}")
 }

@@ -1,6 +1,6 @@
 //! Times the reader of scripts.
 
-use crate::{ROUNDS, nanos_since};
+use crate::ROUNDS;
 use lab_script::{ScriptError, read_script};
 use std::alloc::Global;
 use std::fs::Files;
@@ -14,7 +14,7 @@ fn time_read<R: Clock + Alloc<A = Global>>(
 ) -> io::Result<(u128, Option<ScriptError>)> {
     let start = Instant::now(rt)?;
     let refusal = read_script(rt.alloc(), text).err();
-    Ok((nanos_since(rt, start)?, refusal))
+    Ok((start.elapsed(rt)?.as_nanos(), refusal))
 }
 
 /// `bench script FILE` prints the nanoseconds of the fastest of some readings of a script, and `ok` or its refusal. An error

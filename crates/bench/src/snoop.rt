@@ -1,5 +1,4 @@
 //! Times the snoop ring, by one thread that stores laps of frames and loads them again.
-ghost use Rattle.std.specs.Prelude.{◌≤◌};
 
 mod lap;
 
@@ -7,18 +6,6 @@ use lap::time_ring;
 use std::alloc::Global;
 use std::io;
 use std::time::Clock;
-
-/// Prints the fastest laps of a ring of so many channels.
-fn put_ring<R: Clock + Print + Alloc<A = Global>>(rt: &R, channels: u8) -> io::Result<()>
-    requires one { 1 ≤ channels }
-    requires most { channels ≤ 8 }
-{
-    let best = time_ring(rt, channels)?;
-    println!(rt;
-        "store {channels} {}\nload {channels} {}",
-        best.store, best.load
-    )
-}
 
 /// `bench snoop time` prints a line for each measurement: what was done, and the nanoseconds of the fastest lap of the ring.
 /// An error comes where the word is another, where a frame wasn't stored or loaded as it was stored, where memory runs out, and
@@ -31,7 +18,10 @@ pub(crate) fn run<R: Clock + Print + Alloc<A = Global>>(
         [word] if word.as_str() == "time" => {}
         _ => return Err(io::ErrorKind::InvalidInput.into()),
     }
-    put_ring(rt, 1)?;
-    put_ring(rt, 2)?;
-    put_ring(rt, 8)
+    for channels in [1, 2, 8] {
+        let best = time_ring(rt, channels)?;
+        println!(rt; "store {channels} {}", best.store)?;
+        println!(rt; "load {channels} {}", best.load)?;
+    }
+    Ok(())
 }

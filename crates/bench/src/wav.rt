@@ -4,25 +4,14 @@ use std::alloc::Global;
 use std::io;
 use wav_io::{WavError, WavReader, append_samples, header};
 
-/// Gives a reader a head and 1,023 pieces like this one.
-fn feed(
-    reader: &mut WavReader,
-    samples: &mut Vec<i16>,
-    head: &[u8],
-    piece: &[u8],
-) -> Result<(), WavError> {
-    reader.feed(head, samples)?;
-    for _ in 0..1023 {
-        reader.feed(piece, samples)?;
-    }
-    Ok(())
-}
-
-/// Reads a file of a head and such pieces, into a new vector.
+/// Reads a file of a head and 1,023 pieces like this one, into a new vector.
 fn read_file(alloc: Global, head: &[u8], piece: &[u8]) -> Result<(), WavError> {
     let mut reader = WavReader::new();
     let mut samples = Vec::new(alloc);
-    feed(&mut reader, &mut samples, head, piece)?;
+    reader.feed(head, &mut samples)?;
+    for _ in 0..1023 {
+        reader.feed(piece, &mut samples)?;
+    }
     reader.finish()?;
     Ok(())
 }

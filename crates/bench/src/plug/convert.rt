@@ -1,5 +1,4 @@
 //! One conversion.
-ghost use Rattle.std.specs.Prelude.{◌≤◌};
 
 use super::job::Job;
 use plug_chain::{Plug, Table};
@@ -12,29 +11,6 @@ fn refused(_why: PcmError) -> io::Error {
     io::Error::from(io::ErrorKind::OutOfMemory)
 }
 
-/// Gives a plug bytes in pieces of this size.
-fn feed(plug: &mut Plug, size: usize, bytes: &[u8], samples: &mut Vec<i16>) -> Result<(), PcmError>
-    requires { 1 ≤ size }
-{
-    for piece in bytes.chunks(size) {
-        plug.feed(piece, samples)?;
-    }
-    Ok(())
-}
-
-/// Appends the samples of the bytes, or says what a plug refuses.
-fn convert_bytes(
-    alloc: Global,
-    job: &Job,
-    bytes: &[u8],
-    samples: &mut Vec<i16>,
-) -> Result<(), PcmError> {
-    let table = Table::usual(alloc, job.inputs, job.outputs)?;
-    let mut plug = Plug::new(job.from, table, job.in_rate, job.out_rate);
-    feed(&mut plug, job.piece, bytes, samples)?;
-    plug.finish(samples)
-}
-
 /// Appends the samples of the bytes, which a plug takes piece by piece.
 pub(crate) fn convert(
     alloc: Global,
@@ -42,7 +18,12 @@ pub(crate) fn convert(
     bytes: &[u8],
     samples: &mut Vec<i16>,
 ) -> io::Result<()> {
-    convert_bytes(alloc, job, bytes, samples).map_err(refused)
+    let table = Table::usual(alloc, job.inputs, job.outputs).map_err(refused)?;
+    let mut plug = Plug::new(job.from, table, job.in_rate, job.out_rate);
+    for piece in bytes.chunks(job.piece) {
+        plug.feed(piece, samples).map_err(refused)?;
+    }
+    plug.finish(samples).map_err(refused)
 }
 
 /// The bytes of samples, the low byte first.

@@ -4,7 +4,7 @@ ghost use Rattle.std.specs.Prelude.{◌≤◌, length, IfSome};
 use plug_chain::Wide;
 
 /// A conversion, the bytes of a piece, and how often it is done.
-#[derive(Clone, Copy)]
+#[derive(Drop)]
 pub(crate) struct Job {
     pub(crate) from: Wide,
     pub(crate) inputs: u8,

@@ -4,7 +4,6 @@ ghost use Rattle.snoop_table.specs.Readers.{geometry_of, seat_view};
 ghost use Rattle.snoop_table.specs.Rings.{GaveNone, geometry_of_ring};
 ghost use Rattle.snoop_table.specs.Writers.{writer_geometry};
 
-use crate::nanos_since;
 use mix_core::NeverStops;
 use snd_base::Geometry;
 use snoop_core::{Loaded, SnoopPort};
@@ -113,11 +112,11 @@ fn time_lap<R: Clock>(
 {
     let start = Instant::now(rt)?;
     let stored = store_lap(writer, frame);
-    let store = nanos_since(rt, start)?;
+    let store = start.elapsed(rt)?.as_nanos();
     let _ = reader.position(&mut NeverStops);
     let start = Instant::now(rt)?;
     let sum = load_lap(reader, frame);
-    let load = nanos_since(rt, start)?;
+    let load = start.elapsed(rt)?.as_nanos();
     if stored == FRAMES as u64 && sum == FRAMES as u64 {
         Ok(Best { store, load })
     } else {
@@ -125,30 +124,17 @@ fn time_lap<R: Clock>(
     }
 }
 
-/// The fastest of some laps.
-fn time_laps<R: Clock>(
-    rt: &R,
-    writer: &mut WriterSeat<'_>,
-    reader: &mut ReaderSeat<'_>,
-    frame: &mut [i16],
-) -> io::Result<Best>
-    requires written { length frame.old ≡ (writer_geometry writer.old).channels }
-    requires room { length frame.old ≡ (geometry_of reader.old).channels }
-{
-    let mut best = Best::NONE;
-    for _ in 0..LAPS {
-        best = best.with(time_lap(rt, writer, reader, frame)?);
-    }
-    Ok(best)
-}
-
 /// The fastest lap of a ring of so many channels that one thread stores and loads.
 pub(crate) fn time_ring<R: Clock + Alloc<A = Global>>(rt: &R, channels: u8) -> io::Result<Best>
     requires one { 1 ≤ channels }
     requires most { channels ≤ 8 }
 {
-    let mut frame = vec![in rt.alloc(); SAMPLE; channels as usize]?;
     let mut ring = new_ring(rt.alloc(), channels)?;
     let (mut writer, mut reader) = ring.seats();
-    time_laps(rt, &mut writer, &mut reader, frame.as_mut_slice())
+    let mut frame = vec![in rt.alloc(); SAMPLE; channels as usize]?;
+    let mut best = Best::NONE;
+    for _ in 0..LAPS {
+        best = best.with(time_lap(rt, &mut writer, &mut reader, frame.as_mut_slice())?);
+    }
+    Ok(best)
 }

@@ -2,7 +2,6 @@
 ghost use Rattle.std.specs.Prelude.{◌≤◌};
 
 use super::lap::{Best, FRAMES, LAPS, check, lay, new_ring, play};
-use crate::nanos_since;
 use mix_core::{MixPort, NeverStops};
 use std::alloc::Global;
 use std::io;
@@ -19,10 +18,10 @@ fn time_lap<R: Clock>(
     let _ = seat.position(&mut NeverStops);
     let start = Instant::now(rt)?;
     let laid = lay(seat, 0, FRAMES);
-    let place = nanos_since(rt, start)?;
+    let place = start.elapsed(rt)?.as_nanos();
     let start = Instant::now(rt)?;
     let taken = play(player, words);
-    let take = nanos_since(rt, start)?;
+    let take = start.elapsed(rt)?.as_nanos();
     check(laid, taken, words)?;
     Ok(Best { place, take })
 }

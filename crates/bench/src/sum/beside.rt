@@ -2,7 +2,6 @@
 ghost use Rattle.std.specs.Prelude.{◌≤◌};
 
 use super::lap::{Best, FRAMES, LAPS, check, lay, new_ring, play};
-use crate::nanos_since;
 use mix_core::{MixPort, NeverStops};
 use std::alloc::Global;
 use std::io;
@@ -12,7 +11,7 @@ use sum_table::{MixSeat, PlayerSeat};
 
 /// How the threads share the frames of a lap: each places samples at the same ones, from the first one on, or each at its own, one
 /// thread's after another's. Each places them at as many frames, and all together as many samples as the ring has frames.
-#[derive(Clone, Copy)]
+#[derive(Clone, Copy, PartialEq, Eq)]
 pub(crate) enum Share {
     Same,
     Staggered,
@@ -31,7 +30,7 @@ impl Share {
 }
 
 /// How many threads place samples.
-#[derive(Clone, Copy)]
+#[derive(Clone, Copy, PartialEq, Eq)]
 pub(crate) enum Workers {
     Two,
     Four,
@@ -54,23 +53,12 @@ impl<'a> PaddedSeat<'a> {
 }
 
 /// The four mix seats of a ring.
+#[derive(Drop)]
 struct Seats<'a> {
     first: PaddedSeat<'a>,
     second: PaddedSeat<'a>,
     third: PaddedSeat<'a>,
     fourth: PaddedSeat<'a>,
-}
-
-// One call wherever it is let go.
-impl Drop for Seats<'_> {
-    fn drop(self) {
-        let Seats {
-            first: _,
-            second: _,
-            third: _,
-            fourth: _,
-        } = self;
-    }
 }
 
 impl Seats<'_> {
@@ -157,27 +145,12 @@ fn time_lap<R: Clock + Threads + Sync>(
     seats.look();
     let start = Instant::now(rt)?;
     let laid = lay_shared(rt, seats, threads, share);
-    let place = nanos_since(rt, start)?;
+    let place = start.elapsed(rt)?.as_nanos();
     let start = Instant::now(rt)?;
     let taken = play(player, FRAMES as u64);
-    let take = nanos_since(rt, start)?;
+    let take = start.elapsed(rt)?.as_nanos();
     check(laid, taken, FRAMES as u64)?;
     Ok(Best { place, take })
-}
-
-/// The fastest of some laps.
-fn time_laps<R: Clock + Threads + Sync>(
-    rt: &R,
-    player: &mut PlayerSeat<'_>,
-    seats: &mut Seats<'_>,
-    threads: Workers,
-    share: Share,
-) -> io::Result<Best> {
-    let mut best = Best::NONE;
-    for _ in 0..LAPS {
-        best = best.with(time_lap(rt, player, seats, threads, share)?);
-    }
-    Ok(best)
 }
 
 /// The fastest lap of a ring of one channel and four places that some threads fill and one takes.
@@ -197,5 +170,9 @@ pub(crate) fn time_beside<R: Clock + Threads + Sync + Alloc<A = Global>>(
         third: PaddedSeat::new(third),
         fourth: PaddedSeat::new(fourth),
     };
-    time_laps(rt, &mut player, &mut seats, threads, share)
+    let mut best = Best::NONE;
+    for _ in 0..LAPS {
+        best = best.with(time_lap(rt, &mut player, &mut seats, threads, share)?);
+    }
+    Ok(best)
 }

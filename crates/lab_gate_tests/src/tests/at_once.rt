@@ -1,33 +1,16 @@
 //! Clients that run at the same time: gates of the tests' own let each go on only once the other one has got so far. A run that did
 //! one after the other would wait in vain, and stop one of them.
-use super::calls::{Run, is_run};
+use super::calls::{files_of, mono_of, run_gated};
 use mix_core::{Gate, Pass, StepKind};
-use std::alloc::AllocError;
 use std::sync::atomic::{AtomicU64, Ordering};
+use std::test::Fail;
 
 // How often a gate was asked: in all, for a first exchange, and for a further one.
+#[derive(Drop)]
 struct Asks {
     all: AtomicU64,
     exchanges: AtomicU64,
     further: AtomicU64,
-}
-
-// One call wherever it is let go.
-impl Drop for Asks {
-    fn drop(self) {
-        let Asks {
-            all: _,
-            exchanges: _,
-            further: _,
-        } = self;
-    }
-}
-
-impl Asks {
-    // Whether there were so many asks in all, and so many for a further exchange.
-    fn are(&self, all: u64, further: u64) -> bool {
-        self.all.load(Ordering::SeqCst) == all && self.further.load(Ordering::SeqCst) == further
-    }
 }
 
 // No asks yet.
@@ -98,54 +81,84 @@ impl Gate for Waits<'_> {
     }
 }
 
-// A gate with this count of its own asks, which waits until another count has got so far.
-fn waiting<'a>(own: &'a Asks, other: &'a AtomicU64, wanted: u64, at_exchanges: bool) -> Waits<'a> {
-    Waits {
-        own,
-        other,
-        wanted,
-        at_exchanges,
-        stopped: false,
-    }
-}
+// Two clients that write these numbers of frames in one phase, of which the card plays 128.
+const BOTH_64: &str =
+    "card channels 1 rate 48000 period 64 ring 256\nclient a a.wav\nclient b b.wav\nopen a\nopen b\nphase\na write 64\nb write 64\nend\nphase\ncard play 128\nend\n";
+
+const ONE_AND_TWO: &str =
+    "card channels 1 rate 48000 period 64 ring 256\nclient a a.wav\nclient b b.wav\nopen a\nopen b\nphase\na write 1\nb write 2\nend\nphase\ncard play 128\nend\n";
 
 const WAVS: &[(&str, &[(u16, i16)])] = &[("a.wav", &[(64, 30000)]), ("b.wav", &[(64, 10000)])];
 
-// Two clients that write these numbers of frames in one phase, of which the card plays 128.
-const BOTH_64: Run<'static> = Run {
-    script: "card channels 1 rate 48000 period 64 ring 256\nclient a a.wav\nclient b b.wav\nopen a\nopen b\nphase\na write 64\nb write 64\nend\nphase\ncard play 128\nend\n",
-    wavs: WAVS,
-    report: "dmixlab 1\n0 a open = ok PREPARED -\n0 b open = ok PREPARED -\n1 a write 64 = 64 RUNNING 0\n1 b write 64 = 64 RUNNING 0\n2 card play 128 = 128 RUNNING 128\nsegment a 0 64 64 0\nsegment b 0 64 64 0\nplayed 0 128\nend\n",
-    played: &[(64, 0), (64, 32767)],
-};
-
-const ONE_AND_TWO: Run<'static> = Run {
-    script: "card channels 1 rate 48000 period 64 ring 256\nclient a a.wav\nclient b b.wav\nopen a\nopen b\nphase\na write 1\nb write 2\nend\nphase\ncard play 128\nend\n",
-    wavs: WAVS,
-    report: "dmixlab 1\n0 a open = ok PREPARED -\n0 b open = ok PREPARED -\n1 a write 1 = 1 RUNNING 0\n1 b write 2 = 2 RUNNING 0\n2 card play 128 = 128 RUNNING 128\nsegment a 0 64 1 0\nsegment b 0 64 2 0\nplayed 0 128\nend\n",
-    played: &[(64, 0), (1, 32767), (1, 10000), (62, 0)],
-};
-
 #[test]
-fn two_clients_wait_for_each_other(rt: HostRuntime) -> Result<(), AllocError> {
+fn two_clients_wait_for_each_other(rt: HostRuntime) -> Result<(), Fail> {
+    let alloc = rt.alloc();
     let (a, b, rest) = (no_asks(), no_asks(), no_asks());
-    let mut gates = [waiting(&rest, &rest.all, 0, false); 128];
-    gates[0] = waiting(&a, &b.all, 1, false);
-    gates[1] = waiting(&b, &a.all, 1, false);
-    assert!(rt; is_run(&rt, rt.alloc(), &BOTH_64, &mut gates)?);
+    let idle = Waits {
+        own: &rest,
+        other: &rest.all,
+        wanted: 0,
+        at_exchanges: false,
+        stopped: false,
+    };
+    let mut gates = [idle; 128];
+    gates[0] = Waits {
+        own: &a,
+        other: &b.all,
+        wanted: 1,
+        ..idle
+    };
+    gates[1] = Waits {
+        own: &b,
+        other: &a.all,
+        wanted: 1,
+        ..idle
+    };
+    let left = run_gated(&rt, alloc, files_of(alloc, BOTH_64, WAVS)?, &mut gates)?;
+    let report =
+        "dmixlab 1\n0 a open = ok PREPARED -\n0 b open = ok PREPARED -\n1 a write 64 = 64 RUNNING 0\n1 b write 64 = 64 RUNNING 0\n2 card play 128 = 128 RUNNING 128\nsegment a 0 64 64 0\nsegment b 0 64 64 0\nplayed 0 128\nend\n";
+    assert!(rt; left.is_done(report, &mono_of(alloc, &[(64, 0), (64, 32767)])?));
     Ok(())
 }
 
 // b exchanges once a is about to, and a once b has: a finds that the word has changed, and exchanges again. At the fourth ask b
 // has placed its first frame.
 #[test]
-fn a_lost_exchange_is_made_again(rt: HostRuntime) -> Result<(), AllocError> {
+fn a_lost_exchange_is_made_again(rt: HostRuntime) -> Result<(), Fail> {
+    let alloc = rt.alloc();
     let (a, b, rest) = (no_asks(), no_asks(), no_asks());
-    let mut gates = [waiting(&rest, &rest.all, 0, true); 128];
-    gates[0] = waiting(&a, &b.all, 4, true);
-    gates[1] = waiting(&b, &a.exchanges, 1, true);
-    assert!(rt; is_run(&rt, rt.alloc(), &ONE_AND_TWO, &mut gates)?);
-    assert!(rt; a.are(4, 1));
-    assert!(rt; b.are(5, 0));
+    let idle = Waits {
+        own: &rest,
+        other: &rest.all,
+        wanted: 0,
+        at_exchanges: true,
+        stopped: false,
+    };
+    let mut gates = [idle; 128];
+    gates[0] = Waits {
+        own: &a,
+        other: &b.all,
+        wanted: 4,
+        ..idle
+    };
+    gates[1] = Waits {
+        own: &b,
+        other: &a.exchanges,
+        wanted: 1,
+        ..idle
+    };
+    let left = run_gated(&rt, alloc, files_of(alloc, ONE_AND_TWO, WAVS)?, &mut gates)?;
+    let report =
+        "dmixlab 1\n0 a open = ok PREPARED -\n0 b open = ok PREPARED -\n1 a write 1 = 1 RUNNING 0\n1 b write 2 = 2 RUNNING 0\n2 card play 128 = 128 RUNNING 128\nsegment a 0 64 1 0\nsegment b 0 64 2 0\nplayed 0 128\nend\n";
+    assert!(rt;
+        left.is_done(
+            report,
+            &mono_of(alloc, &[(64, 0), (1, 32767), (1, 10000), (62, 0)])?
+        )
+    );
+    assert!(rt; a.further.load(Ordering::SeqCst) == 1);
+    assert!(rt; b.further.load(Ordering::SeqCst) == 0);
+    assert!(rt; a.all.load(Ordering::SeqCst) == 4);
+    assert!(rt; b.all.load(Ordering::SeqCst) == 5);
     Ok(())
 }

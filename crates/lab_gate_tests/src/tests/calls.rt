@@ -51,31 +51,6 @@ impl Left {
     }
 }
 
-// A script over these WAV files of one channel, and what its run must leave: this report, and a file of what the card played, of
-// these runs of equal samples.
-#[derive(Clone, Copy)]
-pub(super) struct Run<'a> {
-    pub(super) script: &'a str,
-    pub(super) wavs: &'a [(&'a str, &'a [(u16, i16)])],
-    pub(super) report: &'a str,
-    pub(super) played: &'a [(u16, i16)],
-}
-
-// Whether a script that is run with these gates leaves what it must.
-pub(super) fn is_run<R: Threads + Sync, G: Gate + Send>(
-    rt: &R,
-    alloc: Global,
-    run: &Run<'_>,
-    gates: &mut [G],
-) -> Result<bool, AllocError>
-    requires { 128 ≤ length gates.old }
-{
-    let files = files_of(alloc, run.script, run.wavs)?;
-    let played = mono_of(alloc, run.played)?;
-    let left = run_gated(rt, alloc, files, gates)?;
-    Ok(left.is_done(run.report, &played))
-}
-
 // Runs the script `s` with the outputs `o.wav` and so on, over these files, with these gates.
 pub(super) fn run_gated<R: Threads + Sync, G: Gate + Send>(
     rt: &R,
@@ -88,15 +63,6 @@ pub(super) fn run_gated<R: Threads + Sync, G: Gate + Send>(
     call_gated(rt, alloc, &["run", "s", "o"], files, gates)
 }
 
-// The words of a call.
-fn words_of(alloc: Global, call: &[&str]) -> Result<Vec<Vec<u8>>, AllocError> {
-    let mut words = Vec::new(alloc);
-    for word in call {
-        words.push(Vec::from_slice(alloc, word.as_bytes())?)?;
-    }
-    Ok(words)
-}
-
 // Calls the program with these words, over these files, with these gates.
 pub(super) fn call_gated<R: Threads + Sync, G: Gate + Send>(
     rt: &R,
@@ -107,7 +73,10 @@ pub(super) fn call_gated<R: Threads + Sync, G: Gate + Send>(
 ) -> Result<Left, AllocError>
     requires { 128 ≤ length gates.old }
 {
-    let words = words_of(alloc, call)?;
+    let mut words = Vec::new(alloc);
+    for word in call {
+        words.push(Vec::from_slice(alloc, word.as_bytes())?)?;
+    }
     let mut shelf = MemoryShelf::new(files, Vec::new(alloc));
     let mut out = MemorySink::new(alloc, Vec::new(alloc));
     let mut errors = MemorySink::new(alloc, Vec::new(alloc));
@@ -123,32 +92,23 @@ pub(super) fn files_of(
 ) -> Result<Vec<(Vec<u8>, Vec<u8>)>, AllocError> {
     let mut files = Vec::new(alloc);
     let script = Vec::from_slice(alloc, script.as_bytes())?;
-    push_file(alloc, &mut files, "s", script)?;
+    files.push((Vec::from_slice(alloc, b"s")?, script))?;
     for (name, runs) in wavs {
-        let file = mono_of(alloc, runs)?;
-        push_file(alloc, &mut files, name, file)?;
+        files.push((
+            Vec::from_slice(alloc, name.as_bytes())?,
+            mono_of(alloc, runs)?,
+        ))?;
     }
     Ok(files)
-}
-
-// Appends a file of this name.
-pub(super) fn push_file(
-    alloc: Global,
-    files: &mut Vec<(Vec<u8>, Vec<u8>)>,
-    name: &str,
-    bytes: Vec<u8>,
-) -> Result<(), AllocError> {
-    let name = Vec::from_slice(alloc, name.as_bytes())?;
-    files.push((name, bytes))?;
-    Ok(())
 }
 
 // A WAV file of one channel, of runs of equal samples: each is a number of samples, and the sample.
 pub(super) fn mono_of(alloc: Global, runs: &[(u16, i16)]) -> Result<Vec<u8>, AllocError> {
     let mut samples = Vec::new(alloc);
     for (count, sample) in runs {
-        let end = samples.len().wrapping_add(*count as usize);
-        samples.resize(end, *sample)?;
+        for _ in 0..*count {
+            samples.push(*sample)?;
+        }
     }
     wav_around(alloc, MONO, &samples)
 }

@@ -1,8 +1,9 @@
 //! A client or reader that is stopped before each of its steps by the gate that is handed in.
-use super::calls::{STEREO, call_gated, files_of, mono_of, push_file, run_gated, wav_around};
+use super::calls::{STEREO, call_gated, files_of, mono_of, run_gated, wav_around};
 use mix_core::{Gate, Pass, StepKind};
 use std::alloc::{AllocError, Global};
 use std::marker::Sync;
+use std::test::Fail;
 use std::thread::Threads;
 
 // The steps that a client's write of 64 stereo frames makes: one load, and two for each of 128 samples.
@@ -15,16 +16,16 @@ fn samples_placed(steps: u32) -> u32 {
 
 // The report where client a's steps are so many.
 fn report_of_steps(alloc: Global, steps: u32) -> Result<String, AllocError> {
-    let answer = if steps == 0 {
-        "stopped PREPARED -"
+    let mut text = String::new(alloc);
+    text.push_str("dmixlab 1\n0 a open = ok PREPARED -\n0 b open = ok PREPARED -\n")?;
+    text.push_str(if steps == 0 {
+        "1 a write 64 = stopped PREPARED -\n"
     } else if steps < ALL {
-        "stopped RUNNING 0"
+        "1 a write 64 = stopped RUNNING 0\n"
     } else {
-        "64 RUNNING 0"
-    };
-    let mut text = format!(in alloc;
-        "dmixlab 1\n0 a open = ok PREPARED -\n0 b open = ok PREPARED -\n1 a write 64 = {answer}\n2 b write 64 = 64 RUNNING 0\n3 card play 128 = 128 RUNNING 128\n"
-    )?;
+        "1 a write 64 = 64 RUNNING 0\n"
+    })?;
+    text.push_str("2 b write 64 = 64 RUNNING 0\n3 card play 128 = 128 RUNNING 128\n")?;
     let samples = samples_placed(steps);
     if samples > 0 {
         writeln!(text, "segment a 0 64 {} {}", samples / 2, samples % 2)?;
@@ -35,14 +36,17 @@ fn report_of_steps(alloc: Global, steps: u32) -> Result<String, AllocError> {
 
 // What is played where so many of client a's samples were placed: 30000 + 10000 and -30000 - 10000 are saturated.
 fn played_with(alloc: Global, samples: u32) -> Result<Vec<u8>, AllocError> {
-    let mut played = [0i16; 256];
+    let mut played = Vec::new(alloc);
+    for _ in 0..128u32 {
+        played.push(0i16)?;
+    }
     for number in 0..128u32 {
-        played[128 + number as usize] = match (number < samples, number % 2) {
+        played.push(match (number < samples, number % 2) {
             (true, 0) => 32767,
             (true, _) => -32768,
             (false, 0) => 10000,
             (false, _) => -10000,
-        };
+        })?;
     }
     wav_around(alloc, STEREO, &played)
 }
@@ -51,21 +55,18 @@ fn played_with(alloc: Global, samples: u32) -> Result<Vec<u8>, AllocError> {
 const BOTH: &str =
     "card channels 2 rate 48000 period 64 ring 256\nclient a a.wav\nclient b b.wav\nopen a\nopen b\nphase\na write 64\nend\nphase\nb write 64\nend\nphase\ncard play 128\nend\n";
 
-// A file of 64 stereo frames: a sample on the left, and its opposite on the right.
-fn file_around(alloc: Global, sample: i16) -> Result<Vec<u8>, AllocError> {
-    let mut samples = [sample; 128];
-    for frame in 0..64usize {
-        samples[2 * frame + 1] = sample.wrapping_neg();
-    }
-    wav_around(alloc, STEREO, &samples)
-}
-
 // Its files.
 fn files_of_both(alloc: Global) -> Result<Vec<(Vec<u8>, Vec<u8>)>, AllocError> {
     let mut files = files_of(alloc, BOTH, &[])?;
-    let (a, b) = (file_around(alloc, 30000)?, file_around(alloc, 10000)?);
-    push_file(alloc, &mut files, "a.wav", a)?;
-    push_file(alloc, &mut files, "b.wav", b)?;
+    for (name, sample) in [("a.wav", 30000i16), ("b.wav", 10000i16)] {
+        let mut samples = Vec::new(alloc);
+        for _ in 0..64u32 {
+            samples.push(sample)?;
+            samples.push(sample.wrapping_neg())?;
+        }
+        let file = wav_around(alloc, STEREO, &samples)?;
+        files.push((Vec::from_slice(alloc, name.as_bytes())?, file))?;
+    }
     Ok(files)
 }
 
@@ -109,16 +110,16 @@ fn is_stopped_after<R: Threads + Sync>(
 ) -> Result<bool, AllocError> {
     let mut gates = [NEVER; 128];
     gates[0].left = steps;
+    let left = run_gated(rt, alloc, files_of_both(alloc)?, &mut gates)?;
     let report = report_of_steps(alloc, steps)?;
     let played = played_with(alloc, samples_placed(steps))?;
-    let left = run_gated(rt, alloc, files_of_both(alloc)?, &mut gates)?;
     let stops = if steps < ALL { 1 } else { 0 };
     Ok(left.is_done(&report, &played) && gates[0].stops == stops && gates[1].stops == 0)
 }
 
 // A gate of a client stops it before any of its steps.
 #[test]
-fn a_gate_stops_its_client_alone(rt: HostRuntime) -> Result<(), AllocError> {
+fn a_gate_stops_its_client_alone(rt: HostRuntime) -> Result<(), Fail> {
     for steps in 0..=ALL {
         assert!(rt; is_stopped_after(&rt, rt.alloc(), steps)?, "{steps}");
     }
@@ -132,22 +133,17 @@ const READERS: &str =
 const READERS_REPORT: &str =
     "dmixlab 1\n0 r open = ok PREPARED -\n0 q open = ok PREPARED -\n1 r start = ok RUNNING 0\n1 q start = ok RUNNING 0\n2 card play 4 = 4 RUNNING 4\n3 r read 4 = 4 RUNNING 4\n3 q read 4 = stopped RUNNING 4\n3 q sync = stopped RUNNING 4\n3 q open = ok PREPARED -\nrun r 0 4\nplayed 0 4\nend\n";
 
-// What it captured: three samples 7, and an 8.
-const CAPTURED: &[(u16, i16)] = &[(3, 7), (1, 8)];
-
 // The gates of readers are after the 64 of clients.
 #[test]
-fn a_gate_stops_its_reader_alone(rt: HostRuntime) -> Result<(), AllocError> {
+fn a_gate_stops_its_reader_alone(rt: HostRuntime) -> Result<(), Fail> {
     let alloc = rt.alloc();
     let mut gates = [NEVER; 128];
     gates[65].left = 4;
-    let files = files_of(alloc, READERS, &[("c.wav", CAPTURED)])?;
-    let (silence, captured) = (mono_of(alloc, &[(4, 0)])?, mono_of(alloc, CAPTURED)?);
-    let nothing = mono_of(alloc, &[])?;
+    let files = files_of(alloc, READERS, &[("c.wav", &[(3, 7), (1, 8)])])?;
     let left = run_gated(&rt, alloc, files, &mut gates)?;
-    assert!(rt; left.is_done(READERS_REPORT, &silence));
-    assert!(rt; left.held(b"o.r.wav") == captured.as_slice());
-    assert!(rt; left.held(b"o.q.wav") == nothing.as_slice());
+    assert!(rt; left.is_done(READERS_REPORT, &mono_of(alloc, &[(4, 0)])?));
+    assert!(rt; left.held(b"o.r.wav") == mono_of(alloc, &[(3, 7), (1, 8)])?.as_slice());
+    assert!(rt; left.held(b"o.q.wav") == mono_of(alloc, &[])?.as_slice());
     assert!(rt; gates[65].stops == 1);
     Ok(())
 }
@@ -158,11 +154,10 @@ const MADE_REPORT: &str =
 
 // A gate of a client of a workload stops it. What the card played is before both clients' frames.
 #[test]
-fn a_gate_stops_a_client_of_a_workload(rt: HostRuntime) -> Result<(), AllocError> {
+fn a_gate_stops_a_client_of_a_workload(rt: HostRuntime) -> Result<(), Fail> {
     let alloc = rt.alloc();
     let mut gates = [NEVER; 128];
     gates[0].left = 0;
-    let silence = wav_around(alloc, STEREO, &[0i16; 128])?;
     let left = call_gated(
         &rt,
         alloc,
@@ -170,6 +165,7 @@ fn a_gate_stops_a_client_of_a_workload(rt: HostRuntime) -> Result<(), AllocError
         Vec::new(alloc),
         &mut gates,
     )?;
+    let silence = wav_around(alloc, STEREO, &[0i16; 128])?;
     assert!(rt; left.is_ok());
     assert!(rt; left.held(b"made.report") == MADE_REPORT.as_bytes());
     assert!(rt; left.held(b"made.wav") == silence.as_slice());
