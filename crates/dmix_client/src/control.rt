@@ -11,10 +11,10 @@ ghost use Rattle.dmix_client.specs.Growth.{AnySamples, Keeps, KeepsAccepted};
 ghost use Rattle.dmix_client.specs.Port.{CanUse};
 ghost use Rattle.dmix_client.specs.View.{IsSoundClient};
 
+use crate::after_calls::after_start;
 use crate::client::Client;
 use crate::commit::look_and_start;
 use crate::status::sync_call;
-use crate::steps::after_start;
 use crate::stream::PlaybackStream;
 use mix_core::{Gate, MixPort};
 use pcm_states::{Call, State};

@@ -1,15 +1,15 @@
 //! The client of a mixed playback: a PCM stream that places its frames in the card's ring through a port.
 #![tactic(auto)]
 
+mod after_calls;
 mod client;
 mod commit;
 mod control;
 mod pause;
 mod rewind;
-mod rewound;
+mod rewind_states;
 mod ring;
 mod status;
-mod steps;
 mod stream;
 mod usable;
 mod withdraw;

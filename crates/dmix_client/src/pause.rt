@@ -9,9 +9,9 @@ ghost use Rattle.dmix_client.specs.Growth.{AnySamples, Keeps};
 ghost use Rattle.dmix_client.specs.Port.{CanUse};
 ghost use Rattle.dmix_client.specs.View.{IsSoundClient};
 
+use crate::after_calls::resumed;
 use crate::client::Client;
 use crate::commit::look_and_start;
-use crate::steps::resumed;
 use crate::stream::PlaybackStream;
 use mix_core::{Gate, MixPort};
 use pcm_states::{Call, State};

@@ -11,10 +11,10 @@ ghost use Rattle.dmix_client.specs.Rewind.{checks, held_entries, rewindable_of, 
 ghost use Rattle.dmix_client.specs.RewindCauses.{ExplainsCheck, ExplainsRewind};
 ghost use Rattle.dmix_client.specs.View.{IsSoundClient};
 
+use crate::after_calls::after_sync;
 use crate::client::Client;
 use crate::commit::Commit;
-use crate::rewound::{rewound, with_rewindable};
-use crate::steps::after_sync;
+use crate::rewind_states::{rewound, with_rewindable};
 use crate::stream::PlaybackStream;
 use crate::withdraw::take_frames;
 use mix_core::{Gate, MixPort, Position};

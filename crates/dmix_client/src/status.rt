@@ -11,9 +11,9 @@ ghost use Rattle.dmix_client.specs.Growth.{AnySamples, Keeps, KeepsAccepted};
 ghost use Rattle.dmix_client.specs.Port.{CanUse, IsFrameStep};
 ghost use Rattle.dmix_client.specs.View.{IsGoing, IsSoundClient};
 
+use crate::after_calls::{after_sync, with_number};
 use crate::client::Client;
 use crate::commit::look_and_commit;
-use crate::steps::{after_sync, with_number};
 use crate::stream::PlaybackStream;
 use mix_core::{Gate, MixPort};
 use pcm_states::Call;

@@ -12,12 +12,12 @@ ghost use Rattle.dmix_client.specs.Port.{CanUse, IsCommit};
 ghost use Rattle.dmix_client.specs.View.{IsSoundClient};
 ghost use Rattle.dmix_client.specs.Writes.{IsOffer, count_with, frames_in, ring_with, starts_with};
 
+use crate::after_calls::{accepted_if, written_after};
 use crate::client::Client;
 use crate::commit::{Commit, lay_frames};
 use crate::control::begin;
 use crate::ring::store;
 use crate::status::sync_call;
-use crate::steps::{accepted_if, written_after};
 use crate::stream::PlaybackStream;
 use mix_core::{Gate, MixPort};
 use pcm_states::{Call, State};

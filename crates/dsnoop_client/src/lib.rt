@@ -1,8 +1,8 @@
 //! The reader of a shared capture: a PCM stream that reads the card's captured frames through a port.
 #![tactic(auto)]
 
+mod after_calls;
 mod frames;
-mod parts;
 mod positions;
 mod read;
 mod reader;

@@ -8,7 +8,7 @@ ghost use Rattle.dsnoop_client.specs.Course.{starts, syncs};
 ghost use Rattle.dsnoop_client.specs.Port.{Keeps};
 ghost use Rattle.dsnoop_client.specs.View.{CanUse, IsGoing, IsReadyIf, IsSoundReader, IsStart, IsSync};
 
-use crate::parts::{after_start, after_sync, with_avail};
+use crate::after_calls::{after_start, after_sync, with_avail};
 use crate::reader::Reader;
 use crate::stream::CaptureStream;
 use mix_core::{Gate, Position};

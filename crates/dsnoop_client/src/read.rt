@@ -9,8 +9,8 @@ ghost use Rattle.dsnoop_client.specs.Course.{reads_first, reads_on, transfers};
 ghost use Rattle.dsnoop_client.specs.Reads.{GivesFrames};
 ghost use Rattle.dsnoop_client.specs.View.{CanRead, CanUse, HasRoom, IsGoing, IsSoundReader, LoadsFor, frames_in};
 
+use crate::after_calls::{read_after, waits};
 use crate::frames::load_frames;
-use crate::parts::{read_after, waits};
 use crate::positions::{start_call, sync_call};
 use crate::reader::Reader;
 use crate::stream::CaptureStream;

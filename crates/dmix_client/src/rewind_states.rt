@@ -4,8 +4,8 @@ ghost use Rattle.mix_core.specs.Port.{OnLate};
 ghost use Rattle.dmix_client.specs.Calls.{late_at, with_number};
 ghost use Rattle.dmix_client.specs.Rewind.{back_of, last_channel, last_laid, rewindable_of, after_rewind, taken_back, without_frames};
 
+use crate::after_calls::{Answered, found_at, is_stop, stopped_in, with_outcome};
 use crate::commit::Commit;
-use crate::steps::{Answered, found_at, is_stop, stopped_in, with_outcome};
 use crate::stream::{PlaybackStream, Stretch};
 use mix_core::{Ended, Position};
 use pcm_states::{Call, State, next};
