@@ -3,7 +3,7 @@
 ghost use Rattle.std.specs.Prelude.{◌≡◌, ◌<◌, ◌≤◌, ◌⊎◌, ◌++◌, ◌*◌, ℕ, [], length};
 ghost use Rattle.wav_io.specs.Frames.{IsCut};
 
-use crate::kept::Kept;
+use crate::kept_bytes::Kept;
 use std::mem;
 
 /// Whole frames: one that was divided between two pieces or none, and then those that are in one piece.

@@ -11,7 +11,7 @@ ghost use Rattle.wav_io.specs.Readers.{IsOfHead, Raw, error_of, has_begun, raw_f
 use crate::error::WavError;
 use crate::format::{Depths, Format};
 use crate::frames::{Whole, cut};
-use crate::kept::Kept;
+use crate::kept_bytes::Kept;
 use crate::place::Place;
 use crate::scan::Scan;
 use std::alloc::AllocError;

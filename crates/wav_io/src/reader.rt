@@ -13,7 +13,7 @@ use crate::error::WavError;
 use crate::fields::decode;
 use crate::format::{Depths, Format};
 use crate::frames::{Whole, cut};
-use crate::kept::Kept;
+use crate::kept_bytes::Kept;
 use crate::scan::Scan;
 use std::alloc::AllocError;
 use std::marker::Model;

@@ -10,8 +10,8 @@ ghost use Rattle.wav_io.specs.Scans.{IsScan, to_come, part_bytes, GoesThrough, I
 
 use crate::error::WavError;
 use crate::format::{Depths, Format};
-use crate::judging::is_at;
-use crate::kept::Kept;
+use crate::kept_bytes::Kept;
+use crate::next_places::is_at;
 use crate::place::Place;
 use crate::steps::{format_body, head, opening};
 

@@ -6,8 +6,8 @@ ghost use Rattle.wav_io.specs.declared.place.Place.TheVariants.{Opening, Head, F
 ghost use Rattle.wav_io.specs.Pieces.{GoesOn, IsSoundPlace};
 
 use crate::format::{Depths, Format};
-use crate::judging::{after_format, after_head, after_opening};
-use crate::kept::Kept;
+use crate::kept_bytes::Kept;
+use crate::next_places::{after_format, after_head, after_opening};
 use crate::place::Place;
 
 /// Goes on in the 12 bytes before the first chunk, and gives the bytes that follow.

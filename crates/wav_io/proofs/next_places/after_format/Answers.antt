@@ -1,6 +1,6 @@
 use Rattle.std.proofs.Common.{sym}
 use Rattle.wav_io.proofs.Places.{leads_in_order, leads_out_of_order}
-use Rattle.wav_io.proofs.judging.after_format.Goals as goal
+use Rattle.wav_io.proofs.next_places.after_format.Goals as goal
 
 pub returns-in-Ok : goal.returns-in-Ok
 returns-in-Ok c = leads_in_order c.args.depths c.args.pad c.args.body.now c.in-Ok.format (sym c.in-Ok.ensures.value) c.in-Ok.ensures.in_order

@@ -1,7 +1,7 @@
 use Rattle.std.proofs.Common.{◌≡◌, ap, ◌∙◌, arith, length, take, ◌++◌}
 use Rattle.std.proofs.lemmas.List.{take-append-drop}
 use Rattle.wav_io.proofs.Places.{filled}
-use Rattle.wav_io.proofs.kept.Kept.fill.Goals as goal
+use Rattle.wav_io.proofs.kept_bytes.Kept.fill.Goals as goal
 
 pub returns-clause-all : goal.returns-clause-all
 returns-clause-all c =

@@ -8,7 +8,7 @@ use Rattle.wav_io.specs.Chunks.{chunks}
 use Rattle.wav_io.specs.Pieces.{LeadsTo}
 use Rattle.wav_io.specs.Reading.{scan_of}
 use Rattle.wav_io.proofs.Places.{leads_by_format, leads_by_data, leads_by_no_format, leads_by_other, leads_at_size}
-use Rattle.wav_io.proofs.judging.after_head.Goals as goal
+use Rattle.wav_io.proofs.next_places.after_head.Goals as goal
 
 pub returns-then-eq : goal.returns-then-eq
 returns-then-eq c depths =
