@@ -8,7 +8,7 @@ use crate::causes::{first_of, refuse_if};
 use crate::draft::Draft;
 use crate::error::ScriptWhy;
 use crate::keys::{Kind, check_keys, given};
-use crate::named::named;
+use crate::names::named;
 use crate::values::{bindings_where, number_given, read_file, read_name, small_where, stop_given};
 use lab_lines::{CardLine, ClientLine, FileName, Name, ReaderLine};
 use std::alloc::Global;

@@ -8,7 +8,7 @@ mod draft;
 mod error;
 mod keys;
 mod keyword;
-mod named;
+mod names;
 mod ops;
 mod reader;
 mod steps;

@@ -12,7 +12,7 @@ use crate::client::{read_client, read_reader};
 use crate::draft::Draft;
 use crate::error::ScriptWhy;
 use crate::keyword::{Keyword, keyword_of};
-use crate::named::named;
+use crate::names::named;
 use crate::ops::{op_of, played_by};
 use lab_lines::{Actor, CardLine, Item, Line, Op, Phase};
 use std::alloc::Global;
