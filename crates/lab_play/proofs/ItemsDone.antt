@@ -1,7 +1,7 @@
 -- What an item of a script's body makes of a run that goes on.
 --     StaysWritten-stage      the lab stays at its stage: all that it holds is written still
 --     StaysWritten-border      an opening or a closing: all that the lab holds is written still
---     HasGoneBehind-phase      a phase: what it played, recorded and answered isn't written yet
+--     HasLeftUnwritten-phase      a phase: what it played, recorded and answered isn't written yet
 --     GoesOn-written      and then it is
 use Rattle.std.specs.Prelude.{◌≡◌, ℕ, ◌+◌, ℤ, List, [], ◌∷◌, ◌++◌, length, take, slice_get, Option, Some}
 use Rattle.std.specs.Option.{option_map}
@@ -197,15 +197,15 @@ order-phase Gates stops stops_after lab after lines does outputs files taken sta
     }
 
 -- a run that was at this stage did a phase of which nothing is written yet, and its gates did so from there to where it is
-pub record HasGoneBehind (Gates : Stage → Stage → Type 0) (start : Start) (stage : Stage) (stops : Stops) (at : Scene) : Type 0 where
+pub record HasLeftUnwritten (Gates : Stage → Stage → Type 0) (start : Start) (stage : Stage) (stops : Stops) (at : Scene) : Type 0 where
   pub behind : HasUnwrittenPhase start stops at
   pub gates : Gates stage behind.stage
 
-pub HasGoneBehind-phase : (Gates : Stage → Stage → Type 0) → StagesGrow → (stops stops_after : Stops) (lab after : Lab) (lines : List Line)
+pub HasLeftUnwritten-phase : (Gates : Stage → Stage → Type 0) → StagesGrow → (stops stops_after : Stops) (lab after : Lab) (lines : List Line)
     → DoesPhase Gates stops stops_after lab lines after → IsNextItem lab (item.Phase lines)
     → (outputs : Outputs) (files : Option Files) (taken : Option (List ℕ)) (start : Start) → (is : IsPlaying start stops (scene lab outputs files taken))
-    → HasGoneBehind Gates start is.stage stops_after (scene after outputs files taken)
-HasGoneBehind-phase Gates grow stops stops_after lab after lines does first outputs files taken start is =
+    → HasLeftUnwritten Gates start is.stage stops_after (scene after outputs files taken)
+HasLeftUnwritten-phase Gates grow stops stops_after lab after lines does first outputs files taken start is =
     let own = is.lab_is in
     let done = does.does is.stage start.stops own.stage_is own.counted in
     let grown = grow (session_of lab) is.stage done.next (item.Phase lines) done.may in
@@ -233,7 +233,7 @@ HasGoneBehind-phase Gates grow stops stops_after lab after lines does first outp
 
 -- and then it is written
 pub GoesOn-written : (Gates : Stage → Stage → Type 0) (start : Start) (stage : Stage) (stops : Stops) (before after : Scene)
-    → (is : HasGoneBehind Gates start stage stops before) → GoesOn (λ at next. next ≡ at) start is.behind.stage stops after → GoesOn Gates start stage stops after
+    → (is : HasLeftUnwritten Gates start stage stops before) → GoesOn (λ at next. next ≡ at) start is.behind.stage stops after → GoesOn Gates start stage stops after
 GoesOn-written Gates start stage stops before after is caught = record {
   playing = caught.playing;
   gates = subst (λ (next : Stage). Gates stage next) (sym caught.gates) is.gates;

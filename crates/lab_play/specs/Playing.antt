@@ -136,8 +136,8 @@ pub record GoesOn (Gates : Stage → Stage → Type 0) (start : Start) (stage : 
   pub playing : IsPlaying start stops at
   pub gates : Gates stage playing.stage
 
-abbrev pub SceneGoesOn : (Stage → Stage → Type 0) → Stops → Scene → Stops → Scene → Type 0
-SceneGoesOn Gates stops before stops_after after =
+abbrev pub GoesOnWriting : (Stage → Stage → Type 0) → Stops → Scene → Stops → Scene → Type 0
+GoesOnWriting Gates stops before stops_after after =
     (start : Start) → (is : IsPlaying start stops before) → GoesOn Gates start is.stage stops_after after
 
 -- it stopped at the stage of a lab, when its gates had stopped so often, and left this
@@ -148,16 +148,16 @@ StopsAt stops before stops_after lab files taken = (start : Start) → IsPlaying
 abbrev pub StaysWritten : Lab → Lab → Type 0
 StaysWritten lab after =
     (stops : Stops) (outputs : Outputs) (files : Option Files) (taken : Option (List ℕ))
-    → SceneGoesOn HaveSameAsks stops (scene lab outputs files taken) stops (scene after outputs files taken)
+    → GoesOnWriting HaveSameAsks stops (scene lab outputs files taken) stops (scene after outputs files taken)
 
 -- what was played and recorded is written, and the run is at the same stage
-abbrev pub CatchesUp : Scene → Scene → Type 0
-CatchesUp before after =
+abbrev pub WritesPhase : Scene → Scene → Type 0
+WritesPhase before after =
     (start : Start) (stops : Stops) → (is : HasUnwrittenPhase start stops before)
     → GoesOn (λ stage next. next ≡ stage) start is.stage stops after
 
-abbrev pub StopsBehind : Scene → Option Files → Option (List ℕ) → Type 0
-StopsBehind before files taken = (start : Start) (stops : Stops) → HasUnwrittenPhase start stops before → IsStoppedAt start stops before.lab files taken
+abbrev pub StopsWritingPhase : Scene → Option Files → Option (List ℕ) → Type 0
+StopsWritingPhase before files taken = (start : Start) (stops : Stops) → HasUnwrittenPhase start stops before → IsStoppedAt start stops before.lab files taken
 
 -- there is a run of a script that is at this moment
 pub record CanPlay (script : Script) (stops : Stops) (at : Scene) : Type 0 where
@@ -165,7 +165,7 @@ pub record CanPlay (script : Script) (stops : Stops) (at : Scene) : Type 0 where
   pub script_is : start.input.script ≡ script
   pub is : IsPlaying start stops at
 
-pub record CanCatchUp (script : Script) (at : Scene) : Type 0 where
+pub record CanWritePhase (script : Script) (at : Scene) : Type 0 where
   pub start : Start
   pub stops : Stops
   pub script_is : start.input.script ≡ script
@@ -178,7 +178,7 @@ pub record IsKnownRun (stops : Stops) (at : Scene) : Type 0 where
   pub known : Rattle.std.specs.Prelude.IsSome start.files
 
 -- the files were known when a run began of which a phase isn't written yet
-pub record IsKnownBehind (at : Scene) : Type 0 where
+pub record IsKnownUnwritten (at : Scene) : Type 0 where
   pub start : Start
   pub stops : Stops
   pub is : HasUnwrittenPhase start stops at

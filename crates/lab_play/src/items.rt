@@ -5,7 +5,7 @@ ghost use Rattle.lab_stop.specs.Effects.{StoresAndPuts};
 ghost use Rattle.lab_stop.specs.declared.stop.Stop.TheVariants as stops;
 ghost use Rattle.lab_phase.specs.AtStage.{DoesItem, IsBorderItem, IsLab, IsNextItem, IsSameScript, items_done, played_of};
 ghost use Rattle.lab_phase.specs.PhaseRuns.{HaveAsked, stops_by};
-ghost use Rattle.lab_play.specs.Playing.{CanPlay, SceneGoesOn, IsKnownRun, StaysWritten, StopsAt, scene};
+ghost use Rattle.lab_play.specs.Playing.{CanPlay, GoesOnWriting, IsKnownRun, StaysWritten, StopsAt, scene};
 
 use crate::write::write_phase;
 use lab_lines::{Item, Line, Script};
@@ -42,7 +42,7 @@ pub(crate) fn do_items<R: Threads + Sync, S: Shelf, K: Sink, G: Gate + Send>(
         (scene lab.old outputs.old (S.files shelf.old) (K.taken out.old)) }
     requires first { items_done lab.old ≡ 0 }
     requires gates { 128 ≤ length gates.old }
-    ensures done { OnOk result (SceneGoesOn (HaveAsked G.asked gates.old gates.new)
+    ensures done { OnOk result (GoesOnWriting (HaveAsked G.asked gates.old gates.new)
         (stops_by G.stops gates.old)
         (scene lab.old outputs.old (S.files shelf.old) (K.taken out.old))
         (stops_by G.stops gates.new)
@@ -93,7 +93,7 @@ fn do_item<R: Threads + Sync, S: Shelf, K: Sink, G: Gate + Send>(
         (scene lab.old outputs.old (S.files shelf.old) (K.taken out.old)) }
     requires next { IsNextItem lab.old item.now }
     requires gates { 128 ≤ length gates.old }
-    ensures done { OnOk result (SceneGoesOn (HaveAsked G.asked gates.old gates.new)
+    ensures done { OnOk result (GoesOnWriting (HaveAsked G.asked gates.old gates.new)
         (stops_by G.stops gates.old)
         (scene lab.old outputs.old (S.files shelf.old) (K.taken out.old))
         (stops_by G.stops gates.new)
@@ -143,7 +143,7 @@ fn do_phase<R: Threads + Sync, S: Shelf, K: Sink, G: Gate + Send>(
         (scene lab.old outputs.old (S.files shelf.old) (K.taken out.old)) }
     requires next { IsNextItem lab.old (item.Phase lines.now) }
     requires gates { 128 ≤ length gates.old }
-    ensures done { OnOk result (SceneGoesOn (HaveAsked G.asked gates.old gates.new)
+    ensures done { OnOk result (GoesOnWriting (HaveAsked G.asked gates.old gates.new)
         (stops_by G.stops gates.old)
         (scene lab.old outputs.old (S.files shelf.old) (K.taken out.old))
         (stops_by G.stops gates.new)

@@ -10,7 +10,7 @@ ghost use Rattle.lab_readers.specs.AtStage.{readers_of};
 ghost use Rattle.lab_output.specs.Files.{MayHold};
 ghost use Rattle.lab_output.specs.Going.{AreLonger, AreOutputs, IsGoingOn};
 ghost use Rattle.lab_play.specs.Appending.{CanAppend};
-ghost use Rattle.lab_play.specs.Playing.{CanCatchUp, CatchesUp, IsKnownBehind, StopsBehind, scene, sounds_at};
+ghost use Rattle.lab_play.specs.Playing.{CanWritePhase, WritesPhase, IsKnownUnwritten, StopsWritingPhase, scene, sounds_at};
 
 use lab_lines::Script;
 use lab_output::Outputs;
@@ -81,18 +81,18 @@ pub(crate) fn write_phase<S: Shelf, K: Sink>(
     shelf: &mut S,
     out: &mut K,
 ) -> Result<(), Stop>
-    requires { CanCatchUp script.now (scene lab.now outputs.old (S.files shelf.old)
+    requires { CanWritePhase script.now (scene lab.now outputs.old (S.files shelf.old)
         (K.taken out.old)) }
-    ensures done { OnOk result (CatchesUp
+    ensures done { OnOk result (WritesPhase
         (scene lab.now outputs.old (S.files shelf.old) (K.taken out.old))
         (scene lab.now outputs.new (S.files shelf.new) (K.taken out.new))) }
-    ensures part { OnErr result (StopsBehind
+    ensures part { OnErr result (StopsWritingPhase
         (scene lab.now outputs.old (S.files shelf.old) (K.taken out.old))
         (S.files shelf.new) (K.taken out.new)) }
     ensures stores_and_puts { StoresAndPuts S.Shelf K.Sink result (shelf.old, out.old)
         (shelf.new, out.new) }
     ensures never { S.is_reliable shelf.old → K.is_reliable out.old
-        → IsKnownBehind (scene lab.now outputs.old (S.files shelf.old) (K.taken out.old))
+        → IsKnownUnwritten (scene lab.now outputs.old (S.files shelf.old) (K.taken out.old))
         → result ≢ Err stops.Write }
 {
     stages_have_rows();

@@ -3,12 +3,12 @@ use Rattle.std.proofs.Common.{◌≡◌}
 use Rattle.lab_phase.specs.AtStage.{IsSameScript, items_done}
 use Rattle.lab_phase.specs.PhaseRuns.{HaveAsked, stops_by}
 use Rattle.lab_stop.specs.Effects.{BothCountNoFault}
-use Rattle.lab_play.specs.Playing.{SceneGoesOn, scene}
+use Rattle.lab_play.specs.Playing.{GoesOnWriting, scene}
 use Rattle.lab_play.proofs.items.do_items.Given as goal
 
 abbrev pub invariant-loop-index : goal.invariant-loop-index
 invariant-loop-index g l = record {
-  goes_on : SceneGoesOn (HaveAsked g.G.Gate.asked l.fn.gates l.gates)
+  goes_on : GoesOnWriting (HaveAsked g.G.Gate.asked l.fn.gates l.gates)
       (stops_by g.G.Gate.stops l.fn.gates)
       (scene l.fn.lab l.fn.outputs (g.S.Shelf.files l.fn.shelf) (g.K.Sink.taken l.fn.out))
       (stops_by g.G.Gate.stops l.gates)

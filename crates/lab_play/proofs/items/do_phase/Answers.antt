@@ -5,8 +5,8 @@ use Rattle.lab_phase.specs.PhaseRuns.{HaveAsked, Stops, stops_by}
 use Rattle.lab_run.specs.Stage.{Stage}
 use Rattle.lab_phase.specs.Same.{StaysAtStage-same}
 use Rattle.lab_stop.specs.OutputLaws.{StoresAndPuts-nothing}
-use Rattle.lab_play.specs.Playing.{CatchesUp, IsStoppedAt, SceneGoesOn, Scene, StopsAt, StopsBehind, scene}
-use Rattle.lab_play.proofs.ItemsDone.{GoesOn-written, HasGoneBehind-phase, StaysWritten-stage}
+use Rattle.lab_play.specs.Playing.{WritesPhase, IsStoppedAt, GoesOnWriting, Scene, StopsAt, StopsWritingPhase, scene}
+use Rattle.lab_play.proofs.ItemsDone.{GoesOn-written, HasLeftUnwritten-phase, StaysWritten-stage}
 use Rattle.lab_play.proofs.ItemsResults.{OnErr-more}
 use Rattle.lab_play.proofs.ItemsStopped.{IsStoppedAt-playing}
 use Rattle.lab_play.proofs.items.do_phase.Goals as goal
@@ -18,7 +18,7 @@ write_phase-requires g c =
       start = playing.start;
       stops = stops_by g.G.Gate.stops c.run_phase.new.gates;
       script_is = playing.script_is;
-      is = (HasGoneBehind-phase (HaveAsked g.G.Gate.asked c.args.gates.now c.run_phase.new.gates) c.stages_grow.ensures.grow (stops_by g.G.Gate.stops c.args.gates.now)
+      is = (HasLeftUnwritten-phase (HaveAsked g.G.Gate.asked c.args.gates.now c.run_phase.new.gates) c.stages_grow.ensures.grow (stops_by g.G.Gate.stops c.args.gates.now)
           (stops_by g.G.Gate.stops c.run_phase.new.gates) c.args.lab.now c.run_phase.new.self c.args.lines.now c.in-Ok.ensures.does c.requires.next c.args.outputs.now
           (g.S.Shelf.files c.args.shelf.now) (g.K.Sink.taken c.args.out.now) playing.start playing.is).behind;
     }
@@ -34,9 +34,9 @@ returns-in-Ok-clause-done g c =
     let after : Scene =
     scene c.run_phase.new.self c.write_phase.new.outputs (g.S.Shelf.files c.write_phase.new.shelf) (g.K.Sink.taken c.write_phase.new.out) in
     let Gates : Stage → Stage → Type 0 = HaveAsked g.G.Gate.asked c.args.gates.now c.run_phase.new.gates in
-    OnOk-more (CatchesUp behind after) (SceneGoesOn Gates stops before stops_after after) c.write_phase.result
+    OnOk-more (WritesPhase behind after) (GoesOnWriting Gates stops before stops_after after) c.write_phase.result
     (λ catches start is.
-    let gone = HasGoneBehind-phase Gates c.stages_grow.ensures.grow stops stops_after c.args.lab.now c.run_phase.new.self c.args.lines.now c.in-Ok.ensures.does c.requires.next
+    let gone = HasLeftUnwritten-phase Gates c.stages_grow.ensures.grow stops stops_after c.args.lab.now c.run_phase.new.self c.args.lines.now c.in-Ok.ensures.does c.requires.next
     c.args.outputs.now files taken start is in
     GoesOn-written Gates start is.stage stops_after behind after gone (catches start stops_after gone.behind))
     c.write_phase.ensures.done
@@ -51,9 +51,9 @@ returns-in-Ok-clause-part g c =
     let behind : Scene = scene c.run_phase.new.self c.args.outputs.now files taken in
     let files_now : Option Files = g.S.Shelf.files c.write_phase.new.shelf in
     let taken_now : Option (List ℕ) = g.K.Sink.taken c.write_phase.new.out in
-    OnErr-more (StopsBehind behind files_now taken_now) (StopsAt stops before stops_after c.run_phase.new.self files_now taken_now) c.write_phase.result
+    OnErr-more (StopsWritingPhase behind files_now taken_now) (StopsAt stops before stops_after c.run_phase.new.self files_now taken_now) c.write_phase.result
     (λ stopped start is. stopped start stops_after
-    (HasGoneBehind-phase (HaveAsked g.G.Gate.asked c.args.gates.now c.run_phase.new.gates) c.stages_grow.ensures.grow stops stops_after c.args.lab.now c.run_phase.new.self
+    (HasLeftUnwritten-phase (HaveAsked g.G.Gate.asked c.args.gates.now c.run_phase.new.gates) c.stages_grow.ensures.grow stops stops_after c.args.lab.now c.run_phase.new.self
     c.args.lines.now c.in-Ok.ensures.does c.requires.next c.args.outputs.now files taken start is).behind)
     c.write_phase.ensures.part
 
@@ -65,7 +65,7 @@ returns-in-Ok-clause-never g c shelf_reliable out_reliable known =
     (record {
       start = known.start;
       stops = stops_after;
-      is = (HasGoneBehind-phase (HaveAsked g.G.Gate.asked c.args.gates.now c.run_phase.new.gates) c.stages_grow.ensures.grow stops stops_after c.args.lab.now c.run_phase.new.self
+      is = (HasLeftUnwritten-phase (HaveAsked g.G.Gate.asked c.args.gates.now c.run_phase.new.gates) c.stages_grow.ensures.grow stops stops_after c.args.lab.now c.run_phase.new.self
           c.args.lines.now c.in-Ok.ensures.does c.requires.next c.args.outputs.now (g.S.Shelf.files c.args.shelf.now) (g.K.Sink.taken c.args.out.now) known.start known.is).behind;
       known = known.known;
     })

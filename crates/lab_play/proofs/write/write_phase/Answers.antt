@@ -6,7 +6,7 @@ use Rattle.lab_output.specs.Text.{rows_text}
 use Rattle.lab_shelf.specs.Files.{Files, TookPart}
 use Rattle.lab_stop.specs.EffectLaws.{CountsNoFault-writes}
 use Rattle.lab_stop.specs.OutputLaws.{StoresAndPuts-passed, StoresAndPuts-puts, StoresAndPuts-writes}
-use Rattle.lab_play.specs.Playing.{CatchesUp, StopsBehind, scene}
+use Rattle.lab_play.specs.Playing.{WritesPhase, StopsWritingPhase, scene}
 use Rattle.lab_play.proofs.WritingPhase.{OnErr-always, OnErr-more, OnOk-both, can-append, can-put, catches-up, stops-appending, stops-putting}
 use Rattle.lab_play.proofs.write.write_phase.Goals as goal
 
@@ -17,7 +17,7 @@ append_all-requires g c =
 
 pub returns-in_err-append_all-clause-part : goal.returns-in_err-append_all-clause-part
 returns-in_err-append_all-clause-part g c =
-    OnErr-always (StopsBehind (scene c.args.lab.now c.args.outputs.now (g.S.Shelf.files c.args.shelf.now) (g.K.Sink.taken c.args.out.now)) (g.S.Shelf.files c.append_all.new.shelf)
+    OnErr-always (StopsWritingPhase (scene c.args.lab.now c.args.outputs.now (g.S.Shelf.files c.args.shelf.now) (g.K.Sink.taken c.args.out.now)) (g.S.Shelf.files c.append_all.new.shelf)
     (g.K.Sink.taken c.args.out.now)) c.from_residual.result
     (λ start stops is. stops-appending start stops c.args.lab.now c.args.outputs.now (g.S.Shelf.files c.args.shelf.now) (g.S.Shelf.files c.append_all.new.shelf)
     (g.K.Sink.taken c.args.out.now) c.append_all.ensures.changes is)
@@ -37,7 +37,7 @@ returns-clause-done g c =
     let rows : List Row = c.rows.result.now in
     OnOk-both (c.put_rows.new.self.rows ≡ length rows)
     (taken_after ≡ option_map (λ t. t ++ rows_text c.args.script.now c.append_all.new.outputs.rows rows) taken)
-    (CatchesUp (scene lab c.args.outputs.now files taken) (scene lab c.put_rows.new.self files_after taken_after)) c.put_rows.result
+    (WritesPhase (scene lab c.args.outputs.now files taken) (scene lab c.put_rows.new.self files_after taken_after)) c.put_rows.result
     (λ count text start stops is.
     catches-up start stops c.args.script.now lab c.args.outputs.now c.append_all.new.outputs c.put_rows.new.self files files_after taken taken_after rows
     (c.requires.is.lab_is.script_is.script_is ∙ c.requires.script_is) c.rows.ensures
@@ -60,7 +60,7 @@ returns-clause-part g c =
     let taken_after : Option (List ℕ) = g.K.Sink.taken c.put_rows.new.out in
     let rows : List Row = c.rows.result.now in
     OnErr-more (TookPart taken taken_after (rows_text c.args.script.now c.append_all.new.outputs.rows rows))
-    (StopsBehind (scene lab c.args.outputs.now files taken) files_after taken_after) c.put_rows.result
+    (StopsWritingPhase (scene lab c.args.outputs.now files taken) files_after taken_after) c.put_rows.result
     (λ part start stops is.
     stops-putting start stops lab c.args.outputs.now files files_after taken c.append_all.ensures.changes is c.args.script.now c.append_all.new.outputs rows taken_after
     (c.requires.is.lab_is.script_is.script_is ∙ c.requires.script_is) c.in_ok-append_all.ensures.going_on c.append_all.ensures.files c.append_all.ensures.rows c.rows.ensures part)
