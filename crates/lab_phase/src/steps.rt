@@ -61,19 +61,19 @@ fn run_in_turn<G: Gate>(
     card: &mut CardActor<'_>,
     clients: &mut LabClients<'_>,
     readers: &mut LabReaders<'_>,
-    near: &mut [G],
-    far: &mut [G],
+    client_gates: &mut [G],
+    reader_gates: &mut [G],
     asked: &Asked<'_>,
 )
     requires card { CardCanRun asked.now.lines.now card.old }
-    requires clients { ClientsCanRun (length near.old) asked.now clients.old }
-    requires readers { ReadersCanRun (length far.old) asked.now readers.old }
-    ensures { HaveRun G.Gate near.old near.new far.old far.new (asks_of asked.now)
-        card.old card.new clients.old clients.new readers.old readers.new }
+    requires clients { ClientsCanRun (length client_gates.old) asked.now clients.old }
+    requires readers { ReadersCanRun (length reader_gates.old) asked.now readers.old }
+    ensures { HaveRun G.Gate client_gates.old client_gates.new reader_gates.old reader_gates.new
+        (asks_of asked.now) card.old card.new clients.old clients.new readers.old readers.new }
 {
     card.run_lines(asked.capture, asked.phase, asked.lines);
-    clients.run_lines(near, asked.wavs, asked.phase, asked.lines);
-    readers.run_lines(far, asked.phase, asked.lines);
+    clients.run_lines(client_gates, asked.wavs, asked.phase, asked.lines);
+    readers.run_lines(reader_gates, asked.phase, asked.lines);
 }
 
 /// All clients and all readers do their lines at once, each in a thread of its own where one can be made.
@@ -81,31 +81,31 @@ fn run_actors_at_once<R: Threads + Sync, G: Gate + Send>(
     rt: &R,
     clients: &mut LabClients<'_>,
     readers: &mut LabReaders<'_>,
-    near: &mut [G],
-    far: &mut [G],
+    client_gates: &mut [G],
+    reader_gates: &mut [G],
     asked: &Asked<'_>,
 )
-    requires clients { ClientsCanRun (length near.old) asked.now clients.old }
-    requires readers { ReadersCanRun (length far.old) asked.now readers.old }
-    ensures clients { ClientsHaveRun G.Gate near.old near.new (asks_of asked.now)
+    requires clients { ClientsCanRun (length client_gates.old) asked.now clients.old }
+    requires readers { ReadersCanRun (length reader_gates.old) asked.now readers.old }
+    ensures clients { ClientsHaveRun G.Gate client_gates.old client_gates.new (asks_of asked.now)
         clients.old clients.new }
-    ensures readers { ReadersHaveRun G.Gate far.old far.new (asks_of asked.now)
+    ensures readers { ReadersHaveRun G.Gate reader_gates.old reader_gates.new (asks_of asked.now)
         readers.old readers.new }
 {
     let mut play = ||
         requires shared { IsSync R.row }
         requires sent { IsSend G.row }
-        requires ready { ClientsCanRun (length near.now) asked.now clients.now }
-        ensures { ClientsHaveRun G.Gate near.entry.now near.exit.now (asks_of asked.entry.now)
-            clients.entry.now clients.exit.now }
-    { clients.run_lines_at_once(rt, near, asked.wavs, asked.phase, asked.lines) };
+        requires ready { ClientsCanRun (length client_gates.now) asked.now clients.now }
+        ensures { ClientsHaveRun G.Gate client_gates.entry.now client_gates.exit.now
+            (asks_of asked.entry.now) clients.entry.now clients.exit.now }
+    { clients.run_lines_at_once(rt, client_gates, asked.wavs, asked.phase, asked.lines) };
     let mut record = ||
         requires shared { IsSync R.row }
         requires sent { IsSend G.row }
-        requires ready { ReadersCanRun (length far.now) asked.now readers.now }
-        ensures { ReadersHaveRun G.Gate far.entry.now far.exit.now (asks_of asked.entry.now)
-            readers.entry.now readers.exit.now }
-    { readers.run_lines_at_once(rt, far, asked.phase, asked.lines) };
+        requires ready { ReadersCanRun (length reader_gates.now) asked.now readers.now }
+        ensures { ReadersHaveRun G.Gate reader_gates.entry.now reader_gates.exit.now
+            (asks_of asked.entry.now) readers.entry.now readers.exit.now }
+    { readers.run_lines_at_once(rt, reader_gates, asked.phase, asked.lines) };
     join_mut(rt, &mut play, &mut record);
 }
 
@@ -115,15 +115,15 @@ fn run_at_once<R: Threads + Sync, G: Gate + Send>(
     card: &mut CardActor<'_>,
     clients: &mut LabClients<'_>,
     readers: &mut LabReaders<'_>,
-    near: &mut [G],
-    far: &mut [G],
+    client_gates: &mut [G],
+    reader_gates: &mut [G],
     asked: &Asked<'_>,
 )
     requires card { CardCanRun asked.now.lines.now card.old }
-    requires clients { ClientsCanRun (length near.old) asked.now clients.old }
-    requires readers { ReadersCanRun (length far.old) asked.now readers.old }
-    ensures { HaveRun G.Gate near.old near.new far.old far.new (asks_of asked.now)
-        card.old card.new clients.old clients.new readers.old readers.new }
+    requires clients { ClientsCanRun (length client_gates.old) asked.now clients.old }
+    requires readers { ReadersCanRun (length reader_gates.old) asked.now readers.old }
+    ensures { HaveRun G.Gate client_gates.old client_gates.new reader_gates.old reader_gates.new
+        (asks_of asked.now) card.old card.new clients.old clients.new readers.old readers.new }
 {
     let mut play = ||
         requires { CardCanRun asked.now.lines.now card.now }
@@ -132,13 +132,13 @@ fn run_at_once<R: Threads + Sync, G: Gate + Send>(
     let mut others = ||
         requires shared { IsSync R.row }
         requires sent { IsSend G.row }
-        requires clients { ClientsCanRun (length near.now) asked.now clients.now }
-        requires readers { ReadersCanRun (length far.now) asked.now readers.now }
-        ensures clients { ClientsHaveRun G.Gate near.entry.now near.exit.now
+        requires clients { ClientsCanRun (length client_gates.now) asked.now clients.now }
+        requires readers { ReadersCanRun (length reader_gates.now) asked.now readers.now }
+        ensures clients { ClientsHaveRun G.Gate client_gates.entry.now client_gates.exit.now
             (asks_of asked.entry.now) clients.entry.now clients.exit.now }
-        ensures readers { ReadersHaveRun G.Gate far.entry.now far.exit.now
+        ensures readers { ReadersHaveRun G.Gate reader_gates.entry.now reader_gates.exit.now
             (asks_of asked.entry.now) readers.entry.now readers.exit.now }
-    { run_actors_at_once(rt, clients, readers, near, far, asked) };
+    { run_actors_at_once(rt, clients, readers, client_gates, reader_gates, asked) };
     join_mut(rt, &mut play, &mut others);
 }
 
@@ -156,20 +156,28 @@ fn run_all<R: Threads + Sync, G: Gate + Send>(
     card: &mut CardActor<'_>,
     clients: &mut LabClients<'_>,
     readers: &mut LabReaders<'_>,
-    near: &mut [G],
-    far: &mut [G],
+    client_gates: &mut [G],
+    reader_gates: &mut [G],
     asked: &Asked<'_>,
 )
     requires card { CardCanRun asked.now.lines.now card.old }
-    requires clients { ClientsCanRun (length near.old) asked.now clients.old }
-    requires readers { ReadersCanRun (length far.old) asked.now readers.old }
-    ensures { HaveRun G.Gate near.old near.new far.old far.new (asks_of asked.now)
-        card.old card.new clients.old clients.new readers.old readers.new }
+    requires clients { ClientsCanRun (length client_gates.old) asked.now clients.old }
+    requires readers { ReadersCanRun (length reader_gates.old) asked.now readers.old }
+    ensures { HaveRun G.Gate client_gates.old client_gates.new reader_gates.old reader_gates.new
+        (asks_of asked.now) card.old card.new clients.old clients.new readers.old readers.new }
 {
     if busy_count(clients, readers, asked.lines) > 1 {
-        run_at_once(rt, card, clients, readers, near, far, asked);
+        run_at_once(
+            rt,
+            card,
+            clients,
+            readers,
+            client_gates,
+            reader_gates,
+            asked,
+        );
     } else {
-        run_in_turn(card, clients, readers, near, far, asked);
+        run_in_turn(card, clients, readers, client_gates, reader_gates, asked);
     }
 }
 
@@ -192,8 +200,16 @@ pub(crate) fn run_lines<R: Threads + Sync, G: Gate + Send>(
 {
     clients.inform(&mut card.card);
     readers.inform(&mut card.card);
-    let (near, far) = gates.split_at_mut(CLIENT_GATES);
-    run_all(rt, card, clients, readers, near, far, asked);
+    let (client_gates, reader_gates) = gates.split_at_mut(CLIENT_GATES);
+    run_all(
+        rt,
+        card,
+        clients,
+        readers,
+        client_gates,
+        reader_gates,
+        asked,
+    );
     clients.hear(&mut card.card);
     readers.hear(&mut card.card);
 }

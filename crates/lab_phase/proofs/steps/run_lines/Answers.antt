@@ -22,13 +22,13 @@ run_all-requires-clause-card g c κs within =
 
 pub run_all-requires-clause-clients : goal.run_all-requires-clause-clients
 run_all-requires-clause-clients g c κs within =
-    let front_len = c.split_at_mut-near.ensures.front_len in
+    let front_len = c.split_at_mut-client_gates.ensures.front_len in
     ClientsCanRun-met _ c.args.asked.now c.args.card.now c.args.clients.now c.inform.new.self c.args.readers.now c.inform-2.new.self c.requires _ (omega (arith, front_len))
     c.inform.ensures.informed
 
 pub run_all-requires-clause-readers : goal.run_all-requires-clause-readers
 run_all-requires-clause-readers g c κs within =
-    let back_len = c.split_at_mut-near.ensures.back_len in
+    let back_len = c.split_at_mut-client_gates.ensures.back_len in
     ReadersCanRun-met _ c.args.asked.now c.args.card.now c.args.clients.now c.inform.new.self c.args.readers.now c.inform-2.new.self c.requires _ c.inform.new.card (omega (arith, back_len))
     c.inform-2.ensures.informed
 
@@ -52,7 +52,7 @@ pub returns : goal.returns
 returns g c =
     let a = c.args.card.now in
     let before : CardActor = record { card = c.inform-2.new.card; played = a.played; rows = a.rows; captured = a.captured } in
-    let near = c.split_at_mut-near in
+    let halves = c.split_at_mut-client_gates in
     record {
       between = c.inform.new.card;
       before = before;
@@ -71,8 +71,8 @@ returns g c =
       };
       inform_clients = c.inform.ensures.informed;
       inform_readers = c.inform-2.ensures.informed;
-      run = HaveRun-halves g.G.Gate 64 c.args.gates.now near.result.0.now c.run_all.new.near near.result.1.now c.run_all.new.far (asks_of c.args.asked.now) before
-          c.run_all.new.card c.inform.new.self c.run_all.new.clients c.inform-2.new.self c.run_all.new.readers near.ensures.value near.ensures.front_len c.run_all.auto.near
+      run = HaveRun-halves g.G.Gate 64 c.args.gates.now halves.result.0.now c.run_all.new.client_gates halves.result.1.now c.run_all.new.reader_gates (asks_of c.args.asked.now) before
+          c.run_all.new.card c.inform.new.self c.run_all.new.clients c.inform-2.new.self c.run_all.new.readers halves.ensures.value halves.ensures.front_len c.run_all.auto.client_gates
           c.run_all.ensures;
       third = c.hear.ensures.card;
       last = record {
