@@ -34,8 +34,8 @@ use Rattle.lab_readers.specs.AtStage.{readers_of}
 use Rattle.lab_readers.specs.StepLaws.{AreOf-informed, AreOf-ran, AreOf-same}
 use Rattle.lab_readers.specs.Steps as readers
 use Rattle.lab_readers.specs.Steps.{EachReader}
-use Rattle.lab_phase.specs.declared.steps.Asked.{Asked}
-use Rattle.lab_phase.specs.Asked.{CanMeet, CardCanRun, ClientsCanRun, ReadersCanRun}
+use Rattle.lab_phase.specs.declared.steps.PhaseInput.{PhaseInput}
+use Rattle.lab_phase.specs.PhaseInput.{CanMeet, CardCanRun, ClientsCanRun, ReadersCanRun}
 use Rattle.lab_phase.specs.PhaseSteps.{Asks, CardHasRun, ClientsHaveRun, HaveRun, IsSameButCard, ReadersHaveRun}
 
 -- ---- before the lines
@@ -63,7 +63,7 @@ CardCanRun-met lines a b same can = record {
   room = HasRoom-met (length (ops_by is_of_card lines)) (frames_by (ops_by is_of_card lines)) a b same can.room;
 }
 
-module _ (gates : ℕ) (asked : Asked) (a : CardActor) (cs ds : LabClients) (rs ss : LabReaders) (can : CanMeet gates asked a cs rs) where
+module _ (gates : ℕ) (asked : PhaseInput) (a : CardActor) (cs ds : LabClients) (rs ss : LabReaders) (can : CanMeet gates asked a cs rs) where
   pub ClientsCanRun-met : (near : ℕ) → 64 ≤ near → AreEach (clients.IsInformedBy a.card) 0 (clients_of cs) (clients_of ds) → ClientsCanRun near asked ds
   ClientsCanRun-met near many informed =
       let len = AreEach-length (clients.IsInformedBy a.card) 0 (clients_of cs) (clients_of ds) informed in

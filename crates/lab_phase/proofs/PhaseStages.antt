@@ -37,9 +37,9 @@ use Rattle.lab_readers.specs.AtStage as readers
 use Rattle.lab_readers.specs.declared.readers.LabReaders.{LabReaders}
 use Rattle.lab_phase.specs.declared.lab.Lab.{Lab}
 use Rattle.lab_phase.specs.declared.report_room.ReportRoom.{ReportRoom}
-use Rattle.lab_phase.specs.declared.steps.Asked.{Asked}
+use Rattle.lab_phase.specs.declared.steps.PhaseInput.{PhaseInput}
 use Rattle.lab_phase.specs.Alone.{unplugs_by-others}
-use Rattle.lab_phase.specs.Asked.{CanMeet}
+use Rattle.lab_phase.specs.PhaseInput.{CanMeet}
 use Rattle.lab_phase.specs.AtStage.{AreActorsOf, AreOfRings, HasEndRoom, IsAtStage, IsNextItem, capture_of, played_by, played_of, session_of}
 use Rattle.lab_phase.specs.BorderLaws.{HasDone-next, HasEndRoom-next, AreSetUp-same, session_of-same}
 use Rattle.lab_phase.specs.Counts.{AreAll-reached}
@@ -87,7 +87,7 @@ module _ (lab : Lab) (stage : Stage) (lines : List Line) (at : IsAtStage lab sta
       omega (arith, count, more, all, body, own)
 
 -- its actors can do it: the card's frames are before its rings' end, and all can meet once they took the room of the lines
-module _ (lab : Lab) (stage : Stage) (asked : Asked) (at : IsAtStage lab stage) (is : IsNextItem lab (item.Phase asked.lines.now)) (a0 : CardActor) (card_is : lab.card ≡ Some a0)
+module _ (lab : Lab) (stage : Stage) (asked : PhaseInput) (at : IsAtStage lab stage) (is : IsNextItem lab (item.Phase asked.lines.now)) (a0 : CardActor) (card_is : lab.card ≡ Some a0)
     (laws : PhasesAreOfScripts) where
   actors-at : AreActorsOf (session_of lab) (capture_of lab) stage (Some a0) lab.clients lab.readers
   actors-at = subst (λ (card : Option CardActor). AreActorsOf (session_of lab) (capture_of lab) stage card lab.clients lab.readers) card_is at.actors

@@ -41,22 +41,22 @@ use Rattle.lab_readers.specs.declared.readers.LabReaders.{LabReaders}
 use Rattle.lab_readers.specs.AtStage.{IsReaderAt, readers_of, ring_of, spare_of}
 use Rattle.lab_readers.specs.StepLaws.{AreOf-at, AreOf-room, AreReady-informed}
 use Rattle.lab_readers.specs.Steps as readers
-use Rattle.lab_phase.specs.declared.steps.Asked.{Asked}
-use Rattle.lab_phase.specs.Asked.{CanMeet}
+use Rattle.lab_phase.specs.declared.steps.PhaseInput.{PhaseInput}
+use Rattle.lab_phase.specs.PhaseInput.{CanMeet}
 use Rattle.lab_phase.specs.AtStage.{AreActorsOf}
 use Rattle.lab_phase.specs.Counts.{AreAll-reached}
 use Rattle.lab_phase.specs.PhaseSteps.{HaveRoom}
 use Rattle.lab_phase.specs.Scripts.{FitsRing-next, IsFew-lines, IsFewRead-lines, IsPhase-next}
 
 -- a phase of a script asks this of the actors of a stage: there is a file for each client, and a gate for each actor
-pub record IsAskedAt (session : Session) (stage : Stage) (gates client_count reader_count : ℕ) (asked : Asked) : Type 0 where
+pub record IsAskedAt (session : Session) (stage : Stage) (gates client_count reader_count : ℕ) (asked : PhaseInput) : Type 0 where
   pub sounds : asked.wavs.now ≡ session.sounds
   pub files : length session.sounds ≡ length stage.clients
   pub few_clients : length stage.clients ≤ 64
   pub few_readers : 64 + length stage.readers ≤ gates
   pub phase : IsPhase client_count reader_count asked.lines.now
 
-module _ (session : Session) (capture : Option Sound) (stage : Stage) (gates client_count reader_count : ℕ) (asked : Asked) (a0 a : CardActor) (cs0 cs : LabClients) (rs0 rs : LabReaders)
+module _ (session : Session) (capture : Option Sound) (stage : Stage) (gates client_count reader_count : ℕ) (asked : PhaseInput) (a0 a : CardActor) (cs0 cs : LabClients) (rs0 rs : LabReaders)
     (is : IsAskedAt session stage gates client_count reader_count asked) (fits : FitsRing a0 (ops_by is_of_card asked.lines.now))
     (are : AreActorsOf session capture stage (Some a0) cs0 rs0) (room : HaveRoom asked.lines.now a0 a cs0 cs rs0 rs) where
   fits-after : FitsRing a (ops_by is_of_card asked.lines.now)
@@ -143,7 +143,7 @@ files-reached script wavs session done others lines stage is =
     let own = AreClientOpenings-length script.card script.clients wavs session.clients is.session_is.clients in
     ap length is.session_is.sounds ∙ (sym own.1 ∙ sym counts.clients)
 
-module _ (script : Script) (wavs : List Sound) (session : Session) (done others : List Item) (stage : Stage) (asked : Asked)
+module _ (script : Script) (wavs : List Sound) (session : Session) (done others : List Item) (stage : Stage) (asked : PhaseInput)
     (is : IsReached script wavs session done (item.Phase asked.lines.now ∷ others) stage) where
   pub IsAskedAt-reached : (gates : ℕ) → asked.wavs.now ≡ wavs → 128 ≤ gates → IsAskedAt session stage gates (length script.clients) (length script.readers) asked
   IsAskedAt-reached gates same many =

@@ -1,12 +1,12 @@
 pub mod Alone
 pub mod AskLaws
-pub mod Asked
 pub mod AtStage
 pub mod BorderLaws
 pub mod Borders
 pub mod CardStage
 pub mod Counts
 pub mod Ended
+pub mod PhaseInput
 pub mod PhaseLaws
 pub mod PhaseRuns
 pub mod PhaseSteps

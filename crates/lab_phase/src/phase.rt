@@ -6,12 +6,12 @@ ghost use Rattle.lab_card.specs.declared.card.CardActor.{CardActor};
 ghost use Rattle.lab_card.specs.Room.{FitsRing};
 ghost use Rattle.lab_clients.specs.declared.clients.LabClients.{LabClients};
 ghost use Rattle.lab_readers.specs.declared.readers.LabReaders.{LabReaders};
-ghost use Rattle.lab_phase.specs.Asked.{CanMeet, asks_of};
+ghost use Rattle.lab_phase.specs.PhaseInput.{CanMeet, asks_of};
 ghost use Rattle.lab_phase.specs.PhaseSteps.{AreSameButRoom, GiveFewRows, HaveRoom, IsSameButRoom};
 ghost use Rattle.lab_phase.specs.PhaseRuns.{HaveRunLines, PlaysAlone};
 
 use crate::lab::Lab;
-use crate::steps::{Asked, run_lines, take_room, take_rows};
+use crate::steps::{PhaseInput, run_lines, take_room, take_rows};
 use lab_card::{CardActor, line_count};
 use lab_clients::LabClients;
 use lab_lines::{Line, Row};
@@ -27,7 +27,7 @@ use std::thread::Threads;
 fn play_alone(
     card: &mut CardActor<'_>,
     rows: &mut Vec<Row>,
-    asked: &Asked<'_>,
+    asked: &PhaseInput<'_>,
 ) -> Result<(), PcmError>
     requires fits { FitsRing card.old (ops_by is_of_card asked.now.lines.now) }
     requires none { card.old.rows.items ≡ [] }
@@ -54,7 +54,7 @@ fn run_together<R: Threads + Sync, G: Gate + Send>(
     readers: &mut LabReaders<'_>,
     rows: &mut Vec<Row>,
     gates: &mut [G],
-    asked: &Asked<'_>,
+    asked: &PhaseInput<'_>,
 ) -> Result<(), PcmError>
     requires fits { FitsRing card.old (ops_by is_of_card asked.now.lines.now) }
     requires meet { (a : CardActor) (cs : LabClients) (rs : LabReaders)
@@ -155,7 +155,7 @@ impl<'r> Lab<'r, '_> {
         ensures only { IfErr result (λ e. e ≡ PcmError.Memory) }
     {
         runs_are_of_scripts();
-        let asked = Asked {
+        let asked = PhaseInput {
             wavs: self.wavs,
             capture: self.capture,
             phase: self.phases + 1,
@@ -214,7 +214,7 @@ impl<'r> Lab<'r, '_> {
         last_frames_are_own();
         members_are_unreported();
         parts_are_runs();
-        let asked = Asked {
+        let asked = PhaseInput {
             wavs: self.wavs,
             capture: self.capture,
             phase: self.phases + 1,

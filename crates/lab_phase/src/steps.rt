@@ -5,7 +5,7 @@ ghost use Rattle.lab_lines.specs.Script.{is_of_card};
 ghost use Rattle.lab_run.specs.Phases.{ops_by};
 ghost use Rattle.lab_actors.specs.Room.{HasSpace};
 ghost use Rattle.lab_card.specs.Room.{FitsRing};
-ghost use Rattle.lab_phase.specs.Asked.{CardCanRun, ClientsCanRun, CanMeet, ReadersCanRun, asks_of, busy_in};
+ghost use Rattle.lab_phase.specs.PhaseInput.{CardCanRun, ClientsCanRun, CanMeet, ReadersCanRun, asks_of, busy_in};
 ghost use Rattle.lab_phase.specs.PhaseSteps.{AreSameButRoom, CardHasRun, ClientsHaveRun, HaveGivenRows, HaveMet, HaveRoom, HaveRun, ReadersHaveRun, rows_by};
 
 use lab_card::{CardActor, line_count};
@@ -23,7 +23,7 @@ pub(crate) const CLIENT_GATES: usize = 64;
 
 /// What a phase asks of its actors: its number and its lines, the clients' files, and the file that the card captures.
 #[derive(Clone, Copy)]
-pub(crate) struct Asked<'l> {
+pub(crate) struct PhaseInput<'l> {
     pub wavs: &'l [Wav],
     pub capture: Option<&'l Wav>,
     pub phase: u32,
@@ -63,7 +63,7 @@ fn run_in_turn<G: Gate>(
     readers: &mut LabReaders<'_>,
     client_gates: &mut [G],
     reader_gates: &mut [G],
-    asked: &Asked<'_>,
+    asked: &PhaseInput<'_>,
 )
     requires card { CardCanRun asked.now.lines.now card.old }
     requires clients { ClientsCanRun (length client_gates.old) asked.now clients.old }
@@ -83,7 +83,7 @@ fn run_actors_at_once<R: Threads + Sync, G: Gate + Send>(
     readers: &mut LabReaders<'_>,
     client_gates: &mut [G],
     reader_gates: &mut [G],
-    asked: &Asked<'_>,
+    asked: &PhaseInput<'_>,
 )
     requires clients { ClientsCanRun (length client_gates.old) asked.now clients.old }
     requires readers { ReadersCanRun (length reader_gates.old) asked.now readers.old }
@@ -117,7 +117,7 @@ fn run_at_once<R: Threads + Sync, G: Gate + Send>(
     readers: &mut LabReaders<'_>,
     client_gates: &mut [G],
     reader_gates: &mut [G],
-    asked: &Asked<'_>,
+    asked: &PhaseInput<'_>,
 )
     requires card { CardCanRun asked.now.lines.now card.old }
     requires clients { ClientsCanRun (length client_gates.old) asked.now clients.old }
@@ -158,7 +158,7 @@ fn run_all<R: Threads + Sync, G: Gate + Send>(
     readers: &mut LabReaders<'_>,
     client_gates: &mut [G],
     reader_gates: &mut [G],
-    asked: &Asked<'_>,
+    asked: &PhaseInput<'_>,
 )
     requires card { CardCanRun asked.now.lines.now card.old }
     requires clients { ClientsCanRun (length client_gates.old) asked.now clients.old }
@@ -191,7 +191,7 @@ pub(crate) fn run_lines<R: Threads + Sync, G: Gate + Send>(
     clients: &mut LabClients<'_>,
     readers: &mut LabReaders<'_>,
     gates: &mut [G],
-    asked: &Asked<'_>,
+    asked: &PhaseInput<'_>,
 )
     requires { CanMeet (length gates.old) asked.now card.old clients.old readers.old }
     ensures { HaveMet G.Gate (take 64 gates.old) (take 64 gates.new)

@@ -1,7 +1,7 @@
 use Rattle.std.proofs.Common.{arith, refl, ◌∙◌}
 use Rattle.lab_card.specs.declared.card.CardActor.{CardActor}
 use Rattle.lab_card.specs.MeetLaws.{IsSameCard-joined}
-use Rattle.lab_phase.specs.Asked.{asks_of}
+use Rattle.lab_phase.specs.PhaseInput.{asks_of}
 use Rattle.lab_readers.specs.StepLaws.{AreOf-same}
 use Rattle.lab_phase.proofs.MeetLaws.{AreOf-lines, AreOfCard-ran, CardCanRun-met, ClientsCanRun-met, HaveRun-halves, ReadersCanRun-met}
 use Rattle.lab_phase.proofs.steps.run_lines.Goals as goal

@@ -1,7 +1,7 @@
 use Rattle.std.proofs.Common.{◌≡◌, rules, refl, Some, ◌+◌}
-use Rattle.lab_phase.specs.Asked.{asks_of}
+use Rattle.lab_phase.specs.PhaseInput.{asks_of}
 use Rattle.lab_phase.specs.declared.lab.Lab.{Lab}
-use Rattle.lab_phase.specs.declared.steps.Asked.{Asked}
+use Rattle.lab_phase.specs.declared.steps.PhaseInput.{PhaseInput}
 use Rattle.lab_phase.specs.BorderLaws.{OnErr-both, OnOk-more}
 use Rattle.lab_phase.specs.PhaseRuns.{HaveSameAsks, IsSameLab, PlaysAlone, RunsPhase, Stops}
 use Rattle.lab_phase.specs.PhaseSteps.{AreSameButRoom-card, IsSameButRoom}
@@ -16,13 +16,13 @@ overflow_add-asked c =
 pub play_alone-requires-clause-none : goal.play_alone-requires-clause-none
 play_alone-requires-clause-none c =
     let lab : Lab = c.args.self.now in
-    let asked : Asked = record { wavs = lab.wavs; capture = lab.capture; phase = lab.phases + 1; lines = c.args.lines } in
+    let asked : PhaseInput = record { wavs = lab.wavs; capture = lab.capture; phase = lab.phases + 1; lines = c.args.lines } in
     no-rows lab c.requires.at.stage asked c.requires.at.at c.requires.next c.in-Some.card c.in-Some.is c.runs_are_of_scripts.ensures.phases
 
 pub play_alone-requires-clause-fits : goal.play_alone-requires-clause-fits
 play_alone-requires-clause-fits c =
     let lab : Lab = c.args.self.now in
-    let asked : Asked = record { wavs = lab.wavs; capture = lab.capture; phase = lab.phases + 1; lines = c.args.lines } in
+    let asked : PhaseInput = record { wavs = lab.wavs; capture = lab.capture; phase = lab.phases + 1; lines = c.args.lines } in
     fits-phase lab c.requires.at.stage asked c.requires.at.at c.requires.next c.in-Some.card c.in-Some.is c.runs_are_of_scripts.ensures.phases
 
 pub returns-clause-kept : goal.returns-clause-kept
@@ -47,7 +47,7 @@ returns-clause-kept c =
 pub returns-clause-runs : goal.returns-clause-runs
 returns-clause-runs c =
     let lab : Lab = c.args.self.now in
-    let asked : Asked = record { wavs = lab.wavs; capture = lab.capture; phase = lab.phases + 1; lines = c.args.lines } in
+    let asked : PhaseInput = record { wavs = lab.wavs; capture = lab.capture; phase = lab.phases + 1; lines = c.args.lines } in
     let after : Lab = record lab { card = Some c.play_alone.new.card; rows = c.play_alone.new.rows } in
     OnOk-more (PlaysAlone (asks_of asked) lab.rows.items c.play_alone.new.rows.items c.in-Some.card c.play_alone.new.card)
     ((stops : Stops) → RunsPhase HaveSameAsks stops stops lab c.args.lines.now after) c.play_alone.result

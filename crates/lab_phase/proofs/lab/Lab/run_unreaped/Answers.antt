@@ -1,7 +1,7 @@
 use Rattle.std.proofs.Common.{◌≡◌, rules, refl, Some, ◌+◌, length}
 use Rattle.lab_phase.specs.declared.lab.Lab.{Lab}
-use Rattle.lab_phase.specs.declared.steps.Asked.{Asked}
-use Rattle.lab_phase.specs.Asked.{asks_of}
+use Rattle.lab_phase.specs.declared.steps.PhaseInput.{PhaseInput}
+use Rattle.lab_phase.specs.PhaseInput.{asks_of}
 use Rattle.lab_phase.specs.BorderLaws.{OnErr-both, OnOk-more}
 use Rattle.lab_phase.specs.PhaseLaws.{ActorLaws}
 use Rattle.lab_phase.specs.PhaseRuns.{HasRunLines, HaveRunLines, IsSameLab}
@@ -16,13 +16,13 @@ overflow_add-asked g c =
 pub run_together-requires-clause-fits : goal.run_together-requires-clause-fits
 run_together-requires-clause-fits g c κs within =
     let lab : Lab = c.args.self.now in
-    let asked : Asked = record { wavs = lab.wavs; capture = lab.capture; phase = lab.phases + 1; lines = c.args.lines } in
+    let asked : PhaseInput = record { wavs = lab.wavs; capture = lab.capture; phase = lab.phases + 1; lines = c.args.lines } in
     fits-phase lab c.requires.at.stage asked c.requires.at.at c.requires.next c.in-Some.card c.in-Some.is c.runs_are_of_scripts.ensures.phases
 
 pub run_together-requires-clause-meet : goal.run_together-requires-clause-meet
 run_together-requires-clause-meet g c κs within =
     let lab : Lab = c.args.self.now in
-    let asked : Asked = record { wavs = lab.wavs; capture = lab.capture; phase = lab.phases + 1; lines = c.args.lines } in
+    let asked : PhaseInput = record { wavs = lab.wavs; capture = lab.capture; phase = lab.phases + 1; lines = c.args.lines } in
     can-meet lab c.requires.at.stage asked c.requires.at.at c.requires.next c.in-Some.card c.in-Some.is c.runs_are_of_scripts.ensures.phases (length c.args.gates.now) c.requires.gates
     refl
 
@@ -63,7 +63,7 @@ returns-clause-kept g c =
 pub returns-clause-runs : goal.returns-clause-runs
 returns-clause-runs g c =
     let lab : Lab = c.args.self.now in
-    let asked : Asked = record { wavs = lab.wavs; capture = lab.capture; phase = lab.phases + 1; lines = c.args.lines } in
+    let asked : PhaseInput = record { wavs = lab.wavs; capture = lab.capture; phase = lab.phases + 1; lines = c.args.lines } in
     let after : Lab = record lab {
       card = Some c.run_together.new.card;
       clients = c.run_together.new.clients;

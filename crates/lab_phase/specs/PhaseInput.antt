@@ -19,10 +19,10 @@ use Rattle.lab_readers.specs.declared.readers.LabReaders.{LabReaders}
 use Rattle.lab_readers.specs.AtStage.{readers_of}
 use Rattle.lab_readers.specs.Steps as readers
 use Rattle.lab_readers.specs.Steps.{EachReader, IsReady, has_lines as reader_has_lines}
-use Rattle.lab_phase.specs.declared.steps.Asked.{Asked}
+use Rattle.lab_phase.specs.declared.steps.PhaseInput.{PhaseInput}
 use Rattle.lab_phase.specs.PhaseSteps.{Asks}
 
-abbrev pub asks_of : Asked → Asks
+abbrev pub asks_of : PhaseInput → Asks
 asks_of asked =
     record {
       sounds = asked.wavs.now;
@@ -37,20 +37,20 @@ pub record CardCanRun (lines : List Line) (a : CardActor) : Type 0 where
   pub room : HasRoom a (length (ops_by is_of_card lines)) (frames_by (ops_by is_of_card lines))
 
 -- the clients can do their lines: there is a gate for each
-pub record ClientsCanRun (gates : ℕ) (asked : Asked) (cs : LabClients) : Type 0 where
+pub record ClientsCanRun (gates : ℕ) (asked : PhaseInput) (cs : LabClients) : Type 0 where
   pub writes : All (λ (line : Line). IsFew line.op) asked.lines.now
   pub enough : length (clients_of cs) ≤ gates
   pub files : length asked.wavs.now ≡ length (clients_of cs)
   pub ready : AreReady asked.wavs.now asked.lines.now (clients_of cs)
 
 -- the readers can do their lines: there is a gate for each
-pub record ReadersCanRun (gates : ℕ) (asked : Asked) (rs : LabReaders) : Type 0 where
+pub record ReadersCanRun (gates : ℕ) (asked : PhaseInput) (rs : LabReaders) : Type 0 where
   pub reads : All (λ (line : Line). IsFewRead line.op) asked.lines.now
   pub enough : length (readers_of rs) ≤ gates
   pub ready : All (IsReady asked.lines.now) (readers_of rs)
 
 -- all can meet the card, and do their lines then: there are 64 gates for clients, and one for each reader
-pub record CanMeet (gates : ℕ) (asked : Asked) (a : CardActor) (cs : LabClients)
+pub record CanMeet (gates : ℕ) (asked : PhaseInput) (a : CardActor) (cs : LabClients)
     (rs : LabReaders) : Type 0 where
   pub card : CardCanRun asked.lines.now a
   pub clients_of_card : AreOfCard a.card (clients_of cs)
