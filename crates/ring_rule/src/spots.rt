@@ -75,12 +75,12 @@ impl LapStart {
         if !self.has(geometry, frame) {
             return far_spot(geometry, frame, channel);
         }
-        self.near_spot(geometry, frame, channel)
+        self.spot_in_lap(geometry, frame, channel)
     }
 
     /// Where the word of a frame of this lap and a channel is. It tests nothing.
     #[inline(always)]
-    pub fn near_spot(&self, geometry: &Geometry, frame: u64, channel: u8) -> Spot
+    pub fn spot_in_lap(&self, geometry: &Geometry, frame: u64, channel: u8) -> Spot
         requires start { IsLapStart geometry.now self.now }
         requires channel { channel < geometry.now.channels }
         requires in_lap { lap geometry.now frame ≡ self.now.lap }

@@ -41,7 +41,7 @@ impl MixSeat<'_> {
         if !self.turn_to_frame(frame) {
             return Err(PcmError::LapEnd);
         }
-        let ring_spot = self.near_spot(frame, channel);
+        let ring_spot = self.spot_in_lap(frame, channel);
         let ended = self.lay(gate, Kind::Added, ring_spot, frame, channel, sample, steps);
         answer(ended)
     }

@@ -33,7 +33,7 @@ impl MixSeat<'_> {
         if !self.turn_to_frame(frame) {
             unreachable!()
         }
-        let ring_spot = self.near_spot(frame, channel);
+        let ring_spot = self.spot_in_lap(frame, channel);
         let ended = self.lay(
             gate,
             Kind::Withdrawn,

@@ -96,13 +96,13 @@ impl<'a> MixSeat<'a> {
 
     // Where the word of a frame of the seat's lap and a channel is.
     #[inline(always)]
-    pub(crate) fn near_spot(&self, frame: u64, channel: u8) -> RingSpot<'a>
+    pub(crate) fn spot_in_lap(&self, frame: u64, channel: u8) -> RingSpot<'a>
         requires channel { channel < (geometry_of self.now).channels }
         requires in_lap { lap (geometry_of self.now) frame ≡ self.now.start.lap }
         ensures { IsRingSpot self.now frame channel result }
     {
         let geometry = self.key.geometry;
-        let spot = self.start.near_spot(&geometry, frame, channel);
+        let spot = self.start.spot_in_lap(&geometry, frame, channel);
         RingSpot {
             ring: self.ring,
             spot,

@@ -76,7 +76,7 @@ impl PlayerSeat<'_> {
         }
         let geometry = self.key.geometry;
         let Cursor { frame, channel } = self.next;
-        let spot = self.start.near_spot(&geometry, frame, channel);
+        let spot = self.start.spot_in_lap(&geometry, frame, channel);
         let empty = lap_word::pack(spot.lap as u32 + 1, 0, 0);
         let found = self.ring.swap::<Take>(&mut self.seat, spot.index, empty);
         let next = Cursor::behind(&geometry, frame, channel);

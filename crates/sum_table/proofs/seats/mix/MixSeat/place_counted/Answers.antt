@@ -21,13 +21,13 @@ turned_adds s p f c x is can channel from ahead fits = (
   subst (λ (k : Key). lap k.geometry f < 4294967295) (sym is.key) fits,
 )
 
-pub near_spot-ring_spot-requires-clause-channel : goal.near_spot-ring_spot-requires-clause-channel
-near_spot-ring_spot-requires-clause-channel g c =
+pub spot_in_lap-ring_spot-requires-clause-channel : goal.spot_in_lap-ring_spot-requires-clause-channel
+spot_in_lap-ring_spot-requires-clause-channel g c =
     let is : IsTurned c.args.self.now c.turn_to_frame.new.self c.args.frame = c.turn_to_frame.ensures.turned c.if-not-turn_to_frame.false in
     subst (λ (k : Key). c.args.channel < k.geometry.channels) (sym is.key) c.requires.channel
 
-pub near_spot-ring_spot-requires-clause-in_lap : goal.near_spot-ring_spot-requires-clause-in_lap
-near_spot-ring_spot-requires-clause-in_lap g c =
+pub spot_in_lap-ring_spot-requires-clause-in_lap : goal.spot_in_lap-ring_spot-requires-clause-in_lap
+spot_in_lap-ring_spot-requires-clause-in_lap g c =
     let is : IsTurned c.args.self.now c.turn_to_frame.new.self c.args.frame = c.turn_to_frame.ensures.turned c.if-not-turn_to_frame.false in
     ap (λ (k : Key). lap k.geometry c.args.frame) is.key ∙ is.in_lap
 
@@ -38,7 +38,7 @@ lay-ended-requires-clause-may g c =
     c.requires.can_add c.requires.channel c.requires.from_cursor c.requires.ahead (c.turn_to_frame.ensures.fits.0 went)
 
 pub lay-ended-requires-clause-spot : goal.lay-ended-requires-clause-spot
-lay-ended-requires-clause-spot g c = c.near_spot-ring_spot.ensures
+lay-ended-requires-clause-spot g c = c.spot_in_lap-ring_spot.ensures
 
 pub returns-clause-step : goal.returns-clause-step
 returns-clause-step g c =

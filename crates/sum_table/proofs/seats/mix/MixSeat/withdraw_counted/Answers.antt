@@ -17,8 +17,8 @@ unreachable-requires g c =
     let yes : c.turn_to_frame.result ≡ true = c.turn_to_frame.ensures.fits.1 fits in
     cc
 
-pub near_spot-ring_spot-requires : goal.near_spot-ring_spot-requires
-near_spot-ring_spot-requires g c =
+pub spot_in_lap-ring_spot-requires : goal.spot_in_lap-ring_spot-requires
+spot_in_lap-ring_spot-requires g c =
     let s : MixSeat = c.args.self.now in
     let p : MixSeat = c.turn_to_frame.new.self in
     let is : IsTurned s p c.args.frame = c.turn_to_frame.ensures.turned c.if-not-turn_to_frame.false in

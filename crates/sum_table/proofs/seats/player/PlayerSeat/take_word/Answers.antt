@@ -17,8 +17,8 @@ use Rattle.sum_table.proofs.Playing.{fits_next, has_taken, known_taken, may_take
 use Rattle.sum_table.proofs.Spots.{spot_within}
 use Rattle.sum_table.proofs.seats.player.PlayerSeat.take_word.Goals as goal
 
-pub near_spot-spot-requires : goal.near_spot-spot-requires
-near_spot-spot-requires c =
+pub spot_in_lap-spot-requires : goal.spot_in_lap-spot-requires
+spot_in_lap-spot-requires c =
     let p : PlayerSeat = c.args.self.now in
     let q : PlayerSeat = c.turn_to_next.new.self in
     let is : IsTurnedPlayer p q = c.turn_to_next.ensures.turned c.if-not-turn_to_next.false in
@@ -30,10 +30,10 @@ swap-found-requires c =
     let is : IsTurnedPlayer c.args.self.now p = c.turn_to_next.ensures.turned c.if-not-turn_to_next.false in
     let other : lap p.key.geometry p.next.frame ≢ 4294967295 = turned_fits c.args.self.now p is (c.turn_to_next.ensures.fits.0 c.if-not-turn_to_next.false) in
     let stands : StandsFor c.pack-empty.result (lap p.key.geometry p.next.frame + 1) 0 (pos 0) =
-    subst (λ l. StandsFor c.pack-empty.result (l + 1) 0 (pos 0)) c.near_spot-spot.ensures.lap_is c.pack-empty.ensures.stands in (
+    subst (λ l. StandsFor c.pack-empty.result (l + 1) 0 (pos 0)) c.spot_in_lap-spot.ensures.lap_is c.pack-empty.ensures.stands in (
       p.same_ring.0,
-      spot_within p.key.geometry p.next.frame p.next.channel _ c.near_spot-spot.ensures p.known.next_channel p.same_ring.3,
-      may_take p p.ring.now.table_id.slots c.near_spot-spot.result.index c.pack-empty.result other stands c.near_spot-spot.ensures.index_is,
+      spot_within p.key.geometry p.next.frame p.next.channel _ c.spot_in_lap-spot.ensures p.known.next_channel p.same_ring.3,
+      may_take p p.ring.now.table_id.slots c.spot_in_lap-spot.result.index c.pack-empty.result other stands c.spot_in_lap-spot.ensures.index_is,
     )
 
 pub invariant_of-self : goal.invariant_of-self
@@ -44,7 +44,7 @@ invariant_of-self c =
     record {
       same_ring = (c.swap-found.ensures.0 ∙ p.same_ring.0, p.same_ring.1, ap (λ (x : Me Entry View). x.1) c.swap-found.ensures.2.6 ∙ p.same_ring.2, p.same_ring.3);
       known = subst (λ (y : Cursor). IsPlayer c.swap-found.new.seat.me.0 p.key y p.position p.gone) (sym c.behind-next.ensures)
-          (known_taken p.key p.next p.position p.gone p.ring.now.table_id.slots c.near_spot-spot.result.index c.pack-empty.result c.swap-found.result p.seat.me c.swap-found.new.seat.me p.known (fits_next p other) c.swap-found.ensures.2);
+          (known_taken p.key p.next p.position p.gone p.ring.now.table_id.slots c.spot_in_lap-spot.result.index c.pack-empty.result c.swap-found.result p.seat.me c.swap-found.new.seat.me p.known (fits_next p other) c.swap-found.ensures.2);
       lap_start = p.lap_start;
     }
 
@@ -57,4 +57,4 @@ returns-clause-ok c =
     let value : to_z w16 (of_z w16 c.clamp.result) ≡ clamp_of (sum_of c.swap-found.result) =
     to_z-of_z w16 c.clamp.result clamp_fits ∙ (nearest ∙ ap clamp_of c.sum.ensures.sum) in
     turned_taken c.args.self.now p _ _ (c.turn_to_next.ensures.turned c.if-not-turn_to_next.false)
-    (has_taken p _ p.ring.now.table_id.slots c.near_spot-spot.result.index c.pack-empty.result c.swap-found.result (to_z w16 (of_z w16 c.clamp.result)) c.swap-found.ensures.0 refl c.behind-next.ensures refl refl value c.swap-found.ensures.2)
+    (has_taken p _ p.ring.now.table_id.slots c.spot_in_lap-spot.result.index c.pack-empty.result c.swap-found.result (to_z w16 (of_z w16 c.clamp.result)) c.swap-found.ensures.0 refl c.behind-next.ensures refl refl value c.swap-found.ensures.2)

@@ -1,8 +1,8 @@
 use Rattle.std.proofs.Common.{sym}
 use Rattle.sum_table.specs.declared.seats.mix.MixSeat.{MixSeat}
-use Rattle.sum_table.proofs.seats.mix.MixSeat.near_spot.Goals as goal
+use Rattle.sum_table.proofs.seats.mix.MixSeat.spot_in_lap.Goals as goal
 
 pub returns : goal.returns
 returns c =
     let s : MixSeat = c.args.self.now in
-    record { table = sym s.same_ring.0; key = sym s.same_ring.1; spot = c.near_spot-spot.ensures }
+    record { table = sym s.same_ring.0; key = sym s.same_ring.1; spot = c.spot_in_lap-spot.ensures }
