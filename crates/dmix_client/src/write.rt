@@ -201,7 +201,7 @@ fn write_prepared<P: MixPort, G: Gate>(
 }
 
 /// A number of frames of at most a buffer.
-fn few_frames(answer: Result<u64, PcmError>) -> Result<u32, PcmError>
+fn frames_answer(answer: Result<u64, PcmError>) -> Result<u32, PcmError>
     requires { IfOk answer (λ n. n ≤ 16384) }
     ensures { result ≡ answer }
 {
@@ -253,9 +253,9 @@ impl Client {
         let ring = self.ring.as_mut_slice();
         if self.stream.status.state == State::Running {
             let answer = write_running(&mut self.stream, ring, port, gate, samples, frames);
-            return few_frames(answer);
+            return frames_answer(answer);
         }
         let answer = write_prepared(&mut self.stream, ring, port, gate, samples, frames);
-        few_frames(answer)
+        frames_answer(answer)
     }
 }

@@ -139,7 +139,7 @@ fn read_admitted<P: SnoopPort, G: Gate>(
 }
 
 /// A number of frames that was asked for, at most 4,194,304.
-fn few_frames(answer: Result<u64, PcmError>) -> Result<u32, PcmError>
+fn frames_answer(answer: Result<u64, PcmError>) -> Result<u32, PcmError>
     requires { IfOk answer (λ n. n ≤ 4194304) }
     ensures { result ≡ answer }
 {
@@ -181,6 +181,6 @@ impl Reader {
             .admit(Direction::Capture, Call::Transfer)?;
         let frame = self.frame.as_mut_slice();
         let answer = read_admitted(&mut self.stream, frame, port, gate, out);
-        few_frames(answer)
+        frames_answer(answer)
     }
 }

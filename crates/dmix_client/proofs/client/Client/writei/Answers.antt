@@ -39,7 +39,7 @@ returns-then-eq g c =
     let runs : stream.status.state ≡ Running = same_true the_type (search rules) _ _ (sym c.if-eq.ensures) in
     let admitted = admitted-by stream call.Transfer c.admit.result c.admit.ensures.answer c.in_ok-admit.was in
     let back = take-written c.self.inside.ring.len c.write_running-answer.new.ring c.self.inside.ring.items (omega (arith, c.as_mut_slice-ring.ensures.len)) in
-    rw (← c.self.view_is, back, c.few_frames.ensures) (record {
+    rw (← c.self.view_is, back, c.frames_answer.ensures) (record {
       takes = rw (← c.as_mut_slice-ring.ensures.value) (admitted-takes g.P.MixPort g.G.Gate s t stream call.Transfer _
           (c.write_running-answer.new.stream, c.write_running-answer.result) admitted
           (write-running g.P.MixPort g.G.Gate s t stream _ c.args.samples.now _ c.whole_frames-frames.result
@@ -60,7 +60,7 @@ returns g c =
     let waits : stream.status.state ≡ Prepared = search rules in
     let admitted = admitted-by stream call.Transfer c.admit.result c.admit.ensures.answer c.in_ok-admit.was in
     let back = take-written c.self.inside.ring.len c.write_prepared-answer.new.ring c.self.inside.ring.items (omega (arith, c.as_mut_slice-ring.ensures.len)) in
-    rw (← c.self.view_is, back, c.few_frames-2.ensures) (record {
+    rw (← c.self.view_is, back, c.frames_answer-2.ensures) (record {
       takes = rw (← c.as_mut_slice-ring.ensures.value) (admitted-takes g.P.MixPort g.G.Gate s t stream call.Transfer _
           (c.write_prepared-answer.new.stream, c.write_prepared-answer.result) admitted
           (write-prepared g.P.MixPort g.G.Gate s t stream _ c.args.samples.now _ c.whole_frames-frames.result
@@ -98,11 +98,11 @@ pub write_prepared-answer-requires-clause-port : goal.write_prepared-answer-requ
 write_prepared-answer-requires-clause-port g c =
     usable-inside (client c.self.inside.stream c.self.inside.ring.items) c.args.self.now _ c.self.view_is c.requires.port
 
-pub few_frames-requires : goal.few_frames-requires
-few_frames-requires g c = c.write_running-answer.ensures.count
+pub frames_answer-requires : goal.frames_answer-requires
+frames_answer-requires g c = c.write_running-answer.ensures.count
 
-pub few_frames-requires-2 : goal.few_frames-requires-2
-few_frames-requires-2 g c = c.write_prepared-answer.ensures.count
+pub frames_answer-requires-2 : goal.frames_answer-requires-2
+frames_answer-requires-2 g c = c.write_prepared-answer.ensures.count
 
 pub invariant_of-self : goal.invariant_of-self
 invariant_of-self g c =

@@ -26,7 +26,7 @@ returns-in_err-admit g c =
     }
 
 pub returns : goal.returns
-returns g c = rw (← c.self.view_is, c.few_frames.ensures) c.read_admitted-answer.ensures.reads
+returns g c = rw (← c.self.view_is, c.frames_answer.ensures) c.read_admitted-answer.ensures.reads
 
 pub read_admitted-answer-requires-clause-sound : goal.read_admitted-answer-requires-clause-sound
 read_admitted-answer-requires-clause-sound g c = c.self.invariant.0
