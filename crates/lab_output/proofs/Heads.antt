@@ -9,7 +9,7 @@ use Rattle.lab_lines.specs.declared.script.Script.{Script}
 use Rattle.lab_lines.specs.Limits.{IsScript, IsCardLine, IsReaderLine}
 use Rattle.lab_output.specs.FileLaws.{IsOutputFile-played, IsOutputFile-recorded}
 use Rattle.lab_output.specs.Files.{IsOutputFile, output_files, recorded_file}
-use Rattle.lab_output.specs.Going.{IsFew}
+use Rattle.lab_output.specs.Going.{FitsWavFile}
 
 -- a head can hold the channels and rate of each reader's file
 recorded-heads : (card : CardLine) (out : List ℕ) (readers : List ReaderLine) → IsCardLine card
@@ -27,5 +27,5 @@ output_files-heads script out is =
     )
 
 -- no samples are few
-pub few-nothing : (counts : List ℕ) → All (λ (n : ℕ). n ≡ 0) counts → All IsFew counts
-few-nothing counts zeros k d within = subst IsFew (sym (zeros k d within)) (omega arith)
+pub few-nothing : (counts : List ℕ) → All (λ (n : ℕ). n ≡ 0) counts → All FitsWavFile counts
+few-nothing counts zeros k d within = subst FitsWavFile (sym (zeros k d within)) (omega arith)

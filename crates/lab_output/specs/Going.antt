@@ -60,8 +60,8 @@ HaveFiles files outputs =
     AllByRecursion (λ (output : OutputFile). HasFile files output.name) outputs
 
 -- so many samples fit into a WAV file
-abbrev pub IsFew : ℕ → Type 0
-IsFew samples = samples * 2 + 36 < 2 ^ 32
+abbrev pub FitsWavFile : ℕ → Type 0
+FitsWavFile samples = samples * 2 + 36 < 2 ^ 32
 
 -- while a run goes on: the shelf holds the files as they were before, but for the outputs, each of which has an open head and
 -- the samples so far, of which there are so many
@@ -106,7 +106,7 @@ pub record AreOutputs (outputs : Outputs) : Type 0 where
   pub files : All IsOutputFile outputs.files.items
   pub apart : AreApart outputs.files.items
   pub number : length outputs.samples.items ≡ length outputs.files.items
-  pub few : All IsFew outputs.samples.items
+  pub few : All FitsWavFile outputs.samples.items
 
 -- these are the outputs of a run of which nothing is written
 pub record AreNew (script : Script) (out : List ℕ) (outputs : Outputs) : Type 0 where

@@ -3,7 +3,7 @@ ghost use Rattle.std.specs.Prelude.{◌≡◌, ◌≢◌, All, Err, OnErr, OnOk,
 ghost use Rattle.std.specs.Option.{option_map};
 ghost use Rattle.lab_shelf.specs.Files.{IsPartFinished, with_change, with_first_bytes};
 ghost use Rattle.lab_output.specs.Files.{IsOutputFile, head_of};
-ghost use Rattle.lab_output.specs.Going.{ClosedInPart, HasFile, HasHeadRoom, HaveFiles, HaveHeadRoom, IsFew, closed_files};
+ghost use Rattle.lab_output.specs.Going.{ClosedInPart, HasFile, HasHeadRoom, HaveFiles, HaveHeadRoom, FitsWavFile, closed_files};
 ghost use Rattle.lab_stop.specs.Effects.{OnlyWrites};
 ghost use Rattle.lab_stop.specs.declared.stop.Stop.TheVariants as stops;
 
@@ -15,7 +15,7 @@ use wav_io::header;
 /// Puts the head of so many samples in the place of a file's first bytes.
 fn finish_file<S: Shelf>(shelf: &mut S, file: &OutputFile, samples: usize) -> Result<(), Stop>
     requires file { IsOutputFile file.now }
-    requires few { IsFew samples }
+    requires few { FitsWavFile samples }
     requires room { HasHeadRoom (S.files shelf.old) file.now.name }
     ensures closed { OnOk result (S.files shelf.new ≡ option_map
         (λ files. with_change (with_first_bytes (head_of file.now samples)) files file.now.name)
@@ -38,7 +38,7 @@ pub fn finish_files<S: Shelf>(
     samples: &[usize],
 ) -> Result<(), Stop>
     requires files { All IsOutputFile files.now }
-    requires few { All IsFew samples.now }
+    requires few { All FitsWavFile samples.now }
     requires number { length samples.now ≡ length files.now }
     requires room { HaveHeadRoom (S.files shelf.old) files.now }
     ensures closed { OnOk result

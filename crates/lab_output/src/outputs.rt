@@ -6,7 +6,7 @@ ghost use Rattle.lab_report.specs.Text.{IsRowOf, IsTailOf};
 ghost use Rattle.lab_shelf.specs.Changes.{Changes};
 ghost use Rattle.lab_shelf.specs.Files.{Files};
 ghost use Rattle.lab_output.specs.Files.{MayHold, nothing, finished_files};
-ghost use Rattle.lab_output.specs.Going.{AreLonger, AreNew, AreOutputs, IsFew, IsGoingOn, KeepSamples, SomeGoOn};
+ghost use Rattle.lab_output.specs.Going.{AreLonger, AreNew, AreOutputs, FitsWavFile, IsGoingOn, KeepSamples, SomeGoOn};
 ghost use Rattle.lab_output.specs.Text.{head_text, rows_text, tail_from};
 ghost use Rattle.lab_stop.specs.Effects.{OnlyWrites, PutsText};
 ghost use Rattle.lab_stop.specs.declared.stop.Stop.TheVariants as stops;
@@ -98,7 +98,7 @@ impl Outputs {
         requires outputs { AreOutputs self.old }
         requires number { number < length self.old.files.items }
         requires more { slice_index_or self.old.samples.items number 0 ≤ length samples.now }
-        requires few { IsFew (length samples.now) }
+        requires few { FitsWavFile (length samples.now) }
         ensures going_on { (before : Option Files) (sounds : List (List ℤ))
             → IsGoingOn self.old.files.items self.old.samples.items sounds
             before (S.files shelf.old)

@@ -21,7 +21,7 @@ use Rattle.lab_stop.specs.Effects.{CountsNoFault}
 use Rattle.lab_output.specs.declared.file.OutputFile.{OutputFile}
 use Rattle.lab_output.specs.declared.outputs.Outputs.{Outputs}
 use Rattle.lab_output.specs.Files.{MayHold}
-use Rattle.lab_output.specs.Going.{AreLonger, AreOutputs, IsFew, IsGoingOn, IsPartOf}
+use Rattle.lab_output.specs.Going.{AreLonger, AreOutputs, FitsWavFile, IsGoingOn, IsPartOf}
 use Rattle.lab_play.specs.Playing.{sounds_at}
 
 -- ---- the samples of one output
@@ -170,11 +170,11 @@ module _ (lab : Lab) (stage : Stage) (at : IsAtStage lab stage) where
       ∙ ap (λ (n : ℕ). get_or (sounds_at lab stage) n []) (sym next))
 
 -- all outputs fit into WAV files
-pub few-at : (sounds : List (List ℤ)) (number : ℕ) (samples : List ℤ) → All IsFew (map length sounds) → number < length sounds → samples ≡ slice_index_or sounds number []
-    → IsFew (length samples)
+pub few-at : (sounds : List (List ℤ)) (number : ℕ) (samples : List ℤ) → All FitsWavFile (map length sounds) → number < length sounds → samples ≡ slice_index_or sounds number []
+    → FitsWavFile (length samples)
 few-at sounds number samples few within is =
     let len = length-map sounds length in
-    subst (λ (s : List ℤ). IsFew (length s)) (sym is) (subst IsFew (count-at sounds number) (few number 0 (omega (arith, within, len))))
+    subst (λ (s : List ℤ). FitsWavFile (length s)) (sym is) (subst FitsWavFile (count-at sounds number) (few number 0 (omega (arith, within, len))))
 
 -- ---- an append, whatever the run began with
 

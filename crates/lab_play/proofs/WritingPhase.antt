@@ -16,7 +16,7 @@ use Rattle.run_laws.specs.Sizes.{HasSizes, StagesHaveSizes}
 use Rattle.lab_output.specs.declared.file.OutputFile.{OutputFile}
 use Rattle.lab_output.specs.declared.outputs.Outputs.{Outputs}
 use Rattle.lab_output.specs.Files.{IsOutputFile, AreApart, MayHold, output_files}
-use Rattle.lab_output.specs.Going.{AreLonger, AreOutputs, IsFew, IsGoingOn}
+use Rattle.lab_output.specs.Going.{AreLonger, AreOutputs, FitsWavFile, IsGoingOn}
 use Rattle.lab_output.specs.Laws.{text_so_far-next, text_so_far-part}
 use Rattle.lab_output.specs.Text.{rows_text, text_so_far}
 use Rattle.lab_shelf.specs.Changes.{Changes, TookPart-all}
@@ -29,12 +29,12 @@ use Rattle.lab_play.proofs.Writing.{count-at, longer-length, member}
 -- ---- what a lab holds is few enough
 
 -- lists of which each is short are few
-few-each : (sounds : List (List ℤ)) → ((k : ℕ) → k < length sounds → length (get_or sounds k []) ≤ 33554432) → All IsFew (map length sounds)
+few-each : (sounds : List (List ℤ)) → ((k : ℕ) → k < length sounds → length (get_or sounds k []) ≤ 33554432) → All FitsWavFile (map length sounds)
 few-each sounds each k d within =
     let inside : k < length sounds = omega (arith, within, length-map sounds length) in
     let short = each k inside in
-    let few : IsFew (length (get_or sounds k [])) = omega (arith, short) in
-    subst IsFew (sym (get_or_default (map length sounds) k d 0 within ∙ count-at sounds k)) few
+    let few : FitsWavFile (length (get_or sounds k [])) = omega (arith, short) in
+    subst FitsWavFile (sym (get_or_default (map length sounds) k d 0 within ∙ count-at sounds k)) few
 
 module _ (lab : Lab) (stage : Stage) (at : IsAtStage lab stage) (sizes_are : StagesHaveSizes) where
   sizes : HasSizes lab.script.now (outcome_of (session_of lab) (capture_of lab) stage)
@@ -152,7 +152,7 @@ same-outputs a b files samples are = record {
   files = subst (λ v. All IsOutputFile v.items) (sym files) are.files;
   apart = subst (λ v. AreApart v.items) (sym files) are.apart;
   number = ap (λ v. length v.items) samples ∙ (are.number ∙ sym (ap (λ v. length v.items) files));
-  few = subst (λ v. All IsFew v.items) (sym samples) are.few;
+  few = subst (λ v. All FitsWavFile v.items) (sym samples) are.few;
 }
 
 -- outputs that were appended to, and that go on as they are but for the count of rows

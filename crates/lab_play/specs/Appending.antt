@@ -4,7 +4,7 @@ use Rattle.lab_run.specs.Stage.{Stage}
 use Rattle.lab_phase.specs.declared.lab.Lab.{Lab}
 use Rattle.lab_phase.specs.AtStage.{IsAtStage}
 use Rattle.lab_output.specs.declared.outputs.Outputs.{Outputs}
-use Rattle.lab_output.specs.Going.{AreLonger, AreOutputs, IsFew, IsGoingOn}
+use Rattle.lab_output.specs.Going.{AreLonger, AreOutputs, FitsWavFile, IsGoingOn}
 use Rattle.lab_shelf.specs.Files.{Files}
 use Rattle.lab_play.specs.Playing.{sounds_at}
 
@@ -19,4 +19,4 @@ pub record CanAppend (lab : Lab) (outputs : Outputs) (files : Option Files) : Ty
   pub sounds : List (List ℤ)
   pub longer : AreLonger sounds (sounds_at lab stage)
   pub going_on : IsGoingOn outputs.files.items outputs.samples.items sounds before files
-  pub few : All IsFew (map length (sounds_at lab stage))
+  pub few : All FitsWavFile (map length (sounds_at lab stage))
