@@ -1,12 +1,8 @@
 //! Clients that come and go in threads of their own.
 
-use super::{lay_frames, new_ring};
-use lobby::Lobby;
-use mix_core::MixPort;
-use snd_base::PcmError;
+use super::*;
 use std::process::Abort;
 use std::thread::{Threads, for_each_mut, join_mut};
-use sum_table::{MixSeat, PlayerSeat};
 
 // A client that places 64 frames from frame 64 on, and whether it could.
 struct Client<'a> {
@@ -125,22 +121,21 @@ fn play_beside<R: Threads + Sync>(rt: &R, playing: &mut Playing<'_>, waiting: &m
 }
 
 // A client attaches, places in frames 64 to 127, and is gone: its place is silent from frame 128 on.
-fn come_and_go(rt: &impl Abort, lobby: &mut Lobby<'_>) -> Result<(), PcmError> {
-    let mut seat = lobby.attach()?;
-    assert!(rt; seat.member() == 0);
-    assert!(rt; lay_frames(&mut seat, 64, 64, 5));
-    assert!(rt; lobby.can_take_back(&seat));
-    assert!(rt; lobby.detach(seat) == 128);
+fn come_and_go(rt: &impl Abort, hall: &mut Hall<'_>) -> Result<(), Fail> {
+    assert!(rt; hall.attach()? == Ok(0));
+    hall.lay(64, 64, 5)?;
+    assert!(rt; hall.detach()? == 128);
+    assert!(rt; hall.out.is_empty());
     Ok(())
 }
 
 // While the card plays, a lobby in another thread hands no seat out before its last frame is played.
 #[test]
-fn a_lobby_attaches_while_the_card_plays(rt: HostRuntime) -> Result<(), PcmError> {
+fn a_lobby_attaches_while_the_card_plays(rt: HostRuntime) -> Result<(), Fail> {
     let mut ring = new_ring(rt.alloc(), 1)?;
-    let (player, mix) = ring.seats();
-    let mut lobby = Lobby::new(rt.alloc(), mix)?;
-    come_and_go(&rt, &mut lobby)?;
+    let mut hall = open_hall(rt.alloc(), &mut ring)?;
+    come_and_go(&rt, &mut hall)?;
+    let (player, lobby) = hall.into_parts();
     let mut playing = Playing { player };
     let mut waiting = Waiting { lobby, seen: 0 };
     play_beside(&rt, &mut playing, &mut waiting);
