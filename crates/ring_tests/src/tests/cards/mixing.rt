@@ -1,8 +1,8 @@
 //! Random events at a sum ring between threads and at a core: both give the same answers.
-ghost use Rattle.std.specs.Prelude.{[], ◌∷◌, Ok, IfSome};
+ghost use Rattle.std.specs.Prelude.{[], ◌∷◌, Ok, IfOk};
 ghost use Rattle.mix_core.specs.Laid.{an_add};
 ghost use Rattle.mix_core.specs.Port.{OnWhole, ended_of};
-ghost use Rattle.sum_table.specs.Seats.{SeatEndsIn, SeatLaid, member_of};
+ghost use Rattle.sum_table.specs.Seats.{SeatLaid, member_of};
 
 use super::dice::Dice;
 use super::{LAST_LAPS, MONO, STEREO, WIDE};
@@ -45,26 +45,41 @@ impl Add {
     }
 }
 
-/// Places a sample where the seat may, as seen at run time, and does nothing elsewhere.
-fn try_place(seat: &mut MixSeat<'_>, add: Add) -> Option<Placed>
-    ensures { IfSome result (λ placed. OnWhole (ended_of (Ok placed))
-        (SeatLaid seat.old seat.new
-        (an_add (member_of seat.old) add.frame add.channel add.sample ∷ []))) }
-{
-    if !can_place(seat, add.frame, add.channel) {
-        return None;
-    }
-    seat.place(&mut NeverStops, add.frame, add.channel, add.sample)
-        .ok()
+/// Whether a seat may place a sample, as seen at run time.
+fn may_place(seat: &MixSeat<'_>, add: Add) -> bool {
+    can_place(seat, add.frame, add.channel) && seat.geometry().lap(add.frame) < 4294967295
 }
 
-/// A core's reply to an add or withdrawal that ended so, or that wasn't tried.
-fn reply_of(placed: Option<Placed>) -> Reply {
-    match placed {
-        Some(Placed::In) => Reply::In,
-        Some(Placed::Late { .. }) => Reply::Late,
-        None => Reply::Outside,
+/// Places a sample where the seat may.
+fn try_place(
+    seat: &mut MixSeat<'_>,
+    frame: u64,
+    channel: u8,
+    sample: i16,
+) -> Result<Placed, PcmError>
+    ensures { IfOk result (λ placed. OnWhole (ended_of (Ok placed))
+        (SeatLaid seat.old seat.new (an_add (member_of seat.old) frame channel sample ∷ []))) }
+{
+    if !can_place(seat, frame, channel) || seat.geometry().lap(frame) >= 4294967295 {
+        return Err(PcmError::BadState);
     }
+    Ok(seat.place(&mut NeverStops, frame, channel, sample)?)
+}
+
+/// A core's reply to an add or withdrawal that ended so.
+fn reply_of(placed: Placed) -> Reply {
+    match placed {
+        Placed::In => Reply::In,
+        Placed::Late { .. } => Reply::Late,
+    }
+}
+
+fn place(seat: &mut MixSeat<'_>, add: Add) -> Result<Reply, PcmError> {
+    if !may_place(seat, add) {
+        return Ok(Reply::Outside);
+    }
+    let placed = try_place(seat, add.frame, add.channel, add.sample)?;
+    Ok(reply_of(placed))
 }
 
 fn take(player: &mut PlayerSeat<'_>) -> Reply {
@@ -78,28 +93,25 @@ fn take(player: &mut PlayerSeat<'_>) -> Reply {
     }
 }
 
-/// Withdraws the sample that the seat added last, where its floor is not past it.
-fn withdraw_last(seat: &mut MixSeat<'_>, add: Add) -> Reply
-    requires { SeatEndsIn seat.old
-        (an_add (member_of seat.old) add.frame add.channel add.sample ∷ []) }
-{
-    if add.frame < seat.floor().first_free(add.channel) {
-        return Reply::Outside;
-    }
-    let withdrawn = seat.withdraw(&mut NeverStops, add.frame, add.channel, add.sample);
-    reply_of(withdrawn.ok())
-}
-
 /// Places a sample, and withdraws it after two words were taken. The replies are those to the add, the takes and the withdrawal.
-fn place_and_withdraw(seat: &mut MixSeat<'_>, player: &mut PlayerSeat<'_>, add: Add) -> [Reply; 4] {
-    let Some(placed) = try_place(seat, add) else {
-        return [Reply::Outside, take(player), take(player), Reply::Outside];
-    };
+fn place_and_withdraw(
+    seat: &mut MixSeat<'_>,
+    player: &mut PlayerSeat<'_>,
+    add: Add,
+) -> Result<[Reply; 4], PcmError> {
+    if !may_place(seat, add) {
+        return Ok([Reply::Outside, take(player), take(player), Reply::Outside]);
+    }
+    let placed = try_place(seat, add.frame, add.channel, add.sample)?;
     let (first, second) = (take(player), take(player));
     let Placed::In = placed else {
-        return [Reply::Late, first, second, Reply::Outside];
+        return Ok([Reply::Late, first, second, Reply::Outside]);
     };
-    [Reply::In, first, second, withdraw_last(seat, add)]
+    if add.frame < seat.floor().first_free(add.channel) {
+        return Ok([Reply::In, first, second, Reply::Outside]);
+    }
+    let withdrawn = seat.withdraw(&mut NeverStops, add.frame, add.channel, add.sample)?;
+    Ok([Reply::In, first, second, reply_of(withdrawn)])
 }
 
 /// The first word that a member may add to: from its cursor on, and from the position on.
@@ -192,14 +204,14 @@ impl Drop for Seats<'_> {
 }
 
 impl Seats<'_> {
-    fn add(&mut self, add: Add) -> Reply {
+    fn add(&mut self, add: Add) -> Result<Reply, PcmError> {
         match add.member {
-            0 => reply_of(try_place(&mut self.first, add)),
-            _ => reply_of(try_place(&mut self.second, add)),
+            0 => place(&mut self.first, add),
+            _ => place(&mut self.second, add),
         }
     }
 
-    fn add_and_withdraw(&mut self, add: Add) -> [Reply; 4] {
+    fn add_and_withdraw(&mut self, add: Add) -> Result<[Reply; 4], PcmError> {
         match add.member {
             0 => place_and_withdraw(&mut self.first, &mut self.player, add),
             _ => place_and_withdraw(&mut self.second, &mut self.player, add),
@@ -228,6 +240,38 @@ fn is_same(alloc: Global, core: &mut Core, events: &[Event], replies: &[Reply]) 
     }
 }
 
+/// Lets an add happen at the seats of a ring and at a core, and says whether their replies are the same: not where the ring's is
+/// an error.
+fn compare_add(
+    alloc: Global,
+    core: &mut Core,
+    seats: &mut Seats<'_>,
+    add: Add,
+    counts: &mut Counts,
+) -> bool {
+    let Ok(reply) = seats.add(add) else {
+        return false;
+    };
+    counts.count(reply);
+    is_same(alloc, core, &[add.event()], &[reply])
+}
+
+/// The same of an add, two takes and the withdrawal, of which the last reply is counted.
+fn compare_withdrawal(
+    alloc: Global,
+    core: &mut Core,
+    seats: &mut Seats<'_>,
+    add: Add,
+    counts: &mut Counts,
+) -> bool {
+    let Ok(replies) = seats.add_and_withdraw(add) else {
+        return false;
+    };
+    counts.count(replies[3]);
+    let events = [add.event(), Event::Take, Event::Take, add.withdrawal()];
+    is_same(alloc, core, &events, &replies)
+}
+
 /// Lets a random event, or an add with its withdrawal, happen at the seats of a ring and at a core of its geometry, and says
 /// whether their answers are the same.
 fn compare_next(
@@ -241,17 +285,8 @@ fn compare_next(
         return false;
     };
     match dice.below(16) {
-        0..=5 => {
-            let reply = seats.add(add);
-            tally.adds.count(reply);
-            is_same(alloc, core, &[add.event()], &[reply])
-        }
-        6..=8 => {
-            let replies = seats.add_and_withdraw(add);
-            tally.withdrawals.count(replies[3]);
-            let events = [add.event(), Event::Take, Event::Take, add.withdrawal()];
-            is_same(alloc, core, &events, &replies)
-        }
+        0..=5 => compare_add(alloc, core, seats, add, &mut tally.adds),
+        6..=8 => compare_withdrawal(alloc, core, seats, add, &mut tally.withdrawals),
         9..=14 => is_same(alloc, core, &[Event::Take], &[take(&mut seats.player)]),
         _ => is_same(alloc, core, &[Event::Publish], &[seats.publish()]),
     }
