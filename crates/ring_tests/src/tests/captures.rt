@@ -36,10 +36,14 @@ pub(super) fn try_store(
     Some(writer.store_frame(frame))
 }
 
-// Loads a frame where a port may, as seen at run time, and gives nothing elsewhere.
-pub(super) fn try_load<P: SnoopPort>(port: &mut P, frame: u64, out: &mut [i16]) -> Option<Loaded> {
+// Loads a frame where a port may, as seen at run time, and does nothing elsewhere.
+pub(super) fn try_load<P: SnoopPort>(
+    port: &mut P,
+    frame: u64,
+    out: &mut [i16],
+) -> Option<Result<Loaded, PcmError>> {
     if !can_load(port, frame, out) {
         return None;
     }
-    port.load_frame(&mut NeverStops, frame, out).ok()
+    Some(port.load_frame(&mut NeverStops, frame, out))
 }

@@ -82,7 +82,7 @@ impl Drop for Reading<'_> {
 impl Reading<'_> {
     // Loads the next frame. Where it was overtaken, the reader goes on with the newest one.
     fn load_next(&mut self) {
-        if try_load(&mut self.seat, self.next, &mut self.out) != Some(Loaded::Got) {
+        if try_load(&mut self.seat, self.next, &mut self.out) != Some(Ok(Loaded::Got)) {
             self.next = self.seat.seen();
             return;
         }

@@ -16,11 +16,15 @@ const EVENTS: usize = 3000;
 type Given = Option<(Loaded, [i16; 8])>;
 
 /// Loads a frame where the port may, as seen at run time, and gives nothing elsewhere.
-fn load<P: SnoopPort>(port: &mut P, frame: u64) -> Given {
+fn load<P: SnoopPort>(port: &mut P, frame: u64) -> Result<Given, PcmError> {
     let geometry = port.geometry();
     let mut out = [0; 8];
-    let loaded = try_load(port, frame, &mut out[..geometry.channels as usize])?;
-    Some((loaded, out))
+    let loaded = try_load(port, frame, &mut out[..geometry.channels as usize]);
+    match loaded {
+        Some(Ok(loaded)) => Ok(Some((loaded, out))),
+        Some(Err(e)) => Err(e),
+        None => Ok(None),
+    }
 }
 
 /// Stores a frame in a core, of as many samples as it has channels, as seen at run time, and does nothing with another one.
@@ -87,7 +91,8 @@ fn publish_both(
     reader.position(&mut NeverStops) == Ok(core.position())
 }
 
-/// Loads a random frame of the last two laps or the next frame from both, and says whether they gave the same.
+/// Loads a random frame of the last two laps or the next frame from both, and says whether they gave the same: not where a load
+/// ends with an error.
 fn load_both(
     dice: &mut Dice,
     core: &mut SnoopCore,
@@ -97,8 +102,11 @@ fn load_both(
     let back = dice.below(2 * core.geometry().frames as u64);
     let frame = core.position().frame.saturating_sub(back).saturating_add(1);
     let given = load(&mut core.turn(), frame);
+    let Ok(given) = given else {
+        return false;
+    };
     counts.count(given);
-    load(reader, frame) == given
+    load(reader, frame) == Ok(given)
 }
 
 /// Lets a random event happen at a core and at the seats of a ring of its geometry, and says whether their answers are the same.
