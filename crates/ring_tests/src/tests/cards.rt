@@ -79,6 +79,14 @@ impl Drop for Outside<'_> {
     }
 }
 
+impl Outside<'_> {
+    fn positions(&mut self) -> Result<(u64, u64), PcmError> {
+        let played = self.mix.position(&mut NeverStops)?.frame;
+        let captured = self.reader.position(&mut NeverStops)?.frame;
+        Ok((played, captured))
+    }
+}
+
 impl Watch for Outside<'_> {
     ghost use Rattle.std.specs.Prelude.{⊤};
 
@@ -87,9 +95,9 @@ impl Watch for Outside<'_> {
     ghost saw_composes = { record { none = λ _. tt; joined = λ _ _ _ _ _ _ _. tt } };
 
     fn see(&mut self, player: &CardPlayer<'_>, writer: &WriterSeat<'_>) {
-        let _ = self.mix.position(&mut NeverStops);
-        let _ = self.reader.position(&mut NeverStops);
-        let (played, captured) = (self.mix.seen(), self.reader.seen());
+        let Ok((played, captured)) = self.positions() else {
+            return;
+        };
         if self.count < 10 {
             self.rows[self.count] = [writer.next(), player.next().frame, played, captured];
             self.count += 1;

@@ -4,7 +4,7 @@ ghost use Rattle.sum_table.specs.Rings.{GaveNone};
 
 use super::sums::try_place;
 use card_player::CardPlayer;
-use mix_core::{MixPort, NeverStops, Placed};
+use mix_core::{MixPort, NeverStops, Placed, Position};
 use snd_base::{Geometry, PcmError};
 use std::alloc::Global;
 use std::process::Abort;
@@ -49,8 +49,11 @@ fn play_to(rt: &impl Abort, player: &mut CardPlayer<'_>, mix: &mut MixSeat<'_>, 
     let mut out = [1i16; 100];
     assert!(rt; play(player, &mut out) == Some(Err(PcmError::LapEnd)));
     assert!(rt; [out[0], out[62], out[63], out[64]] == [0, 0, 3, 1]);
-    let _ = mix.position(&mut NeverStops);
-    assert!(rt; mix.seen() == end);
+    let position = Position {
+        frame: end,
+        gone: false,
+    };
+    assert!(rt; mix.position(&mut NeverStops) == Ok(position));
     assert!(rt; take_frame(player, &mut out) == Some(Err(PcmError::LapEnd)));
     assert!(rt; out[0] == 0);
 }
