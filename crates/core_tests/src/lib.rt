@@ -1,4 +1,5 @@
-//! Calls of the libraries that no program makes, each once, with values worked out by hand or by ALSA's header files.
+//! Calls of the libraries with values worked out by hand or by ALSA's header files: those that no program makes, each once, and those
+//! of the rings' words.
 #![tactic(auto)]
 
 #[cfg(test)]

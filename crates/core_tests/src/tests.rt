@@ -2,6 +2,7 @@
 
 mod callers;
 mod refusals;
+mod words;
 
 use asound_conf::{ConfText, Group, Node, read_conf};
 use hw_space::Config;

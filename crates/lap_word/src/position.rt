@@ -26,23 +26,3 @@ pub fn gone_of(word: u64) -> bool
 {
     word >= GONE
 }
-
-#[cfg(test)]
-mod tests {
-    use super::*;
-
-    #[test]
-    fn a_position_word_has_the_position_and_the_gone_bit(rt: HostRuntime) {
-        for (position, gone, word) in [
-            (0, false, 0),
-            (192, false, 192),
-            (0, true, 9223372036854775808),
-            (1099511627264, true, 9223373136366403072),
-            (9223372036854775807, true, 18446744073709551615),
-        ] {
-            assert_eq!(rt; position_word(position, gone), word);
-            assert_eq!(rt; position_of(word), position);
-            assert_eq!(rt; gone_of(word), gone);
-        }
-    }
-}

@@ -18,21 +18,3 @@ pub fn clamp(sum: i32) -> i16
         sum as i16
     }
 }
-
-#[cfg(test)]
-mod tests {
-    use super::*;
-
-    #[test]
-    fn cuts_only_what_passes_the_range(rt: HostRuntime) {
-        for (sum, sample) in [
-            (40000, 32767),
-            (32767, 32767),
-            (20000, 20000),
-            (-32768, -32768),
-            (-2097152, -32768),
-        ] {
-            assert_eq!(rt; clamp(sum), sample, "at {sum}");
-        }
-    }
-}
