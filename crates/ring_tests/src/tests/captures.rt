@@ -1,6 +1,7 @@
 //! Seats of one ring.
 ghost use Rattle.std.specs.Prelude.{◌≤◌, IfOk};
 ghost use Rattle.snoop_table.specs.Rings.{GaveNone};
+ghost use Rattle.snoop_table.specs.Writers.{SameWriter};
 
 mod threads;
 
@@ -29,7 +30,9 @@ fn new_ring(alloc: Global, channels: u8, first_lap: u32) -> Result<SnoopRing, Pc
 pub(super) fn try_store(
     writer: &mut WriterSeat<'_>,
     frame: &[i16],
-) -> Option<Result<(), PcmError>> {
+) -> Option<Result<(), PcmError>>
+    ensures { SameWriter writer.old writer.new }
+{
     if frame.len() != writer.geometry().channels as usize {
         return None;
     }
