@@ -11,11 +11,6 @@ const LAP_UNIT: u64 = 4294967296;
 /// What is added to a sum, so that no word holds a negative number: 2 to the power 23.
 const SUM_OFFSET: i64 = 8388608;
 
-/// The least and the greatest sum that a word represents.
-const SUM_LOW: i32 = -8388608;
-
-const SUM_HIGH: i32 = 8388607;
-
 /// The word of a lap, of the `count` of samples that were added or withdrawn in that lap, and of the
 /// `sum` that is left, which lies from -8388608 to 8388607.
 pub fn pack(lap: u32, count: u8, sum: i32) -> u64
