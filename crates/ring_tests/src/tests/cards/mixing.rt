@@ -50,7 +50,7 @@ fn may_place(seat: &MixSeat<'_>, add: Add) -> bool {
     can_place(seat, add.frame, add.channel) && seat.geometry().lap(add.frame) < 4294967295
 }
 
-/// Places a sample where the seat may.
+/// Places a sample where the seat may, as seen at run time, and refuses elsewhere, with `BadState`.
 fn try_place(
     seat: &mut MixSeat<'_>,
     frame: u64,
@@ -63,7 +63,8 @@ fn try_place(
     if !can_place(seat, frame, channel) || seat.geometry().lap(frame) >= 4294967295 {
         return Err(PcmError::BadState);
     }
-    Ok(seat.place(&mut NeverStops, frame, channel, sample)?)
+    let placed = seat.place(&mut NeverStops, frame, channel, sample)?;
+    Ok(placed)
 }
 
 /// A core's reply to an add or withdrawal that ended so.
