@@ -5,7 +5,9 @@ fn three_samples_make_one_word(rt: HostRuntime) {
     let empty = lap_word::pack(0, 0, 0);
     assert!(rt; empty == 8388608);
     let first = lap_word::add(empty, 30000);
+    assert!(rt; first == 25195824);
     let second = lap_word::add(first, 10000);
+    assert!(rt; second == 41983040);
     let word = lap_word::add(second, -20000);
     assert!(rt; word == 58740256);
     assert!(rt; lap_word::lap(word) == 0);
@@ -18,7 +20,9 @@ fn three_samples_make_one_word(rt: HostRuntime) {
 
 #[test]
 fn a_withdrawn_sample_counts_twice(rt: HostRuntime) {
-    let word = lap_word::withdraw(lap_word::add(lap_word::pack(0, 0, 0), 5), 5);
+    let added = lap_word::add(lap_word::pack(0, 0, 0), 5);
+    assert!(rt; added == 25165829);
+    let word = lap_word::withdraw(added, 5);
     assert!(rt; word == 41943040);
     assert!(rt; lap_word::count(word) == 2);
     assert!(rt; lap_word::sum(word) == 0);
