@@ -27,10 +27,7 @@ fn new_ring(alloc: Global, channels: u8, first_lap: u32) -> Result<SnoopRing, Pc
 }
 
 // Stores a frame of as many channels as the ring has, as seen at run time, and does nothing with another one.
-pub(super) fn try_store(
-    writer: &mut WriterSeat<'_>,
-    frame: &[i16],
-) -> Option<Result<(), PcmError>>
+pub(super) fn try_store(writer: &mut WriterSeat<'_>, frame: &[i16]) -> Option<Result<(), PcmError>>
     ensures { SameWriter writer.old writer.new }
 {
     if frame.len() != writer.geometry().channels as usize {
