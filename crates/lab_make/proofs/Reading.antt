@@ -100,6 +100,20 @@ with_words-client k h =
     ap (λ c. c >>= (λ client. Ok (record s { clients = s.clients ++ client ∷ [] }))) client
     ∙ ap (λ cs. Ok (record s { clients = cs })) (sym (map-range_with_len_more made_client 0 k k (zero-add k)))
 
+-- a line before a limit, and those after it
+before-limit : (k j limit : ℕ) → k + suc j ≤ limit → k < limit
+before-limit k j limit h = omega arith
+
+later-limit : (k j limit : ℕ) → k + suc j ≤ limit → k + 1 + j ≤ limit
+later-limit k j limit h = omega arith
+
+-- one line more
+add-suc_one : (k j : ℕ) → k + 1 + j ≡ k + suc j
+add-suc_one k j = omega arith
+
+add-add_one : (k j : ℕ) → k + j + 1 ≡ k + (j + 1)
+add-add_one k j = omega arith
+
 -- lines that are taken one after the other
 after-each : (state : ℕ → State) (line : ℕ → ℕ) (words : ℕ → List (List ℕ)) (limit : ℕ) (tail : List (List (List ℕ))) → ((k : ℕ) → line k + 1 ≡ line (k + 1))
     → ((k : ℕ) → k < limit → with_words (state k) (line k) (words k) ≡ Ok (state (k + 1))) → (j k m : ℕ) → m ≡ line k → k + j ≤ limit
@@ -108,14 +122,13 @@ after-each state line words limit tail following taken zero k m at within =
     ap (λ n. after (state n) (enumerate_from m tail)) (sym (add-zero k)) ∙ ap (λ n. after (state (k + 0)) (enumerate_from n tail)) (sym (add-zero m))
 after-each state line words limit tail following taken (suc j) k m at within =
     let rest = map words (range_with_len (k + 1) j) ++ tail in
-    let here : with_words (state k) m (words k) ≡ Ok (state (k + 1)) = ap (λ n. with_words (state k) n (words k)) at ∙ taken k (omega arith) in
-    let next = after-each state line words limit tail following taken j (k + 1) (m + 1) (ap (λ n. n + 1) at ∙ following k) (omega arith) in
-    let states : k + 1 + j ≡ k + suc j = omega arith in
-    let lines : m + 1 + j ≡ m + suc j = omega arith in
+    let here : with_words (state k) m (words k) ≡ Ok (state (k + 1)) = ap (λ n. with_words (state k) n (words k)) at ∙ taken k (before-limit k j limit within) in
+    let following_line : m + 1 ≡ line (k + 1) = ap (λ n. n + 1) at ∙ following k in
+    let next = after-each state line words limit tail following taken j (k + 1) (m + 1) following_line (later-limit k j limit within) in
     after-step (state k) (state (k + 1)) m (words k) (enumerate_from (m + 1) rest) here
     ∙ next
-    ∙ ap (λ n. after (state n) (enumerate_from (m + 1 + j) tail)) states
-    ∙ ap (λ n. after (state (k + suc j)) (enumerate_from n tail)) lines
+    ∙ ap (λ n. after (state n) (enumerate_from (m + 1 + j) tail)) (add-suc_one k j)
+    ∙ ap (λ n. after (state (k + suc j)) (enumerate_from n tail)) (add-suc_one m j)
 
 -- the lines of clients
 pub after-clients : (j k m : ℕ) (tail : List (List (List ℕ))) → m ≡ k + 2 → k + j ≤ 64
@@ -140,7 +153,7 @@ pub after-opens : (clients j k m : ℕ) (tail : List (List (List ℕ))) → m �
     → after (outside_of clients (openings clients k) 0) (enumerate_from m (map open_words (range_with_len k j) ++ tail))
     ≡ after (outside_of clients (openings clients (k + j)) 0) (enumerate_from (m + j) tail)
 after-opens clients j k m tail at few within =
-    after-each (λ n. outside_of clients (openings clients n) 0) (λ n. clients + 2 + n) open_words clients tail (λ n. omega arith) (λ n l. with_words-open clients n few l) j k m at within
+    after-each (λ n. outside_of clients (openings clients n) 0) (λ n. clients + 2 + n) open_words clients tail (add-add_one (clients + 2)) (λ n l. with_words-open clients n few l) j k m at within
 
 -- the lines of the first clients that write in a turn
 abbrev pub written : ℕ → ℕ → ℕ → List Line
@@ -197,7 +210,7 @@ pub after-writes : (clients turn : ℕ) (body : List Item) (phases played j k m 
     ≡ after (inside_of clients body (turn_line clients turn) (written clients turn (k + j)) phases played) (enumerate_from (m + j) tail)
 after-writes clients turn body phases played j k m tail at few within short =
     after-each (λ n. inside_of clients body (turn_line clients turn) (written clients turn n) phases played) (λ n. turn_line clients turn + 1 + n) (write_words turn)
-    clients tail (λ n. omega arith) (λ n l. with_words-write clients turn n body phases played few l short) j k m at within
+    clients tail (add-add_one (turn_line clients turn + 1)) (λ n l. with_words-write clients turn n body phases played few l short) j k m at within
 
 -- a phase begins
 pub with_words-phase : (clients : ℕ) (body : List Item) (phases played n : ℕ) (s : State) → s ≡ record (inside_of clients body 0 [] phases played) { phase = None } → phases < 4096
