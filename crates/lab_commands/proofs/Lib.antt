@@ -3,5 +3,5 @@ mod Ends
 mod Leaving
 mod Only
 mod Texts
-mod Making
+mod MadeParts
 mod Unmixed

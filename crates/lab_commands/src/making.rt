@@ -73,7 +73,7 @@ pub fn make_workload<R: Threads + Sync, S: Shelf, K: Sink, G: Gate + Send>(
         made.input.wavs.as_slice(),
         made.text.as_slice(),
     )?;
-    let run = run_input(rt, alloc, &made.input, shelf, gates)?;
-    store(shelf, b"made.report", run.report.as_slice())?;
-    put_summary(alloc, workload, &run.outcome, out)
+    let finished_run = run_input(rt, alloc, &made.input, shelf, gates)?;
+    store(shelf, b"made.report", finished_run.report.as_slice())?;
+    put_summary(alloc, workload, &finished_run.outcome, out)
 }

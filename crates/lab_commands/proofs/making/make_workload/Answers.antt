@@ -14,7 +14,7 @@ use Rattle.lab_shelf.specs.Files.{Files, IsPartWritten, with_file}
 use Rattle.lab_stop.specs.FaultLaws.{OutputFaults-after, OutputFaults-kept, OutputFaults-memory, OutputFaults-puts, OutputFaults-writes}
 use Rattle.lab_commands.specs.Made.{report_name}
 use Rattle.lab_make.specs.Stored.{IsReadBack}
-use Rattle.lab_commands.proofs.Making.{IsMade-all, IsMadePart-before, IsMadePart-report, IsMadePart-run, IsMadePart-summary}
+use Rattle.lab_commands.proofs.MadeParts.{IsMade-all, IsMadePart-before, IsMadePart-report, IsMadePart-run, IsMadePart-summary}
 use Rattle.lab_commands.proofs.making.make_workload.Goals as goal
 
 pub returns-in_err-store_input-clause-part : goal.returns-in_err-store_input-clause-part
@@ -27,16 +27,16 @@ returns-in_err-store_input-clause-part g c =
     (c.as_slice.ensures.value ∙ ap (λ (i : RunInput). i.sounds) c.in_ok-made.ensures.input) (c.as_slice-2.ensures.value ∙ c.in_ok-made.ensures.text)
     c.in_err-store_input.ensures.part))
 
-pub returns-in_err-run-clause-part : goal.returns-in_err-run-clause-part
-returns-in_err-run-clause-part g c =
+pub returns-in_err-finished_run-clause-part : goal.returns-in_err-finished_run-clause-part
+returns-in_err-finished_run-clause-part g c =
     let w : Workload = c.args.workload.now in
     let stops : Stops = rises (stops_by g.G.Gate.stops c.args.gates.now) (stops_by g.G.Gate.stops c.run_input.new.gates) in
-    let p = err_from_is_err_and c.from_residual-in_err-run.result c.from_residual-in_err-run.ensures.1 in
+    let p = err_from_is_err_and c.from_residual-in_err-finished_run.result c.from_residual-in_err-finished_run.ensures.1 in
     rw p.1
     (inr (IsMadePart-run w stops (input_of c.in_ok-made.made.input) c.as_slice.result.now c.as_slice-2.result.now (g.S.Shelf.files c.args.shelf.now) (g.S.Shelf.files c.store_input.new.shelf)
     (g.K.Sink.taken c.args.out.now) c.in_ok-made.ensures.input
     (c.as_slice.ensures.value ∙ ap (λ (i : RunInput). i.sounds) c.in_ok-made.ensures.input) (c.as_slice-2.ensures.value ∙ c.in_ok-made.ensures.text)
-    c.in_ok-store_input.ensures.stored (g.S.Shelf.files c.run_input.new.shelf) c.in_err-run.ensures.part))
+    c.in_ok-store_input.ensures.stored (g.S.Shelf.files c.run_input.new.shelf) c.in_err-finished_run.ensures.part))
 
 pub returns-in_err-store-clause-part : goal.returns-in_err-store-clause-part
 returns-in_err-store-clause-part g c =
@@ -49,7 +49,7 @@ returns-in_err-store-clause-part g c =
     (inr (IsMadePart-report w stops (input_of c.in_ok-made.made.input) c.as_slice.result.now c.as_slice-2.result.now (g.S.Shelf.files c.args.shelf.now) (g.S.Shelf.files c.store_input.new.shelf)
     (g.K.Sink.taken c.args.out.now) c.in_ok-made.ensures.input
     (c.as_slice.ensures.value ∙ ap (λ (i : RunInput). i.sounds) c.in_ok-made.ensures.input) (c.as_slice-2.ensures.value ∙ c.in_ok-made.ensures.text)
-    c.in_ok-store_input.ensures.stored g.G.Gate.asked c.args.gates.now c.run_input.new.gates ran (outcome_in c.in_ok-run.run'.outcome) c.in_ok-run.run'.report.items c.in_ok-run.ensures.done after
+    c.in_ok-store_input.ensures.stored g.G.Gate.asked c.args.gates.now c.run_input.new.gates ran (outcome_in c.in_ok-finished_run.finished_run.outcome) c.in_ok-finished_run.finished_run.report.items c.in_ok-finished_run.ensures.done after
     (subst (λ (bytes : List ℕ). IsPartWritten ran after report_name bytes) c.as_slice-3.ensures.value c.in_err-store.ensures.part)))
 
 pub returns-clause-part : goal.returns-clause-part
@@ -62,7 +62,7 @@ returns-clause-part g c =
     (λ part. inr (IsMadePart-summary w stops (input_of c.in_ok-made.made.input) c.as_slice.result.now c.as_slice-2.result.now (g.S.Shelf.files c.args.shelf.now) (g.S.Shelf.files c.store_input.new.shelf)
     (g.K.Sink.taken c.args.out.now) c.in_ok-made.ensures.input
     (c.as_slice.ensures.value ∙ ap (λ (i : RunInput). i.sounds) c.in_ok-made.ensures.input) (c.as_slice-2.ensures.value ∙ c.in_ok-made.ensures.text)
-    c.in_ok-store_input.ensures.stored g.G.Gate.asked c.args.gates.now c.run_input.new.gates ran (outcome_in c.in_ok-run.run'.outcome) c.in_ok-run.run'.report.items c.in_ok-run.ensures.done after (g.K.Sink.taken c.put_summary.new.out)
+    c.in_ok-store_input.ensures.stored g.G.Gate.asked c.args.gates.now c.run_input.new.gates ran (outcome_in c.in_ok-finished_run.finished_run.outcome) c.in_ok-finished_run.finished_run.report.items c.in_ok-finished_run.ensures.done after (g.K.Sink.taken c.put_summary.new.out)
     (c.in_ok-store.ensures.stored ∙ ap (λ (bytes : List ℕ). option_map (λ files. with_file files report_name bytes) ran) c.as_slice-3.ensures.value) part))
     c.put_summary.ensures.part
 
@@ -77,7 +77,7 @@ returns-clause-done g c =
     (λ put. IsMade-all w stops (input_of c.in_ok-made.made.input) c.as_slice.result.now c.as_slice-2.result.now (g.S.Shelf.files c.args.shelf.now) (g.S.Shelf.files c.store_input.new.shelf)
     (g.K.Sink.taken c.args.out.now) input_is
     (c.as_slice.ensures.value ∙ ap (λ (i : RunInput). i.sounds) input_is) (c.as_slice-2.ensures.value ∙ c.in_ok-made.ensures.text)
-    c.in_ok-store_input.ensures.stored g.G.Gate.asked c.args.gates.now c.run_input.new.gates ran (outcome_in c.in_ok-run.run'.outcome) c.in_ok-run.run'.report.items c.in_ok-run.ensures.done
+    c.in_ok-store_input.ensures.stored g.G.Gate.asked c.args.gates.now c.run_input.new.gates ran (outcome_in c.in_ok-finished_run.finished_run.outcome) c.in_ok-finished_run.finished_run.report.items c.in_ok-finished_run.ensures.done
     (record { exact = c.runs_are_exact.ensures; own = c.actors_do_their_own.ensures; one = c.scripts_have_one_session.ensures })
     (subst IsScript (ap (λ (i : RunInput). i.script) input_is) c.in_ok-made.ensures.script) after (g.K.Sink.taken c.put_summary.new.out)
     (c.in_ok-store.ensures.stored ∙ ap (λ (bytes : List ℕ). option_map (λ files. with_file files report_name bytes) ran) c.as_slice-3.ensures.value) put
@@ -98,26 +98,26 @@ returns-in_err-store_input-clause-faults g c =
     rw (p.1, p.2)
     (OutputFaults-writes {X = Unit {0}} (Err c.in_err-store_input.field-0.0) _ _ _ _ c.in_err-store_input.ensures.only_writes.faults refl)
 
-pub returns-in_err-run-clause-faults : goal.returns-in_err-run-clause-faults
-returns-in_err-run-clause-faults g c =
-    let p = err_from_is_err_and c.from_residual-in_err-run.result c.from_residual-in_err-run.ensures.1 in
+pub returns-in_err-finished_run-clause-faults : goal.returns-in_err-finished_run-clause-faults
+returns-in_err-finished_run-clause-faults g c =
+    let p = err_from_is_err_and c.from_residual-in_err-finished_run.result c.from_residual-in_err-finished_run.ensures.1 in
     rw (p.1, p.2)
-    (OutputFaults-after {X = Unit {0}} (Err c.in_err-run.field-0.0) _ _ _ _ _ _
+    (OutputFaults-after {X = Unit {0}} (Err c.in_err-finished_run.field-0.0) _ _ _ _ _ _
     (record { writes_same = c.in_ok-store_input.ensures.only_writes.faults; puts_same = refl })
-    (OutputFaults-kept {X = Unit {0}} (Err c.in_err-run.field-0.0) _ _ _ c.in_err-run.ensures.faults))
+    (OutputFaults-kept {X = Unit {0}} (Err c.in_err-finished_run.field-0.0) _ _ _ c.in_err-finished_run.ensures.faults))
 
 pub returns-in_err-store-clause-faults : goal.returns-in_err-store-clause-faults
 returns-in_err-store-clause-faults g c =
     let p = err_from_is_err_and c.from_residual-in_err-store.result c.from_residual-in_err-store.ensures.1 in
     rw (p.1, p.2)
     (OutputFaults-after {X = Unit {0}} (Err c.in_err-store.field-0.0) _ _ _ _ _ _
-    (record { writes_same = c.in_ok-run.ensures.faults.writes_same ∙ c.in_ok-store_input.ensures.only_writes.faults; puts_same = refl })
+    (record { writes_same = c.in_ok-finished_run.ensures.faults.writes_same ∙ c.in_ok-store_input.ensures.only_writes.faults; puts_same = refl })
     (OutputFaults-writes {X = Unit {0}} (Err c.in_err-store.field-0.0) _ _ _ _ c.in_err-store.ensures.only_writes.faults refl))
 
 pub returns-clause-faults : goal.returns-clause-faults
 returns-clause-faults g c =
     OutputFaults-puts c.put_summary.result _ _ _ _
-    (c.in_ok-store.ensures.only_writes.faults ∙ c.in_ok-run.ensures.faults.writes_same ∙ c.in_ok-store_input.ensures.only_writes.faults)
+    (c.in_ok-store.ensures.only_writes.faults ∙ c.in_ok-finished_run.ensures.faults.writes_same ∙ c.in_ok-store_input.ensures.only_writes.faults)
     c.put_summary.ensures.faults
 
 pub returns-in_err-store_input-clause-only : goal.returns-in_err-store_input-clause-only
@@ -133,13 +133,13 @@ returns-in_err-store-clause-only g c =
 pub returns-in_err-store_input-clause-fetch_faults : goal.returns-in_err-store_input-clause-fetch_faults
 returns-in_err-store_input-clause-fetch_faults g c = c.in_err-store_input.ensures.only_writes.fetch_faults
 
-pub returns-in_err-run-clause-fetch_faults : goal.returns-in_err-run-clause-fetch_faults
-returns-in_err-run-clause-fetch_faults g c = c.in_err-run.ensures.fetch_faults ∙ c.in_ok-store_input.ensures.only_writes.fetch_faults
+pub returns-in_err-finished_run-clause-fetch_faults : goal.returns-in_err-finished_run-clause-fetch_faults
+returns-in_err-finished_run-clause-fetch_faults g c = c.in_err-finished_run.ensures.fetch_faults ∙ c.in_ok-store_input.ensures.only_writes.fetch_faults
 
 pub returns-in_err-store-clause-fetch_faults : goal.returns-in_err-store-clause-fetch_faults
 returns-in_err-store-clause-fetch_faults g c =
-    c.in_err-store.ensures.only_writes.fetch_faults ∙ c.in_ok-run.ensures.fetch_faults ∙ c.in_ok-store_input.ensures.only_writes.fetch_faults
+    c.in_err-store.ensures.only_writes.fetch_faults ∙ c.in_ok-finished_run.ensures.fetch_faults ∙ c.in_ok-store_input.ensures.only_writes.fetch_faults
 
 pub returns-clause-fetch_faults : goal.returns-clause-fetch_faults
 returns-clause-fetch_faults g c =
-    c.in_ok-store.ensures.only_writes.fetch_faults ∙ c.in_ok-run.ensures.fetch_faults ∙ c.in_ok-store_input.ensures.only_writes.fetch_faults
+    c.in_ok-store.ensures.only_writes.fetch_faults ∙ c.in_ok-finished_run.ensures.fetch_faults ∙ c.in_ok-store_input.ensures.only_writes.fetch_faults

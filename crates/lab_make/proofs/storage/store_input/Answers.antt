@@ -6,7 +6,7 @@ use Rattle.lab_shelf.specs.Files.{Files, IsPartWritten, with_file}
 use Rattle.lab_stop.specs.EffectLaws.{CountsNoFault-writes, OnlyWrites-after, OnlyWrites-passed}
 use Rattle.lab_make.specs.Stored.{script_name}
 use Rattle.lab_make.proofs.Storing.{with_input-joined}
-use Rattle.lab_make.proofs.store.store_input.Goals as goal
+use Rattle.lab_make.proofs.storage.store_input.Goals as goal
 
 pub returns-in_err-store_clients-clause-part : goal.returns-in_err-store_clients-clause-part
 returns-in_err-store_clients-clause-part g c =

@@ -1,6 +1,6 @@
 use Rattle.lab_stop.specs.EffectLaws.{OnlyWrites-written}
 use Rattle.lab_stop.specs.Writing.{OnOk-written, OnErr-written, written-no_write}
-use Rattle.lab_make.proofs.store.store.Goals as goal
+use Rattle.lab_make.proofs.storage.store.Goals as goal
 
 pub returns-clause-stored : goal.returns-clause-stored
 returns-clause-stored g c = rw c.written.ensures (OnOk-written _ c.store.result c.store.ensures.ok)

@@ -4,7 +4,7 @@ use Rattle.std.proofs.lemmas.Result.{err_from_is_err_and}
 use Rattle.lab_stop.specs.EffectLaws.{CountsNoFault-same, CountsNoFault-writes, OnlyWrites-after, OnlyWrites-done, OnlyWrites-passed}
 use Rattle.lab_make.specs.Stored.{IsReadBack}
 use Rattle.lab_make.proofs.Storing.{Storing-all, Storing-next, Storing-read, Storing-stop}
-use Rattle.lab_make.proofs.store.store_clients.Goals as goal
+use Rattle.lab_make.proofs.storage.store_clients.Goals as goal
 
 pub loop-client-init : goal.loop-client-init
 loop-client-init g c = record { more = refl; part = λ after p. p; read = All-nil IsReadBack; counts = CountsNoFault-same g.S.Shelf _ }

@@ -3,7 +3,7 @@ use Rattle.std.specs.Prelude.{Ok}
 use Rattle.wav_io.specs.Canonical.{canonical}
 use Rattle.wav_io.specs.Reading.{most_bytes, wav_file}
 use Rattle.lab_make.proofs.SoundSizes.{length-made-few}
-use Rattle.lab_make.proofs.store.client_bytes.Goals as goal
+use Rattle.lab_make.proofs.storage.client_bytes.Goals as goal
 
 pub returns-in-Ok-clause-read : goal.returns-in-Ok-clause-read
 returns-in-Ok-clause-read c =

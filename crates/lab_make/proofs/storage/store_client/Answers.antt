@@ -7,7 +7,7 @@ use Rattle.lab_shelf.specs.Files.{Files, IsPartWritten, with_file}
 use Rattle.lab_stop.specs.declared.stop.Stop.TheVariants.{Memory}
 use Rattle.lab_stop.specs.EffectLaws.{OnlyWrites-memory, OnlyWrites-nothing, OnlyWrites-passed}
 use Rattle.lab_make.proofs.MemoryStops.{Err-memory, OnErr-memory, OnOk-memory, memory-no_write}
-use Rattle.lab_make.proofs.store.store_client.Goals as goal
+use Rattle.lab_make.proofs.storage.store_client.Goals as goal
 
 pub returns-clause-part : goal.returns-clause-part
 returns-clause-part g c =
