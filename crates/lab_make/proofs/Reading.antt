@@ -108,11 +108,11 @@ later-limit : (k j limit : ℕ) → k + suc j ≤ limit → k + 1 + j ≤ limit
 later-limit k j limit h = omega arith
 
 -- one line more
-add-suc_one : (k j : ℕ) → k + 1 + j ≡ k + suc j
-add-suc_one k j = omega arith
+add-one-add : (k j : ℕ) → k + 1 + j ≡ k + suc j
+add-one-add k j = omega arith
 
-add-add_one : (k j : ℕ) → k + j + 1 ≡ k + (j + 1)
-add-add_one k j = omega arith
+add-add-one : (k j : ℕ) → k + j + 1 ≡ k + (j + 1)
+add-add-one k j = omega arith
 
 -- lines that are taken one after the other
 after-each : (state : ℕ → State) (line : ℕ → ℕ) (words : ℕ → List (List ℕ)) (limit : ℕ) (tail : List (List (List ℕ))) → ((k : ℕ) → line k + 1 ≡ line (k + 1))
@@ -127,8 +127,8 @@ after-each state line words limit tail following taken (suc j) k m at within =
     let next = after-each state line words limit tail following taken j (k + 1) (m + 1) following_line (later-limit k j limit within) in
     after-step (state k) (state (k + 1)) m (words k) (enumerate_from (m + 1) rest) here
     ∙ next
-    ∙ ap (λ n. after (state n) (enumerate_from (m + 1 + j) tail)) (add-suc_one k j)
-    ∙ ap (λ n. after (state (k + suc j)) (enumerate_from n tail)) (add-suc_one m j)
+    ∙ ap (λ n. after (state n) (enumerate_from (m + 1 + j) tail)) (add-one-add k j)
+    ∙ ap (λ n. after (state (k + suc j)) (enumerate_from n tail)) (add-one-add m j)
 
 -- the lines of clients
 pub after-clients : (j k m : ℕ) (tail : List (List (List ℕ))) → m ≡ k + 2 → k + j ≤ 64
@@ -153,7 +153,7 @@ pub after-opens : (clients j k m : ℕ) (tail : List (List (List ℕ))) → m �
     → after (outside_of clients (openings clients k) 0) (enumerate_from m (map open_words (range_with_len k j) ++ tail))
     ≡ after (outside_of clients (openings clients (k + j)) 0) (enumerate_from (m + j) tail)
 after-opens clients j k m tail at few within =
-    after-each (λ n. outside_of clients (openings clients n) 0) (λ n. clients + 2 + n) open_words clients tail (add-add_one (clients + 2)) (λ n l. with_words-open clients n few l) j k m at within
+    after-each (λ n. outside_of clients (openings clients n) 0) (λ n. clients + 2 + n) open_words clients tail (add-add-one (clients + 2)) (λ n l. with_words-open clients n few l) j k m at within
 
 -- the lines of the first clients that write in a turn
 abbrev pub written : ℕ → ℕ → ℕ → List Line
@@ -210,7 +210,7 @@ pub after-writes : (clients turn : ℕ) (body : List Item) (phases played j k m 
     ≡ after (inside_of clients body (turn_line clients turn) (written clients turn (k + j)) phases played) (enumerate_from (m + j) tail)
 after-writes clients turn body phases played j k m tail at few within short =
     after-each (λ n. inside_of clients body (turn_line clients turn) (written clients turn n) phases played) (λ n. turn_line clients turn + 1 + n) (write_words turn)
-    clients tail (add-add_one (turn_line clients turn + 1)) (λ n l. with_words-write clients turn n body phases played few l short) j k m at within
+    clients tail (add-add-one (turn_line clients turn + 1)) (λ n l. with_words-write clients turn n body phases played few l short) j k m at within
 
 -- a phase begins
 pub with_words-phase : (clients : ℕ) (body : List Item) (phases played n : ℕ) (s : State) → s ≡ record (inside_of clients body 0 [] phases played) { phase = None } → phases < 4096
