@@ -9,7 +9,6 @@ ghost use Rattle.lab_check.specs.Shown.{IsShown};
 
 use run_laws::{runs_keep_headline, segments_are_of_files, unopened_readers_have_no_runs};
 
-
 /// A run that is checked has what is said of a run, whoever made its files: each sample that was played is the saturated sum of
 /// exactly the samples that the report's segments placed at its frame and channel, each of them once; a late row names a frame and
 /// channel at which its client placed nothing, or, of a rewind, something; and each reader recorded the captured frames of its
