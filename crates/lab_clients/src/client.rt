@@ -21,7 +21,7 @@ use wav_io::Wav;
 ///
 /// Its meaning is the client that it is in a run (`client_in`), and how it is at its port there (`IsAt`).
 #[repr(C)]
-pub(crate) struct LabClient<'r> {
+pub struct LabClient<'r> {
     number: u32,
     own: Option<OpenClient<'r>>,
     ended: Vec<Segment>,

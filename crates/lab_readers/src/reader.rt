@@ -36,7 +36,7 @@ use std::alloc::Global;
 ///
 /// Its meaning is what a run of the script has of it: `reader_in`.
 #[repr(C)]
-pub(crate) struct LabReader<'r> {
+pub struct LabReader<'r> {
     actor: ReaderActor,
     seat: Option<ReaderSeat<'r>>,
     // How many samples it had read when it was opened last.
