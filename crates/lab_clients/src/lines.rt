@@ -24,7 +24,7 @@ use wav_io::Wav;
 /// An open client of a script, by its number in the order of the clients' lines: its stream; how many asks a `die` lets pass
 /// yet, where there was one; the segments of its stretches that ended; and the rows of its lines.
 #[derive(Drop)]
-pub(crate) struct ClientActor {
+pub struct ClientActor {
     pub(crate) number: u32,
     pub(crate) client: Client,
     pub(crate) left: Option<u32>,

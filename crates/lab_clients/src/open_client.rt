@@ -10,7 +10,7 @@ use wav_io::Wav;
 
 /// An open client: its stream with its rows and segments, its bindings, the seat of its place, and the card's position at its opening.
 #[derive(Drop)]
-pub(crate) struct OpenClient<'r> {
+pub struct OpenClient<'r> {
     pub(crate) actor: ClientActor,
     pub(crate) bindings: Bindings,
     pub(crate) seat: MixSeat<'r>,

@@ -13,7 +13,7 @@ use std::marker::Model;
 ///
 /// Contracts see the runs, and for how many more of them there is room.
 #[derive(Drop)]
-pub(crate) struct FrameRuns {
+pub struct FrameRuns {
     runs: Vec<(u64, u64)>,
 }
 

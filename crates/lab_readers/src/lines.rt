@@ -26,7 +26,7 @@ use std::sync::ledger::{Blank, Ledger};
 /// An open reader of a script, by its number in the order of the readers' lines: its stream; how many asks a `die` lets pass
 /// yet, where there was one; the frames that it read; their samples, interleaved; and the rows of its lines.
 #[derive(Drop)]
-pub(crate) struct ReaderActor {
+pub struct ReaderActor {
     pub(crate) number: u32,
     pub(crate) reader: Reader,
     pub(crate) left: Option<u32>,
