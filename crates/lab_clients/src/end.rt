@@ -66,7 +66,8 @@ impl<'r> LabClients<'r> {
     }
 
     /// At the end of a run: closes the clients that are still open, and joins the seats of all places. The one seat has all that was placed
-    /// for the clients: seat by seat what the segments say that were made through the seat, and at each frame and channel the sum of them all.
+    /// for the clients: seat by seat what the segments say that were made through the seat, and at each frame and channel the sum of them
+    /// all.
     pub fn into_seat(mut self) -> MixSeat<'r>
         requires { AreOfRun self }
         ensures placed { (session : Session) (held : Held) (xs : List (AtPort × Client))

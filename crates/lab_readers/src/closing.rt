@@ -1,5 +1,4 @@
 //! Closings of readers, between two phases.
-ghost use Rattle.std.specs.Prelude.{◌≡◌, length};
 ghost use Rattle.lab_readers.specs.OneReader.{reader_in};
 ghost use Rattle.lab_readers.specs.AtStage.{IsLaterSpare, IsOfRing};
 ghost use Rattle.lab_readers.specs.Opening.{HasClosing};
@@ -39,8 +38,8 @@ impl<'r> LabReaders<'r> {
     ghost use Rattle.lab_readers.specs.AtStage.{AreAfter, AreOfRing, IsLaterSpare, readers_of, spare_of};
     ghost use Rattle.lab_readers.specs.Opening.{IsItemAt};
 
-    /// Does the item of a script that closes the reader of a number, after so many phases, and gives its row; the spare seat takes over all that
-    /// its seat has got, and what it recorded stays. One that isn't open is refused, with `BadState` (EBADFD). It takes no memory.
+    /// Does the item of a script that closes the reader of a number, after so many phases, and gives its row; the spare seat takes over all
+    /// that its seat has got, and what it recorded stays. One that isn't open is refused, with `BadState` (EBADFD). It takes no memory.
     ///
     /// The caller has a reader of the number (`len`), and readers of a run (`AreOfRing-at`).
     pub fn close(&mut self, number: u32, phase: u32) -> Row

@@ -62,8 +62,8 @@ impl<'r> LabReaders<'r> {
     ghost use Rattle.lab_actors.specs.Room.{HasSpace};
     ghost use Rattle.lab_readers.specs.End.{runs_by};
 
-    /// So many readers that were never open, by a seat of the snoop ring of a new card. It refuses, with `Memory`, only where no memory is left; the
-    /// seat is let go then.
+    /// So many readers that were never open, by a seat of the snoop ring of a new card. It refuses, with `Memory`, only where no memory is
+    /// left; the seat is let go then.
     pub fn new(alloc: Global, count: u32, seat: ReaderSeat<'r>) -> Result<LabReaders<'r>, PcmError>
         ensures spare { IfOk result (λ readers. spare_of readers ≡ seat.entry) }
         ensures count { IfOk result (λ readers. length (readers_of readers) ≡ count) }
@@ -76,8 +76,8 @@ impl<'r> LabReaders<'r> {
         Ok(LabReaders { seat, readers })
     }
 
-    /// Appends all frames that the readers read, as the runs of a report: each with the reader's number, its first frame and how many frames
-    /// it has, by reader and then by time. It takes no memory.
+    /// Appends all frames that the readers read, as the runs of a report: each with the reader's number, its first frame and how many
+    /// frames it has, by reader and then by time. It takes no memory.
     ///
     /// The caller has room for them.
     pub fn runs_into(&self, all: &mut Vec<(u32, u64, u64)>)

@@ -1,5 +1,5 @@
 //! Openings of readers, between two phases.
-ghost use Rattle.std.specs.Prelude.{◌≡◌, IfErr, IfOk, IfSome, OnErr, length};
+ghost use Rattle.std.specs.Prelude.{◌≡◌, IfErr, IfOk, IfSome, OnErr};
 ghost use Rattle.std.specs.Option.{option_copied};
 ghost use Rattle.snoop_table.specs.Readers.{geometry_of as geometry_of_seat};
 ghost use Rattle.lab_card.specs.Meets.{IsSameReader};
@@ -12,12 +12,11 @@ use crate::readers::LabReaders;
 use lab_actors::Opening;
 use lab_lines::{Answer, Op, Row};
 use snd_base::{PcmError, Why};
-use snoop_core::SnoopPort;
 use snoop_table::ReaderSeat;
 use std::alloc::Global;
 
-/// Opens a reader at a new seat, and gives its row. One that is open is refused, with `BadState` (EBADFD), and so is one that can't be opened, with
-/// `Invalid` (EINVAL). It fails, with `Memory`, only where no memory is left.
+/// Opens a reader at a new seat, and gives its row. One that is open is refused, with `BadState` (EBADFD), and so is one that can't be
+/// opened, with `Invalid` (EINVAL). It fails, with `Memory`, only where no memory is left.
 fn open_reader<'r>(
     alloc: Global,
     reader: &mut LabReader<'r>,
@@ -57,9 +56,9 @@ impl<'r> LabReaders<'r> {
     ghost use Rattle.lab_readers.specs.AtStage.{AreAfter, AreAt, geometry_of, readers_of, spare_of};
     ghost use Rattle.lab_readers.specs.Opening.{IsItemAt};
 
-    /// Does the item of a script that opens the reader of a number, after so many phases, and gives its row: one that is open is refused, with
-    /// `BadState` (EBADFD), and so is one without an opening, with `Invalid` (EINVAL). It fails, with `Memory`, only where no memory is left; the
-    /// readers are as before then.
+    /// Does the item of a script that opens the reader of a number, after so many phases, and gives its row: one that is open is refused,
+    /// with `BadState` (EBADFD), and so is one without an opening, with `Invalid` (EINVAL). It fails, with `Memory`, only where no memory
+    /// is left; the readers are as before then.
     ///
     /// The caller has a reader of the number (`len`), and an opening that fits the ring.
     pub fn open(

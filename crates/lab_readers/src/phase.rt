@@ -61,8 +61,8 @@ impl LabReaders<'_> {
     /// All readers do their lines of a phase, one reader after the other, each with the gate of its number. A reader that isn't open is
     /// refused each of its lines with `BadState`.
     ///
-    /// The caller has taken the room of the lines (`take_room`), and then had each meet a note of the card (`inform`); there are at least as
-    /// many gates as readers, and no read is of more than 4,194,304 frames (`reads_are_few`).
+    /// The caller has taken the room of the lines (`take_room`), and then had each meet a note of the card (`inform`); there are at least
+    /// as many gates as readers, and no read is of more than 4,194,304 frames (`reads_are_few`).
     pub fn run_lines<G: Gate>(&mut self, gates: &mut [G], phase: u32, lines: &[Line])
         requires few { All (λ (line : Line). IsFewRead line.op) lines.now }
         requires gates { length (readers_of self.old) ≤ length gates.old }

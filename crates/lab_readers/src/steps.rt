@@ -32,8 +32,8 @@ pub fn reads_are_few(lines: &[Line]) -> bool
     lines.iter().all(|line| is_few(line.op))
 }
 
-/// Takes the room of all readers' lines. It refuses, with `Memory`, only where no memory is left; then too the readers are as they were, but
-/// for their room.
+/// Takes the room of all readers' lines. It refuses, with `Memory`, only where no memory is left; then too the readers are as they were,
+/// but for their room.
 pub(crate) fn take_reader_room(
     readers: &mut [LabReader<'_>],
     lines: &[Line],
