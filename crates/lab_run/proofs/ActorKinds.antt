@@ -17,7 +17,7 @@ use Rattle.lab_run.specs.Lines.{Kind}
 use Rattle.lab_run.specs.Reader.{Reader, reader_kind}
 use Rattle.lab_run.specs.Reader as readers
 use Rattle.lab_run.specs.Rules.{AtPort}
-use Rattle.lab_run.proofs.CallParts.{IsSaying, Parts, call_of-says, done_answer-says, if_admitted-says}
+use Rattle.lab_run.proofs.CallParts.{IsSaying, Parts, call_of-says, done_answer-says, if_admitted-says, is_new_stretch}
 use Rattle.lab_run.proofs.ClientLeads as client_leads
 use Rattle.lab_run.proofs.Leads.{Anything, Led, Led-less, Led-then, LoadsFirst, OkLed, first-of, first-then}
 use Rattle.lab_run.proofs.ReadParts as read_parts
@@ -32,15 +32,17 @@ pub record IsKind {S : Type 0} (kind : Kind S) : Type 0 where
 
 -- ---- clients
 
-led-so : IsSaying {W = Bool} (λ X Q loaded course. Led Q loaded course)
+abbrev LedSo : (X : Type 0) → (Bool → X → Type 0) → Bool → Course X → Type 0
+LedSo X Q loaded course = Led Q loaded course
+
+led-so : IsSaying LedSo
 led-so = record {
   at_end = λ X Q loaded x is. is;
   after = λ X Y R Q loaded course f led next. Led-then R Q loaded course f led next;
   implied = λ X R Q loaded course led less. Led-less R Q less loaded course led;
 }
 
-parts-first : (marks : Marks) (c : PlaybackStream)
-    → Parts {W = Bool} (λ X Q loaded course. Led Q loaded course) (λ n. ⊤) marks c false OkLed (λ state more. OkLed) Anything Anything
+parts-first : (marks : Marks) (c : PlaybackStream) → Parts LedSo (λ n. ⊤) marks c false OkLed (λ state more. OkLed) Anything Anything
 parts-first marks c = record {
   same = tt;
   counted = λ n. tt;
@@ -68,13 +70,17 @@ parts-first marks c = record {
 
 -- a call that begins a new stretch
 anew-first : (c : PlaybackStream) (asked : Call) (course : Course (Answered (Unit {0}))) → LoadsFirst false course → LoadsFirst false (call_answer done_answer (if_admitted c asked course))
-anew-first c asked course led = done_answer-says led-so c false Anything Anything (if_admitted c asked course) (λ loaded x is. tt)
-    (if_admitted-says led-so c false Anything asked course (λ e. tt) (λ admits. led))
+anew-first c asked course led = done_answer-says LedSo led-so c false Anything Anything (if_admitted c asked course) (λ loaded x is. tt)
+    (if_admitted-says LedSo led-so c false Anything asked course (λ e. tt) (λ admits. led))
+
+same-first : (wav : Sound) (marks : Marks) (c : PlaybackStream) (asked : Op) → is_new_stretch asked ≡ false → LoadsFirst false (call_of wav marks c asked)
+same-first wav marks c asked not =
+    call_of-says LedSo led-so c false (parts-first marks c) Anything (λ loaded x is. tt) (λ loaded x is. tt) tt wav (λ n. tt) asked not
 
 call-first : (wav : Sound) (marks : Marks) (c : PlaybackStream) (asked : Op) → LoadsFirst false (call_of wav marks c asked)
 call-first wav marks c op.Prepare = anew-first c call.Prepare (ends _) tt
 call-first wav marks c op.Resume = anew-first c call.Resume _ (client_leads.pause-first false c [] marks.cursor)
-call-first wav marks c asked = call_of-says led-so c false (parts-first marks c) Anything (λ loaded x is. tt) (λ loaded x is. tt) tt wav (λ n. tt) asked refl
+call-first wav marks c asked = same-first wav marks c asked refl
 
 line_if-first : (stopped : Bool) (wav : Sound) (marks : Marks) (client : Client) (c : PlaybackStream) (asked : Op) → LoadsFirst false (line_if stopped wav marks client c asked)
 line_if-first true wav marks client c asked = tt
@@ -108,7 +114,7 @@ client-IsKind phase wav number = record {
 
 -- ---- readers
 
-reads-first : (r : reading.CaptureStream) → read_parts.Parts {W = Bool} (λ X Q loaded course. Led Q loaded course) r false OkLed Anything Anything Anything
+reads-first : (r : reading.CaptureStream) → read_parts.Parts LedSo r false OkLed Anything Anything Anything
 reads-first r = record {
   same = tt;
   none = tt;
@@ -127,7 +133,7 @@ reads-first r = record {
 }
 
 reader_call-first : (r : reading.CaptureStream) (asked : Op) → LoadsFirst false (readers.call_of r asked)
-reader_call-first r asked = read_parts.call_of-says led-so (reads-first r) (λ o. Anything) (λ o loaded x is. tt) (λ loaded x is. tt) (λ n loaded x is. tt)
+reader_call-first r asked = read_parts.call_of-says LedSo led-so (reads-first r) (λ o. Anything) (λ o loaded x is. tt) (λ loaded x is. tt) (λ n loaded x is. tt)
     (λ o. tt) (λ o. tt) asked
 
 reader_line-first : (stopped : Bool) (reader : Reader) (r : reading.CaptureStream) (asked : Op) → LoadsFirst false (readers.line_if stopped reader r asked)

@@ -105,7 +105,10 @@ pub record IsSaying {W : Type 0} (Says : Saying W) : Type 1 where
   pub implied : (X : Type 0) (R Q : W → X → Type 0) (w : W) (m : Course X) → Says X R w m → ((v : W) (x : X) → R v x → Q v x) → Says X Q w m
 
 -- a fact of each result of a course alone
-pub gives-so : IsSaying {W = Unit {0}} (λ X Q w course. Gives (Q w) course)
+abbrev pub GivesSo : (X : Type 0) → (Unit {0} → X → Type 0) → Unit {0} → Course X → Type 0
+GivesSo X Q w course = Gives (Q w) course
+
+pub gives-so : IsSaying GivesSo
 gives-so = record {
   at_end = λ X Q w x is. is;
   after = λ X Y R Q w course f gives next. Gives-then (R w) (Q w) course f gives (next w);
@@ -153,7 +156,7 @@ is_new_stretch op.Prepare = true
 is_new_stretch op.Resume = true
 is_new_stretch other = false
 
-module _ {W : Type 0} {Says : Saying W} (says : IsSaying Says) (c : PlaybackStream) (w : W) where
+module _ {W : Type 0} (Says : Saying W) (says : IsSaying Says) (c : PlaybackStream) (w : W) where
   -- a call that is refused, or does what it does
   pub if_admitted-says : {X : Type 0} (Q : W → Answered X → Type 0) (asked : Call) (course : Course (Answered X)) → ((e : PcmError) → Q w (c, Err e))
       → (refusal_of Playback c.status asked ≡ None → Says (Answered X) Q w course) → Says (Answered X) Q w (if_admitted c asked course)

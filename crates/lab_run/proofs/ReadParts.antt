@@ -45,7 +45,7 @@ pub record Parts {W : Type 0} (Says : Saying W) (r : CaptureStream) (w : W) (Loo
   pub dropped : Done w (in_state r Setup, Ok tt)
   pub prepared : Done w (in_state r Prepared, Ok tt)
 
-module _ {W : Type 0} {Says : Saying W} (says : IsSaying Says) {r : CaptureStream} {w : W} {Looked Done : W → Answered (Unit {0}) → Type 0}
+module _ {W : Type 0} (Says : Saying W) (says : IsSaying Says) {r : CaptureStream} {w : W} {Looked Done : W → Answered (Unit {0}) → Type 0}
     {Counted Read : W → Answered ℕ → Type 0} (parts : Parts Says r w Looked Done Counted Read) where
   if_admitted-says : {X : Type 0} (Q : W → Answered X → Type 0) (asked : Call) (course : Course (Answered X))
       → ((e : PcmError) → refusal_of Capture r.status asked ≡ Some e → Q w (r, Err e)) → Says (Answered X) Q w course → Says (Answered X) Q w (if_admitted r asked course)

@@ -37,11 +37,11 @@ use Rattle.lab_lines.specs.declared.line.Op.{Op}
 use Rattle.lab_lines.specs.declared.line.Op.TheVariants as op
 use Rattle.wav_io.specs.Sound.{Sound}
 use Rattle.lab_run.specs.Client.{call_answer, call_of, done_answer, frames_of}
-use Rattle.lab_run.proofs.CallParts.{Parts, call_of-says, done_answer-says, empty-still, if_admitted-says, running-moves, running-transfers, start-unprepared, step-moves}
+use Rattle.lab_run.proofs.CallParts.{Parts, call_of-says, done_answer-says, empty-still, if_admitted-says, is_new_stretch, running-moves, running-transfers, start-unprepared, step-moves}
 use Rattle.run_laws.proofs.CommitCounts.{From-all, IsCommitOf, commits-few, frames-left, nothing-of}
 use Rattle.run_laws.proofs.Onward.{Channels, begun, stepped-unprepared}
 use Rattle.run_laws.proofs.PlayedCalls.{IfOk-any, IfOk-none, IsOver, step-over, step-unprepared}
-use Rattle.run_laws.proofs.PlayedCourses.{From, From-map, From-then, from-so, looks-from}
+use Rattle.run_laws.proofs.PlayedCourses.{From, FromSo, From-map, From-then, from-so, looks-from}
 
 -- ---- a client
 
@@ -594,7 +594,7 @@ module _ (p limit : ℕ) where
 
     -- ---- the calls of lines
 
-    parts-after : (m : Marks) → Parts {W = ℕ} (λ X Q t course. From p Q t course) (λ n. c.fed + n ≤ limit) m c 0 (λ t done. StepsOn c done) (λ state more t done. Begins c state more done)
+    parts-after : (m : Marks) → Parts (FromSo p) (λ n. c.fed + n ≤ limit) m c 0 (λ t done. StepsOn c done) (λ state more t done. Begins c state more done)
         (λ t done. FileAfter p limit done) (λ t done. FileAfter p limit done)
     parts-after m = record {
       same = is;
@@ -646,11 +646,15 @@ module _ (p limit : ℕ) where
     -- a call that begins a new stretch
     anew-after : (asked : Call) (course : Course (Answered (Unit {0}))) → From p (λ t done. FileAfter p limit done) 0 course
         → From p (λ t done. FileAfter p limit done) 0 (call_answer done_answer (if_admitted c asked course))
-    anew-after asked course from = done_answer-says (from-so p) c 0 (λ t done. FileAfter p limit done) (λ t done. FileAfter p limit done) (if_admitted c asked course) (λ t done there. there)
-        (if_admitted-says (from-so p) c 0 (λ t done. FileAfter p limit done) asked course (λ e. is) (λ admits. from))
+    anew-after asked course from = done_answer-says (FromSo p) (from-so p) c 0 (λ t done. FileAfter p limit done) (λ t done. FileAfter p limit done) (if_admitted c asked course) (λ t done there. there)
+        (if_admitted-says (FromSo p) (from-so p) c 0 (λ t done. FileAfter p limit done) asked course (λ e. is) (λ admits. from))
+
+    same-after : (wav : Sound) (m : Marks) → ((n : ℕ) → c.fed + min n (frames_of wav - c.fed) ≤ limit) → (asked : Op) → is_new_stretch asked ≡ false
+        → From p (λ t done. FileAfter p limit done) 0 (call_of wav m c asked)
+    same-after wav m room asked not =
+        call_of-says (FromSo p) (from-so p) c 0 (parts-after m) (λ t done. FileAfter p limit done) (λ t done there. there) (λ t done there. there) is wav room asked not
 
     pub call-after : (wav : Sound) (m : Marks) → ((n : ℕ) → c.fed + min n (frames_of wav - c.fed) ≤ limit) → (asked : Op) → From p (λ t done. FileAfter p limit done) 0 (call_of wav m c asked)
     call-after wav m room op.Prepare = anew-after call.Prepare (ends (after_prepare c, Ok tt)) prepared-anew
     call-after wav m room op.Resume = anew-after call.Resume _ (resume-after m.cursor)
-    call-after wav m room asked =
-        call_of-says (from-so p) c 0 (parts-after m) (λ t done. FileAfter p limit done) (λ t done there. there) (λ t done there. there) is wav room asked refl
+    call-after wav m room asked = same-after wav m room asked refl

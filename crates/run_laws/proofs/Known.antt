@@ -37,7 +37,11 @@ AllKnown-map R Q known (loads next) all each =
 AllKnown-map R Q known (lays e next) all each = λ how. AllKnown-map R Q known (next how) (all how) each
 AllKnown-map R Q known (gets frame next) all each = λ how. AllKnown-map R Q known (next how) (all how) each
 
-pub known-so : IsSaying {W = ℕ} (λ X Q known m. AllKnown Q known m)
+-- how such a fact is said of a course
+abbrev pub KnownSo : (X : Type 0) → (ℕ → X → Type 0) → ℕ → Course X → Type 0
+KnownSo X Q known m = AllKnown Q known m
+
+pub known-so : IsSaying KnownSo
 known-so = record {
   at_end = λ X Q known x is. is;
   after = λ X Y R Q known m f all next. AllKnown-then R Q known m f all next;

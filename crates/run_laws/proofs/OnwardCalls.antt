@@ -27,9 +27,13 @@ use Rattle.lab_lines.specs.declared.line.Op.{Op}
 use Rattle.lab_lines.specs.declared.line.Op.TheVariants as op
 use Rattle.wav_io.specs.Sound.{Sound}
 use Rattle.lab_run.specs.Client.{call_answer, call_of, done_answer}
-use Rattle.lab_run.proofs.CallParts.{IsSaying, Parts, call_of-says, done_answer-says, empty-still, if_admitted-says, running-moves, running-transfers, start-unprepared, step-moves}
+use Rattle.lab_run.proofs.CallParts.{IsSaying, Parts, call_of-says, done_answer-says, empty-still, if_admitted-says, is_new_stretch, running-moves, running-transfers, start-unprepared, step-moves}
 use Rattle.run_laws.proofs.Onward.{Begun, Channels, OnwardAfter, Leads, Leads-if, Leads-map, Leads-then, Lies, Onward, Started, Waits, begun, commits-lead, earlier-lies, end_of, ended-lies, free_frame, high_end, looks-lead, moving-begun, moving-unprepared, start-commits, starts-go, after_sync-goes, syncs-go}
 use Rattle.run_laws.proofs.Withdrawn.{below-sum, frames-back}
+
+-- how a fact of marks is said of a course
+abbrev LeadsSo : ℕ → Geometry → (X : Type 0) → (Marks → X → Type 0) → Marks → Course X → Type 0
+LeadsSo p g X Q m course = Leads p g Q m course
 
 -- ---- the calls
 
@@ -185,7 +189,7 @@ module _ (p : ℕ) (g : Geometry) (x y : ℕ) where
 
   -- ---- the calls of lines
 
-  leads-so : IsSaying {W = Marks} (λ X Q m course. Leads p g Q m course)
+  leads-so : IsSaying (LeadsSo p g)
   leads-so = record {
     at_end = λ X Q m x is. is;
     after = λ X Y R Q m course f leads next. Leads-then p g R Q m course f leads next;
@@ -193,7 +197,7 @@ module _ (p : ℕ) (g : Geometry) (x y : ℕ) where
   }
 
   parts-go : (m : Marks) (c : PlaybackStream) → Onward p x y m c
-      → Parts {W = Marks} (λ X Q n course. Leads p g Q n course) (λ n. ⊤) m c m (λ n done. Begun p x y n done.0) (λ state more. Started p g x y state) (OnwardAfter p x y) (OnwardAfter p x y)
+      → Parts (LeadsSo p g) (λ n. ⊤) m c m (λ n done. Begun p x y n done.0) (λ state more. Started p g x y state) (OnwardAfter p x y) (OnwardAfter p x y)
   parts-go m c is = record {
     same = is;
     counted = λ n. is;
@@ -237,8 +241,13 @@ module _ (p : ℕ) (g : Geometry) (x y : ℕ) where
   -- a call that begins a new stretch
   anew-goes : (c : PlaybackStream) (asked : Call) (course : Course (Answered (Unit {0}))) (m : Marks) → Onward p x y m c → Leads p g (OnwardAfter p x y) m course
       → Leads p g (OnwardAfter p x y) m (call_answer done_answer (if_admitted c asked course))
-  anew-goes c asked course m is leads = done_answer-says leads-so c m (OnwardAfter p x y) (OnwardAfter p x y) (if_admitted c asked course) (λ n done goes. goes)
-      (if_admitted-says leads-so c m (OnwardAfter p x y) asked course (λ e. is) (λ admits. leads))
+  anew-goes c asked course m is leads = done_answer-says (LeadsSo p g) leads-so c m (OnwardAfter p x y) (OnwardAfter p x y) (if_admitted c asked course) (λ n done goes. goes)
+      (if_admitted-says (LeadsSo p g) leads-so c m (OnwardAfter p x y) asked course (λ e. is) (λ admits. leads))
+
+  same-goes : (wav : Sound) (c : PlaybackStream) (asked : Op) (m : Marks) → is_new_stretch asked ≡ false → Onward p x y m c
+      → Leads p g (OnwardAfter p x y) m (call_of wav m c asked)
+  same-goes wav c asked m not is =
+      call_of-says (LeadsSo p g) leads-so c m (parts-go m c is) (OnwardAfter p x y) (λ n done goes. goes) (λ n done goes. goes) is wav (λ n. tt) asked not
 
   pub call-goes : (wav : Sound) (c : PlaybackStream) (asked : Op) (m : Marks) → Onward p x y m c → Leads p g (OnwardAfter p x y) m (call_of wav m c asked)
   call-goes wav c op.Prepare m is = anew-goes c call.Prepare (ends (after_prepare c, Ok tt)) m is (let at = reached m c is in inr (record {
@@ -251,5 +260,4 @@ module _ (p : ℕ) (g : Geometry) (x y : ℕ) where
     high = at.2;
   }))
   call-goes wav c op.Resume m is = anew-goes c call.Resume _ m is (resume-goes c m is)
-  call-goes wav c asked m is =
-      call_of-says leads-so c m (parts-go m c is) (OnwardAfter p x y) (λ n done goes. goes) (λ n done goes. goes) is wav (λ n. tt) asked refl
+  call-goes wav c asked m is = same-goes wav c asked m refl is

@@ -39,7 +39,7 @@ use Rattle.wav_io.specs.Sound.{Sound}
 use Rattle.lab_run.specs.Client.{call_of}
 use Rattle.lab_run.proofs.CallParts.{Parts, call_of-says, is_new_stretch, running-moves, running-transfers, start-unprepared, step-moves}
 use Rattle.run_laws.proofs.Onward.{Channels, stepped-unprepared}
-use Rattle.run_laws.proofs.PlayedCourses.{CommitEnd, From, From-keeps, From-map, From-then, RewindEnd, commits-keep, frames-back, from-so, looks-from}
+use Rattle.run_laws.proofs.PlayedCourses.{CommitEnd, From, FromSo, From-keeps, From-map, From-then, RewindEnd, commits-keep, frames-back, from-so, looks-from}
 use Rattle.run_laws.proofs.PlayedSegments.{IsAlike, IsPast, alike-same, alike-then}
 use Rattle.run_laws.proofs.Withdrawn.{below-sum}
 
@@ -447,7 +447,7 @@ module _ (p : ℕ) (c : PlaybackStream) (fits : Fits c) where
 
   -- ---- the calls of lines
 
-  parts-kept : (m : Marks) → Parts {W = ℕ} (λ X Q t course. From p Q t course) (λ n. ⊤) m c 0 (SteppedPast p c) (λ state more t done. CanStart c state × Started p state t done)
+  parts-kept : (m : Marks) → Parts (FromSo p) (λ n. ⊤) m c 0 (SteppedPast p c) (λ state more t done. CanStart c state × Started p state t done)
       (λ t done. Kept p c done) (λ t done. Kept p c done)
   parts-kept m = record {
     same = same;
@@ -490,4 +490,4 @@ module _ (p : ℕ) (c : PlaybackStream) (fits : Fits c) where
   -- a call that begins no new stretch
   pub call-kept : (wav : Sound) (m : Marks) (asked : Op) → is_new_stretch asked ≡ false → From p (λ t done. Kept p c done) 0 (call_of wav m c asked)
   call-kept wav m asked not =
-      call_of-says (from-so p) c 0 (parts-kept m) (λ t done. Kept p c done) (λ t done is. is) (λ t done is. is) same wav (λ n. tt) asked not
+      call_of-says (FromSo p) (from-so p) c 0 (parts-kept m) (λ t done. Kept p c done) (λ t done is. is) (λ t done is. is) same wav (λ n. tt) asked not

@@ -56,7 +56,11 @@ From-map p R Q s (lays e next) from each = (
 )
 From-map p R Q s (gets frame next) from each = λ got. From-map p R Q s (next got) (from got) each
 
-pub from-so : (p : ℕ) → IsSaying {W = ℕ} (λ X Q s course. From p Q s course)
+-- how such a fact is said of a course
+abbrev pub FromSo : ℕ → (X : Type 0) → (ℕ → X → Type 0) → ℕ → Course X → Type 0
+FromSo p X Q s course = From p Q s course
+
+pub from-so : (p : ℕ) → IsSaying (FromSo p)
 from-so p = record {
   at_end = λ X Q s x is. is;
   after = λ X Y R Q s course f from next. From-then p R Q s course f from next;

@@ -24,7 +24,7 @@ use Rattle.lab_lines.specs.declared.row.Answer.{Answer}
 use Rattle.lab_report.specs.Text.{HasStateText, HasText}
 use Rattle.lab_run.specs.Client.{count_answer, done_answer}
 use Rattle.lab_run.specs.Reader.{Reader, after_call, call_of, line_by}
-use Rattle.lab_run.proofs.CallParts.{gives-so}
+use Rattle.lab_run.proofs.CallParts.{GivesSo, gives-so}
 use Rattle.lab_run.proofs.EachLine.{reader_line-gives}
 use Rattle.lab_run.proofs.ReadParts.{Parts, call_of-says}
 use Rattle.run_laws.proofs.TableLaws.{CanReport, CanReportIn, next-reports, refusal-reports, reported-reports}
@@ -93,7 +93,7 @@ transfer_on-reports n (r, Ok done) reports =
     Gives-behind Reports (gets_frames (taken_of r n) r.next) (λ end. ends (read_after r n end.0 end.1)) (λ end. read-reports r n end.0 end.1 reports.1)
 
 reads-report : (r : CaptureStream) → HasState r
-    → Parts {W = Unit {0}} (λ X Q w course. Gives (Q w) course) r tt (λ w. Reports) (λ w. Reports) (λ w. Reports) (λ w. Reports)
+    → Parts GivesSo r tt (λ w. Reports) (λ w. Reports) (λ w. Reports) (λ w. Reports)
 reads-report r is = record {
   same = (tt, is);
   none = (tt, is);
@@ -129,7 +129,7 @@ count-said (d, Ok n) reports = (tt, reports.1)
 count-said (d, Err e) reports = (reported-reports e reports.0, reports.1)
 
 call-said : (r : CaptureStream) (asked : Op) → HasState r → Gives IsSaid (call_of r asked)
-call-said r asked is = call_of-says gives-so (reads-report r is) (λ o w. IsSaid) (λ o w x reports. done-said x reports) (λ w x reports. count-said x reports)
+call-said r asked is = call_of-says GivesSo gives-so (reads-report r is) (λ o w. IsSaid) (λ o w x reports. done-said x reports) (λ w x reports. count-said x reports)
     (λ n w x reports. count-said x reports) (λ o. (tt, is)) (λ o. (tt, is)) asked
 
 -- a reader that is open has a state with a text

@@ -26,7 +26,7 @@ use Rattle.lab_run.specs.Client.{count_answer, done_answer}
 use Rattle.lab_run.specs.Reader.{Reader, after_call, call_of, frames_by, line_by, line_if}
 use Rattle.run_laws.specs.Captured.{AreRisingFrames}
 use Rattle.lab_run.proofs.ReadParts.{Parts, call_of-says}
-use Rattle.run_laws.proofs.Known.{AllKnown, AllKnown-then, known-so}
+use Rattle.run_laws.proofs.Known.{AllKnown, AllKnown-then, KnownSo, known-so}
 
 -- ---- frames that rise
 
@@ -180,7 +180,7 @@ with_avail-stays base known (d, Ok done) is = is
 with_avail-stays base known (d, Err e) is = is
 
 reads-stay : (base known : ℕ) (r : CaptureStream) → base ≤ known → IsPast base r
-    → Parts {W = ℕ} (λ X Q known m. AllKnown Q known m) r known (Begins base) (Stays base) (Stays base) (Reads base)
+    → Parts KnownSo r known (Begins base) (Stays base) (Stays base) (Reads base)
 reads-stay base known r low next = record {
   same = (low, next);
   none = (low, next);
@@ -244,7 +244,7 @@ failed-frames (op.Read n) e d = refl
 failed-frames other e d = refl
 
 call-left : (base known : ℕ) (r : CaptureStream) (asked : Op) → base ≤ known → IsPast base r → AllKnown (λ later x. IsLeft base later asked x) known (call_of r asked)
-call-left base known r asked low next = call_of-says known-so (reads-stay base known r low next) (λ o later x. IsLeft base later o x)
+call-left base known r asked low next = call_of-says KnownSo known-so (reads-stay base known r low next) (λ o later x. IsLeft base later o x)
     (λ o later x is. none-left base later o x.0 (done_answer x.1) (no-frames o x.1 x.0) is)
     (λ later x is. none-left base later op.Avail x.0 (count_answer x.1) refl is) (λ n later x is. read-left base n later x is)
     (λ o. none-left base known o r (Failed error.NotSupported) (failed-frames o error.NotSupported r) (low, next))
