@@ -22,7 +22,7 @@ use Rattle.lab_run.specs.Rules.{AtPort, MayGet, MayLay, MayLoad, Rules}
 
 -- a call of an open client leaves a fact
 abbrev pub CallGives : (Client × Answer → Type 0) → Sound → Client → PlaybackStream → Op → Type 0
-CallGives Q wav client c asked = (marks : Marks) → Gives (λ done. Q (after_call client c asked done)) (call_of wav marks c asked)
+CallGives Q wav client c asked = (marks : Marks) → Gives (λ (done : PlaybackStream × Answer). Q (after_call client c asked done)) (call_of wav marks c asked)
 
 -- so does its line, which does nothing where a stop came before, or where it is a die
 pub client_line_if-gives : (Q : Client × Answer → Type 0) (wav : Sound) (marks : Marks) (client : Client) (c : PlaybackStream) (stopped : Bool) (asked : Op)
@@ -30,7 +30,8 @@ pub client_line_if-gives : (Q : Client × Answer → Type 0) (wav : Sound) (mark
 client_line_if-gives Q wav marks client c stopped asked stops dies calls = by_stop stopped refl
   where
     by_call : (o : Op) → CallGives Q wav client c o → Gives Q (call_of wav marks c o >>= λ done. ends (after_call client c o done))
-    by_call o gives = Gives-then (λ done. Q (after_call client c o done)) Q (call_of wav marks c o) (λ done. ends (after_call client c o done)) (gives marks) (λ done is. is)
+    by_call o gives =
+        Gives-then (λ (done : PlaybackStream × Answer). Q (after_call client c o done)) Q (call_of wav marks c o) (λ done. ends (after_call client c o done)) (gives marks) (λ done is. is)
 
     by_op : (o : Op) → CallGives Q wav client c o → Gives Q (line_if false wav marks client c o)
     by_op (op.Die k) gives = dies
@@ -82,7 +83,7 @@ client-line Q rules phase wav number a b client after asked answer closed stops 
 
 -- a call of an open reader leaves a fact
 abbrev pub ReadGives : (Reader × Answer → Type 0) → Reader → CaptureStream → Op → Type 0
-ReadGives Q reader r asked = Gives (λ done. Q (readers.after_call reader asked done)) (readers.call_of r asked)
+ReadGives Q reader r asked = Gives (λ (done : CaptureStream × Answer). Q (readers.after_call reader asked done)) (readers.call_of r asked)
 
 -- so does its line, which does nothing where a stop came before, or where it is a die
 pub reader_line_if-gives : (Q : Reader × Answer → Type 0) (reader : Reader) (r : CaptureStream) (stopped : Bool) (asked : Op)
@@ -90,7 +91,8 @@ pub reader_line_if-gives : (Q : Reader × Answer → Type 0) (reader : Reader) (
 reader_line_if-gives Q reader r stopped asked stops dies calls = by_stop stopped refl
   where
     by_call : (o : Op) → ReadGives Q reader r o → Gives Q (readers.call_of r o >>= λ done. ends (readers.after_call reader o done))
-    by_call o gives = Gives-then (λ done. Q (readers.after_call reader o done)) Q (readers.call_of r o) (λ done. ends (readers.after_call reader o done)) gives (λ done is. is)
+    by_call o gives =
+        Gives-then (λ (done : CaptureStream × Answer). Q (readers.after_call reader o done)) Q (readers.call_of r o) (λ done. ends (readers.after_call reader o done)) gives (λ done is. is)
 
     by_op : (o : Op) → ReadGives Q reader r o → Gives Q (readers.line_if false reader r o)
     by_op (op.Die k) gives = dies
