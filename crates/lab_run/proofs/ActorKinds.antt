@@ -32,6 +32,7 @@ pub record IsKind {S : Type 0} (kind : Kind S) : Type 0 where
 
 -- ---- clients
 
+-- how a fact of whether a position was loaded is said of a course
 abbrev LedSo : (X : Type 0) → (Bool → X → Type 0) → Bool → Course X → Type 0
 LedSo X Q loaded course = Led Q loaded course
 
