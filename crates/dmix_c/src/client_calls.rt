@@ -20,7 +20,7 @@ use snd_base::{Geometry, PcmError, Why};
 use std::alloc::Global;
 use sum_table::MixSeat;
 
-/// A call of a client that passes nothing but the client.
+/// A call of a client that passes no parameters and no samples.
 #[derive(Clone, Copy)]
 pub enum ClientCall {
     HwFree,
@@ -36,7 +36,7 @@ pub enum ClientCall {
     Rewind(u64),
 }
 
-/// What a client is asked: a call, or one that passes parameters or samples.
+/// What a client is asked: a call, its state, or a call that passes parameters or samples.
 #[derive(Clone, Copy)]
 pub enum ClientRequest<'a> {
     Call(ClientCall),

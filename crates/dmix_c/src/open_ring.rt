@@ -54,7 +54,7 @@ impl OpenRing {
     ghost use Rattle.dmix_c.specs.Params.{CanOpen, IsGeometryOf};
     ghost use Rattle.dmix_c.specs.RingPlaces.{Collects, GivesNone, GivesPlace, GivesReader, IsAtStart, IsHandedOut, IsNewOpenRing, IsNewPair, KeepsRing, Receives};
 
-    /// Opens a ring with so many free places as its parameters say, in which nothing is placed, and its card, from the first
+    /// Opens a ring with as many free places as its parameters say, in which nothing is placed, and its card, from the first
     /// frame of lap 0 on. The card plays alone; or it captures too, and then a capture ring of the same shape is beside the
     /// ring, in which nothing is stored. It refuses, with `Memory`, only where no memory is left. The words of the rings stay
     /// until the process ends.

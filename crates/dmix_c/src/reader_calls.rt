@@ -27,7 +27,7 @@ pub enum ReaderCall {
     AvailUpdate,
 }
 
-/// What a reader is asked: a call, or one that passes parameters.
+/// What a reader is asked: a call, its state, or a call that passes parameters.
 #[derive(Clone, Copy)]
 pub enum ReaderRequest<'a> {
     Call(ReaderCall),

@@ -36,7 +36,7 @@ fn reported_xrun(why: XrunWhy) -> XrunWhy
     }
 }
 
-/// The answer of a call without a number.
+/// The answer of a call without a number: `Done`, or `Failed` with the error as a report has it.
 pub fn done_answer(end: Result<(), PcmError>) -> Answer
     ensures { result ≡ done_answer end }
 {
@@ -46,7 +46,7 @@ pub fn done_answer(end: Result<(), PcmError>) -> Answer
     }
 }
 
-/// The answer of a call with a number of frames.
+/// The answer of a call with a number of frames: `Count`, or `Failed` with the error as a report has it.
 pub fn count_answer(end: Result<u64, PcmError>) -> Answer
     ensures { result ≡ count_answer end }
 {
@@ -56,7 +56,7 @@ pub fn count_answer(end: Result<u64, PcmError>) -> Answer
     }
 }
 
-/// The answer of a call that writes or reads frames.
+/// The answer of a call that writes or reads frames: `Count`, or `Failed` with the error as a report has it.
 pub fn moved_answer(end: Result<u32, PcmError>) -> Answer
     ensures { result ≡ count_answer end }
 {

@@ -31,7 +31,7 @@ impl Drop for MadeInput {
     }
 }
 
-/// What a run of a workload reads, made in memory. The only error is `Stop::Memory`.
+/// What a run of a workload reads, made in memory. It stops with `Memory` alone, where no memory is left.
 pub fn made_input(alloc: Global, workload: &Workload) -> Result<MadeInput, Stop>
     requires { IsWorkload workload.now }
     ensures input { IfOk result (λ made. input_of made.input ≡ made_input workload.now) }

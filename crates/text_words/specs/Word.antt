@@ -42,7 +42,7 @@ is_decimal word = lacks_leading_zero word && all_ascii_digits word
 abbrev pub decimal_of : ℕ → List ℕ → Option ℕ
 decimal_of most word = if is_decimal word then within most (digits_value 10 word) else None
 
--- a number that there may be is this one
+-- there is a number, and it is this one
 abbrev pub is_number : ℕ → Option ℕ → Bool
 is_number n None = false
 is_number n (Some m) = m == n

@@ -17,7 +17,7 @@ pub fn split_part(list: &[u8]) -> Option<(&[u8], &[u8])>
     Some((&list[..end], &list[end + 1..]))
 }
 
-/// Whether each byte of a word is a decimal digit, as of a word without a byte.
+/// Whether each byte of a word is a decimal digit; that is so of a word without a byte.
 pub fn are_digits(word: &[u8]) -> bool
     ensures { result ≡ all_ascii_digits word.now }
 {
@@ -37,7 +37,7 @@ pub fn digits_value(word: &[u8]) -> u64
     value
 }
 
-/// A number with one digit more, where it has 64 bits at most.
+/// A number with one digit more, where it is below 2^64.
 fn with_digit(value: u64, digit: u8) -> Option<u64>
     requires low { 48 ≤ digit }
     requires high { digit ≤ 57 }
@@ -46,7 +46,7 @@ fn with_digit(value: u64, digit: u8) -> Option<u64>
     value.checked_mul(10)?.checked_add(u64::from(digit - b'0'))
 }
 
-/// The number that decimal digits mean, however many, where it has 64 bits at most.
+/// The number that decimal digits mean, however many, where it is below 2^64; they may begin with zeros.
 pub fn checked_value(word: &[u8]) -> Option<u64>
     requires { all_ascii_digits word.now ≡ true }
     ensures { result ≡ within 18446744073709551615 (digits_value 10 word.now) }
@@ -82,7 +82,7 @@ fn lacks_leading_zero(word: &[u8]) -> bool
     }
 }
 
-/// Whether a word is the decimal form of a number: digits, without leading zeros.
+/// Whether a word is the decimal form of a number: at least one digit, and no leading zero.
 pub fn is_decimal(word: &[u8]) -> bool
     ensures { result ≡ is_decimal word.now }
 {

@@ -1,6 +1,6 @@
-//! The calls of a client that pass no parameters, and its writes. Each is refused as the state table says (`snd_pcm_state_t`): with
-//! -ENODEV in DISCONNECTED, with -EPIPE in XRUN where it counts frames or takes some back, and else with -EBADFD. It answers
-//! -EBADF where the handle isn't a client's.
+//! A client's calls but for opening, setup and status. Each is refused as the state table says (`snd_pcm_state_t`): with -ENODEV
+//! in DISCONNECTED, with -EPIPE in XRUN where it counts, writes or takes back frames, and else with -EBADFD. It answers -EBADF
+//! where the handle isn't a client's.
 //!
 //! A call that loads the position answers -ENODEV where the card is gone, and the state is DISCONNECTED then. Where it answers
 //! -EPIPE after a load, the state is XRUN.

@@ -1,5 +1,5 @@
-//! The calls of a reader that pass no parameters, and its reads. Each is refused as the state table says (`snd_pcm_state_t`): with
-//! -ENODEV in DISCONNECTED, with -EPIPE in XRUN where it counts frames, and else with -EBADFD. It answers -EBADF where the
+//! A reader's calls but for opening, setup and status. Each is refused as the state table says (`snd_pcm_state_t`): with -ENODEV
+//! in DISCONNECTED, with -EPIPE in XRUN where it counts or reads frames, and else with -EBADFD. It answers -EBADF where the
 //! handle isn't a reader's.
 //!
 //! A call that loads the position answers -ENODEV where the card is gone, and the state is DISCONNECTED then. Where it answers
