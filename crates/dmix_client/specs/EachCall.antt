@@ -32,7 +32,7 @@ IsStart Draining = ⊤
 IsStart other = ⊥
 
 -- `Fits` holds of a client as long as a call goes on, `Placed` of a commit, and `Done` of what a part of the call ends with
-pub record Leaves (Fits : PlaybackStream → Type 0) (Placed : Commit → Type 0)
+pub record CallLeaves (Fits : PlaybackStream → Type 0) (Placed : Commit → Type 0)
     (Done : Answered (Unit {0}) → Type 0) : Type 0 where
   -- the call goes on with a client that fits, and ends with one
   pub goes : (c : PlaybackStream) (done : Unit {0}) → Done (c, Ok done) → Fits c
@@ -69,13 +69,13 @@ pub record Leaves (Fits : PlaybackStream → Type 0) (Placed : Commit → Type 0
       → Done (with_outcome c (next_of c.status.state call.Start f))
 
 -- `Counted` holds of what a call ends with that answers a number
-pub record Counts (Fits : PlaybackStream → Type 0) (Done : Answered (Unit {0}) → Type 0)
+pub record CountLeaves (Fits : PlaybackStream → Type 0) (Done : Answered (Unit {0}) → Type 0)
     (Counted : Answered ℕ → Type 0) : Type 0 where
   pub fails : (c : PlaybackStream) (e : PcmError) → Done (c, Err e) → Counted (c, Err e)
   pub numbered : (c : PlaybackStream) (n : ℕ) → Fits c → Counted (c, Ok n)
 
 -- of a write of n frames: it fails, is stopped, finds no room, has the outcome of its commit, or accepts frames
-pub record Writes (Fits : PlaybackStream → Type 0) (Placed : Commit → Type 0)
+pub record WriteLeaves (Fits : PlaybackStream → Type 0) (Placed : Commit → Type 0)
     (Done : Answered (Unit {0}) → Type 0) (Counted : Answered ℕ → Type 0) (n : ℕ) : Type 0 where
   pub fails : (c : PlaybackStream) (e : PcmError) → Done (c, Err e) → Counted (c, Err e)
   pub stopped : (c : PlaybackStream) → Fits c → Counted (stopped_in c)
@@ -88,7 +88,7 @@ pub record Writes (Fits : PlaybackStream → Type 0) (Placed : Commit → Type 0
 
 -- of a rewind: its load is checked, it fails, is refused, is stopped, has the outcome of its withdrawals, of which `Left` holds, or
 -- takes back pending frames alone
-pub record Rewinds (Fits : PlaybackStream → Type 0) (Left : Commit → Type 0)
+pub record RewindLeaves (Fits : PlaybackStream → Type 0) (Left : Commit → Type 0)
     (Done : Answered (Unit {0}) → Type 0) (Counted : Answered ℕ → Type 0) : Type 0 where
   pub checked : (c : PlaybackStream) → Fits c → Gives Done (checks c)
   pub goes : (c : PlaybackStream) (done : Unit {0}) → Done (c, Ok done) → Fits c
@@ -119,7 +119,7 @@ if_admitted-gives {X = X} Q c asked m refused gives = by_refusal (refusal_of Pla
 abbrev IsPlaced : (Commit → Type 0) → Option Position × Commit → Type 0
 IsPlaced Placed found = IfSome found.0 (λ (p : Position). Placed found.1)
 
-module _ {Fits : PlaybackStream → Type 0} {Placed : Commit → Type 0} {Done : Answered (Unit {0}) → Type 0} (leaves : Leaves Fits Placed Done) where
+module _ {Fits : PlaybackStream → Type 0} {Placed : Commit → Type 0} {Done : Answered (Unit {0}) → Type 0} (leaves : CallLeaves Fits Placed Done) where
   -- ---- the parts of a call
 
   after_sync-done : (c : PlaybackStream) (asked : Call) (load : Option Position) (x : Commit) → Fits c → IfSome load (λ (p : Position). Placed x)
@@ -247,7 +247,7 @@ module _ {Fits : PlaybackStream → Type 0} {Placed : Commit → Type 0} {Done :
 
   -- ---- the calls that answer a number
 
-  module _ {Counted : Answered ℕ → Type 0} (counts : Counts Fits Done Counted) where
+  module _ {Counted : Answered ℕ → Type 0} (counts : CountLeaves Fits Done Counted) where
     with_number-counted : (number : PlaybackStream → ℕ) (done : Answered (Unit {0})) → Done done → Counted (with_number number done)
     with_number-counted number (c, Ok done) is = counts.numbered c (number c) (leaves.goes c done is)
     with_number-counted number (c, Err e) is = counts.fails c e is
@@ -269,7 +269,7 @@ module _ {Fits : PlaybackStream → Type 0} {Placed : Commit → Type 0} {Done :
 
   -- ---- a write of n frames
 
-  module _ {Counted : Answered ℕ → Type 0} {n : ℕ} (writes : Writes Fits Placed Done Counted n) where
+  module _ {Counted : Answered ℕ → Type 0} {n : ℕ} (writes : WriteLeaves Fits Placed Done Counted n) where
     accepted_if-counted : (c : PlaybackStream) (done : Answered (Unit {0})) → Fits c → Done done → Counted (accepted_if (taken_of c n) done)
     accepted_if-counted c (d, Ok done) fits is = writes.accepts c d done fits is
     accepted_if-counted c (d, Err e) fits is = writes.fails d e is
@@ -309,7 +309,7 @@ module _ {Fits : PlaybackStream → Type 0} {Placed : Commit → Type 0} {Done :
 -- ---- a rewind
 
 module _ {Fits : PlaybackStream → Type 0} {Left : Commit → Type 0} {Done : Answered (Unit {0}) → Type 0} {Counted : Answered ℕ → Type 0}
-    (rewind : Rewinds Fits Left Done Counted) where
+    (rewind : RewindLeaves Fits Left Done Counted) where
   after_rewind-counted : (c : PlaybackStream) (n : ℕ) (left : Commit) → Fits c → Left left → Counted (after_rewind c n left)
   after_rewind-counted c n left fits is = by_stop (is_stop left.ended)
     where

@@ -17,7 +17,7 @@ use Rattle.dmix_client.specs.declared.commit.Commit.{Commit}
 use Rattle.dmix_client.specs.declared.stream.PlaybackStream.{PlaybackStream}
 use Rattle.dmix_client.specs.Calls.{Answered, committed_by, found_at, going_on, going_on_by, is_running, is_stop, late_at, stopped_in, taken_of, with_number, with_outcome}
 use Rattle.dmix_client.specs.Course.{commits, drain_course, if_admitted, number_course, pause_course, start_course, sync_course, write_course}
-use Rattle.dmix_client.specs.EachCall.{Counts, Leaves, Writes, drain-done, if_admitted-gives, number-counted, pause-done, resume-done, rewindable-counted, start-done, sync-done, write-counted}
+use Rattle.dmix_client.specs.EachCall.{CallLeaves, CountLeaves, WriteLeaves, drain-done, if_admitted-gives, number-counted, pause-done, resume-done, rewindable-counted, start-done, sync-done, write-counted}
 use Rattle.dmix_client.specs.Rewind.{back_of, back_on, checks, last_channel, last_laid, rewind_left, rewind_course, rewind_on, rewindable_course, rewindable_of, rewinds, after_rewind, take_frames, taken_back, takes_back, without_frames}
 use Rattle.dmix_client.specs.View.{IsSoundClient}
 use Rattle.dmix_client.specs.Writes.{frames_in}
@@ -47,7 +47,7 @@ with_number-fed number n (c, Ok done) is = record { same = is.same }
 with_number-fed number n (c, Err e) is = record { same = is.same }
 
 -- no part of a call but a write's accepts frames
-leaves-fed : (n : ℕ) → Leaves (λ c. c.fed ≡ n) (λ x. ⊤) (IsSame n)
+leaves-fed : (n : ℕ) → CallLeaves (λ c. c.fed ≡ n) (λ x. ⊤) (IsSame n)
 leaves-fed n = record {
   goes = λ c done is. is.same;
   same = λ c is. record { same = is };
@@ -69,7 +69,7 @@ leaves-fed n = record {
   empty = λ c f is none. record { same = is };
 }
 
-counts-fed : (n : ℕ) → Counts (λ c. c.fed ≡ n) (IsSame n) (IsSame n)
+counts-fed : (n : ℕ) → CountLeaves (λ c. c.fed ≡ n) (IsSame n) (IsSame n)
 counts-fed n = record { fails = λ c e is. record { same = is.same }; numbered = λ c number is. record { same = is } }
 
 taken_of-most : (c : PlaybackStream) (n : ℕ) → taken_of c n ≤ n
@@ -81,7 +81,7 @@ fed-few fed n frames taken same few = omega (arith, same, few)
 fed-none : (fed n frames : ℕ) → fed ≡ n → fed ≤ n + frames
 fed-none fed n frames same = omega (arith, same)
 
-writes-fed : (n frames : ℕ) → Writes (λ c. c.fed ≡ n) (λ x. ⊤) (IsSame n) (IsFed (n + frames)) frames
+writes-fed : (n frames : ℕ) → WriteLeaves (λ c. c.fed ≡ n) (λ x. ⊤) (IsSame n) (IsFed (n + frames)) frames
 writes-fed n frames = record {
   fails = λ c e is. record { most = fed-none c.fed n frames is.same };
   stopped = λ c is. record { most = fed-none c.fed n frames is };

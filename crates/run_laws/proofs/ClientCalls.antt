@@ -16,7 +16,7 @@ use Rattle.wav_io.specs.Sound.{Sound}
 use Rattle.dmix_client.specs.declared.stream.PlaybackStream.{PlaybackStream}
 use Rattle.dmix_client.specs.Calls.{Answered, committed_by, going_on, going_on_by, with_number, with_outcome}
 use Rattle.dmix_client.specs.Course.{commits}
-use Rattle.dmix_client.specs.EachCall.{Counts, IsStart, Leaves, Rewinds, Writes, checks-done, rewind-counted}
+use Rattle.dmix_client.specs.EachCall.{CallLeaves, CountLeaves, IsStart, RewindLeaves, WriteLeaves, checks-done, rewind-counted}
 use Rattle.dmix_client.specs.Rewind.{take_frames, taken_back}
 use Rattle.dmix_client.specs.View.{ring_sample}
 use Rattle.lab_lines.specs.declared.line.Op.{Op}
@@ -60,7 +60,7 @@ start-text other start = elim start [ ]
 refused-reports : (c : PlaybackStream) (asked : Call) (e : PcmError) → HasState c → refusal_of Playback c.status asked ≡ Some e → CanReport e
 refused-reports c asked e is refusal = subst (λ (o : Option PcmError). IfSome o CanReport) refusal (refusal-reports Playback c.status asked is)
 
-leaves-reports : Leaves HasState (λ x. ⊤) Reports
+leaves-reports : CallLeaves HasState (λ x. ⊤) Reports
 leaves-reports = record {
   goes = λ c done reports. reports.1;
   same = λ c is. (tt, is);
@@ -82,10 +82,10 @@ leaves-reports = record {
   empty = λ c f is none. next-reports c.status.state call.Start f is;
 }
 
-counts-reports : Counts HasState Reports Reports
+counts-reports : CountLeaves HasState Reports Reports
 counts-reports = record { fails = λ c e reports. reports; numbered = λ c n is. (tt, is) }
 
-writes-reports : (n : ℕ) → Writes HasState (λ x. ⊤) Reports Reports n
+writes-reports : (n : ℕ) → WriteLeaves HasState (λ x. ⊤) Reports Reports n
 writes-reports n = record {
   fails = λ c e reports. reports;
   stopped = λ c is. (tt, is);
@@ -94,7 +94,7 @@ writes-reports n = record {
   accepts = λ c d done is reports. (tt, reports.1);
 }
 
-rewinds-reports : Rewinds HasState (λ x. ⊤) Reports Reports
+rewinds-reports : RewindLeaves HasState (λ x. ⊤) Reports Reports
 rewinds-reports = record {
   checked = λ c is. checks-done leaves-reports c is;
   goes = λ c done reports. reports.1;

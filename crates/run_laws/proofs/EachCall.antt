@@ -9,7 +9,7 @@ use Rattle.wav_io.specs.Sound.{Sound}
 use Rattle.dmix_client.specs.declared.commit.Commit.{Commit}
 use Rattle.dmix_client.specs.declared.stream.PlaybackStream.{PlaybackStream}
 use Rattle.dmix_client.specs.Calls.{Answered, avail_answer, delay_answer}
-use Rattle.dmix_client.specs.EachCall.{Counts, Leaves, Writes, drain-done, drop-done, number-counted, pause-done, prepare-done, resume-done, rewindable-counted, start-done, sync-done, write-counted}
+use Rattle.dmix_client.specs.EachCall.{CallLeaves, CountLeaves, WriteLeaves, drain-done, drop-done, number-counted, pause-done, prepare-done, resume-done, rewindable-counted, start-done, sync-done, write-counted}
 use Rattle.lab_lines.specs.declared.line.Op.{Op}
 use Rattle.lab_lines.specs.declared.line.Op.TheVariants as op
 use Rattle.lab_lines.specs.declared.row.Answer.{Answer}
@@ -26,7 +26,7 @@ pub count_answer-gives : (Counted : Answered ℕ → Type 0) (Named : PlaybackSt
 count_answer-gives Counted Named m named gives = Gives-then Counted Named m (λ done. ends (done.0, count_answer done.1)) gives named
 
 module _ {Fits : PlaybackStream → Type 0} {Placed : Commit → Type 0} {Done : Answered (Unit {0}) → Type 0} {Counted : Answered ℕ → Type 0}
-    (leaves : Leaves Fits Placed Done) (counts : Counts Fits Done Counted) (writes : (n : ℕ) → Writes Fits Placed Done Counted n) where
+    (leaves : CallLeaves Fits Placed Done) (counts : CountLeaves Fits Done Counted) (writes : (n : ℕ) → WriteLeaves Fits Placed Done Counted n) where
   -- the call that a line names, where this is known of a rewind
   pub call_of-gives : (Named : PlaybackStream × Answer → Type 0)
       → ((x : Answered (Unit {0})) → Done x → Named (x.0, done_answer x.1))

@@ -25,7 +25,7 @@ use Rattle.pcm_stream.specs.declared.direction.Direction.TheVariants.{Playback}
 use Rattle.pcm_stream.specs.Status.{is_refusal, nothing_found, refusal_in, refusal_of}
 use Rattle.dmix_client.specs.Calls.{Answered, committed_by, end_channel, end_of_commit, going_on_by, late_at, late_of}
 use Rattle.dmix_client.specs.Course.{commits}
-use Rattle.dmix_client.specs.EachCall.{Counts, Leaves, Writes}
+use Rattle.dmix_client.specs.EachCall.{CallLeaves, CountLeaves, WriteLeaves}
 use Rattle.lab_lines.specs.declared.line.Op.{Op}
 use Rattle.lab_lines.specs.declared.row.Answer.{Answer}
 use Rattle.lab_lines.specs.declared.row.Answer.TheVariants.{Done, Failed}
@@ -130,7 +130,7 @@ going_on-missed c state refused (Ok done) late = tt
 going_on-missed c state refused (Err e) late = late
 
 -- nothing need be known of the client as the call goes on
-leaves-missed : Leaves (λ c. ⊤) (λ x. ⊤) Missed
+leaves-missed : CallLeaves (λ c. ⊤) (λ x. ⊤) Missed
 leaves-missed = record {
   goes = λ c done late. tt;
   same = λ c any. tt;
@@ -154,10 +154,10 @@ leaves-missed = record {
   empty = λ c f any none. facts-late (IsNextSample c) c.status.state call.Start f None none tt;
 }
 
-counts-missed : Counts (λ c. ⊤) Missed Missed
+counts-missed : CountLeaves (λ c. ⊤) Missed Missed
 counts-missed = record { fails = λ c e late. late; numbered = λ c n any. tt }
 
-writes-missed : (n : ℕ) → Writes (λ c. ⊤) (λ x. ⊤) Missed Missed n
+writes-missed : (n : ℕ) → WriteLeaves (λ c. ⊤) (λ x. ⊤) Missed Missed n
 writes-missed n = record {
   fails = λ c e late. late;
   stopped = λ c any. tt;

@@ -20,7 +20,7 @@ use Rattle.dmix_client.specs.declared.commit.Commit.{Commit}
 use Rattle.dmix_client.specs.declared.stream.PlaybackStream.{PlaybackStream}
 use Rattle.dmix_client.specs.Calls.{Answered, committed_by, end_channel, end_of_commit, going_on_by, late_at, late_of, with_number, with_outcome}
 use Rattle.dmix_client.specs.Course.{commits, go_on, lay_each, lay_frame, lay_frames, lay_on, one_frame_more, one_more}
-use Rattle.dmix_client.specs.EachCall.{Counts, Leaves, Rewinds, Writes, checks-done, rewind-counted}
+use Rattle.dmix_client.specs.EachCall.{CallLeaves, CountLeaves, RewindLeaves, WriteLeaves, checks-done, rewind-counted}
 use Rattle.dmix_client.specs.Rewind.{take_frames, taken_back}
 use Rattle.dmix_client.specs.View.{ring_sample}
 use Rattle.lab_lines.specs.declared.line.Op.{Op}
@@ -104,7 +104,7 @@ outcome-kept : (b : List ℕ) (c : PlaybackStream) (x : Commit) (s : State) (ask
     → LateIn (λ frame channel. x.part < length (rising b)) (next_of s asked f).answer
 outcome-kept b c x s asked f short same = facts-late (λ frame channel. x.part < length (rising b)) s asked f (late_of c x) same (late-short b c x short)
 
-leaves-kept : (b : List ℕ) → Leaves (λ c. c.setup.bindings ≡ b) (Short b) (Kept b)
+leaves-kept : (b : List ℕ) → CallLeaves (λ c. c.setup.bindings ≡ b) (Short b) (Kept b)
 leaves-kept b = record {
   goes = λ c done is. is.0;
   same = λ c is. (is, tt);
@@ -128,10 +128,10 @@ leaves-kept b = record {
   empty = λ c f is none. (is, facts-late (λ frame channel. c.stretch.part < length (rising b)) c.status.state call.Start f None none tt);
 }
 
-counts-kept : (b : List ℕ) → Counts (λ c. c.setup.bindings ≡ b) (Kept b) (Kept b)
+counts-kept : (b : List ℕ) → CountLeaves (λ c. c.setup.bindings ≡ b) (Kept b) (Kept b)
 counts-kept b = record { fails = λ c e is. is; numbered = λ c n is. (is, tt) }
 
-writes-kept : (b : List ℕ) (n : ℕ) → Writes (λ c. c.setup.bindings ≡ b) (Short b) (Kept b) (Kept b) n
+writes-kept : (b : List ℕ) (n : ℕ) → WriteLeaves (λ c. c.setup.bindings ≡ b) (Short b) (Kept b) (Kept b) n
 writes-kept b n = record {
   fails = λ c e is. is;
   stopped = λ c is. (is, tt);
@@ -167,7 +167,7 @@ number-bound : (b : List ℕ) (number : PlaybackStream → ℕ) (done : Answered
 number-bound b number (c, Ok done) is = is
 number-bound b number (c, Err e) is = is
 
-rewinds-bound : (b : List ℕ) → Rewinds (λ c. c.setup.bindings ≡ b) (λ x. ⊤) (Kept b) (Bound b)
+rewinds-bound : (b : List ℕ) → RewindLeaves (λ c. c.setup.bindings ≡ b) (λ x. ⊤) (Kept b) (Bound b)
 rewinds-bound b = record {
   checked = λ c is. checks-done (leaves-kept b) c is;
   goes = λ c done is. is.0;

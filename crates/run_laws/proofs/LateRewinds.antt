@@ -15,7 +15,7 @@ use Rattle.dmix_client.specs.declared.commit.Commit.{Commit}
 use Rattle.dmix_client.specs.declared.stream.PlaybackStream.{PlaybackStream}
 use Rattle.dmix_client.specs.Calls.{Answered, committed_by, facts_of, late_at, over_of, seen_at, with_outcome, after_sync, with_number}
 use Rattle.dmix_client.specs.Course.{nothing}
-use Rattle.dmix_client.specs.EachCall.{Rewinds, rewind-counted}
+use Rattle.dmix_client.specs.EachCall.{RewindLeaves, rewind-counted}
 use Rattle.dmix_client.specs.Rewind.{back_on, checks, last_channel, last_laid, rewind_left, take_each, take_frames, take_on, taken_back}
 use Rattle.dmix_client.specs.View.{ring_sample}
 use Rattle.lab_lines.specs.declared.line.Op.{Op}
@@ -112,7 +112,7 @@ checks-kept : (c : PlaybackStream) → Gives Kept (checks c)
 unfolding checks
 checks-kept c = λ load. after_sync-kept c load
 
-rewinds-kept : Rewinds (λ c. ⊤) HasLeft Kept Kept
+rewinds-kept : RewindLeaves (λ c. ⊤) HasLeft Kept Kept
 rewinds-kept = record {
   checked = λ c any. checks-kept c;
   goes = λ c done late. tt;

@@ -19,7 +19,7 @@ use Rattle.wav_io.specs.Sound.{Sound}
 use Rattle.dmix_client.specs.declared.stream.PlaybackStream.{PlaybackStream}
 use Rattle.dmix_client.specs.Calls.{Answered, committed_by, going_on_by, with_number, with_outcome}
 use Rattle.dmix_client.specs.Course.{commits}
-use Rattle.dmix_client.specs.EachCall.{Counts, Leaves, Rewinds, Writes, checks-done, rewind-counted}
+use Rattle.dmix_client.specs.EachCall.{CallLeaves, CountLeaves, RewindLeaves, WriteLeaves, checks-done, rewind-counted}
 use Rattle.dmix_client.specs.Rewind.{take_frames, taken_back}
 use Rattle.dmix_client.specs.View.{ring_sample}
 use Rattle.lab_lines.specs.declared.line.Op.{Op}
@@ -76,7 +76,7 @@ number-ends : (number : PlaybackStream → ℕ) (done : Answered (Unit {0})) →
 number-ends number (c, Ok done) late = tt
 number-ends number (c, Err e) late = late
 
-leaves-late : Leaves (λ c. ⊤) (λ x. ⊤) EndsLate
+leaves-late : CallLeaves (λ c. ⊤) (λ x. ⊤) EndsLate
 leaves-late = record {
   goes = λ c done late. tt;
   same = λ c any. tt;
@@ -98,10 +98,10 @@ leaves-late = record {
   empty = λ c f any none. next-says c.status.state call.Start f;
 }
 
-counts-late : Counts (λ c. ⊤) EndsLate EndsLate
+counts-late : CountLeaves (λ c. ⊤) EndsLate EndsLate
 counts-late = record { fails = λ c e late. late; numbered = λ c n any. tt }
 
-writes-late : (n : ℕ) → Writes (λ c. ⊤) (λ x. ⊤) EndsLate EndsLate n
+writes-late : (n : ℕ) → WriteLeaves (λ c. ⊤) (λ x. ⊤) EndsLate EndsLate n
 writes-late n = record {
   fails = λ c e late. late;
   stopped = λ c any. tt;
@@ -110,7 +110,7 @@ writes-late n = record {
   accepts = λ c d done any late. tt;
 }
 
-rewinds-late : Rewinds (λ c. ⊤) (λ x. ⊤) EndsLate EndsLate
+rewinds-late : RewindLeaves (λ c. ⊤) (λ x. ⊤) EndsLate EndsLate
 rewinds-late = record {
   checked = λ c any. checks-done leaves-late c any;
   goes = λ c done late. tt;
