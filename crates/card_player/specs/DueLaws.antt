@@ -24,14 +24,6 @@ IsDue-past period frame due some is at = record {
   multiple = add-mod_right due period ∙ is.multiple;
 }
 
--- it isn't reached yet
-pub IsDue-before : (period frame due : ℕ) → IsDue period frame due → (frame ≡ due → ⊥) → IsDue period (frame + 1) due
-IsDue-before period frame due is other = record {
-  least = omega (arith, is.least, other);
-  near = omega (arith, is.near);
-  multiple = is.multiple;
-}
-
 -- the frame that is due is a multiple, and none before it is one
 pub is_multiple-due : (period frame due : ℕ) → IsDue period frame due → frame ≡ due → is_multiple period frame ≡ true
 is_multiple-due period frame due is at = ap (λ (k : ℕ). k % period == 0) at ∙ ap (λ (k : ℕ). k == 0) is.multiple

@@ -1,5 +1,5 @@
 -- The words of one frame, written into a buffer one after the other.
-use Rattle.std.proofs.Common.{◌≡◌, ℕ, suc, ◌+◌, ◌*◌, ◌<◌, ◌≤◌, ℤ, List, [], ◌∷◌, ◌++◌, length, take, drop, true, false, nat_lt, if◌then◌else◌, sym, ap, subst, ◌∙◌, arith, length-take, append-nil, take-append-drop, take-take, drop-drop, le-ltb}
+use Rattle.std.proofs.Common.{◌≡◌, ℕ, suc, ◌+◌, ◌*◌, ◌<◌, ◌≤◌, ℤ, List, [], ◌∷◌, ◌++◌, length, take, drop, true, false, nat_lt, if◌then◌else◌, sym, ap, subst, ◌∙◌, arith, length-take, append-nil, take-append-drop, take-take, drop-drop}
 use Rattle.std.proofs.lemmas.List.{drop-append-le, drop-set-lt, take-set-le, take_more_set}
 use Rattle.std.proofs.Math.ListN.{set}
 use Rattle.std.proofs.Math.Numerals.{suc-eq-add-one}
@@ -35,10 +35,6 @@ drop-take_more at c xs x inside =
 -- the next word of a frame that isn't wholly taken
 word_is : (g : Geometry) (f c : ℕ) → c < g.channels → word_of_frame g f c ≡ record { frame = f; channel = c }
 word_is g f c inside = ap (λ b. if b then record { frame = f; channel = c } else at_frame (f + 1)) (lt-ltb c g.channels inside)
-
--- the word of a wholly taken frame
-pub word_of_frame-end : (g : Geometry) (f : ℕ) → word_of_frame g f g.channels ≡ at_frame (f + 1)
-word_of_frame-end g f = ap (λ b. if b then record { frame = f; channel = g.channels } else at_frame (f + 1)) (le-ltb g.channels g.channels (omega arith))
 
 -- one word more is taken and written
 pub HasWritten-more : (p q r : PlayerSeat) (at c : ℕ) (old new : List ℤ) (x : Taken)

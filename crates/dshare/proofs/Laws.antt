@@ -1,5 +1,6 @@
 -- What is kept is what a history says.
 use Rattle.std.proofs.Common.{◌≡◌, ℕ, ◌+◌, ◌^◌, ◌<◌, max, Bool, true, false, ◌||◌, if◌then◌else◌, List, [], ◌∷◌, length, get_or, Option, Some, None, refl, sym, ap, subst, ◌∙◌, arith}
+use Rattle.std.proofs.lemmas.Bool.{or_parts}
 use Rattle.std.proofs.lemmas.Bool.Decides.{nat_tests}
 use Rattle.std.specs.Prelude.{IsTrue, is_some, SomeIff}
 use Rattle.std.proofs.lemmas.List.Elements.{All-from_get_or, All-get_or}
@@ -87,15 +88,11 @@ none_from : (o : Option ℕ) → is_some o ≡ false → o ≡ None
 none_from None e = refl
 none_from (Some x) e = cc
 
-or_false : (a b : Bool) → (a || b) ≡ false → (a ≡ false) × (b ≡ false)
-or_false true b e = cc
-or_false false b e = (refl, e)
-
 -- channels of which none is owned, and that are silent, are free
 pub AreFree-from : (v : Ownership) (h : List ClaimRow) (p : ℕ) (cs : List ℕ) → StandsFor v h → AllByRecursion (λ c. c < v.channels) cs → list_any (is_owned v) cs ≡ false → IsBefore (latest_of v cs) p → AreFree h p cs
 AreFree-from v h p [] stands card unowned before = tt
 AreFree-from v h p (c ∷ cs) stands card unowned before =
-    let tests = or_false (is_owned v c) (list_any (is_owned v) cs) unowned in
+    let tests = or_parts (is_owned v c) (list_any (is_owned v) cs) unowned in
     let parts = IsBefore-later (last_owned_frame v c) (latest_of v cs) p before in (
       record {
         unowned = none_from (owner_of h c) (sym (stands.owned c card.0) ∙ tests.0);

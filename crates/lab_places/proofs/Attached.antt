@@ -9,7 +9,7 @@ use Rattle.sum_table.specs.declared.seats.player.PlayerSeat.{PlayerSeat}
 use Rattle.sum_table.specs.declared.view.Key.{Key}
 use Rattle.sum_table.specs.Known.{last_frame}
 use Rattle.sum_table.specs.Players.{position_of_player}
-use Rattle.sum_table.specs.Seats.{key_of, marks_of_seat, member_of, view_of}
+use Rattle.sum_table.specs.Seats.{key_of, marks_of_seat, member_of}
 use Rattle.lobby.specs.declared.lobby.Lobby.{Lobby as Free}
 use Rattle.lobby.specs.Lobbies.{Attaches, IsSilentSeat, free_seats, key_of_lobby, ring_of_lobby, seen_of_lobby}
 use Rattle.lobby.specs.Seats.{IsPlace, last_of, lowest_free, lowest_silent}

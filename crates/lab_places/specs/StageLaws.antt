@@ -1,20 +1,17 @@
 -- An opening and a closing in a run, by what they make of the places and claims.
-use Rattle.std.specs.Prelude.{◌≡◌, ℕ, true, Option, Some, None, Result, Ok, Err}
+use Rattle.std.specs.Prelude.{◌≡◌, ℕ, Option, Some, None, Result, Ok, Err}
 use Rattle.std.proofs.Common.{refl, ap, ◌∙◌}
 use Rattle.snd_base.specs.declared.errors.PcmError.{PcmError}
-use Rattle.mix_core.specs.Marks.{high_frame}
 use Rattle.pcm_states.specs.declared.states.State.TheVariants as state
-use Rattle.dmix_client.specs.declared.stream.PlaybackStream.{PlaybackStream}
 use Rattle.lab_lines.specs.declared.line.Actor.TheVariants as actor
 use Rattle.lab_lines.specs.declared.line.Op.TheVariants as op
-use Rattle.lab_lines.specs.declared.row.Answer.TheVariants.{Done}
 use Rattle.lab_run.specs.Claims.{claim_refusal}
 use Rattle.lab_run.specs.Client.{Client}
-use Rattle.lab_run.specs.Items.{Held, held_of, held_without, reaped_one}
+use Rattle.lab_run.specs.Items.{Held, held_of}
 use Rattle.lab_run.specs.Places.{Lobby, after_attach}
 use Rattle.lab_run.specs.Rules.{AtPort}
-use Rattle.lab_run.specs.Stage.{Session, Setup, Stage, attached_client, claimed_client, close_client, done_open, ended_client, open_client_with, opened_client, refused_open, renewed_port, stage_row, with_client_at, with_row}
-use Rattle.lab_places.specs.Held.{attached_held, closed_held, opened_held, opened_if}
+use Rattle.lab_run.specs.Stage.{Session, Setup, Stage, attached_client, claimed_client, done_open, open_client_with, opened_client, refused_open, renewed_port, with_client_at}
+use Rattle.lab_places.specs.Held.{attached_held, opened_held, opened_if}
 use Rattle.lab_places.specs.HeldLaws.{Came}
 
 -- a stage with these places and claims
@@ -52,16 +49,6 @@ module _ (session : Session) (stage : Stage) (number : ℕ) where
       → open_client_with session stage number (Some setup) client ≡ opened_stage session stage number setup client (came_of session stage number setup)
   open_client_with-came_of setup client = claimed-opened setup client (claim_refusal session.card.share stage.claims setup.bindings stage.position)
 
-  held_of-opened_stage : (setup : Setup) (client : AtPort × Client) (came : Came) → held_of (opened_stage session stage number setup client came) ≡ came.0
-  held_of-opened_stage setup client (held, Ok done) = refl
-  held_of-opened_stage setup client (held, Err e) = refl
-
-  -- its places and claims are those
-  pub held_of-open_client_with : (setup : Setup) (client : AtPort × Client)
-      → held_of (open_client_with session stage number (Some setup) client) ≡ (came_of session stage number setup).0
-  held_of-open_client_with setup client =
-      ap held_of (open_client_with-came_of setup client) ∙ held_of-opened_stage setup client (came_of session stage number setup)
-
   opened_stage-done : (setup : Setup) (client : AtPort × Client) (came : Came) → came.1 ≡ Ok tt
       → opened_stage session stage number setup client came ≡ done_open (actor.Client number) (with_opened session number setup client (with_held came.0 stage))
   opened_stage-done setup client (held, Ok done) is = refl
@@ -85,25 +72,3 @@ module _ (session : Session) (stage : Stage) (number : ℕ) where
       → open_client_with session stage number (Some setup) client ≡ refused_open (actor.Client number) e (with_held (came_of session stage number setup).0 stage)
   open_client_with-refused setup client e is =
       open_client_with-came_of setup client ∙ opened_stage-refused setup client (came_of session stage number setup) e is
-
-  -- a closing of an open client gives its place and its channels back
-  pub close_client-closed_held : (client : AtPort × Client) (c : PlaybackStream)
-      → close_client session stage number client (Some c)
-      ≡ with_row (stage_row stage (actor.Client number) op.Closes Done state.Open c.seen)
-      (with_client_at number (ended_client session.ring client)
-      (with_held (closed_held session.card.share number c.setup.bindings (high_frame session.ring client.0.marks) (held_of stage)) stage))
-  close_client-closed_held client c = refl
-
-  pub held_of-close_client : (client : AtPort × Client) (c : PlaybackStream)
-      → held_of (close_client session stage number client (Some c))
-      ≡ closed_held session.card.share number c.setup.bindings (high_frame session.ring client.0.marks) (held_of stage)
-  held_of-close_client client c = refl
-
-  -- and so does one that was stopped, when it is reaped
-  pub held_without-closed_held : (a : AtPort) (c : PlaybackStream) (held : Held)
-      → held_without session number a (Some c) held ≡ closed_held session.card.share number c.setup.bindings (high_frame session.ring a.marks) held
-  held_without-closed_held a c held = refl
-
-  pub reaped_one-closed_held : (a : AtPort) (client : Client) (c : PlaybackStream) (held : Held) → client.own ≡ Some c
-      → reaped_one session number (a, client) true held ≡ closed_held session.card.share number c.setup.bindings (high_frame session.ring a.marks) held
-  reaped_one-closed_held a client c held own = ap (λ (o : Option PlaybackStream). held_without session number a o held) own

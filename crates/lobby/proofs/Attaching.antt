@@ -13,7 +13,7 @@ use Rattle.sum_table.specs.Known.{last_frame}
 use Rattle.sum_table.specs.Seats.{view_of}
 use Rattle.lobby.specs.Loads.{HasLoaded, HasLoadedBeside}
 use Rattle.lobby.specs.declared.lobby.Lobby.{Lobby}
-use Rattle.lobby.specs.Lobbies.{Attaches, IsLaterLobby, LoadsAt, Outcome, free_seats, seen_of_lobby}
+use Rattle.lobby.specs.Lobbies.{Attaches, LoadsAt, Outcome, free_seats, seen_of_lobby}
 use Rattle.lobby.specs.Seats.{IsLeast, KeepsLasts, is_below, is_silent, last_of, lowest_free, seat_at}
 
 position-set : {X : Type 0} (p : X → Bool) (xs : List X) (i : ℕ) (y d : X) → p y ≡ p (get_or xs i d) → position p (set xs i y) ≡ position p xs
@@ -57,9 +57,6 @@ Outcome-before p before between after (Err e) keeps out = (
   },
   out.1,
 )
-
-pub IsLaterLobby-joined : (k l m : Lobby) → IsLaterLobby k l → IsLaterLobby l m → IsLaterLobby k m
-IsLaterLobby-joined k l m first then = record { base = then.base ∙ first.base; ring = then.ring ∙ first.ring; key = then.key ∙ first.key; places = then.places ∙ first.places; same_reaped = then.same_reaped ∙ first.same_reaped }
 
 -- a load by the seat of a place, and what came of it
 pub attached : (load : Position → MixSeat → MixSeat → Type 0) (place : ℕ) (l k m : Lobby) (p : Position) (r : Result MixSeat PcmError)

@@ -6,7 +6,7 @@ use Rattle.std.proofs.lemmas.Bool.Decides.{nat_tests}
 use Rattle.std.proofs.lemmas.Option.{none-some, same_Some}
 use Rattle.sum_table.specs.declared.seats.mix.MixSeat.{MixSeat}
 use Rattle.lobby.specs.Seats.{is_below, is_silent, last_frames, last_of, lowest_free, lowest_silent, seat_at}
-use Rattle.lobby.proofs.Placed.{lowest-found}
+use Rattle.lobby.proofs.Placed.{has_value, lowest-found}
 
 -- a test that passes nowhere fails at each element
 fails : {X : Type 0} (p : X → Bool) (xs : List X) (k : ℕ) (d : X) → length xs ≤ prefix_len (λ x. not (p x)) xs → k < length xs → p (get_or xs k d) ≡ false
@@ -33,14 +33,10 @@ no_last (None ∷ seats) (suc k) s none is = no_last seats k s none is
 no_last (Some t ∷ seats) zero s none is = ap last_of (sym (same_Some t s is)) ∙ (cons_none (last_of t) (last_frames seats) none).0
 no_last (Some t ∷ seats) (suc k) s none is = no_last seats k s (cons_none (last_of t) (last_frames seats) none).1 is
 
-value_of : {X : Type 0} (o : Option X) → IsSome o → (x : X) × (o ≡ Some x)
-value_of None is = absurd (false≢true is)
-value_of (Some x) is = (x, refl)
-
 -- a free seat that may not be handed out has a last frame
 pub some_last : (seats : List (Option MixSeat)) (p : ℕ) → IsSome (lowest_free seats) → lowest_silent p seats ≡ None → last_frames seats ≡ [] → ⊥
 some_last seats p free none empty =
-    let place = value_of (lowest_free seats) free in
+    let place = has_value (lowest_free seats) free in
     let found = lowest-found seats place.0 place.1 in
     let s : MixSeat = found.1.0 in
     let no_frame : last_of s ≡ None = no_last seats place.0 s empty found.1.1 in

@@ -1,5 +1,5 @@
 -- The least of the last frames, as more seats are looked at.
-use Rattle.std.proofs.Common.{◌≡◌, ℕ, ◌+◌, ◌<◌, ◌≤◌, ◌^◌, All, Contains, List, [], ◌∷◌, ◌++◌, Option, None, Some, IfSome, MatchOption, add-one, get_or, length, min, take, arith, ap, refl, subst, sym, ◌∙◌, inl, inr}
+use Rattle.std.proofs.Common.{◌≡◌, ℕ, ◌+◌, ◌<◌, ◌≤◌, ◌^◌, All, List, [], ◌∷◌, ◌++◌, Option, None, Some, IfSome, MatchOption, add-one, get_or, length, min, take, arith, ap, refl, subst, sym, ◌∙◌, inl, inr}
 use Rattle.std.specs.List.{cons_option}
 use Rattle.std.specs.Option.{option_and_then, option_to_list}
 use Rattle.std.proofs.lemmas.Bool.{cases_lt}
@@ -19,23 +19,14 @@ below_more xs a b each k d inside = let le = each k d inside in omega arith
 one : (b : ℕ) → IsLeast (b ∷ []) b
 one b = record { among = Contains-push [] b; least = λ k d inside. grind arith }
 
-min_left : (a b : ℕ) → a ≤ b → min a b ≡ a
-min_left a b le = omega arith
-
-min_right : (a b : ℕ) → b ≤ a → min a b ≡ b
-min_right a b le = omega arith
-
 both : (xs : List ℕ) (a b : ℕ) → IsLeast xs a → IsLeast (xs ++ b ∷ []) (min a b)
-both xs a b is = elim (cases_lt b a) [
-  | inl lower ↦ record {
-    among = subst (Contains (xs ++ b ∷ [])) (sym (min_right a b (omega arith))) (Contains-push xs b);
-    least = All-push (λ y. min a b ≤ y) xs b (below_more xs a b is.least) (omega arith);
-  }
-  | inr not_lower ↦ record {
-    among = subst (Contains (xs ++ b ∷ [])) (sym (min_left a b (omega arith))) (Contains-append_left xs (b ∷ []) a is.among);
-    least = All-push (λ y. min a b ≤ y) xs b (below_more xs a b is.least) (omega arith);
-  }
-]
+both xs a b is = record {
+  among = elim (cases_lt b a) [
+    | inl lower ↦ let second : min a b ≡ b = omega arith in rw second (Contains-push xs b)
+    | inr not_lower ↦ let first : min a b ≡ a = omega arith in rw first (Contains-append_left xs (b ∷ []) a is.among)
+  ];
+  least = All-push (λ y. min a b ≤ y) xs b (below_more xs a b is.least) (omega arith);
+}
 
 -- one more frame
 least-more : (xs : List ℕ) (o new : Option ℕ) → IsLeastOf xs o → IsLeastOf (xs ++ option_to_list new) (earlier o new)

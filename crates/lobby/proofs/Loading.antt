@@ -1,37 +1,28 @@
 -- What a load leaves of a seat and of the player.
-use Rattle.std.proofs.Common.{ℕ, ◌∙◌}
+use Rattle.std.proofs.Common.{◌≡◌, ℕ, ◌∙◌}
 use Rattle.mix_core.specs.declared.port.Position.{Position}
 use Rattle.sum_table.specs.declared.seats.mix.MixSeat.{MixSeat}
 use Rattle.sum_table.specs.declared.seats.player.PlayerSeat.{PlayerSeat}
 use Rattle.sum_table.specs.declared.view.Key.{Key}
-use Rattle.sum_table.specs.Seats.{IsLaterSeat, TableId}
+use Rattle.sum_table.specs.Seats.{IsLaterSeat, TableId, key_of, member_of, places_of_seat, ring_of}
 use Rattle.lobby.specs.Loads.{HasLoaded, HasLoadedBeside}
 use Rattle.lobby.specs.Seats.{IsPlace}
 
--- a seat that did something is still that of its place
-IsPlace-goes : (ring : TableId) (key : Key) (place : ℕ) (s t : MixSeat) → IsLaterSeat s t → IsPlace ring key place s → IsPlace ring key place t
-IsPlace-goes ring key place s t goes is = record {
-  of_ring = goes.ring ∙ is.of_ring;
-  of_key = goes.key ∙ is.of_key;
-  member = goes.member ∙ is.member;
-  places = goes.places ∙ is.places;
-}
+-- a seat of the same ring, member and places is that of the place as well
+IsPlace-as : (ring : TableId) (key : Key) (place : ℕ) (s t : MixSeat) → ring_of t ≡ ring_of s → key_of t ≡ key_of s → member_of t ≡ member_of s → places_of_seat t ≡ places_of_seat s
+    → IsPlace ring key place s → IsPlace ring key place t
+IsPlace-as ring key place s t same_ring same_key member places is =
+    record { of_ring = same_ring ∙ is.of_ring; of_key = same_key ∙ is.of_key; member = member ∙ is.member; places = places ∙ is.places }
 
+-- so is a seat that did something
 pub IsPlace-loaded : (ring : TableId) (key : Key) (place : ℕ) (s t : MixSeat) (p : Position) → HasLoaded s t p → IsPlace ring key place s → IsPlace ring key place t
-IsPlace-loaded ring key place s t p load is = IsPlace-goes ring key place s t load.laid_nothing.goes is
+IsPlace-loaded ring key place s t p load is =
+    let goes : IsLaterSeat s t = load.laid_nothing.goes in
+    IsPlace-as ring key place s t goes.ring goes.key goes.member goes.places is
 
 pub IsPlace-loaded_beside : (ring : TableId) (key : Key) (place : ℕ) (p : PlayerSeat) (s : MixSeat) (q : PlayerSeat) (t : MixSeat) (x : Position)
     → HasLoadedBeside p s q t x → IsPlace ring key place s → IsPlace ring key place t
 IsPlace-loaded_beside ring key place p s q t x beside is =
-    let located : IsPlace ring key place beside.located = IsPlace-loaded ring key place beside.fresh beside.located x beside.load (record {
-      of_ring = beside.met.ring ∙ is.of_ring;
-      of_key = beside.met.key ∙ is.of_key;
-      member = beside.met.member ∙ is.member;
-      places = beside.met.places ∙ is.places;
-    }) in
-    record {
-      of_ring = beside.told.stays.ring ∙ located.of_ring;
-      of_key = beside.told.stays.key ∙ located.of_key;
-      member = beside.told.stays.member ∙ located.member;
-      places = beside.told.same_places ∙ located.places;
-    }
+    let met = IsPlace-as ring key place s beside.fresh beside.met.ring beside.met.key beside.met.member beside.met.places is in
+    let located = IsPlace-loaded ring key place beside.fresh beside.located x beside.load met in
+    IsPlace-as ring key place beside.located t beside.told.stays.ring beside.told.stays.key beside.told.stays.member beside.told.same_places located

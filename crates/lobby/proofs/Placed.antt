@@ -62,11 +62,6 @@ silent-found p seats place is =
     let found = position-Some (is_silent p) seats place None is in
     (found.0, silent_value p (get_or seats place None) found.1)
 
--- what was read at its place is this seat
-pub silent-read : (p : ℕ) (seats : List (Option MixSeat)) (place : ℕ) (o : Option MixSeat) (s : MixSeat) → lowest_silent p seats ≡ Some place
-    → o ≡ get_or seats place o → o ≡ Some s → seat_at seats place ≡ Some s
-silent-read p seats place o s is at same = sym (at ∙ get_or_default seats place o None (silent-found p seats place is).0) ∙ same
-
 pub silent-not_none : (p : ℕ) (seats : List (Option MixSeat)) (place : ℕ) (o : Option MixSeat) → lowest_silent p seats ≡ Some place
     → o ≡ get_or seats place o → o ≡ None → ⊥
 silent-not_none p seats place o is at none =
@@ -77,14 +72,16 @@ below : (p : ℕ) (o : Option ℕ) → is_below p o ≡ true → IfSome o (λ fr
 below p None is = tt
 below p (Some frame) is = grind (arith, nat_tests)
 
--- the seat that is handed out
-pub silent-given : (ring : TableId) (key : Key) (p : ℕ) (seats : List (Option MixSeat)) (place : ℕ) (s : MixSeat) → ArePlaces ring key seats
-    → lowest_silent p seats ≡ Some place → seat_at seats place ≡ Some s
-    → (member_of s ≡ place) × IsPlace ring key (member_of s) s × IfSome (last_of s) (λ frame. frame < p)
-silent-given ring key p seats place s are is at =
-    let here : IsPlace ring key place s = are place s at in
-    let found = silent-found p seats place is in (
+-- the seat that is handed out is what was read at its place
+pub silent-given : (ring : TableId) (key : Key) (p : ℕ) (seats : List (Option MixSeat)) (place : ℕ) (o : Option MixSeat) (s : MixSeat) → ArePlaces ring key seats
+    → lowest_silent p seats ≡ Some place → o ≡ get_or seats place o → o ≡ Some s
+    → (member_of s ≡ place) × IsPlace ring key (member_of s) s × IfSome (last_of s) (λ frame. frame < p) × (seat_at seats place ≡ Some s)
+silent-given ring key p seats place o s are is read same =
+    let found = silent-found p seats place is in
+    let at : seat_at seats place ≡ Some s = sym (read ∙ get_or_default seats place o None found.0) ∙ same in
+    let here : IsPlace ring key place s = are place s at in (
       here.member,
       subst (λ i. IsPlace ring key i s) (sym here.member) here,
       below p (last_of s) (ap (λ t. is_below p (last_of t)) (same_Some s found.1.0 (sym at ∙ found.1.1)) ∙ found.1.2),
+      at,
     )

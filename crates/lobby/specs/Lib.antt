@@ -1,4 +1,3 @@
 pub mod Lobbies
-pub mod LobbyLaws
 pub mod Loads
 pub mod Seats

@@ -1,5 +1,5 @@
 -- What contracts say of a lobby, and what its calls do.
-use Rattle.std.specs.Prelude.{◌≡◌, ℕ, ◌+◌, ◌<◌, List, [], ◌∷◌, length, Option, None, Some, Result, IfSome, MatchResult, slice_set}
+use Rattle.std.specs.Prelude.{◌≡◌, ℕ, ◌<◌, List, [], ◌∷◌, length, Option, None, Some, Result, IfSome, MatchResult, slice_set}
 use Rattle.std.specs.List.{flat_map}
 use Rattle.snd_base.specs.declared.errors.PcmError.{PcmError}
 use Rattle.snd_base.specs.Places.{first_frame}

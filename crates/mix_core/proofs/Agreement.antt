@@ -1,12 +1,10 @@
 -- What each event does to the agreement of a core with what was placed and what was taken.
-use Rattle.std.proofs.Common.{◌≡◌, ℕ, ◌+◌, ◌<◌, ◌≤◌, Bool, true, false, ◌==◌, ◌&&◌, ◌||◌, List, [], ◌∷◌, ◌++◌, length, get_or, set, pos, ◌+ℤ◌, inl, inr, arith, subst, sym, refl, ap, ◌∙◌, nat_lt}
+use Rattle.std.proofs.Common.{◌≡◌, ℕ, ◌+◌, ◌<◌, ◌≤◌, Bool, false, ◌==◌, ◌&&◌, ◌||◌, List, [], ◌∷◌, ◌++◌, length, get_or, set, pos, ◌+ℤ◌, inl, inr, arith, subst, sym, refl, ap, ◌∙◌, nat_lt}
 use Rattle.std.proofs.Math.Bool.{or_comm}
 use Rattle.std.proofs.Math.Nat.{add-div_right}
-use Rattle.std.proofs.Math.Seq.{get_or-append_seam}
 use Rattle.std.proofs.lemmas.Bool.Decides.{nat_tests}
-use Rattle.std.proofs.lemmas.List.{get_or-set_same, get_or-set_other, get_or_append_left, length-append, length-set}
+use Rattle.std.proofs.lemmas.List.{get_or-set_same, get_or-set_other, length-append, length-set}
 use Rattle.std.proofs.lemmas.List.Elements.{All-push}
-use Rattle.std.proofs.lemmas.List.Folds.{list_any_at}
 use Rattle.snd_base.specs.declared.geometry.Geometry.{Geometry}
 use Rattle.snd_base.specs.PlaceLaws.{next_word-suc, nat_lt-behind}
 use Rattle.snd_base.specs.Places.{cursor_after, first_frame, first_free, lap, next_word, word_index}
@@ -14,15 +12,15 @@ use Rattle.lap_word.specs.Clamp.{clamp_of}
 use Rattle.lap_word.specs.Word.{StandsFor, StandsFor-fields, count_of, lap_of, sum_of}
 use Rattle.mix_core.specs.declared.port.Entry.{Entry}
 use Rattle.mix_core.specs.declared.event.Taken.{Taken}
-use Rattle.mix_core.specs.History.{AreInOrder, is_taken, taken_place}
+use Rattle.mix_core.specs.History.{is_taken}
 use Rattle.mix_core.specs.Laid.{at, marks_after, marks_of, total, value_of}
 use Rattle.mix_core.specs.declared.marks.Marks.{Marks}
 use Rattle.mix_core.specs.OwnLaws.{marks_of-other, marks_of-own}
 use Rattle.mix_core.specs.Sound.{IsNow, IsSound}
 use Rattle.mix_core.specs.Stands.{Agrees}
 use Rattle.mix_core.specs.View.{View, marks_at, word_at}
-use Rattle.mix_core.proofs.Lists.{at-more_elsewhere, at-more_here, is_taken-more, total-more_elsewhere, total-more_here}
-use Rattle.mix_core.proofs.Words.{words-taken, words-written}
+use Rattle.mix_core.specs.MoreLaws.{AreInOrder-more, at-more_elsewhere, at-more_here, is_taken-more, is_taken-none, total-more_elsewhere, total-more_here}
+use Rattle.mix_core.specs.Written.{IsNow-next, word_places, words-taken, words-written}
 use Rattle.std.proofs.lemmas.Bool.{cases_eq}
 
 -- a core after the next word was taken, and after an entry was placed, with a new word there
@@ -38,45 +36,13 @@ taking v es = record { frame = v.next.frame; channel = v.next.channel; value = c
 
 -- a later position
 pub Agrees-published : (v : View) (es : List Entry) (ts : List Taken) (position : ℕ) → v.position ≤ position → Agrees v es ts → Agrees (record v { position = position }) es ts
-Agrees-published v es ts position later a = record {
-  next = a.next;
-  marks = a.marks;
-  taken = a.taken;
-  ahead = λ f c far. a.ahead f c (omega (arith, far));
-  words = a.words;
-  in_order = a.in_order;
-  exact = a.exact;
-}
+Agrees-published v es ts position later a =
+    let ahead : (f c : ℕ) → position + v.geometry.frames ≤ f → at es f c ≡ [] = λ f c far. a.ahead f c (omega (arith, far)) in
+    assumption
 
 -- the card is gone
 pub Agrees-unplugged : (v : View) (es : List Entry) (ts : List Taken) (gone : Bool) → Agrees v es ts → Agrees (record v { gone = gone }) es ts
-Agrees-unplugged v es ts gone a = record {
-  next = a.next;
-  marks = a.marks;
-  taken = a.taken;
-  ahead = a.ahead;
-  words = a.words;
-  in_order = a.in_order;
-  exact = a.exact;
-}
-
--- the next word is one that the ring has now
-pub IsNow-next : (v : View) → IsSound v → IsNow v.geometry v.next v.next.frame v.next.channel
-IsNow-next v s = record {
-  channel = s.next_channel;
-  low = grind (arith, nat_tests);
-  high = grind (arith, nat_tests, v.geometry.frames_least);
-}
-
--- one more was taken, in order
-pub AreInOrder-more : (g : Geometry) (ts : List Taken) (t : Taken) → AreInOrder g ts → taken_place t ≡ next_word g (length ts) → AreInOrder g (ts ++ t ∷ [])
-AreInOrder-more g ts t in_order here i d within =
-    elim (cases_eq i (length ts)) [
-      | inl last ↦ subst (λ k. taken_place (get_or (ts ++ t ∷ []) k d) ≡ next_word g k) (sym last) (ap taken_place (get_or-append_seam ts t [] d) ∙ here)
-      | inr before ↦
-          let below : i < length ts = omega (arith, length-append ts (t ∷ [])) in
-          ap taken_place (get_or_append_left ts (t ∷ []) d i below) ∙ in_order i d below
-    ]
+Agrees-unplugged v es ts gone a = assumption
 
 -- the next word was taken
 pub Agrees-taken : (v : View) (es : List Entry) (ts : List Taken) (word : ℕ)
@@ -86,7 +52,7 @@ Agrees-taken v es ts word s stands a =
     let g : Geometry = v.geometry in
     let nf : ℕ = v.next.frame in
     let nc : ℕ = v.next.channel in
-    let now : StandsFor (word_at v nf nc) (lap g nf) (length (at es nf nc)) (total es nf nc) = a.words nf nc (IsNow-next v s) in
+    let now : StandsFor (word_at v nf nc) (lap g nf) (length (at es nf nc)) (total es nf nc) = a.words nf nc (IsNow-next g v.next s.next_channel) in
     let lap_is : lap_of (word_at v nf nc) ≡ lap g nf = (StandsFor-fields _ _ _ _ now).0 in
     let some : 0 < g.frames = omega (arith, g.frames_least) in
     let next_lap : lap g (nf + g.frames) ≡ lap g nf + 1 = add-div_right nf some in
@@ -101,18 +67,10 @@ Agrees-taken v es ts word s stands a =
           ∙ (ap (λ b. b || ((nf == f) && (nc == c))) (a.taken f c in_range least)
           ∙ (or_comm (nat_lt f (first_free v.next c)) ((nf == f) && (nc == c)) ∙ sym (nat_lt-behind g v.next f c s.next_channel in_range)));
       ahead = a.ahead;
-      words = words-taken P g v.next v.words word s.room s.next_channel here a.words;
+      words = words-taken g (word_index g) _ (word_places g) P v.next v.words word s.room s.next_channel here a.words;
       in_order = AreInOrder-more g ts (taking v es) a.in_order a.next;
       exact = All-push (λ (t : Taken). t.value ≡ clamp_of (total es t.frame t.channel)) ts (taking v es) a.exact refl;
     }
-
--- no take is at a frame and channel that is not taken
-pub is_taken-none : (ts : List Taken) (f c k : ℕ) (d : Taken) → is_taken ts f c ≡ false → k < length ts → ¬ ((f ≡ (get_or ts k d).frame) × (c ≡ (get_or ts k d).channel))
-is_taken-none ts f c k d none within same =
-    let t : Taken = get_or ts k d in
-    let here : ((t.frame == f) && (t.channel == c)) ≡ true = grind (arith, nat_tests) in
-    let found : is_taken ts f c ≡ true = list_any_at (λ (x : Taken). (x.frame == f) && (x.channel == c)) ts k d within here in
-    cc
 
 -- an entry was placed where nothing was taken
 pub Agrees-laid : (v : View) (e : Entry) (es : List Entry) (ts : List Taken) (word : ℕ)
@@ -149,7 +107,7 @@ Agrees-laid v e es ts word s member now ahead stands a =
       ahead = λ k d far.
           let elsewhere : ¬ ((f ≡ k) × (c ≡ d)) = λ same. absurd (omega (arith, same.0, far, ahead)) in
           at-more_elsewhere es e k d elsewhere ∙ a.ahead k d far;
-      words = words-written P Q g v.next v.words f c word s.room now here others a.words;
+      words = words-written g (word_index g) _ (word_places g) P Q v.next v.words f c word s.room now here others a.words;
       in_order = a.in_order;
       exact = λ k d within.
           a.exact k d within

@@ -4,24 +4,22 @@ use Rattle.std.proofs.lemmas.Bool.Decides.{nat_tests}
 use Rattle.std.proofs.lemmas.List.{length-set}
 use Rattle.std.proofs.lemmas.List.Sums.{fold_push}
 use Rattle.snd_base.specs.declared.places.Cursor.{Cursor}
-use Rattle.snd_base.specs.Places.{IsFrom, first_frame, first_free, lap}
+use Rattle.snd_base.specs.Places.{first_frame, first_free, lap}
 use Rattle.lap_word.specs.Clamp.{clamp_of}
 use Rattle.lap_word.specs.Word.{StandsFor, count_of, lap_of, sum_of}
 use Rattle.mix_core.specs.declared.event.Event.TheVariants.{Publish, Take}
 use Rattle.mix_core.specs.declared.event.Reply.TheVariants.{In, LapEnd, Published, Took}
 use Rattle.mix_core.specs.declared.port.Entry.{Entry}
 use Rattle.mix_core.specs.declared.event.Taken.{Taken}
-use Rattle.mix_core.specs.History.{IsInside, IsReply, Row, entry_of, event_by, is_taken, laid_of, position_after, position_of, entry_row, taken_words, taking_of}
+use Rattle.mix_core.specs.History.{IsReply, Row, entry_of, is_taken, laid_of, position_after, position_of, entry_row, taken_words, taking_of}
 use Rattle.mix_core.specs.Laid.{total, value_of}
 use Rattle.mix_core.specs.HistoryLaws.{entry_of-row, position_after-row, taking_of-row}
-use Rattle.mix_core.specs.declared.marks.Marks.{Marks}
-use Rattle.mix_core.specs.declared.port.Kind.TheVariants.{Added}
 use Rattle.mix_core.specs.Sound.{IsNow, IsSound}
 use Rattle.mix_core.specs.Stands.{Agrees, RepresentsHistory}
-use Rattle.mix_core.specs.View.{View, cursor_at, word_at}
+use Rattle.mix_core.specs.View.{View, word_at}
 use Rattle.mix_core.proofs.Agreement.{Agrees-laid, Agrees-published, Agrees-taken, Agrees-unplugged, laid_view, taken_view}
 use Rattle.mix_core.specs.LegalLaws.{IsLegal-more}
-use Rattle.mix_core.proofs.Lists.{filter_map-none, filter_map-some}
+use Rattle.mix_core.specs.MoreLaws.{filter_map-none, filter_map-some}
 
 -- a publication
 pub RepresentsHistory-published : (v : View) (h : List Row) → v.position ≤ v.next.frame → RepresentsHistory v h
@@ -103,18 +101,3 @@ untaken-now v h f c sound now s =
     let least : first_frame v.geometry ≤ f = grind (arith, nat_tests, now.low, sound.next_least) in
     let untaken : nat_lt f (first_free v.next c) ≡ false = grind (arith, nat_tests, now.low) in
     s.agrees.taken f c now.channel least ∙ untaken
-
--- the history replies to such an add of a member that it is in time
-pub reply-added : (v : View) (h : List Row) (e : Entry) → IsSound v → e.kind ≡ Added
-    → e.member < length v.marks → IsFrom (cursor_at v e.member) e.frame e.channel → IsNow v.geometry v.next e.frame e.channel
-    → e.frame < v.position + v.geometry.frames → lap v.geometry e.frame < 4294967295
-    → RepresentsHistory v h → IsReply v.geometry (length v.marks) h (entry_row e)
-reply-added v h e sound kind member from now ahead fits s =
-    let inside : IsInside v.geometry (length v.marks) h e.member e.frame e.channel = record {
-      member_in_range = member;
-      channel_in_range = now.channel;
-      from_cursor = subst (λ (m : Marks). IsFrom m.cursor e.frame e.channel) (s.agrees.marks e.member _ member) from;
-      lap_fits = fits;
-      ahead = subst (λ p. e.frame < p + v.geometry.frames) s.position ahead;
-    } in
-    subst (λ k. IsReply v.geometry (length v.marks) h (event_by k e.member e.frame e.channel e.sample, In)) (sym kind) (inside, untaken-now v h e.frame e.channel sound now s)

@@ -11,7 +11,7 @@ use Rattle.mix_core.specs.declared.port.Entry.{Entry}
 use Rattle.mix_core.specs.declared.port.Kind.{Kind}
 use Rattle.mix_core.specs.declared.port.Kind.TheVariants.{Added, Withdrawn}
 use Rattle.mix_core.specs.Calls.{IsLaidBy}
-use Rattle.mix_core.specs.Laid.{marks_with, marks_after, signed_sample, value_of}
+use Rattle.mix_core.specs.Laid.{marks_after, signed_sample, value_of}
 use Rattle.mix_core.specs.Port.{IsNotBefore}
 use Rattle.mix_core.specs.PortLaws.{IsNotBefore-refl}
 use Rattle.mix_core.specs.Sound.{AreWithin, IsNow, IsSound}
@@ -39,57 +39,35 @@ marks_within v m s inside = s.marks_within m _ inside
 pub can_add : (v w : View) (e : Entry) → v ≡ w → IsSound v → SFits w16 e.sample → e.kind ≡ Added
     → e.member < length w.marks → e.channel < w.geometry.channels → IsFrom (cursor_at w e.member) e.frame e.channel
     → first_free w.next e.channel ≤ e.frame → e.frame < w.position + w.geometry.frames → lap w.geometry e.frame < 4294967295 → CanLay v e
-can_add v w e same s sample kind member channel from untaken ahead fits =
-    let member_in : e.member < length v.marks = subst (λ (x : View). e.member < length x.marks) (sym same) member in
-    let channel_in : e.channel < v.geometry.channels = subst (λ (x : View). e.channel < x.geometry.channels) (sym same) channel in
-    let not_before : first_free v.next e.channel ≤ e.frame = subst (λ (x : View). first_free x.next e.channel ≤ e.frame) (sym same) untaken in
-    let near : e.frame < v.position + v.geometry.frames = subst (λ (x : View). e.frame < x.position + x.geometry.frames) (sym same) ahead in
-    let from_v : IsFrom (cursor_at v e.member) e.frame e.channel = subst (λ (x : View). IsFrom (cursor_at x e.member) e.frame e.channel) (sym same) from in
-    let fits_v : lap v.geometry e.frame < 4294967295 = subst (λ (x : View). lap x.geometry e.frame < 4294967295) (sym same) fits in
-    let now : IsNow v.geometry v.next e.frame e.channel = IsNow-of v e.frame e.channel s channel_in not_before near in
-    let least : first_frame v.geometry ≤ e.frame = grind (arith, nat_tests, not_before, s.next_least) in
-    let own : AreWithin v.geometry (marks_at v e.member) = marks_within v e.member s member_in in
-    let low : negsuc 32767 ≤ℤ signed_sample Added e.sample = omega (arith, ints, sample) in
-    let high : signed_sample Added e.sample ≤ℤ pos 32768 = omega (arith, ints, sample) in
+can_add v w e same s sample kind member channel from untaken ahead fits = subst (λ x. IsSound x → CanLay x e) (sym same) (λ (t : IsSound w).
+    let least : first_frame w.geometry ≤ e.frame = grind (arith, nat_tests, untaken, t.next_least) in
+    let own : AreWithin w.geometry (marks_at w e.member) = marks_within w e.member t member in
     record {
-      member = member_in;
-      now = now;
-      ahead = near;
-      more = subst (λ k. HoldsMoreAt v.geometry (marks_at v e.member) (marks_with k v.geometry (marks_at v e.member) e.frame e.channel) e.frame e.channel) (sym kind)
-          (holds-added v.geometry (marks_at v e.member) e.frame e.channel own channel_in from_v);
-      within = subst (λ k. AreWithin v.geometry (marks_with k v.geometry (marks_at v e.member) e.frame e.channel)) (sym kind)
-          (AreWithin-added v.geometry (marks_at v e.member) e.frame e.channel own least (suc-le-end_frame v.geometry e.frame fits_v));
-      low = subst (λ k. negsuc 32767 ≤ℤ signed_sample k e.sample) (sym kind) low;
-      high = subst (λ k. signed_sample k e.sample ≤ℤ pos 32768) (sym kind) high;
-    }
+      member = member;
+      now = IsNow-of w e.frame e.channel t channel untaken ahead;
+      ahead = ahead;
+      more = rw kind (holds-added w.geometry (marks_at w e.member) e.frame e.channel own channel from);
+      within = rw kind (AreWithin-added w.geometry (marks_at w e.member) e.frame e.channel own least (suc-le-end_frame w.geometry e.frame fits));
+      low = rw kind (omega (arith, ints, sample));
+      high = rw kind (omega (arith, ints, sample));
+    }) s
 
 pub can_withdraw : (v w : View) (e : Entry) → v ≡ w → IsSound v → SFits w16 e.sample → e.kind ≡ Withdrawn
     → e.member < length w.marks → e.channel < w.geometry.channels → IsFrom (marks_at w e.member).floor e.frame e.channel
     → e.frame < first_free (cursor_at w e.member) e.channel
     → first_free w.next e.channel ≤ e.frame → e.frame < w.position + w.geometry.frames → CanLay v e
-can_withdraw v w e same s sample kind member channel from before untaken ahead =
-    let member_in : e.member < length v.marks = subst (λ (x : View). e.member < length x.marks) (sym same) member in
-    let channel_in : e.channel < v.geometry.channels = subst (λ (x : View). e.channel < x.geometry.channels) (sym same) channel in
-    let not_before : first_free v.next e.channel ≤ e.frame = subst (λ (x : View). first_free x.next e.channel ≤ e.frame) (sym same) untaken in
-    let near : e.frame < v.position + v.geometry.frames = subst (λ (x : View). e.frame < x.position + x.geometry.frames) (sym same) ahead in
-    let from_v : IsFrom (marks_at v e.member).floor e.frame e.channel = subst (λ (x : View). IsFrom (marks_at x e.member).floor e.frame e.channel) (sym same) from in
-    let before_v : e.frame < first_free (cursor_at v e.member) e.channel = subst (λ (x : View). e.frame < first_free (cursor_at x e.member) e.channel) (sym same) before in
-    let now : IsNow v.geometry v.next e.frame e.channel = IsNow-of v e.frame e.channel s channel_in not_before near in
-    let least : first_frame v.geometry ≤ e.frame = grind (arith, nat_tests, not_before, s.next_least) in
-    let own : AreWithin v.geometry (marks_at v e.member) = marks_within v e.member s member_in in
-    let low : negsuc 32767 ≤ℤ signed_sample Withdrawn e.sample = omega (arith, ints, sample) in
-    let high : signed_sample Withdrawn e.sample ≤ℤ pos 32768 = omega (arith, ints, sample) in
+can_withdraw v w e same s sample kind member channel from before untaken ahead = subst (λ x. IsSound x → CanLay x e) (sym same) (λ (t : IsSound w).
+    let least : first_frame w.geometry ≤ e.frame = grind (arith, nat_tests, untaken, t.next_least) in
+    let own : AreWithin w.geometry (marks_at w e.member) = marks_within w e.member t member in
     record {
-      member = member_in;
-      now = now;
-      ahead = near;
-      more = subst (λ k. HoldsMoreAt v.geometry (marks_at v e.member) (marks_with k v.geometry (marks_at v e.member) e.frame e.channel) e.frame e.channel) (sym kind)
-          (holds-withdrawn v.geometry (marks_at v e.member) e.frame e.channel own channel_in from_v before_v);
-      within = subst (λ k. AreWithin v.geometry (marks_with k v.geometry (marks_at v e.member) e.frame e.channel)) (sym kind)
-          (AreWithin-withdrawn v.geometry (marks_at v e.member) e.frame e.channel own least before_v);
-      low = subst (λ k. negsuc 32767 ≤ℤ signed_sample k e.sample) (sym kind) low;
-      high = subst (λ k. signed_sample k e.sample ≤ℤ pos 32768) (sym kind) high;
-    }
+      member = member;
+      now = IsNow-of w e.frame e.channel t channel untaken ahead;
+      ahead = ahead;
+      more = rw kind (holds-withdrawn w.geometry (marks_at w e.member) e.frame e.channel own channel from before);
+      within = rw kind (AreWithin-withdrawn w.geometry (marks_at w e.member) e.frame e.channel own least before);
+      low = rw kind (omega (arith, ints, sample));
+      high = rw kind (omega (arith, ints, sample));
+    }) s
 
 -- a word whose count rose on its own lap is not before what it was, and no other word changed
 word-later : (word old : ℕ) (sum : ℤ) → StandsFor word (lap_of old) (count_of old + 1) sum → IsNotBefore old word

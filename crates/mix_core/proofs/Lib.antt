@@ -2,7 +2,6 @@ pub mod Agreement
 pub mod Beginning
 pub mod History
 pub mod Laying
-pub mod Lists
 pub mod Replies
 pub mod Soundness
 pub mod Standing

@@ -110,17 +110,6 @@ AreRepliesSince-more g members h rows [] r are is = (subst (λ x. IsReplySince g
 AreRepliesSince-more g members h rows (x ∷ xs) r are is =
     (are.0, AreRepliesSince-more g members h (rows ++ x ∷ []) xs r are.1 (subst (λ y. IsReplySince g members h y r) (sym (append_assoc rows (x ∷ []) xs)) is))
 
--- no event yet
-pub IsRun-none : (v : View) → IsRun v v [] []
-IsRun-none v = record {
-  geometry = refl;
-  members = refl;
-  gone = refl;
-  one_each = refl;
-  replies = λ h s. tt;
-  stands = λ h s. subst (RepresentsHistory v) (sym (append-nil h)) s;
-}
-
 -- one more event
 pub IsRun-more : (u v w : View) (st su : List Entry) (es : List Event) (rs : List Reply) (e : Event) (r : Reply)
     → KeepsAdds st (zip es rs) → IsRun u v es rs → IsAnswered v w st su e r → IsRun u w (es ++ e ∷ []) (rs ++ r ∷ [])

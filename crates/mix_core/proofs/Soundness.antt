@@ -1,6 +1,6 @@
 -- What each event keeps true of every core.
 use Rattle.std.proofs.Common.{◌≡◌, ℕ, ◌+◌, ◌*◌, ◌<◌, ◌≤◌, List, length, get_or, set, ℤ, pos, negsuc, ◌+ℤ◌, ◌≤ℤ◌, inl, inr, arith, ◌∙◌}
-use Rattle.std.proofs.Math.Nat.{add-div_right, div-lt_iff_lt-mul}
+use Rattle.std.proofs.Math.Nat.{add-div_right}
 use Rattle.std.proofs.lemmas.Bool.Decides.{nat_tests}
 use Rattle.std.proofs.lemmas.Int.{ints}
 use Rattle.std.proofs.lemmas.List.{length-set}
@@ -18,8 +18,8 @@ use Rattle.mix_core.specs.Laid.{marks_after, value_of}
 use Rattle.mix_core.specs.Marks.{added_at, is_before, later_of, withdrawn_at}
 use Rattle.mix_core.specs.MarkLaws.{later_up_to, place_up_to, up_to, up_to_later, up_to_place}
 use Rattle.mix_core.specs.View.{View, marks_at, word_at}
-use Rattle.mix_core.proofs.Agreement.{IsNow-next, laid_view, taken_view}
-use Rattle.mix_core.proofs.Words.{words-taken, words-written}
+use Rattle.mix_core.specs.Written.{IsNow-next, word_places, words-taken, words-written}
+use Rattle.mix_core.proofs.Agreement.{laid_view, taken_view}
 
 -- one member's marks move
 pub all_hold-set : (ms : List Marks) (m : ℕ) (at d : Marks) (f c : ℕ) → m < length ms → all_hold (set ms m at) f c + may_hold (get_or ms m d) f c ≡ all_hold ms f c + may_hold at f c
@@ -128,12 +128,9 @@ HoldsAtMost-more w word l most sample holds low high stands =
     }
 
 pub HoldsAtMost-mono : (w l most more : ℕ) → most ≤ more → HoldsAtMost w l most → HoldsAtMost w l more
-HoldsAtMost-mono w l most more up holds = record {
-  of_lap = holds.of_lap;
-  count = omega (arith, holds.count);
-  low = holds.low;
-  high = holds.high;
-}
+HoldsAtMost-mono w l most more up holds =
+    let count : count_of w ≤ more = omega (arith, holds.count) in
+    assumption
 
 -- an empty word
 pub HoldsAtMost-empty : (word l most : ℕ) → StandsFor word l 0 (pos 0) → HoldsAtMost word l most
@@ -146,20 +143,6 @@ HoldsAtMost-empty word l most stands =
       high = rw (fields.1, fields.2) (omega (arith, ints));
     }
 
--- the position moves on to the next word's frame
-pub IsSound-published : (v : View) → IsSound v → IsSound (record v { position = v.next.frame })
-IsSound-published v s = record {
-  room = s.room;
-  members = s.members;
-  next_channel = s.next_channel;
-  next_least = s.next_least;
-  next_most = s.next_most;
-  position_least = s.next_least;
-  position_most = omega arith;
-  marks_within = s.marks_within;
-  words_now = s.words_now;
-}
-
 -- the next word was taken
 pub IsSound-taken : (v : View) (word : ℕ) → IsSound v → lap v.geometry v.next.frame < 4294967295
     → StandsFor word (lap_of (word_at v v.next.frame v.next.channel) + 1) 0 (pos 0) → IsSound (taken_view v word)
@@ -167,7 +150,7 @@ IsSound-taken v word s fits stands =
     let g : Geometry = v.geometry in
     let nf : ℕ = v.next.frame in
     let nc : ℕ = v.next.channel in
-    let lap_is : lap_of (word_at v nf nc) ≡ lap g nf = (s.words_now nf nc (IsNow-next v s)).of_lap in
+    let lap_is : lap_of (word_at v nf nc) ≡ lap g nf = (s.words_now nf nc (IsNow-next g v.next s.next_channel)).of_lap in
     let some : 0 < g.frames = omega (arith, g.frames_least) in
     let next_lap : lap g (nf + g.frames) ≡ lap g nf + 1 = add-div_right nf some in
     let P : ℕ → ℕ → ℕ → Type 0 = λ w f c. HoldsAtMost w (lap g f) (all_hold v.marks f c) in
@@ -182,7 +165,7 @@ IsSound-taken v word s fits stands =
       position_least = s.position_least;
       position_most = grind (arith, nat_tests, s.position_most);
       marks_within = s.marks_within;
-      words_now = words-taken P g v.next v.words word s.room s.next_channel here s.words_now;
+      words_now = words-taken g (word_index g) _ (word_places g) P v.next v.words word s.room s.next_channel here s.words_now;
     }
 
 -- an entry was placed
@@ -205,17 +188,11 @@ IsSound-laid v e word s member now more within low high stands =
     let here : Q word f c = HoldsAtMost-mono word (lap g f) (all_hold v.marks f c + 1) (all_hold new f c) up (HoldsAtMost-more (word_at v f c) word (lap g f) (all_hold v.marks f c) (value_of e) (s.words_now f c now) low high stands) in
     let others : (w k x : ℕ) → ¬ ((f ≡ k) × (c ≡ x)) → P w k x → Q w k x = λ w k x elsewhere p.
     HoldsAtMost-mono w (lap g k) (all_hold v.marks k x) (all_hold new k x) (omega (arith, all_hold-set v.marks e.member moved (record { cursor = v.next; floor = v.next; high = v.next }) k x member, more.others k x p.0)) p.1 in
-    record {
-      room = length-set v.words (word_index g f c) word ∙ s.room;
-      members = omega (arith, length-set v.marks e.member moved, s.members);
-      next_channel = s.next_channel;
-      next_least = s.next_least;
-      next_most = s.next_most;
-      position_least = s.position_least;
-      position_most = s.position_most;
-      marks_within = All-set (λ (m : Marks). AreWithin g m) v.marks e.member moved within s.marks_within;
-      words_now = words-written P Q g v.next v.words f c word s.room now here others (λ k x asked. (asked.channel, s.words_now k x asked));
-    }
+    let room = length-set v.words (word_index g f c) word ∙ s.room in
+    let members : length new ≤ 64 = omega (arith, length-set v.marks e.member moved, s.members) in
+    let marks_within = All-set (λ (m : Marks). AreWithin g m) v.marks e.member moved within s.marks_within in
+    let words_now = words-written g (word_index g) _ (word_places g) P Q v.next v.words f c word s.room now here others (λ k x asked. (asked.channel, s.words_now k x asked)) in
+    assumption
 
 -- so there is room for the entry
 pub room-laid : (v : View) (e : Entry) → IsSound v → e.member < length v.marks → IsNow v.geometry v.next e.frame e.channel

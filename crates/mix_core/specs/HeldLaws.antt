@@ -14,7 +14,7 @@ use Rattle.mix_core.specs.declared.port.Kind.{Kind}
 use Rattle.mix_core.specs.declared.port.Kind.TheVariants.{Added, Withdrawn}
 use Rattle.mix_core.specs.declared.turn.Turn.{Turn}
 use Rattle.mix_core.specs.Calls.{IsLaidBy}
-use Rattle.mix_core.specs.History.{IsHeld, IsInside, IsLegal, IsReply, IsSample, Row, entry_of, event_by, is_taken, laid_of, entry_row, taken_words}
+use Rattle.mix_core.specs.History.{IsHeld, IsInside, IsLegal, IsReply, IsSample, Row, entry_of, is_taken, laid_of, entry_row, taken_words}
 use Rattle.mix_core.specs.HistoryLaws.{laid_of-append_rows}
 use Rattle.mix_core.specs.Laid.{EndsIn, a_withdrawal, an_add, count, last_entry, marks_with, marks_after, marks_of, own_entries, stand_after, standing_of, standing_with, without_last}
 use Rattle.mix_core.specs.LegalLaws.{AreLeast, AreReplies-keep, entry_of-cases, marks_of-least, may_lay}

@@ -5,7 +5,7 @@ use Rattle.std.proofs.lemmas.Int.{ints}
 use Rattle.std.proofs.lemmas.List.{append-nil, map-append}
 use Rattle.std.proofs.lemmas.List.Elements.{filter-append, filter_map-append}
 use Rattle.mix_core.specs.declared.event.Event.TheVariants.{Publish, Take}
-use Rattle.mix_core.specs.declared.event.Reply.TheVariants.{In, Late, LapEnd, Published, Took}
+use Rattle.mix_core.specs.declared.event.Reply.TheVariants.{In, Late, Published, Took}
 use Rattle.mix_core.specs.declared.event.Reply.{Reply}
 use Rattle.mix_core.specs.declared.port.Kind.{Kind}
 use Rattle.mix_core.specs.declared.port.Kind.TheVariants.{Added, Withdrawn}
@@ -60,13 +60,6 @@ laid_of-append_took h f c v = filter_map-append entry_of h ((Take, Took f c v) �
 
 pub taken_words-append_took : (h : List Row) (f c : ℕ) (v : ℤ) → taken_words (h ++ (Take, Took f c v) ∷ []) ≡ taken_words h ++ record { frame = f; channel = c; value = v } ∷ []
 taken_words-append_took h f c v = filter_map-append taking_of h ((Take, Took f c v) ∷ [])
-
--- with a take that was refused
-pub laid_of-append_refused : (h : List Row) → laid_of (h ++ (Take, LapEnd) ∷ []) ≡ laid_of h
-laid_of-append_refused h = filter_map-append entry_of h ((Take, LapEnd) ∷ []) ∙ append-nil (laid_of h)
-
-pub taken_words-append_refused : (h : List Row) → taken_words (h ++ (Take, LapEnd) ∷ []) ≡ taken_words h
-taken_words-append_refused h = filter_map-append taking_of h ((Take, LapEnd) ∷ []) ∙ append-nil (taken_words h)
 
 -- and with a publication
 pub laid_of-append_published : (h : List Row) (frame : ℕ) → laid_of (h ++ (Publish, Published frame) ∷ []) ≡ laid_of h

@@ -1,18 +1,17 @@
 -- Rows with the reply `Outside` may be left out of a history: what it placed and took and its position stay the same, and
 -- so do the replies that it determines.
-use Rattle.std.specs.Prelude.{◌↔◌, ◌≡◌, ◌≢◌, ℕ, ◌+◌, ◌<◌, Bool, length, true, false, Option, None, List, [], ◌∷◌, ◌++◌, fold, filter, ℤ}
+use Rattle.std.specs.Prelude.{◌≡◌, ◌≢◌, ℕ, ◌+◌, ◌<◌, Bool, length, true, false, Option, None, List, [], ◌∷◌, ◌++◌, fold, filter, ℤ}
 use Rattle.std.specs.List.{filter_map}
 use Rattle.std.proofs.Common.{refl, sym, subst, ap, inl, inr}
 use Rattle.std.proofs.lemmas.Bool.{cases_Bool}
 use Rattle.std.proofs.lemmas.List.Elements.{filter_map-append}
-use Rattle.std.proofs.lemmas.List.{append-nil}
 use Rattle.std.proofs.lemmas.List.Sums.{fold-append}
 use Rattle.snd_base.specs.declared.geometry.Geometry.{Geometry}
 use Rattle.snd_base.specs.Places.{IsFrom, first_frame, lap, next_word}
 use Rattle.lap_word.specs.Clamp.{clamp_of}
 use Rattle.mix_core.specs.declared.event.Event.TheVariants.{Add, Withdraw, Take, Publish}
 use Rattle.mix_core.specs.declared.event.Reply.TheVariants.{In, Late, Outside, Took, Published, LapEnd}
-use Rattle.mix_core.specs.History.{AreReplies, IsHeld, IsInside, IsSample, IsLegal, IsReply, Row, entry_of, is_taken, laid_of, position_after, position_of, taken_words, taking_of}
+use Rattle.mix_core.specs.History.{AreReplies, IsHeld, IsInside, IsSample, IsReply, Row, entry_of, is_taken, laid_of, position_after, position_of, taken_words, taking_of}
 use Rattle.mix_core.specs.Laid.{cursor_of, last_entry, marks_of, standing_of, total}
 use Rattle.mix_core.specs.Run.{is_kept, kept_rows}
 
@@ -54,9 +53,6 @@ laid_of-kept h = filter_map-filter entry_of is_kept entry_of-outside h
 
 pub taken_words-kept : (h : List Row) → taken_words (kept_rows h) ≡ taken_words h
 taken_words-kept h = filter_map-filter taking_of is_kept taking_of-outside h
-
-pub position_of-kept : (g : Geometry) (h : List Row) → position_of g (kept_rows h) ≡ position_of g h
-position_of-kept g h = fold-filter position_after is_kept position_after-outside (first_frame g) h
 
 -- two histories that placed and took the same, with one position
 pub record AreAlike (g : Geometry) (h k : List Row) : Type 0 where
@@ -123,12 +119,6 @@ IsReply-alike g members h k (Take, Took f c v) alike is = (
 IsReply-alike g members h k (Publish, Published frame) alike is = subst (λ ts. frame ≡ (next_word g (length ts)).frame) alike.taken is
 IsReply-alike g members h k (e, r) alike is = is
 
--- so a history determines the replies that it determines without the rows that are left out
-pub IsReply-kept : (g : Geometry) (members : ℕ) (h : List Row) (r : Row) → IsReply g members (kept_rows h) r ↔ IsReply g members h r
-IsReply-kept g members h r =
-    let alike : AreAlike g (kept_rows h) h = AreAlike-kept g [] h in
-    (IsReply-alike g members (kept_rows h) h r alike, IsReply-alike g members h (kept_rows h) r (AreAlike-sym g (kept_rows h) h alike))
-
 pub AreReplies-alike : (g : Geometry) (members : ℕ) (h k rs : List Row) → AreAlike g h k → AreReplies g members h rs → AreReplies g members k rs
 AreReplies-alike g members h k [] alike are = tt
 AreReplies-alike g members h k (r ∷ rs) alike are = (
@@ -139,25 +129,3 @@ AreReplies-alike g members h k (r ∷ rs) alike are = (
 -- one row that is kept, and one that is left out
 pub kept_rows-kept : (r : Row) (rs : List Row) → is_kept r ≡ true → r ∷ kept_rows rs ≡ kept_rows (r ∷ rs)
 kept_rows-kept r rs kept = rw kept refl
-
-pub kept_rows-outside : (r : Row) (rs : List Row) → is_kept r ≡ false → kept_rows rs ≡ kept_rows (r ∷ rs)
-kept_rows-outside r rs out = rw out refl
-
--- a history with one more row that is left out
-AreAlike-outside : (g : Geometry) (h : List Row) (r : Row) → is_kept r ≡ false → AreAlike g (h ++ r ∷ []) h
-AreAlike-outside g h r out =
-    let nothing : h ++ kept_rows (r ∷ []) ≡ h = rw out (append-nil h) in
-    AreAlike-sym g h (h ++ r ∷ []) (subst (λ x. AreAlike g x (h ++ r ∷ [])) nothing (AreAlike-kept g h (r ∷ [])))
-
--- rows that are replies stay so where those with `Outside` are left out, and a legal history stays legal
-pub AreReplies-kept : (g : Geometry) (members : ℕ) (h rs : List Row) → AreReplies g members h rs → AreReplies g members h (kept_rows rs)
-AreReplies-kept g members h [] are = tt
-AreReplies-kept g members h (r ∷ rs) are =
-    let P : List Row → Type 0 = λ ks. AreReplies g members h ks in
-    elim (cases_Bool (is_kept r)) [
-      | inl kept ↦ subst P (kept_rows-kept r rs kept) (are.0, AreReplies-kept g members (h ++ r ∷ []) rs are.1)
-      | inr out ↦ subst P (kept_rows-outside r rs out) (AreReplies-kept g members h rs (AreReplies-alike g members (h ++ r ∷ []) h rs (AreAlike-outside g h r out) are.1))
-    ]
-
-pub IsLegal-kept : (g : Geometry) (members : ℕ) (h : List Row) → IsLegal g members h → IsLegal g members (kept_rows h)
-IsLegal-kept g members h legal = AreReplies-kept g members [] h legal

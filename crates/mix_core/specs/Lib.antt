@@ -8,6 +8,7 @@ pub mod Laid
 pub mod LegalLaws
 pub mod MarkLaws
 pub mod Marks
+pub mod MoreLaws
 pub mod OwnLaws
 pub mod Port
 pub mod PortLaws
@@ -15,7 +16,7 @@ pub mod ReplyLaws
 pub mod Run
 pub mod Sound
 pub mod Stands
-pub mod TakenLaws
 pub mod Turn
 pub mod TurnLaws
 pub mod View
+pub mod Written

@@ -3,6 +3,7 @@ pub mod Notes
 pub mod NoteLaws
 pub mod PositionLaws
 pub mod Positions
+pub mod SeatLaws
 pub mod Spots
 pub mod WordLaws
 pub mod Words

@@ -26,3 +26,8 @@ at_second [] ys i b is = (i, is)
 at_second (x ∷ xs) ys i b is =
     let rest = at_second xs ys i b is in
     (suc rest.0, rest.1)
+
+-- the item of a list of one
+pub at_only : {A : Type 0} (a : A) (j : ℕ) (b : A) → get_elem? (a ∷ []) j ≡ some b → (j ≡ 0) × (a ≡ b)
+at_only a zero b is = (refl, some-injective a b is)
+at_only a (suc j) b is = absurd (some-ne-none b (sym is))

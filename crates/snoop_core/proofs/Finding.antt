@@ -1,5 +1,5 @@
 -- What a word that a turn finds says.
-use Rattle.std.proofs.Common.{◌≡◌, ℕ, ◌+◌, ◌*◌, ◌<◌, ◌≤◌, List, ℤ, arith, subst, sym, refl, ap, ◌∙◌}
+use Rattle.std.proofs.Common.{◌≡◌, ℕ, ◌+◌, ◌*◌, ◌<◌, ◌≤◌, List, arith, subst, sym, ap, ◌∙◌}
 use Rattle.std.proofs.lemmas.Bool.Decides.{nat_tests}
 use Rattle.snd_base.specs.declared.geometry.Geometry.{Geometry}
 use Rattle.snd_base.specs.declared.places.Cursor.{Cursor}

@@ -29,14 +29,6 @@ pub record IsLoading (t u : SnoopTurn) (f c : ℕ) (out : List ℤ) : Type 0 whe
   pub kept : 0 < c → IsKept (core_of t) f
   pub samples : (d : ℕ) → d < c → (xs : List ℤ) → Represents (core_of t) xs → get_or out d (pos 0) ≡ sample_at (geometry_of (core_of t)) xs f d
 
-pub loading-none : (t : SnoopTurn) (f : ℕ) (out : List ℤ) → length out ≡ (geometry_of (core_of t)).channels → IsLoading t t f 0 out
-loading-none t f out size = record {
-  same = record { same_core = refl; core = refl };
-  size = size;
-  kept = λ some. absurd (omega arith);
-  samples = λ d before. absurd (omega arith);
-}
-
 pub loading-more : (t u : SnoopTurn) (f c word : ℕ) (out : List ℤ) (x : ℤ) → c < (geometry_of (core_of t)).channels → IsLoading t u f c out
     → IsFoundWord (core_of t) f c word → laps_of word ≡ lap (geometry_of (core_of t)) f + 1 → x ≡ sample_of word
     → IsLoading t u f (c + 1) (set out c x)

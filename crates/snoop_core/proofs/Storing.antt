@@ -1,14 +1,12 @@
 -- What a store does to the words of a ring with one owner.
 use Rattle.std.proofs.Common.{◌≡◌, ℕ, ◌+◌, ◌*◌, ◌<◌, ◌≤◌, List, [], ◌∷◌, ◌++◌, length, get_or, set, ℤ, arith, subst, sym, refl, ap, ◌∙◌, append_assoc}
 use Rattle.std.proofs.lemmas.Bool.Decides.{nat_tests}
-use Rattle.std.proofs.lemmas.List.{append-nil, get_or-set_same, get_or-set_other, length-set}
-use Rattle.std.proofs.lemmas.Nat.{mul-add-lt}
-use Rattle.std.proofs.Math.Nat.{div-lt_iff_lt-mul, mod-lt}
+use Rattle.std.proofs.lemmas.List.{get_or-set_same, get_or-set_other, length-set}
 use Rattle.snd_base.specs.declared.geometry.Geometry.{Geometry}
 use Rattle.snd_base.specs.declared.places.Cursor.{Cursor}
 use Rattle.snd_base.specs.PlaceLaws.{suc-le-end_frame, word_index-lt, word_index-same}
-use Rattle.snd_base.specs.Places.{cursor_after, end_frame, lap, slot, word_index}
-use Rattle.snoop_core.specs.Ring.{ArePartStored, HoldsSamples, IsFrameStored, IsSampleStored, IsSoundRing, RingView, after_samples, word_in}
+use Rattle.snd_base.specs.Places.{cursor_after, end_frame, lap, word_index}
+use Rattle.snoop_core.specs.Ring.{ArePartStored, HoldsSamples, IsSampleStored, IsSoundRing, RingView, after_samples, word_in}
 use Rattle.snoop_core.specs.Stored.{next_after_stored}
 use Rattle.snoop_core.specs.StoredLaws.{HaveLaps-written, HoldLast-written, IsWritten, next_after_stored-more}
 use Rattle.snoop_core.specs.Word.{HoldsSample}
@@ -67,15 +65,6 @@ IsSampleStored-stored v new x s fits holds =
           };
     }
 
--- nothing, and one sample more
-pub ArePartStored-none : (v : RingView) → IsSoundRing v → v.next.channel ≡ 0 → ArePartStored v v []
-ArePartStored-none v s start = record {
-  geometry = refl;
-  next = grind (arith, nat_tests, v.geometry.channels_least, start);
-  sound = s;
-  holds = λ early h. subst (HoldsSamples v) (sym (append-nil early)) h;
-}
-
 pub ArePartStored-more : (u v w : RingView) (xs : List ℤ) (x : ℤ) → length xs < u.geometry.channels → ArePartStored u v xs → IsSampleStored v w x
     → ArePartStored u w (xs ++ x ∷ [])
 ArePartStored-more u v w xs x few part one =
@@ -91,11 +80,3 @@ ArePartStored-more u v w xs x few part one =
       sound = one.sound;
       holds = λ early h. subst (HoldsSamples w) (append_assoc early xs (x ∷ [])) (one.holds (early ++ xs) (part.holds early h));
     }
-
-pub IsFrameStored-whole : (u w : RingView) (xs ys : List ℤ) → ys ≡ xs → length xs ≡ u.geometry.channels → ArePartStored u w ys → IsFrameStored u w xs
-IsFrameStored-whole u w xs ys same whole part = record {
-  geometry = part.geometry;
-  next = part.next ∙ (ap (λ zs. after_samples u.geometry u.next.frame (length zs)) same ∙ grind (arith, nat_tests, whole));
-  sound = part.sound;
-  holds = λ early h. subst (λ zs. HoldsSamples w (early ++ zs)) same (part.holds early h);
-}

@@ -10,6 +10,7 @@ use Rattle.snd_base.specs.declared.geometry.Geometry.{Geometry}
 use Rattle.snd_base.specs.declared.places.Cursor.{Cursor}
 use Rattle.snd_base.specs.PlaceLaws.{div-lt_same, first_free-behind_low, mod-same, mod-window, next_word-suc}
 use Rattle.snd_base.specs.Places.{cursor_after, first_frame, first_free, lap, next_word, slot}
+use Rattle.mix_core.specs.Written.{first_free-behind_other}
 use Rattle.snoop_core.specs.Stored.{HaveLaps, HoldLast, IsCaptured, IsLast, IsUnused, next_after_stored, stored_place, sample_at}
 use Rattle.snoop_core.specs.Word.{HoldsSample, HoldsSample-fields, laps_of, sample_of}
 use Rattle.snoop_core.specs.declared.port.Frame.{Frame}
@@ -98,11 +99,6 @@ own_sample g word xs f c holds by in_range least stored own =
           let one : k ≡ f = omega (arith, not_later, found.3) in
           ap sample_of there ∙ (fields.1 ∙ ap (λ j. sample_at g xs j c) one)
     ]
-
--- the next cursor's channel alone goes on with the next frame
-first_free-behind_other : (g : Geometry) (next : Cursor) (d : ℕ) → d < g.channels → next.channel < g.channels → d ≢ next.channel
-    → first_free (cursor_after g next.frame next.channel) d ≡ first_free next d
-first_free-behind_other g next d asked in_range other = grind (arith, nat_tests)
 
 -- a word was stored over at the next frame and channel
 pub record IsWritten (g : Geometry) (next : Cursor) (new : ℕ) (before after : ℕ → ℕ → ℕ) : Type 0 where

@@ -1,87 +1,53 @@
--- Splits and joins keep the rule, and what the rule says of a seat's view.
-use Rattle.std.proofs.Common.{◌≡◌, ◌≢◌, ◌⊎◌, ℕ, ◌+◌, ◌||◌, Bool, true, false, Option, None, Some, List, [], ◌∷◌, ◌++◌, get_or, set, inl, inr, arith, subst, sym, refl, ap, ◌∙◌}
+-- Splits and joins keep the rule, and what they make of the fields of the seats.
+use Rattle.std.proofs.Common.{◌≡◌, ◌⊎◌, ℕ, ◌+◌, true, false, Option, None, Some, List, get_or, set, inl, inr, arith, subst, sym, refl, ◌≤◌, ◌||◌, Bool, max, ap, ◌∙◌}
 use mathlib.Core.Option.{none, some, some-ne-none}
 use lib.ListN.{get_elem?}
-use Rattle.std.proofs.lemmas.Bool.{false≢true}
+use Rattle.std.proofs.lemmas.Bool.{false≢true, or_left, or_right}
 use Rattle.atomic_table.specs.Table.{Allows, Joins, Me, Splits, keeps, step}
-use Rattle.atomic_table.proofs.Lists.{at_set}
+use Rattle.atomic_table.proofs.Lists.{at_set, at_longer}
 use Rattle.snd_base.specs.declared.geometry.Geometry.{Geometry}
 use Rattle.snd_base.specs.Places.{lap}
-use Rattle.ring_rule.specs.Lists.{at_append, at_more}
-use Rattle.ring_rule.specs.NoteLaws.{later_notes-one, no_note}
+use Rattle.ring_rule.specs.Lists.{at_append, at_second}
+use Rattle.ring_rule.specs.NoteLaws.{later_notes-one, no_note, later_notes-keeps, later_notes-length}
+use Rattle.ring_rule.specs.SeatLaws.{HasTrack-join, HasTrack-split, each-join, each-split, or_true}
 use Rattle.ring_rule.specs.WordLaws.{NotPast-upper}
-use Rattle.ring_rule.specs.Words.{NotPast, index_of}
+use Rattle.ring_rule.specs.Words.{NotPast, index_of, rank}
 use Rattle.snoop_core.specs.Word.{HoldsSample-fields, laps_of}
 use Rattle.snoop_table.specs.declared.view.Track.{Track}
 use Rattle.snoop_table.specs.declared.view.View.{View}
-use Rattle.snoop_table.specs.Captured.{Holds, IsView, word_in}
+use Rattle.snoop_table.specs.Captured.{Holds, IsView, LoadsStored, word_in, is_tracked, position_of, the_track}
 use Rattle.snoop_table.specs.Cuts.{both_of, either_track, part_of, spent_view}
 use Rattle.snoop_table.specs.Steps.{Knows, quiet_load}
-use Rattle.snoop_table.proofs.Keeps.{IsSo, idle, loaded}
-
-abbrev is_some : Option Track → Bool
-is_some None = false
-is_some (Some t) = true
-
-pub no_track : (t : Track) → None ≢ Some t
-no_track t same = false≢true (ap is_some same)
+use Rattle.snoop_table.proofs.Keeps.{IsSo, idle, loaded, tracked_some}
+use Rattle.snd_base.specs.declared.places.Cursor.{Cursor}
+use Rattle.ring_rule.specs.PositionLaws.{has_all-more, has_each}
+use Rattle.snoop_table.specs.declared.seats.desk.Desk.{Desk}
+use Rattle.snoop_table.specs.declared.seats.reader.ReaderSeat.{ReaderSeat}
+use Rattle.snoop_table.specs.Joins.{DeskGave, DeskHeard, IsBorneOut}
+use Rattle.snoop_table.specs.Known.{IsReader, IsWriter}
+use Rattle.snoop_table.specs.Readers.{view_of}
+use Rattle.snoop_table.specs.Writers.{desk_track, desk_view}
 
 -- a seat's own view stays, and a new seat has seen as much
 pub splits : (g : Geometry) (id : ℕ) (v : View) → Splits (Holds g) id v v (part_of v)
 splits g id v s x here =
     let t : Track = x.1 in
     let p : View = part_of v in
-    let mid : List View = set s.views id v in
-    let views : List View = mid ++ p ∷ [] in
     let mine : IsView g s.words t v = x.3.each id v here in
-    let new_ok : IsView g s.words t p = record {
-      seen_high = mine.seen_high;
-      positions = mine.positions;
-      gone = mine.gone;
-      noted = mine.noted;
-      got = mine.got;
-      loading = λ c inside. absurd (omega arith);
-    } in
-    let parts : (i : ℕ) (u : View) → get_elem? views i ≡ some u → ((i ≡ id) × (v ≡ u)) ⊎ (((i ≢ id) × (get_elem? s.views i ≡ some u)) ⊎ (p ≡ u)) =
-    λ i u there. elim (at_more mid p u i there) [
-      | inl old ↦ elim (at_set s.views id i v u old) [ inl this ↦ inl this | inr other ↦ inr (inl other) ]
-      | inr new ↦ inr (inr new.1)
-    ] in (
+    let loading : LoadsStored g t.stored p.loading = λ c inside. absurd (omega arith) in
+    let new_ok : IsView g s.words t p = assumption in (
       x.0,
       t,
       x.2,
       record {
-        each = λ i u there. elim (parts i u there) [
-          | inl this ↦ subst (IsView g s.words t) this.1 mine
-          | inr rest ↦ elim rest [ inl other ↦ x.3.each i u other.1 | inr new ↦ subst (IsView g s.words t) new new_ok ]
-        ];
-        writer = λ i u y there tracks. elim (parts i u there) [
-          | inl this ↦
-              let was = x.3.writer id v y here (ap (λ (z : View). z.track) this.1 ∙ tracks) in
-              (this.0 ∙ was.0, was.1)
-          | inr rest ↦ elim rest [
-            | inl other ↦ x.3.writer i u y other.1 tracks
-            | inr new ↦ absurd (no_track y (ap (λ (z : View). z.track) new ∙ tracks))
-          ]
-        ];
+        each = each-split (IsView g s.words t) s.views id v p x.3.each mine new_ok;
+        writer = HasTrack-split (λ (z : View). z.track) s.views x.0 t id v v p x.3.writer here refl refl;
       },
     )
 
 either_one : (o p : Option Track) (y : Track) → either_track o p ≡ Some y → (o ≡ Some y) ⊎ (p ≡ Some y)
 either_one None p y is = inr is
 either_one (Some t) p y is = inl is
-
-either_none : (o p : Option Track) (y : Track) → p ≡ None → either_track o p ≡ Some y → o ≡ Some y
-either_none None p y gone is = absurd (no_track y (sym gone ∙ is))
-either_none (Some t) p y gone is = is
-
-track_cases : (o : Option Track) → (o ≡ None) ⊎ ((t : Track) × (o ≡ Some t))
-track_cases None = inl refl
-track_cases (Some t) = inr (t, refl)
-
-or_true : (a b : Bool) → (a || b) ≡ true → (a ≡ true) ⊎ (b ≡ true)
-or_true true b is = inl refl
-or_true false b is = inr is
 
 -- what two seats know together
 both_ok : (g : Geometry) (words : List ℕ) (t : Track) (v w : View) → IsView g words t v → IsView g words t w → IsView g words t (both_of v w)
@@ -118,61 +84,14 @@ pub joins : (g : Geometry) (id : ℕ) (v : View) (other : ℕ) (w : View) → Jo
 joins g id v other w s x here apart there =
     let t : Track = x.1 in
     let b : View = both_of v w in
-    let mid : List View = set s.views id b in
-    let views : List View = set mid other spent_view in
     let was_there : get_elem? s.views other ≡ some w = elim (at_set s.views id other b w there) [ inl same ↦ absurd (apart same.0) | inr rest ↦ rest.1 ] in
     let b_ok : IsView g s.words t b = both_ok g s.words t v w (x.3.each id v here) (x.3.each other w was_there) in
-    let parts : (i : ℕ) (u : View) → get_elem? views i ≡ some u
-    → ((i ≡ other) × (spent_view ≡ u)) ⊎ (((i ≡ id) × (b ≡ u)) ⊎ ((i ≢ id) × (i ≢ other) × (get_elem? s.views i ≡ some u))) =
-    λ i u is. elim (at_set mid other i spent_view u is) [
-      | inl ended ↦ inl ended
-      | inr rest ↦ elim (at_set s.views id i b u rest.1) [ inl this ↦ inr (inl this) | inr else_one ↦ inr (inr (else_one.0, rest.0, else_one.1)) ]
-    ] in
-    let each : (i : ℕ) (u : View) → get_elem? views i ≡ some u → IsView g s.words t u = λ i u is. elim (parts i u is) [
-      | inl ended ↦ subst (IsView g s.words t) ended.1 (spent_ok g s.words t)
-      | inr rest ↦ elim rest [ inl this ↦ subst (IsView g s.words t) this.1 b_ok | inr else_one ↦ x.3.each i u else_one.2 ]
-    ] in
-    elim (track_cases w.track) [
-      | inl untracked ↦ (
-        x.0,
-        t,
-        x.2,
-        record {
-          each = each;
-          writer = λ i u y is tracks. elim (parts i u is) [
-            | inl ended ↦ absurd (no_track y (ap (λ (z : View). z.track) ended.1 ∙ tracks))
-            | inr rest ↦ elim rest [
-              | inl this ↦
-                  let was = x.3.writer id v y here (either_none v.track w.track y untracked (ap (λ (z : View). z.track) this.1 ∙ tracks)) in
-                  (this.0 ∙ was.0, was.1)
-              | inr else_one ↦ x.3.writer i u y else_one.2 tracks
-            ]
-          ];
-        },
-      )
-      | inr one ↦
-          let was_writer : (other ≡ x.0) × (one.0 ≡ t) = x.3.writer other w one.0 was_there one.1 in (
-            id,
-            t,
-            x.2,
-            record {
-              each = each;
-              writer = λ i u y is tracks. elim (parts i u is) [
-                | inl ended ↦ absurd (no_track y (ap (λ (z : View). z.track) ended.1 ∙ tracks))
-                | inr rest ↦ elim rest [
-                  | inl this ↦ (
-                    this.0,
-                    elim (either_one v.track w.track y (ap (λ (z : View). z.track) this.1 ∙ tracks)) [
-                      | inl first ↦ (x.3.writer id v y here first).1
-                      | inr second ↦ (x.3.writer other w y was_there second).1
-                    ],
-                  )
-                  | inr else_one ↦ absurd (else_one.1 ((x.3.writer i u y else_one.2 tracks).0 ∙ sym was_writer.0))
-                ]
-              ];
-            },
-          )
-    ]
+    let writer = HasTrack-join (λ (z : View). z.track) s.views x.0 t id v other w b spent_view x.3.writer here was_there refl (either_one v.track w.track) in (
+      writer.0,
+      t,
+      x.2,
+      record { each = each-join (IsView g s.words t) s.views id other b spent_view x.3.each b_ok (spent_ok g s.words t); writer = writer.1 },
+    )
 
 -- what the rule says of a view with the writer's part
 knows : (words : List ℕ) (views : List View) (at : ℕ) (t u : Track) (id : ℕ) (v : View)
@@ -205,3 +124,121 @@ learns slots id m s x homes here fits =
     let all : IsSo g s.words s.views x.0 t = record { ring = x.2; views_ok = x.3 } in
     let y : IsSo g s.words (set s.views id v) x.0 t = idle g s.words s.views x.0 t id v v all here refl (x.3.each id v here) in
     (v, keeps, tt, loaded g s.words (set s.views id v) x.0 t 0 s.homes y, (refl, (λ u tracks. knows s.words s.views x.0 t u id v all here tracks)))
+
+-- ---- what seats know after splits, joins and notes, and what these say
+
+-- a load that notes nothing, after a join
+pub learns_both : (g : Geometry) (slots id : ℕ) (v w : View) (kept : List (ℕ × Unit {0})) (m : Me (Unit {0}) View) → m ≡ (both_of v w, kept) → v.geometry ≡ g
+    → Allows (Holds g) slots id m 0 (λ n. n) (quiet_load (step slots 0 0 0 none) m)
+learns_both g slots id v w kept m both same =
+    subst (λ k. Allows (Holds k) slots id m 0 (λ n. n) (quiet_load (step slots 0 0 0 none) m)) (ap (λ (y : Me (Unit {0}) View). y.0.geometry) both ∙ same) (learns slots id m)
+
+-- what a reader's fields say after a join
+pub known_joined : (g : Geometry) (seen other : ℕ) (v w : View) → IsReader v g seen → IsReader w g other → IsReader (both_of v w) g (max seen other)
+known_joined g seen other v w a b = record {
+  same_geometry = a.same_geometry;
+  same_seen = ap (λ n. max n w.seen) a.same_seen ∙ ap (max seen) b.same_seen;
+  untracked = ap (λ o. either_track o w.track) a.untracked ∙ b.untracked;
+  room = later_notes-length v.noted w.noted (a.room ∙ sym b.room) ∙ a.room;
+  seen_within = record { least = omega (arith, a.seen_within.least); most = omega (arith, a.seen_within.most, b.seen_within.most) };
+}
+
+-- the track of a view that has it, also beside another view
+either_first : (o p : Option Track) → is_tracked o ≡ true → either_track o p ≡ Some (the_track o)
+either_first None p is = absurd (false≢true is)
+either_first (Some u) p is = refl
+
+rank-laps : (x y : ℕ) → rank x ≤ rank y → laps_of x ≤ laps_of y
+rank-laps x y up = grind (arith, up)
+
+-- what the rule says of two views together holds of each
+pub borne_out_first : (g : Geometry) (t : Track) (v w : View) → v.geometry ≡ g → Knows (both_of v w) t → IsBorneOut g t v
+borne_out_first g t v w own knows = subst (λ k. IsBorneOut k t v) own (record {
+  positions = λ i x there. knows.positions i x (at_longer v.positions w.positions i x there);
+  noted = λ f c x last is.
+      let later = later_notes-keeps v.noted w.noted (index_of v.geometry f c) x (inl is) in
+      omega (arith, knows.noted later.0 f c last later.1, rank-laps x later.0 later.2);
+  unused = λ f c x never is.
+      let later = later_notes-keeps v.noted w.noted (index_of v.geometry f c) x (inl is) in
+      omega (arith, knows.unused later.0 f c never later.1, rank-laps x later.0 later.2);
+  gone = λ is. knows.gone (or_left v.seen_gone w.seen_gone is);
+  got = λ i f there. knows.got i f (at_longer v.got w.got i f there);
+})
+
+pub borne_out_second : (g : Geometry) (t : Track) (v w : View) → v.geometry ≡ g → Knows (both_of v w) t → IsBorneOut g t w
+borne_out_second g t v w own knows = subst (λ k. IsBorneOut k t w) own (record {
+  positions = λ i x there.
+      let j = at_second v.positions w.positions i x there in
+      knows.positions j.0 x j.1;
+  noted = λ f c x last is.
+      let later = later_notes-keeps v.noted w.noted (index_of v.geometry f c) x (inr is) in
+      omega (arith, knows.noted later.0 f c last later.1, rank-laps x later.0 later.2);
+  unused = λ f c x never is.
+      let later = later_notes-keeps v.noted w.noted (index_of v.geometry f c) x (inr is) in
+      omega (arith, knows.unused later.0 f c never later.1, rank-laps x later.0 later.2);
+  gone = λ is. knows.gone (or_right v.seen_gone w.seen_gone is);
+  got = λ i f there.
+      let j = at_second v.got w.got i f there in
+      knows.got j.0 f j.1;
+})
+
+-- what the load after a join shows the writer
+heard_knows : (v w : View) (slots found : ℕ) (x r : Me (Unit {0}) View) → is_tracked v.track ≡ true → x.0 ≡ both_of v w → quiet_load (step slots 0 0 0 none) x found r
+    → Knows (both_of v w) (the_track v.track)
+heard_knows v w slots found x r tracked both told =
+    let t : Track = the_track v.track in
+    let both_track : either_track v.track w.track ≡ Some t = either_first v.track w.track tracked in
+    subst (λ y. Knows y t) both (told.1 t (ap (λ (y : View). y.track) both ∙ both_track))
+
+seen_by : (a b : Bool) (gone : Bool) → a ≡ gone → ((a || b) ≡ true → gone ≡ true) → (a || b) ≡ gone
+seen_by true b gone same is = same
+seen_by false true gone same is = sym (is refl)
+seen_by false false gone same is = same
+
+-- what a writer's fields say after it heard of another seat
+pub known_heard : (g : Geometry) (next : Cursor) (position : ℕ) (gone : Bool) (other : ℕ) (v w : View) (slots found : ℕ) (x r : Me (Unit {0}) View)
+    → IsWriter v g next position gone → IsReader w g other → x.0 ≡ both_of v w → quiet_load (step slots 0 0 0 none) x found r → IsWriter r.0 g next position gone
+known_heard g next position gone other v w slots found x r is met both told =
+    let t : Track = the_track v.track in
+    let knows : Knows (both_of v w) t = heard_knows v w slots found x r is.tracked both told in
+    let seen : max v.seen w.seen ≡ position = omega (arith, knows.seen, is.same_seen, is.position_is, ap (λ (k : Geometry). position_of k t) is.same_geometry) in
+    let seen_gone : (v.seen_gone || w.seen_gone) ≡ gone = seen_by v.seen_gone w.seen_gone gone is.same_gone (λ seen. is.gone_is ∙ knows.gone seen) in
+    let room = later_notes-length v.noted w.noted (is.room ∙ sym met.room) ∙ is.room in
+    let saw_all = has_all-more v.positions w.positions t.published is.saw_all in
+    let known : IsWriter (record (both_of v w) { track = Some t }) g next position gone = assumption in
+    let own : IsWriter (both_of v w) g next position gone = subst (λ o. IsWriter (record (both_of v w) { track = o }) g next position gone) (sym (either_first v.track w.track is.tracked)) known in
+    subst (λ (y : View). IsWriter y g next position gone) (sym (ap (λ (y : Me (Unit {0}) View). y.0) told.0 ∙ both)) own
+
+pub has_heard : (d e : Desk) (o : ReaderSeat) (slots found : ℕ) (x : Me (Unit {0}) View) → e.seat.table_id ≡ d.seat.table_id → e.geometry ≡ d.geometry
+    → e.place.next ≡ d.place.next → e.position ≡ d.position → e.gone ≡ d.gone
+    → x.0 ≡ both_of (desk_view d) (view_of o) → quiet_load (step slots 0 0 0 none) x found e.seat.me → DeskHeard d e o
+has_heard d e o slots found x ring geometry next position gone both told =
+    let v : View = desk_view d in
+    let w : View = view_of o in
+    let knows : Knows (both_of v w) (desk_track d) = heard_knows v w slots found x e.seat.me d.known.tracked both told in
+    let view : desk_view e ≡ both_of v w = ap (λ (y : Me (Unit {0}) View). y.0) told.0 ∙ both in
+    let track : desk_track e ≡ desk_track d = ap (λ (y : View). the_track y.track) view ∙ ap the_track (either_first v.track w.track d.known.tracked) in
+    let borne_out = borne_out_second d.geometry (desk_track d) v w d.known.same_geometry knows in
+    assumption
+
+-- what the close of a ring says of the reader's seat
+pub closed_borne_out : (s : ReaderSeat) (d : Desk) (slots found : ℕ) (x r : Me (Unit {0}) View) → x.0 ≡ both_of (view_of s) (desk_view d)
+    → quiet_load (step slots 0 0 0 none) x found r → IsBorneOut s.geometry (desk_track d) (view_of s)
+closed_borne_out s d slots found x r both told =
+    let v : View = view_of s in
+    let w : View = desk_view d in
+    let t : Track = desk_track d in
+    let both_track : either_track v.track w.track ≡ Some t = ap (λ o. either_track o w.track) s.known.untracked ∙ tracked_some w.track d.known.tracked in
+    let knows : Knows (both_of v w) t = subst (λ y. Knows y t) both (told.1 t (ap (λ (y : View). y.track) both ∙ both_track)) in
+    borne_out_first s.geometry t v w s.known.same_geometry knows
+
+-- the writer gave what it has seen
+pub has_given : (d e : Desk) (new : ReaderSeat) → e.seat.table_id ≡ d.seat.table_id → e.geometry ≡ d.geometry → desk_view e ≡ desk_view d
+    → e.place.next ≡ d.place.next → e.position ≡ d.position → e.gone ≡ d.gone
+    → new.seat.table_id ≡ d.seat.table_id → new.geometry ≡ d.geometry → view_of new ≡ part_of (desk_view d) → new.seen ≡ d.position → DeskGave d e new
+has_given d e new ring geometry view next position gone new_ring new_geometry new_view new_seen =
+    let seen = new_seen ∙ d.known.position_is in
+    let published : (i x : ℕ) → get_elem? (desk_track d).published i ≡ some x → (j : ℕ) × (get_elem? (view_of new).positions j ≡ some x) =
+    λ i x there. rw new_view (has_each (desk_view d).positions (desk_track d).published i x d.known.saw_all there) in
+    let new_gone = ap (λ (y : View). y.seen_gone) new_view ∙ (d.known.same_gone ∙ d.known.gone_is) in
+    assumption

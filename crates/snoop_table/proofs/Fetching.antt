@@ -1,24 +1,23 @@
 -- The load of a frame by a reader's seat, channel by channel.
-use Rattle.std.proofs.Common.{◌≡◌, ◌≢◌, ℕ, zero, suc, ◌+◌, ◌<◌, ◌≤◌, ◌==◌, ◌||◌, Bool, true, false, List, [], ◌∷◌, ◌++◌, length, set, take, cond, replicate, ℤ, arith, subst, sym, refl, ap, ◌∙◌}
+use Rattle.std.proofs.Common.{◌≡◌, ◌≢◌, ℕ, zero, suc, ◌+◌, ◌<◌, ◌==◌, true, false, List, [], ◌∷◌, ◌++◌, length, set, take, cond, replicate, ℤ, arith, subst, sym, refl, ap, ◌∙◌}
 use Rattle.std.proofs.Math.Seq.{take-length, take-suc-set}
 use Rattle.std.proofs.lemmas.Bool.Decides.{nat_tests}
-use Rattle.std.proofs.lemmas.List.{append-nil, length-set, length-take-le}
+use Rattle.std.proofs.lemmas.List.{append-nil, length-set}
 use Rattle.snd_base.specs.declared.geometry.Geometry.{Geometry}
-use Rattle.snd_base.specs.Places.{first_frame, lap}
+use Rattle.snd_base.specs.Places.{lap}
 use Rattle.mix_core.specs.declared.gate.Pass.{Pass}
 use Rattle.mix_core.specs.declared.gate.Pass.TheVariants.{Go, Stop}
 use Rattle.mix_core.specs.declared.gate.StepKind.{StepKind}
 use Rattle.mix_core.specs.declared.gate.StepKind.TheVariants.{Look}
-use Rattle.ring_rule.specs.NoteLaws.{NeverFall-same}
 use Rattle.ring_rule.specs.Words.{index_of}
 use Rattle.snoop_core.specs.declared.port.Frame.{Frame}
-use Rattle.snoop_core.specs.declared.port.Got.TheVariants.{Whole, Overtaken, Stopped}
+use Rattle.snoop_core.specs.declared.port.Got.TheVariants.{Overtaken, Stopped}
 use Rattle.snoop_core.specs.Port.{Gets, SnoopView, numbered_frame}
 use Rattle.snoop_core.specs.Word.{laps_of, sample_of}
 use Rattle.snoop_table.specs.declared.seats.reader.ReaderSeat.{ReaderSeat}
 use Rattle.snoop_table.specs.declared.view.View.{View}
-use Rattle.snoop_table.specs.Readers.{IsLaterSeat, IsLaterSeat-joined, HasLooked, SeatFinds, SeatGot, SeatLoaded, seat_view, noted_word, view_of}
-use Rattle.snoop_table.specs.Steps.{IsNext, samples_before, with_note, with_sample}
+use Rattle.snoop_table.specs.Readers.{IsLaterSeat, IsLaterSeat-joined, HasLooked, SeatFinds, SeatGot, SeatLoaded, or_false, seat_view, noted_word, view_of}
+use Rattle.snoop_table.specs.Steps.{samples_before, with_note, with_sample}
 
 -- the channels of a frame before one were loaded, each with the frame's own lap
 pub record IsFetching (s t : ReaderSeat) (f c : ℕ) (out : List ℤ) : Type 0 where
@@ -31,33 +30,6 @@ pub record IsFetching (s t : ReaderSeat) (f c : ℕ) (out : List ℤ) : Type 0 w
   pub whole : c ≡ s.geometry.channels → (view_of t).got ≡ (view_of s).got ++ numbered_frame f out ∷ []
   pub loading : 0 < c → (view_of t).loading ≡ numbered_frame f (take c out)
   pub in_time : 0 < c → ¬ (f + s.geometry.frames < s.seen)
-
-pub fetching-none : (s t : ReaderSeat) (f : ℕ) (out : List ℤ) → t.seat.table_id ≡ s.seat.table_id → t.geometry ≡ s.geometry → t.seen ≡ s.seen → view_of t ≡ view_of s
-    → length out ≡ s.geometry.channels → IsFetching s t f 0 out
-fetching-none s t f out ring geometry seen view size = record {
-  goes = record { ring = ring; geometry = geometry; notes = NeverFall-same (view_of s).noted (view_of t).noted (ap (λ (v : View). v.noted) view) };
-  seen = seen;
-  positions = ap (λ (v : View). v.positions) view;
-  seen_gone = ap (λ (v : View). v.seen_gone) view;
-  size = size;
-  got = λ some. ap (λ (v : View). v.got) view;
-  whole = λ none. absurd (omega (arith, none, s.geometry.channels_least));
-  loading = λ some. absurd (omega arith);
-  in_time = λ some. absurd (omega arith);
-}
-
--- the next look may be made
-pub next_look : (s t : ReaderSeat) (f c : ℕ) (out : List ℤ) → IsFetching s t f c out → c < s.geometry.channels → first_frame s.geometry ≤ f → f < s.seen
-    → IsNext (view_of t) f c
-next_look s t f c out l in_range least seen =
-    let geometry : (view_of t).geometry ≡ s.geometry = t.known.same_geometry ∙ l.goes.geometry in
-    record {
-      channel = subst (λ (g : Geometry). c < g.channels) (sym geometry) in_range;
-      least = subst (λ (g : Geometry). first_frame g ≤ f) (sym geometry) least;
-      seen = omega (arith, seen, l.seen, t.known.same_seen);
-      of_frame = λ some. ap (λ (x : Frame). x.number) (l.loading some);
-      after = λ some. ap (λ (x : Frame). length x.samples) (l.loading some) ∙ length-take-le c out (omega (arith, in_range, l.size));
-    }
 
 -- the samples before a channel are those that were put out
 before-is : (v : View) (f c : ℕ) (out : List ℤ) → (0 < c → v.loading ≡ numbered_frame f (take c out)) → samples_before v c ≡ take c out
@@ -107,41 +79,18 @@ fetching-more s t u f c n out x l in_range looked own is =
           omega (arith, past, own, ap (λ (g : Geometry). lap g f) geometry);
     }
 
-or_nothing : (a : Bool) → a ≡ (a || false)
-or_nothing true = refl
-or_nothing false = refl
-
 loaded-nothing : (s t : ReaderSeat) → t.seen ≡ s.seen → (view_of t).positions ≡ (view_of s).positions → (view_of t).seen_gone ≡ (view_of s).seen_gone → SeatLoaded s t []
 loaded-nothing s t seen positions gone = record {
   positions = positions ∙ sym (append-nil (view_of s).positions);
   rising = tt;
   last = seen;
-  gone = gone ∙ or_nothing (view_of s).seen_gone;
+  gone = gone ∙ or_false (view_of s).seen_gone;
   after_gone = λ is k d inside. absurd (omega arith);
 }
 
 view-same : (s t : ReaderSeat) → t.geometry ≡ s.geometry → t.seen ≡ s.seen → seat_view t ≡ seat_view s
 view-same s t geometry seen =
     ap (λ (g : Geometry). let v : SnoopView = record { geometry = g; seen = t.seen } in v) geometry ∙ ap (λ n. let v : SnoopView = record { geometry = s.geometry; seen = n } in v) seen
-
--- all channels were loaded
-pub gets-whole : {T : Type 0} (stops : T → ℕ) (asked : T → T → List StepKind → Pass → Type 0) (s t : ReaderSeat) (g h : T) (f : ℕ) (out : List ℤ)
-    → IsFetching s t f s.geometry.channels out
-    → asked g h (replicate s.geometry.channels Look) Go → stops h ≡ stops g
-    → Gets seat_view noted_word SeatLoaded SeatGot SeatFinds stops asked s g (numbered_frame f out) Whole t h
-gets-whole stops asked s t g h f out l asks told = record {
-  view_is = view-same s t l.goes.geometry l.seen;
-  got_it = record { goes = l.goes; got = l.whole refl };
-  loaded_nothing = loaded-nothing s t l.seen l.positions l.seen_gone;
-  size = l.size;
-  overtaken = tt;
-  found = tt;
-  asks = s.geometry.channels;
-  asks_number = refl;
-  at_once = λ early. absurd (l.in_time (omega (arith, s.geometry.channels_least)) early);
-  asked_them = asks;
-  stopped = told;
-}
 
 at_first : (c : ℕ) → ¬ (0 < c) → c ≡ 0
 at_first c none = omega (arith, none)

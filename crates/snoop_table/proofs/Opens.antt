@@ -1,7 +1,6 @@
 -- A new ring meets the rule.
-use Rattle.std.proofs.Common.{◌≡◌, ℕ, zero, suc, ◌≤◌, false, List, [], ◌∷◌, length, get_or, set, pos, arith, subst, sym, refl, ap, ◌∙◌}
-use mathlib.Core.Option.{some, some-injective, some-ne-none}
-use lib.ListN.{get_elem?}
+use Rattle.std.proofs.Common.{◌≡◌, ℕ, ◌≤◌, false, List, [], length, get_or, set, pos, arith, subst, sym, ap, ◌∙◌}
+use mathlib.Core.Option.{some-ne-none}
 use Rattle.std.proofs.Math.ListN.{replicate}
 use Rattle.std.proofs.Math.Nat.{mul-le-mul_right}
 use Rattle.std.proofs.lemmas.Bool.Decides.{nat_tests}
@@ -11,6 +10,7 @@ use Rattle.snd_base.specs.declared.geometry.Geometry.{Geometry}
 use Rattle.snd_base.specs.declared.places.Cursor.{Cursor}
 use Rattle.snd_base.specs.Places.{end_frame, first_frame, first_free}
 use Rattle.lap_word.specs.Position.{word_of}
+use Rattle.ring_rule.specs.Lists.{at_only}
 use Rattle.ring_rule.specs.NoteLaws.{no_note, none_there}
 use Rattle.ring_rule.specs.WordLaws.{index_of-lt}
 use Rattle.ring_rule.specs.Words.{index_of, words_of}
@@ -18,7 +18,7 @@ use Rattle.snoop_core.specs.Stored.{HoldLast, IsLast}
 use Rattle.snoop_core.specs.Word.{HoldsSample}
 use Rattle.snoop_table.specs.declared.view.View.{View}
 use Rattle.snoop_table.specs.Captured.{Holds, IsRing, IsView, first_track, first_view, next_to_store, word_in}
-use Rattle.snoop_table.proofs.Stores.{track_or}
+use Rattle.snoop_table.proofs.Keeps.{track_or}
 
 -- the words of a new ring
 abbrev pub new_words : Geometry → ℕ → List ℕ
@@ -59,10 +59,6 @@ ring_first g silent holds =
       holds = holds_first g silent holds;
     }
 
-only : (v : View) (i : ℕ) (u : View) → get_elem? (v ∷ []) i ≡ some u → (i ≡ 0) × (v ≡ u)
-only v zero u there = (refl, some-injective v u there)
-only v (suc i) u there = absurd (some-ne-none u (sym there))
-
 -- the rule at the opening of a ring
 pub opens : (g : Geometry) (silent : ℕ) → HoldsSample silent g.first_lap (pos 0)
     → Holds g (opening {S = Unit {0}} {V = View} (new_words g silent) [] (first_view g))
@@ -80,9 +76,9 @@ opens g silent holds =
       first_track,
       ring_first g silent holds,
       record {
-        each = λ i u there. subst (IsView g (new_words g silent) first_track) (only v i u there).1 own;
+        each = λ i u there. subst (IsView g (new_words g silent) first_track) (at_only v i u there).1 own;
         writer = λ i u t there tracks.
-            ((only v i u there).0, sym (ap (track_or first_track) (ap (λ (x : View). x.track) (only v i u there).1 ∙ tracks)));
+            ((at_only v i u there).0, sym (ap (track_or first_track) (ap (λ (x : View). x.track) (at_only v i u there).1 ∙ tracks)));
       },
     )
 

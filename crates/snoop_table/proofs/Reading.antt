@@ -1,7 +1,7 @@
 -- What a reader's steps may do and do, said of the fields of its seat.
 use Rattle.std.proofs.Common.{◌≡◌, ℕ, ◌+◌, ◌<◌, ◌≤◌, Some, None, length, get_or, set, inl, inr, arith, subst, sym, refl, ap, ◌∙◌}
 use mathlib.Core.Option.{none}
-use Rattle.std.proofs.lemmas.List.{get_or-set_same, length-set}
+use Rattle.std.proofs.lemmas.List.{get_or-set_same}
 use Rattle.atomic_table.specs.Table.{Allows, Me, step}
 use Rattle.snd_base.specs.declared.geometry.Geometry.{Geometry}
 use Rattle.snd_base.specs.Places.{end_frame, lap}
@@ -9,6 +9,7 @@ use Rattle.lap_word.specs.Position.{gone_in, position_in, word_of-fields}
 use Rattle.mix_core.specs.declared.port.Position.{Position}
 use Rattle.ring_rule.specs.NoteLaws.{NeverFall-same, NeverFall-set}
 use Rattle.ring_rule.specs.Notes.{NeverFall}
+use Rattle.ring_rule.specs.PositionLaws.{position_fits}
 use Rattle.ring_rule.specs.WordLaws.{index_of-lt}
 use Rattle.ring_rule.specs.Words.{index_of}
 use Rattle.snoop_core.specs.Word.{laps_of, sample_of}
@@ -23,20 +24,14 @@ use Rattle.std.proofs.lemmas.Bool.{cases_eq}
 
 -- a load of the position
 pub may_locate : (s : ReaderSeat) (slots : ℕ) → Allows (Holds s.ring.now.key) slots s.seat.id s.seat.me 0 (λ n. n) (position_load (step slots 0 0 0 none) s.seat.me)
-may_locate s slots =
-    let Goes : Geometry → Type 0 = λ g. Allows (Holds g) slots s.seat.id s.seat.me 0 (λ n. n) (position_load (step slots 0 0 0 none) s.seat.me) in
-    subst Goes (s.known.same_geometry ∙ s.same_ring.1) (locates slots s.seat.id s.seat.me)
-
--- no position up to the end has the gone bit
-below_gone : (g : Geometry) (p : ℕ) → p ≤ end_frame g → p < 9223372036854775808
-below_gone g p within = omega (arith, within, g.frames_most)
+may_locate s slots = rw (← s.same_ring.1, ← s.known.same_geometry) (locates slots s.seat.id s.seat.me)
 
 pub known_located : (g : Geometry) (seen slots n : ℕ) (m r : Me (Unit {0}) View) → IsReader m.0 g seen → position_load (step slots 0 0 0 none) m n r
     → IsReader r.0 g (position_in n)
 known_located g seen slots n m r is told =
     let p : ℕ = told.0 in
     let end : p ≤ end_frame g = subst (λ (k : Geometry). p ≤ end_frame k) is.same_geometry told.5 in
-    let fields = word_of-fields p told.1 (below_gone g p end) in
+    let fields = word_of-fields p told.1 (position_fits g p end) in
     let read : position_in n ≡ p = ap position_in told.3 ∙ fields.0 in
     let known : IsReader (with_position m.0 p told.1) g p = record {
       same_geometry = is.same_geometry;
@@ -53,7 +48,7 @@ has_located s t slots n p ring geometry seen frame gone told =
     let v : View = view_of s in
     let q : ℕ = told.0 in
     let end : q ≤ end_frame s.geometry = subst (λ (k : Geometry). q ≤ end_frame k) s.known.same_geometry told.5 in
-    let fields = word_of-fields q told.1 (below_gone s.geometry q end) in
+    let fields = word_of-fields q told.1 (position_fits s.geometry q end) in
     let frame_is : p.frame ≡ q = frame ∙ (ap position_in told.3 ∙ fields.0) in
     let gone_is : p.gone ≡ told.1 = gone ∙ (ap gone_in told.3 ∙ fields.1) in
     let view : view_of t ≡ with_position v q told.1 = ap (λ (y : Me (Unit {0}) View). y.0) told.2 in
@@ -69,12 +64,7 @@ has_located s t slots n p ring geometry seen frame gone told =
 -- a load of the next word of a frame
 pub may_look : (s : ReaderSeat) (slots i f c : ℕ) → IsNext (view_of s) f c → i ≡ index_of s.geometry f c
     → Allows (Holds s.ring.now.key) slots s.seat.id s.seat.me i (λ n. n) (word_load f c (step slots i 0 0 none) s.seat.me)
-may_look s slots i f c next index =
-    let v : View = view_of s in
-    let Goes : Geometry → ℕ → Type 0 = λ g j. Allows (Holds g) slots s.seat.id s.seat.me j (λ n. n) (word_load f c (step slots j 0 0 none) s.seat.me) in
-    let at_own : Goes v.geometry (index_of v.geometry f c) = looks slots s.seat.id s.seat.me f c next in
-    let at_key : Goes s.geometry (index_of s.geometry f c) = subst (λ (g : Geometry). Goes g (index_of g f c)) s.known.same_geometry at_own in
-    subst (λ g. Goes g i) s.same_ring.1 (subst (Goes s.geometry) (sym index) at_key)
+may_look s slots i f c next index = rw (index, ← s.same_ring.1, ← s.known.same_geometry) (looks slots s.seat.id s.seat.me f c next)
 
 -- either way, the fields stay and the word is noted
 pub record IsLooked (v w : View) (i n : ℕ) : Type 0 where
@@ -85,39 +75,9 @@ pub record IsLooked (v w : View) (i n : ℕ) : Type 0 where
 
 pub is_looked : (f c slots i n : ℕ) (m r : Me (Unit {0}) View) → word_load f c (step slots i 0 0 none) m n r → IsLooked m.0 r.0 i n × (r.1 ≡ m.1)
 is_looked f c slots i n m r told = elim (cases_eq (laps_of n) (lap m.0.geometry f + 1)) [
-  | inl own ↦
-      let is = told.1 own in (
-        record {
-          geometry = ap (λ (y : Me (Unit {0}) View). y.0.geometry) is;
-          seen = ap (λ (y : Me (Unit {0}) View). y.0.seen) is;
-          track = ap (λ (y : Me (Unit {0}) View). y.0.track) is;
-          noted = ap (λ (y : Me (Unit {0}) View). y.0.noted) is;
-        },
-        ap (λ (y : Me (Unit {0}) View). y.1) is,
-      )
-  | inr other ↦
-      let is = told.2 other in (
-        record {
-          geometry = ap (λ (y : Me (Unit {0}) View). y.0.geometry) is;
-          seen = ap (λ (y : Me (Unit {0}) View). y.0.seen) is;
-          track = ap (λ (y : Me (Unit {0}) View). y.0.track) is;
-          noted = ap (λ (y : Me (Unit {0}) View). y.0.noted) is;
-        },
-        ap (λ (y : Me (Unit {0}) View). y.1) is,
-      )
+  | inl own ↦ rw (told.1 own) (record { geometry = refl; seen = refl; track = refl; noted = refl }, refl)
+  | inr other ↦ rw (told.2 other) (record { geometry = refl; seen = refl; track = refl; noted = refl }, refl)
 ]
-
-pub known_looked : (g : Geometry) (seen f c slots i n : ℕ) (m r : Me (Unit {0}) View) → IsReader m.0 g seen → word_load f c (step slots i 0 0 none) m n r
-    → IsReader r.0 g seen
-known_looked g seen f c slots i n m r is told =
-    let l : IsLooked m.0 r.0 i n = (is_looked f c slots i n m r told).0 in
-    record {
-      same_geometry = l.geometry ∙ is.same_geometry;
-      same_seen = l.seen ∙ is.same_seen;
-      untracked = l.track ∙ is.untracked;
-      room = ap length l.noted ∙ (length-set m.0.noted i (Some n) ∙ is.room);
-      seen_within = is.seen_within;
-    }
 
 pub has_looked : (s t : ReaderSeat) (slots i f c n : ℕ) → t.seat.table_id ≡ s.seat.table_id → t.geometry ≡ s.geometry → t.seen ≡ s.seen
     → c < s.geometry.channels → i ≡ index_of s.geometry f c

@@ -26,18 +26,11 @@ use Rattle.snoop_table.specs.Writers.{desk_of, desk_ring, desk_track, desk_view,
 abbrev pub OneRing : TableId → Geometry → TableId → Geometry → Type 0
 OneRing a g b h = (a ≡ b) × (g ≡ h)
 
--- what a note has seen, its ring, and the greatest position that it has seen
-abbrev pub note_view : SnoopNote → View
-note_view n = view_of n.seat
-
 abbrev pub note_ring : SnoopNote → TableId
 note_ring n = ring_of n.seat
 
 abbrev pub note_geometry : SnoopNote → Geometry
 note_geometry n = n.seat.geometry
-
-abbrev pub note_seen : SnoopNote → ℕ
-note_seen n = n.seat.seen
 
 -- a new seat has seen, noted and got as much as the one that was split, which is as before
 pub record HasSplit (s t new : ReaderSeat) : Type 0 where

@@ -113,7 +113,7 @@ SeatGot-composes = record {
   };
 }
 
-or_false : (a : Bool) → a ≡ (a || false)
+pub or_false : (a : Bool) → a ≡ (a || false)
 or_false true = refl
 or_false false = refl
 

@@ -1,41 +1,50 @@
--- Splits and joins keep the rule, and what the rule says of a seat's view.
-use Rattle.std.proofs.Common.{◌≡◌, ◌≢◌, ◌⊎◌, ℕ, zero, suc, ◌+◌, ◌*◌, ◌≤◌, ◌||◌, Bool, true, false, Option, None, Some, List, [], ◌∷◌, ◌++◌, map, length, get_or, set, ℤ, pos, inl, inr, arith, subst, sym, refl, ap, ◌∙◌}
+-- Splits and joins keep the rule, and what they make of the fields of the seats.
+use Rattle.std.proofs.Common.{◌≡◌, ◌⊎◌, ℕ, zero, suc, ◌+◌, ◌*◌, ◌≤◌, true, false, Option, None, Some, List, [], ◌∷◌, ◌++◌, map, length, get_or, set, ℤ, pos, inl, inr, arith, subst, sym, refl, ap, ◌∙◌, ◌-◌, ◌||◌, Bool, max}
 use mathlib.Core.Option.{some, none, some-ne-none}
 use lib.ListN.{get_elem?}
-use Rattle.std.proofs.lemmas.Bool.{false≢true}
+use Rattle.std.proofs.lemmas.Bool.{false≢true, or_right}
 use Rattle.std.proofs.lemmas.Int.{ints}
-use Rattle.std.proofs.lemmas.List.{length-append, length-set}
+use Rattle.std.proofs.lemmas.List.{length-append, length-set, append-nil}
 use Rattle.atomic_table.specs.Table.{Allows, Joins, Me, Splits, keeps, step}
 use Rattle.atomic_table.proofs.Lists.{at_set}
 use Rattle.snd_base.specs.declared.geometry.Geometry.{Geometry}
-use Rattle.snd_base.specs.Places.{lap}
+use Rattle.snd_base.specs.Places.{lap, IsWithin, first_frame}
 use Rattle.lap_word.specs.Word.{StandsFor-fields, lap_of}
 use Rattle.mix_core.specs.declared.port.Entry.{Entry}
-use Rattle.mix_core.specs.History.{Row, laid_of}
+use Rattle.mix_core.specs.History.{Row, laid_of, AreExact, AreInOrder, IsLegal}
 use Rattle.mix_core.specs.HistoryLaws.{total-append}
 use Rattle.mix_core.specs.Laid.{at, sum_of_samples, total}
 use Rattle.sum_table.specs.declared.view.Key.{Key}
 use Rattle.sum_table.specs.declared.view.Track.{Track}
 use Rattle.sum_table.specs.declared.view.View.{View}
-use Rattle.sum_table.specs.Cuts.{start_marks, both_of, either_track, part_of, spent_view, with_places}
-use Rattle.sum_table.specs.Exact.{Exact, IsHistory, IsView}
-use Rattle.sum_table.specs.Laid.{SameSums, all_laid, by_member, count, own_entries, total_places}
-use Rattle.sum_table.specs.Steps.{Knows, quiet_load, with_history}
-use Rattle.ring_rule.specs.Words.{NotPast, index_of}
-use Rattle.sum_table.proofs.Kept.{kept_join, kept_none, kept_places}
-use Rattle.sum_table.proofs.Keeps.{Holds, idle, loaded, none_made}
-use Rattle.ring_rule.specs.Lists.{at_append, at_more}
+use Rattle.sum_table.specs.Cuts.{both_of, either_track, part_of, spent_view, with_places, joined_marks, later_of, without_places}
+use Rattle.sum_table.specs.Exact.{IsLaid, BeginsWith, Exact, IsKept, IsView, start_marks, IsPublishedPosition, is_tracked, next_at, position_at, the_track}
+use Rattle.sum_table.specs.Laid.{SameSums, all_laid, by_member, count, total_places}
+use Rattle.sum_table.specs.Steps.{Knows, quiet_load, with_history, IsStep, Makes}
+use Rattle.ring_rule.specs.Words.{NotPast, index_of, rank}
+use Rattle.sum_table.proofs.Kept.{kept_join, kept_none, kept_places, IsLaid-later}
+use Rattle.sum_table.proofs.Keeps.{Holds, idle, loaded, none_made, tracked_some}
+use Rattle.ring_rule.specs.Lists.{at_append, at_second}
+use Rattle.ring_rule.specs.SeatLaws.{HasTrack-join, HasTrack-split, each-join, each-split, or_true, join_views, split_views}
 use Rattle.sum_table.proofs.Rings.{IsRing-same}
-use Rattle.sum_table.proofs.Rows.{BeginsWith-same}
+use Rattle.sum_table.proofs.Rows.{BeginsWith-same, history_over, owns_same}
 use Rattle.sum_table.proofs.Sums.{SameSums-joined, SameSums-more, SameSums-set, count-append, count_few, count_set, total_places-more, places_set, places_within, total_set}
-use Rattle.ring_rule.specs.NoteLaws.{later_notes-one, no_note}
-
-abbrev is_some : Option Track → Bool
-is_some None = false
-is_some (Some t) = true
-
-pub no_track : (t : Track) → None ≢ Some t
-no_track t same = false≢true (ap is_some same)
+use Rattle.ring_rule.specs.NoteLaws.{later_notes-one, no_note, later_notes-keeps, later_notes-length}
+use Rattle.std.proofs.lemmas.Bool.Decides.{nat_tests}
+use Rattle.snd_base.specs.declared.places.Cursor.{Cursor}
+use Rattle.mix_core.specs.declared.marks.Marks.{Marks}
+use Rattle.mix_core.specs.LegalLaws.{first_frame-le}
+use Rattle.mix_core.specs.Sound.{IsNow}
+use Rattle.sum_table.specs.declared.seats.mix.MixSeat.{MixSeat}
+use Rattle.sum_table.specs.declared.seats.note.SeatNote.{SeatNote}
+use Rattle.sum_table.specs.declared.seats.player.PlayerSeat.{PlayerSeat}
+use Rattle.sum_table.specs.Joins.{HasClosed, HasHeard, HasJoined, HasMet, HasPlayerNote, note_view}
+use Rattle.sum_table.specs.Known.{IsKnown, IsNoted, IsPlayer, greater, last_frame}
+use Rattle.sum_table.specs.Players.{player_view, track_of}
+use Rattle.sum_table.specs.Seats.{view_of}
+use Rattle.sum_table.proofs.Highs.{IsReach-joined, IsReach-start, greater_none}
+use Rattle.ring_rule.specs.PositionLaws.{has_all-more, has_each}
+use Rattle.sum_table.proofs.Seated.{MarksWithin, last_frame-append, step_begins}
 
 -- places move to a new seat
 pub splits : (k : Key) (id : ℕ) (v : View) (left right : ℕ) → v.key ≡ k → left + right ≡ v.places
@@ -50,90 +59,35 @@ splits k id v left right of_ring all few s x here =
     let mid : List View = set s.views id l in
     let views : List View = mid ++ p ∷ [] in
     let mine : IsView k s.words t h v = x.4.each id v here in
-    let left_ok : IsView k s.words t h l = record {
-      kept = kept_places g v.places left v.laid v.mine v.free v.marks v.seen v.ended few mine.kept;
-      seen_high = mine.seen_high;
-      positions = mine.positions;
-      gone = mine.gone;
-      noted = mine.noted;
-      begins = mine.begins;
-      heard = mine.heard;
-    } in
-    let right_ok : IsView k s.words t h p = record {
-      kept = kept_none g right (start_marks v.key.geometry) v.seen false (λ c. omega arith) (λ c. omega arith) (λ lasts. ap (λ (z : Key). start_marks z.geometry) of_ring);
-      seen_high = mine.seen_high;
-      positions = mine.positions;
-      gone = mine.gone;
-      noted = mine.noted;
-      begins = mine.begins;
-      heard = (h, refl);
-    } in
+    let left_ok : IsView k s.words t h l = assumption (kept_places g v.places left v.laid v.mine v.free v.marks v.seen v.ended few mine.kept) in
+    let kept : IsKept g right [] [] [] (start_marks v.key.geometry) v.seen false =
+    kept_none g right (start_marks v.key.geometry) v.seen false (λ c. omega arith) (λ c. omega arith) (λ lasts. ap (λ (z : Key). start_marks z.geometry) of_ring) in
+    let heard : BeginsWith h [] = (h, refl) in
+    let right_ok : IsView k s.words t h p = assumption in
     let sums : SameSums (all_laid s.views) (all_laid views) =
     SameSums-joined (all_laid s.views) (all_laid mid) (all_laid views) (SameSums-set s.views id v l here refl) (SameSums-more mid p refl) in
-    let number : length mid ≡ length s.views = length-set s.views id l in
-    let more : length views ≡ length s.views + 1 = omega (arith, number, length-append mid (p ∷ [])) in
-    let parts : (i : ℕ) (u : View) → get_elem? views i ≡ some u
-    → ((i ≡ id) × (l ≡ u)) ⊎ (((i ≢ id) × (get_elem? s.views i ≡ some u)) ⊎ ((i ≡ length s.views) × (p ≡ u))) =
-    λ i u there. elim (at_more mid p u i there) [
-      | inl old ↦ elim (at_set s.views id i l u old) [ inl this ↦ inl this | inr other ↦ inr (inl other) ]
-      | inr new ↦ inr (inr (new.0 ∙ number, new.1))
-    ] in (
+    let more : length views ≡ length s.views + 1 = omega (arith, length-set s.views id l, length-append mid (p ∷ [])) in (
       x.0,
       t,
       h,
       IsRing-same g s.words (all_laid s.views) (all_laid views) t sums x.3,
       record {
         places = omega (arith, total_places-more mid p, places_set s.views id v l here, all, x.4.places);
-        each = λ i u there. elim (parts i u there) [
-          | inl this ↦ subst (IsView k s.words t h) this.1 left_ok
-          | inr rest ↦ elim rest [
-            | inl other ↦ x.4.each i u other.1
-            | inr new ↦ subst (IsView k s.words t h) new.1 right_ok
-          ]
-        ];
-        player = λ i u y there tracks. elim (parts i u there) [
-          | inl this ↦
-              let was = x.4.player id v y here (ap (λ (z : View). z.track) this.1 ∙ tracks) in
-              (this.0 ∙ was.0, was.1)
-          | inr rest ↦ elim rest [
-            | inl other ↦ x.4.player i u y other.1 tracks
-            | inr new ↦ absurd (no_track y (ap (λ (z : View). z.track) new.1 ∙ tracks))
-          ]
-        ];
+        each = each-split (IsView k s.words t h) s.views id l p x.4.each left_ok right_ok;
+        player = HasTrack-split (λ (z : View). z.track) s.views x.0 t id v l p x.4.player here refl refl;
       },
-      record {
-        legal = λ members up. x.5.legal members (omega (arith, more));
-        taken = x.5.taken;
-        position = x.5.position;
-        sums = SameSums-joined (laid_of h) (all_laid s.views) (all_laid views) x.5.sums sums;
-        owns = λ i u there lasts. elim (parts i u there) [
-          | inl this ↦
-              let was : v.ended ≡ false = ap (λ (z : View). z.ended) this.1 ∙ lasts in
-              subst (λ n. own_entries n (laid_of h) ≡ map (by_member n) u.mine) (sym this.0) (x.5.owns id v here was ∙ ap (λ (z : View). map (by_member id) z.mine) this.1)
-          | inr rest ↦ elim rest [
-            | inl other ↦ x.5.owns i u other.1 lasts
-            | inr new ↦ x.5.no_more i (omega (arith, new.0)) ∙ ap (λ (z : View). map (by_member i) z.mine) new.1
-          ]
-        ];
-        no_more = λ i up. x.5.no_more i (omega (arith, more));
-      },
+      history_over g s.views views t h x.5 (omega (arith, more)) sums (λ i u there lasts. elim (split_views s.views id l p i u there) [
+        | inl this ↦ owns_same g s.views t h id v l x.5 here refl refl i u this lasts
+        | inr rest ↦ elim rest [
+          | inl other ↦ x.5.owns i u other.1 lasts
+          | inr new ↦ x.5.no_more i (omega (arith, new.0)) ∙ ap (λ (z : View). map (by_member i) z.mine) new.1
+        ]
+      ]),
     )
 
 either_one : (o p : Option Track) (y : Track) → either_track o p ≡ Some y → (o ≡ Some y) ⊎ (p ≡ Some y)
 either_one None p y is = inr is
 either_one (Some t) p y is = inl is
-
-either_none : (o p : Option Track) (y : Track) → p ≡ None → either_track o p ≡ Some y → o ≡ Some y
-either_none None p y gone is = absurd (no_track y (sym gone ∙ is))
-either_none (Some t) p y gone is = is
-
-track_cases : (o : Option Track) → (o ≡ None) ⊎ ((t : Track) × (o ≡ Some t))
-track_cases None = inl refl
-track_cases (Some t) = inr (t, refl)
-
-or_true : (a b : Bool) → (a || b) ≡ true → (a ≡ true) ⊎ (b ≡ true)
-or_true true b is = inl refl
-or_true false b is = inr is
 
 -- what two seats know together
 both_ok : (k : Key) (words : List ℕ) (t : Track) (h : List Row) (v w : View) → IsView k words t h v → IsView k words t h w → IsView k words t h (both_of v w)
@@ -181,81 +135,21 @@ joins k id v other w s x here apart there =
       totals = λ f c. omega (arith, ints, total_set s.views id v b f c here, total_set mid other w spent_view f c there, total-append v.laid w.laid f c);
     } in
     let number : length views ≡ length s.views = length-set mid other spent_view ∙ length-set s.views id b in
-    let parts : (i : ℕ) (u : View) → get_elem? views i ≡ some u
-    → ((i ≡ other) × (spent_view ≡ u)) ⊎ (((i ≡ id) × (b ≡ u)) ⊎ ((i ≢ id) × (i ≢ other) × (get_elem? s.views i ≡ some u))) =
-    λ i u is. elim (at_set mid other i spent_view u is) [
-      | inl ended ↦ inl ended
-      | inr rest ↦ elim (at_set s.views id i b u rest.1) [ inl this ↦ inr (inl this) | inr else_one ↦ inr (inr (else_one.0, rest.0, else_one.1)) ]
-    ] in
-    let ring = IsRing-same g s.words (all_laid s.views) (all_laid views) t sums x.3 in
-    let each : (i : ℕ) (u : View) → get_elem? views i ≡ some u → IsView k s.words t h u = λ i u is. elim (parts i u is) [
-      | inl ended ↦ subst (IsView k s.words t h) ended.1 (spent_ok k s.words t h)
-      | inr rest ↦ elim rest [ inl this ↦ subst (IsView k s.words t h) this.1 b_ok | inr else_one ↦ x.4.each i u else_one.2 ]
-    ] in
-    let places : total_places views ≡ k.places = omega (arith, places_set s.views id v b here, places_set mid other w spent_view there, x.4.places) in
-    let history : IsHistory g views t h = record {
-      legal = λ members up. x.5.legal members (omega (arith, number));
-      taken = x.5.taken;
-      position = x.5.position;
-      sums = SameSums-joined (laid_of h) (all_laid s.views) (all_laid views) x.5.sums sums;
-      owns = λ i u is lasts. elim (parts i u is) [
+    let player = HasTrack-join (λ (z : View). z.track) s.views x.0 t id v other w b spent_view x.4.player here was_there refl (either_one v.track w.track) in (
+      player.0,
+      t,
+      h,
+      IsRing-same g s.words (all_laid s.views) (all_laid views) t sums x.3,
+      record {
+        places = omega (arith, places_set s.views id v b here, places_set mid other w spent_view there, x.4.places);
+        each = each-join (IsView k s.words t h) s.views id other b spent_view x.4.each b_ok (spent_ok k s.words t h);
+        player = player.1;
+      },
+      history_over g s.views views t h x.5 (omega (arith, number)) sums (λ i u is lasts. elim (join_views s.views id other b spent_view i u is) [
         | inl ended ↦ absurd (false≢true (sym (ap (λ (z : View). z.ended) ended.1 ∙ lasts)))
-        | inr rest ↦ elim rest [
-          | inl this ↦
-              let was : v.ended ≡ false = ap (λ (z : View). z.ended) this.1 ∙ lasts in
-              subst (λ n. own_entries n (laid_of h) ≡ map (by_member n) u.mine) (sym this.0) (x.5.owns id v here was ∙ ap (λ (z : View). map (by_member id) z.mine) this.1)
-          | inr else_one ↦ x.5.owns i u else_one.2 lasts
-        ]
-      ];
-      no_more = λ i up. x.5.no_more i (omega (arith, number));
-    } in
-    elim (track_cases w.track) [
-      | inl untracked ↦ (
-        x.0,
-        t,
-        h,
-        ring,
-        record {
-          places = places;
-          each = each;
-          player = λ i u y is tracks. elim (parts i u is) [
-            | inl ended ↦ absurd (no_track y (ap (λ (z : View). z.track) ended.1 ∙ tracks))
-            | inr rest ↦ elim rest [
-              | inl this ↦
-                  let was = x.4.player id v y here (either_none v.track w.track y untracked (ap (λ (z : View). z.track) this.1 ∙ tracks)) in
-                  (this.0 ∙ was.0, was.1)
-              | inr else_one ↦ x.4.player i u y else_one.2 tracks
-            ]
-          ];
-        },
-        history,
-      )
-      | inr one ↦
-          let was_player : (other ≡ x.0) × (one.0 ≡ t) = x.4.player other w one.0 was_there one.1 in (
-            id,
-            t,
-            h,
-            ring,
-            record {
-              places = places;
-              each = each;
-              player = λ i u y is tracks. elim (parts i u is) [
-                | inl ended ↦ absurd (no_track y (ap (λ (z : View). z.track) ended.1 ∙ tracks))
-                | inr rest ↦ elim rest [
-                  | inl this ↦ (
-                    this.0,
-                    elim (either_one v.track w.track y (ap (λ (z : View). z.track) this.1 ∙ tracks)) [
-                      | inl first ↦ (x.4.player id v y here first).1
-                      | inr second ↦ (x.4.player other w y was_there second).1
-                    ],
-                  )
-                  | inr else_one ↦ absurd (else_one.1 ((x.4.player i u y else_one.2 tracks).0 ∙ sym was_player.0))
-                ]
-              ];
-            },
-            history,
-          )
-    ]
+        | inr rest ↦ elim rest [ inl this ↦ owns_same g s.views t h id v b x.5 here refl refl i u this lasts | inr apart_one ↦ x.5.owns i u apart_one.2 lasts ]
+      ]),
+    )
 
 -- no sample, no sum
 total_none : (es : List Entry) (f c : ℕ) → count es f c ≡ 0 → total es f c ≡ pos 0
@@ -277,10 +171,8 @@ alone : (views : List View) (id : ℕ) (v : View) (f c : ℕ) → get_elem? view
 alone [] id v f c here few all = absurd (some-ne-none v (sym here))
 alone (x ∷ xs) zero v f c here few all =
     let same : x ≡ v = mathlib.Core.Option.some-injective x v here in
-    let rest = all_none xs f c (λ i u there. few (suc i) u there) (omega (arith, all, ap (λ (y : View). y.places) same)) in (
-      omega (arith, count-append x.laid (all_laid xs) f c, rest.0, ap (λ (y : View). count y.laid f c) same),
-      omega (arith, ints, total-append x.laid (all_laid xs) f c, rest.1, ap (λ (y : View). total y.laid f c) same),
-    )
+    let rest = all_none xs f c (λ i u there. few (suc i) u there) (omega (arith, all, ap (λ (y : View). y.places) same)) in
+    rw same (omega (arith, count-append v.laid (all_laid xs) f c, rest.0), omega (arith, ints, total-append v.laid (all_laid xs) f c, rest.1))
 alone (x ∷ xs) (suc id) v f c here few all =
     let inside : v.places ≤ total_places xs = places_within xs id v here in
     let rest = alone xs id v f c here (λ i u there. few (suc i) u there) (omega (arith, all, inside)) in
@@ -340,15 +232,7 @@ learns slots id m lasts s x homes here fits =
     let w : View = with_history v h in
     let all : Holds k s.words s.views x.0 t h = record { ring = x.3; views_ok = x.4; history = x.5 } in
     let own_one : IsView k s.words t h v = x.4.each id v here in
-    let after : IsView k s.words t h w = record {
-      kept = own_one.kept;
-      seen_high = own_one.seen_high;
-      positions = own_one.positions;
-      gone = own_one.gone;
-      noted = own_one.noted;
-      begins = BeginsWith-same h;
-      heard = own_one.heard;
-    } in
+    let after : IsView k s.words t h w = assumption (BeginsWith-same h) in
     let y : Holds k s.words (set s.views id w) x.0 t h = idle k s.words s.views x.0 t h id v w all here (record { places = refl; laid = refl; mine = refl; ended = refl; track = refl }) after in (
       w,
       keeps,
@@ -363,3 +247,217 @@ learns slots id m lasts s x homes here fits =
         (λ u tracks. knows s.words s.views x.0 t u h id v all here tracks),
       ),
     )
+
+-- ---- splits, joins, notes and the close of a ring, said of the fields of the seats
+
+-- a load that notes nothing, after a join
+pub learns_both : (k : Key) (slots id : ℕ) (v w : View) (kept : List (ℕ × Entry)) (m : Me Entry View) → m ≡ (both_of v w, kept) → v.key ≡ k → v.ended ≡ false
+    → Allows (Exact k) slots id m 0 (λ n. n) (quiet_load (step slots 0 0 0 none) m)
+learns_both k slots id v w kept m both same lasts =
+    subst (λ (x : Key). Allows (Exact x) slots id m 0 (λ n. n) (quiet_load (step slots 0 0 0 none) m)) (ap (λ (y : Me Entry View). y.0.key) both ∙ same)
+    (learns slots id m (ap (λ (y : Me Entry View). y.0.ended) both ∙ lasts))
+
+-- places that a seat has, and that placed nothing, can move
+pub may_cut : (s : MixSeat) (amount n : ℕ) → amount ≡ n → n ≤ s.places → (view_of s).laid ≡ []
+    → Splits (Exact s.ring.now.key) s.seat.id (view_of s) (without_places (view_of s) amount) (part_of (view_of s) amount)
+may_cut s amount n is has nothing =
+    let v : View = view_of s in
+    splits s.ring.now.key s.seat.id v (v.places - amount) amount (s.known.same_key ∙ s.same_ring.1) (omega (arith, is, has, s.known.same_places)) (inl nothing)
+
+-- a note can always be given
+pub may_note : (k : Key) (id : ℕ) (v : View) → v.key ≡ k → Splits (Exact k) id v v (part_of v 0)
+may_note k id v same = splits k id v v.places 0 same (omega arith) (inr refl)
+
+pub start_within : (g : Geometry) → IsWithin g (first_frame g)
+start_within g = record { least = omega arith; most = first_frame-le g }
+
+-- the fields of the two seats after a split
+pub known_without : (k : Key) (places : ℕ) (marks : Marks) (seen : ℕ) (last : Option ℕ) (v : View) (amount n : ℕ)
+    → IsKnown v k places marks seen last → amount ≡ n → n ≤ places → v.laid ≡ [] → IsKnown (without_places v amount) k (places - n) marks seen last
+known_without k places marks seen last v amount n is same has nothing =
+    let places_left : v.places - amount ≡ places - n = omega (arith, is.same_places, same) in
+    let most : places - n ≤ k.places = omega (arith, is.places_most) in
+    let none_placed : places - n ≡ 0 → last ≡ None = λ none_left. sym is.same_last ∙ ap last_frame nothing in
+    assumption
+
+pub known_part : (k : Key) (v : View) (amount n seen : ℕ) → v.key ≡ k → v.seen ≡ seen → IsNoted v k → IsWithin k.geometry seen → amount ≡ n → n ≤ k.places
+    → IsKnown (part_of v amount) k n (start_marks k.geometry) seen None
+known_part k v amount n seen same_key same_seen noted seen_within same most =
+    let marks : start_marks v.key.geometry ≡ start_marks k.geometry = ap (λ (x : Key). start_marks x.geometry) same_key in
+    let reach = IsReach-start k.geometry n in
+    let start = start_within k.geometry in
+    let laid : (i : ℕ) (e : Entry) → get_elem? (part_of v amount).laid i ≡ some e → IsLaid k.geometry v.seen e = λ i e there. absurd (some-ne-none e (sym there)) in
+    assumption
+
+-- what two views noted is noted in both
+IsNoted-both : (k : Key) (v w : View) → IsNoted v k → IsNoted w k → IsNoted (both_of v w) k
+IsNoted-both k v w a b = record {
+  room = later_notes-length v.noted w.noted (a.room ∙ sym b.room) ∙ a.room;
+  words = λ i n there. elim (later_notes-one v.noted w.noted i n there) [ inl first ↦ a.words i n first | inr second ↦ b.words i n second ];
+}
+
+later_within : (g : Geometry) (a b : Cursor) → IsWithin g a.frame → IsWithin g b.frame → IsWithin g (later_of a b).frame
+later_within g a b first second = record { least = grind (arith, nat_tests, first.least, second.least); most = grind (arith, nat_tests, first.most, second.most) }
+
+-- the marks after a join
+joined_within : (g : Geometry) (a b : Marks) (n : ℕ) → MarksWithin g a → MarksWithin g b → MarksWithin g (joined_marks a b n)
+joined_within g a b zero first second = first
+joined_within g a b (suc n) first second =
+    let high : IsWithin g (later_of a.high b.high).frame = later_within g a.high b.high first.high second.high in
+    record { cursor = high; floor = high; high = high }
+
+-- the fields after a join
+pub known_joined : (k : Key) (p q : ℕ) (a b : Marks) (s t : ℕ) (l m : Option ℕ) (v w : View) (slots n : ℕ) (x r : Me Entry View)
+    → IsKnown v k p a s l → IsKnown w k q b t m → x.0 ≡ both_of v w → quiet_load (step slots 0 0 0 none) x n r
+    → IsKnown r.0 k (p + q) (joined_marks a b q) (max s t) (greater l m)
+known_joined k p q a b s t l m v w slots n x r first second both told =
+    let few : v.places + w.places ≤ v.key.places = subst (λ (y : View). y.places ≤ y.key.places) both told.2 in
+    let places : v.places + w.places ≡ p + q = omega (arith, first.same_places, second.same_places) in
+    let most : p + q ≤ k.places = omega (arith, few, places, ap (λ (y : Key). y.places) first.same_key) in
+    let marks : joined_marks v.marks w.marks w.places ≡ joined_marks a b q = rw (first.same_marks, second.same_marks, second.same_places) in
+    let seen : max v.seen w.seen ≡ max s t = omega (arith, first.same_seen, second.same_seen) in
+    let last : last_frame (v.laid ++ w.laid) ≡ greater l m = rw (last_frame-append v.laid w.laid, first.same_last, second.same_last) in
+    let reach = IsReach-joined k.geometry a b p q l m first.reach_is second.reach_is in
+    let untracked : either_track v.track w.track ≡ None = rw first.untracked second.untracked in
+    let noted = IsNoted-both k v w first.noted second.noted in
+    let one : MarksWithin k.geometry a = assumption in
+    let other : MarksWithin k.geometry b = assumption in
+    let within = joined_within k.geometry a b q one other in
+    let seen_within : IsWithin k.geometry (max s t) = record { least = omega (arith, first.seen_within.least); most = omega (arith, first.seen_within.most, second.seen_within.most) } in
+    let laid : (i : ℕ) (e : Entry) → get_elem? (v.laid ++ w.laid) i ≡ some e → IsLaid k.geometry (max v.seen w.seen) e = λ i e there. elim (at_append v.laid w.laid e i there) [
+      | inl here ↦ IsLaid-later k.geometry v.seen (max v.seen w.seen) (omega arith) e (first.laid i e here)
+      | inr here ↦ IsLaid-later k.geometry w.seen (max v.seen w.seen) (omega arith) e (second.laid here.0 e here.1)
+    ] in
+    let known : IsKnown (with_history (both_of v w) told.0) k (p + q) (joined_marks a b q) (max s t) (greater l m) = assumption in
+    subst (λ (y : Me Entry View). IsKnown y.0 k (p + q) (joined_marks a b q) (max s t) (greater l m)) (sym (told.1 ∙ ap (λ y. (with_history y told.0, x.1)) both)) known
+
+either_first : (o p : Option Track) → is_tracked o ≡ true → either_track o p ≡ Some (the_track o)
+either_first None p is = absurd (false≢true is)
+either_first (Some u) p is = refl
+
+-- the player's fields after it met a note
+pub known_heard : (k : Key) (next : Cursor) (position : ℕ) (gone : Bool) (q : ℕ) (b : Marks) (t : ℕ) (l : Option ℕ) (v w : View) (slots n : ℕ) (x r : Me Entry View)
+    → IsPlayer v k next position gone → IsKnown w k q b t l → q ≡ 0 → w.laid ≡ [] → x.0 ≡ both_of v w → quiet_load (step slots 0 0 0 none) x n r
+    → IsPlayer r.0 k next position gone
+known_heard k next position gone q b t l v w slots n x r is met none_left nothing both told =
+    let track : Track = the_track v.track in
+    let tracked : either_track v.track w.track ≡ Some track = either_first v.track w.track is.tracked in
+    let knows : Knows (with_history (both_of v w) told.0) track = subst (λ y. Knows (with_history y told.0) track) both (told.5 track (ap (λ (y : View). y.track) both ∙ tracked)) in
+    let places : v.places + w.places ≡ 0 = omega (arith, is.no_places, met.same_places, none_left) in
+    let laid : v.laid ++ w.laid ≡ [] = rw (is.laid_nothing, nothing) in
+    let seen : max v.seen w.seen ≡ position = omega (arith, knows.seen, is.same_seen, is.position_is, ap (λ (y : Key). position_at y.geometry track) is.same_key) in
+    let seen_gone : (v.seen_gone || w.seen_gone) ≡ gone = gone_once v.seen_gone w.seen_gone (λ any. is.same_gone ∙ (is.gone_is ∙ knows.gone any)) ∙ is.same_gone in
+    let noted = IsNoted-both k v w is.noted met.noted in
+    let saw_all = has_all-more v.positions w.positions track.published is.saw_all in
+    let known : IsPlayer (record (with_history (both_of v w) told.0) { track = Some track }) k next position gone = assumption in
+    let own : IsPlayer (with_history (both_of v w) told.0) k next position gone = subst (λ o. IsPlayer (record (with_history (both_of v w) told.0) { track = o }) k next position gone) (sym tracked) known in
+    subst (λ (y : Me Entry View). IsPlayer y.0 k next position gone) (sym (told.1 ∙ ap (λ y. (with_history y told.0, x.1)) both)) own
+  where
+    gone_once : (a b : Bool) → (a || b ≡ true → a ≡ true) → (a || b) ≡ a
+    gone_once true b is = refl
+    gone_once false true is = sym (is refl)
+    gone_once false false is = refl
+
+rank-lap : (x m : ℕ) → rank x ≤ rank m → lap_of x ≤ lap_of m
+rank-lap x m up = grind (arith, up)
+
+-- what the player learns of a note that it met
+pub has_heard : (p q : PlayerSeat) (n : SeatNote) (slots found : ℕ) (x : Me Entry View) → q.seat.table_id ≡ p.seat.table_id → q.key ≡ p.key → q.next ≡ p.next → q.position ≡ p.position → q.gone ≡ p.gone
+    → x.0 ≡ both_of (player_view p) (note_view n) → quiet_load (step slots 0 0 0 none) x found q.seat.me → HasHeard p q n
+has_heard p q n slots found x ring key next position gone both told =
+    let v : View = player_view p in
+    let w : View = note_view n in
+    let h : List Row = told.0 in
+    let track : Track = track_of p in
+    let both_track : either_track v.track w.track ≡ Some track = either_first v.track w.track p.known.tracked in
+    let knows : Knows (with_history (both_of v w) h) track = subst (λ y. Knows (with_history y h) track) both (told.5 track (ap (λ (y : View). y.track) both ∙ both_track)) in
+    let view : player_view q ≡ with_history (both_of v w) h = ap (λ (y : Me Entry View). y.0) told.1 ∙ ap (λ y. with_history y h) both in
+    let history : h ≡ (player_view q).history = sym (ap (λ (y : View). y.history) view) in
+    let made : Makes (both_of v w) (player_view q) (λ _. []) = subst (λ y. Makes y (player_view q) (λ _. [])) both
+    (subst (λ y. Makes x.0 y (λ _. [])) (sym (ap (λ (y : Me Entry View). y.0) told.1)) told.3) in
+    let own : v.key ≡ p.key = p.known.same_key in
+    record {
+      goes = record { ring = ring; key = key; history = step_begins (both_of v w) (player_view q) made.0 made.1 made.2 [] made.3 };
+      view = view ∙ ap (λ y. with_history (both_of v w) y) history;
+      track = ap (λ (y : View). the_track y.track) view ∙ ap the_track both_track;
+      next = next;
+      position = position;
+      same_gone = gone;
+      seen = omega (arith, knows.seen, p.known.position_is, ap (λ (k : Key). position_at k.geometry track) own, n.seat.known.same_seen);
+      positions = λ i y there.
+          let j = at_second v.positions w.positions i y there in
+          subst (λ (k : Key). IsPublishedPosition k.geometry track y) own (knows.positions j.0 y j.1);
+      noted = λ f c y now is.
+          let now_view : IsNow v.key.geometry (next_at v.key.geometry track) f c = subst (λ (k : Key). IsNow k.geometry (next_at k.geometry track) f c) (sym own) now in
+          let is_view : get_or w.noted (index_of v.key.geometry f c) None ≡ Some y = subst (λ (k : Key). get_or w.noted (index_of k.geometry f c) None ≡ Some y) (sym own) is in
+          let later = later_notes-keeps v.noted w.noted (index_of v.key.geometry f c) y (inr is_view) in
+          let low : lap_of later.0 ≤ lap v.key.geometry f = knows.noted later.0 f c now_view later.1 in
+          subst (λ (k : Key). lap_of y ≤ lap k.geometry f) own (omega (arith, low, rank-lap y later.0 later.2));
+      gone = λ is. knows.gone (or_right v.seen_gone w.seen_gone is);
+      note_history = subst (λ y. BeginsWith y w.history) history (subst (λ (y : View). BeginsWith h y.heard) both told.4);
+      event = made;
+    }
+
+-- what the close of a ring says
+pub has_closed : (s : MixSeat) (p : PlayerSeat) (slots found : ℕ) (x r : Me Entry View) → s.places ≡ s.key.places → p.key ≡ s.key
+    → x.0 ≡ both_of (view_of s) (player_view p) → quiet_load (step slots 0 0 0 none) x found r → HasClosed s p (record { position = p.position; next = p.next })
+has_closed s p slots found x r all one both told =
+    let v : View = view_of s in
+    let w : View = player_view p in
+    let h : List Row = told.0 in
+    let track : Track = track_of p in
+    let b : View = both_of v w in
+    let both_track : either_track v.track w.track ≡ Some track = ap (λ y. either_track y w.track) s.known.untracked ∙ tracked_some w.track p.known.tracked in
+    let x_track : x.0.track ≡ Some track = ap (λ (y : View). y.track) both ∙ both_track in
+    let knows : Knows (with_history b h) track = subst (λ y. Knows (with_history y h) track) both (told.5 track x_track) in
+    let own : v.key ≡ s.key = s.known.same_key in
+    let places : b.places ≡ b.key.places = omega (arith, s.known.same_places, p.known.no_places, all, ap (λ (k : Key). k.places) own) in
+    let laid : v.laid ++ w.laid ≡ v.laid = ap (λ es. v.laid ++ es) p.known.laid_nothing ∙ append-nil v.laid in
+    let made : Makes x.0 (with_history x.0 h) (λ _. []) = told.3 in
+    let step : IsStep x.0 (with_history x.0 h) made.0 made.1 made.2 [] = made.3 in
+    let begins : BeginsWith h v.history = subst (λ (y : View). BeginsWith h y.history) both (step_begins x.0 (with_history x.0 h) made.0 made.1 made.2 [] step) in
+    record {
+      position = p.known.position_is ∙ ap (λ (k : Key). position_at k.geometry track) one;
+      next = p.known.next_is ∙ ap (λ (k : Key). next_at k.geometry track) one;
+      in_order = subst (λ (k : Key). AreInOrder k.geometry track.taken) own knows.in_order;
+      values = subst (λ es. AreExact es track.taken) laid (knows.exact places);
+      history = (
+        made.1,
+        h,
+        subst (λ (k : Key). IsLegal k.geometry made.1 h) (ap (λ (y : View). y.key) both ∙ own) step.legal,
+        begins,
+        subst (λ (y : View). BeginsWith h y.heard) both told.4,
+        knows.history,
+        subst (λ es. SameSums (laid_of h) es) laid (knows.laid places),
+      );
+    }
+
+-- a view that is known, in a seat
+pub known_as : (k : Key) (places : ℕ) (marks : Marks) (seen : ℕ) (last : Option ℕ) (v : Me Entry View) (m : Me Entry View) → m ≡ v → IsKnown v.0 k places marks seen last → IsKnown m.0 k places marks seen last
+known_as k places marks seen last v m same is = subst (λ (x : Me Entry View). IsKnown x.0 k places marks seen last) (sym same) is
+
+-- a load that notes nothing takes no slot
+pub learned_kept : (slots n : ℕ) (m r : Me Entry View) → quiet_load (step slots 0 0 0 none) m n r → r.1 ≡ m.1
+learned_kept slots n m r told = ap (λ (x : Me Entry View). x.1) told.1
+
+-- the player's note
+pub has_player_note : (p q : PlayerSeat) (n : SeatNote) → q.seat.table_id ≡ p.seat.table_id → q.key ≡ p.key → player_view q ≡ player_view p
+    → q.next ≡ p.next → q.position ≡ p.position → q.gone ≡ p.gone
+    → n.seat.seat.table_id ≡ p.seat.table_id → n.seat.key ≡ p.key → note_view n ≡ part_of (player_view p) 0 → n.seat.seen ≡ p.position → HasPlayerNote p q n
+has_player_note p q n ring key same next position gone note_at note_of view seen =
+    let at = seen ∙ p.known.position_is in
+    let published : (i x : ℕ) → get_elem? (track_of p).published i ≡ some x → (j : ℕ) × (get_elem? (note_view n).positions j ≡ some x) =
+    λ i x there. rw view (has_each (player_view p).positions (track_of p).published i x p.known.saw_all there) in
+    let is_gone = ap (λ (v : View). v.seen_gone) view ∙ (p.known.same_gone ∙ p.known.gone_is) in
+    assumption
+
+-- a mix seat that was joined with a note's
+pub has_met : (s t : MixSeat) (n : SeatNote) → n.seat.key ≡ s.key → HasJoined s t n.seat → HasMet s t n
+has_met s t n one joined =
+    let no_last : n.seat.reach.last ≡ None = sym n.seat.known.same_last ∙ ap last_frame n.laid_nothing in
+    let places : t.places ≡ s.places = omega (arith, joined.places, n.no_places) in
+    let laid : (view_of t).laid ≡ (view_of s).laid = ap (λ (v : View). v.laid) joined.view ∙ (ap (λ es. (view_of s).laid ++ es) n.laid_nothing ∙ append-nil (view_of s).laid) in
+    let marks : t.reach.marks ≡ s.reach.marks = joined.marks ∙ ap (joined_marks s.reach.marks n.seat.reach.marks) n.no_places in
+    let last : t.reach.last ≡ s.reach.last = joined.last ∙ (ap (greater s.reach.last) no_last ∙ greater_none s.reach.last) in
+    let gone = ap (λ (v : View). v.seen_gone) joined.view in
+    assumption

@@ -1,6 +1,5 @@
 -- What the tests conclude of a seat: it goes on, and its last standing add is the one that it placed.
-use Rattle.std.proofs.Common.{◌≡◌, ℕ, ℤ, Bool, true, false, Ok, [], ◌∷◌, refl, sym, ap, subst}
-use Rattle.std.proofs.lemmas.Bool.{false≢true}
+use Rattle.std.proofs.Common.{◌≡◌, ℕ, ℤ, Ok, [], ◌∷◌, refl, sym, subst}
 use Rattle.std.proofs.lemmas.List.{append-nil}
 use Rattle.mix_core.specs.declared.port.Placed.{Placed}
 use Rattle.mix_core.specs.declared.port.Placed.TheVariants.{In, Late}
@@ -22,10 +21,4 @@ ends_in_one s t In f c x is laid =
     let ends : SeatEndsIn t (an_add s.member f c x ∷ []) =
     SeatEndsIn-laid s t [] (an_add s.member f c x ∷ []) (one_add s.member f c x) laid (standing (view_of s).laid, sym (append-nil (standing (view_of s).laid))) in
     subst (λ m. SeatEndsIn t (an_add m f c x ∷ [])) (sym laid.goes.member) ends
-ends_in_one s t (Late word) f c x is laid = absurd (other is) where
-  is_in : Placed → Bool
-  is_in In = true
-  is_in (Late word) = false
-
-  other : Late word ≡ In → ⊥
-  other is = false≢true (ap is_in is)
+ends_in_one s t (Late word) f c x is laid = absurd (cc)

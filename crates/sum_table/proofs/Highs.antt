@@ -46,26 +46,13 @@ later-frame start a b = by_tests (is_before a b) refl (is_before start a) refl (
     by_tests false ab false sa true sb = absurd (false≢true (sym sa ∙ first-past start a b ab sb))
     by_tests false ab false sa false sb = ap (λ past. frame_if past a) sa
 
-behind-past : (g : Geometry) (f c : ℕ) → c < g.channels → first_frame g ≤ f → is_before (start_of g) (cursor_after g f c) ≡ true
-behind-past g f c channel low = grind (arith, nat_tests)
-
-behind-last : (g : Geometry) (f c : ℕ) → last_before (cursor_after g f c) ≡ f
-behind-last g f c = grind (arith, nat_tests)
-
-start-frame : (at : Cursor) → frame_before at at ≡ None
-start-frame at = ap (λ past. frame_if past at) is where
-  is : is_before at at ≡ false
-  is = grind (arith, nat_tests)
-
 high_frame-start : (g : Geometry) → high_frame g (start_marks g) ≡ None
-high_frame-start g = start-frame (start_of g)
+high_frame-start g = grind (arith, nat_tests)
 
 -- an add raises the high to right after it, where it isn't past that
 high_frame-added : (g : Geometry) (m : Marks) (f c : ℕ) → c < g.channels → first_frame g ≤ f
     → high_frame g (added_at g m f c) ≡ greater (high_frame g m) (Some f)
-high_frame-added g m f c channel low =
-    later-frame (start_of g) m.high (cursor_after g f c)
-    ∙ ap (greater (high_frame g m)) (ap (λ past. frame_if past (cursor_after g f c)) (behind-past g f c channel low) ∙ ap Some (behind-last g f c))
+high_frame-added g m f c channel low = grind (arith, nat_tests)
 
 pub greater_none : (o : Option ℕ) → greater o None ≡ o
 greater_none None = refl
@@ -78,19 +65,18 @@ high_frame-joined g a b zero l m first second none = first ∙ (sym (greater_non
 high_frame-joined g a b (suc n) l m first second none =
     later-frame (start_of g) a.high b.high ∙ (ap (λ o. greater o (high_frame g b)) first ∙ ap (greater l) second)
 
+-- a frame that is among some doesn't change the greatest of them, and neither of more
+greater-own : (o : Option ℕ) (x y : ℕ) → x ≡ y → greater (greater (Some x) o) (Some y) ≡ greater (Some x) o
+greater-own o x y same = grind arith
+
+greater-past : (o : Option ℕ) (x y : ℕ) → greater o (Some y) ≡ o → greater (greater (Some x) o) (Some y) ≡ greater (Some x) o
+greater-past o x y is = grind arith
+
 -- the greatest frame of some entries is that of them and of one of them
 pub last_frame-has : (es : List Entry) (i : ℕ) (e : Entry) → get_elem? es i ≡ some e → greater (last_frame es) (Some e.frame) ≡ last_frame es
 last_frame-has [] i e there = absurd (some-ne-none e (sym there))
-last_frame-has (x ∷ xs) zero e there = subst (λ (y : Entry). greater (last_frame (x ∷ xs)) (Some y.frame) ≡ last_frame (x ∷ xs)) (some-injective x e there) (own (last_frame xs))
-  where
-    own : (o : Option ℕ) → greater (greater (Some x.frame) o) (Some x.frame) ≡ greater (Some x.frame) o
-    own None = ap Some (omega arith)
-    own (Some n) = ap Some (omega arith)
-last_frame-has (x ∷ xs) (suc i) e there = past (last_frame xs) (last_frame-has xs i e there)
-  where
-    past : (o : Option ℕ) → greater o (Some e.frame) ≡ o → greater (greater (Some x.frame) o) (Some e.frame) ≡ greater (Some x.frame) o
-    past None is = absurd (none-some e.frame (sym is))
-    past (Some n) is = grind (arith, is)
+last_frame-has (x ∷ xs) zero e there = greater-own (last_frame xs) x.frame e.frame (ap (λ (y : Entry). y.frame) (some-injective x e there))
+last_frame-has (x ∷ xs) (suc i) e there = greater-past (last_frame xs) x.frame e.frame (last_frame-has xs i e there)
 
 -- where some entries have no greatest frame there is no entry
 pub last_frame-nil : (es : List Entry) → is_some (last_frame es) ≡ false → es ≡ []
@@ -105,11 +91,7 @@ last_frame-nil (e ∷ es) none = absurd (false≢true (sym none ∙ ever (last_f
 
 -- a cursor isn't past the frame after the last one before it
 high-free : (g : Geometry) (at : Cursor) → IsFrom at (free_from g (frame_before (start_of g) at)) 0
-high-free g at = by_test (is_before (start_of g) at) refl
-  where
-    by_test : (past : Bool) → is_before (start_of g) at ≡ past → IsFrom at (free_from g (frame_if past at)) 0
-    by_test true past = grind (arith, nat_tests)
-    by_test false past = grind (arith, nat_tests)
+high-free g at = grind (arith, nat_tests)
 
 high_free : (g : Geometry) (m : Marks) (last : Option ℕ) → high_frame g m ≡ last → IsFrom m.high (free_from g last) 0
 high_free g m last is = subst (λ o. IsFrom m.high (free_from g o) 0) is (high-free g m.high)

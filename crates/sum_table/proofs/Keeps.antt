@@ -1,23 +1,23 @@
--- Loads and the exchange keep the rule, and what they show holds.
-use Rattle.std.proofs.Common.{◌≡◌, ℕ, ◌+◌, ◌<◌, ◌≤◌, true, false, List, [], ◌∷◌, ◌++◌, length, get_or, set, ℤ, pos, negsuc, ◌+ℤ◌, ◌≤ℤ◌, inl, inr, arith, subst, sym, refl, ap, ◌∙◌, nat_lt, ◌==◌, ◌%◌}
+-- Steps keep the rule, and what they show holds: the loads and the exchange of a mix seat, and what the player does.
+use Rattle.std.proofs.Common.{◌≡◌, Option, None, Some, ℕ, ◌+◌, ◌<◌, ◌≤◌, true, false, List, [], ◌∷◌, ◌++◌, length, get_or, set, ℤ, pos, negsuc, ◌+ℤ◌, ◌≤ℤ◌, inl, inr, arith, subst, sym, refl, ap, ◌∙◌, nat_lt, ◌==◌, ◌%◌, Bool}
 use mathlib.Core.Option.{some, none}
 use lib.ListN.{get_elem?}
 use prog.Atomic.{either}
 use Rattle.std.proofs.lemmas.Bool.Decides.{nat_tests}
 use Rattle.std.proofs.lemmas.List.{append-nil}
-use Rattle.atomic_table.specs.Table.{Act, Allows, Me, State, keeps, step}
+use Rattle.atomic_table.specs.Table.{Act, Allows, Me, State, keeps, step, Valid, carried_after, stepped}
 use Rattle.atomic_table.proofs.Lists.{at_snoc, exchanged as by_exchange}
 use Rattle.snd_base.specs.declared.geometry.Geometry.{Geometry}
 use Rattle.snd_base.specs.declared.places.Cursor.{Cursor}
-use Rattle.std.proofs.lemmas.Bool.{cases_lt}
+use Rattle.std.proofs.lemmas.Bool.{cases_lt, false≢true}
 use Rattle.snd_base.specs.PlaceLaws.{div-lt_same}
-use Rattle.snd_base.specs.Places.{IsFrom, first_frame, first_free, lap}
+use Rattle.snd_base.specs.Places.{IsFrom, first_frame, first_free, lap, cursor_after}
 use Rattle.lap_word.specs.Word.{StandsFor, StandsFor-fields, count_of, lap_of, sum_of}
 use Rattle.mix_core.specs.declared.port.Entry.{Entry}
-use Rattle.mix_core.specs.declared.event.Event.TheVariants.{Add, Withdraw}
-use Rattle.mix_core.specs.declared.event.Reply.TheVariants.{In, Late}
+use Rattle.mix_core.specs.declared.event.Event.TheVariants.{Add, Withdraw, Take, Publish}
+use Rattle.mix_core.specs.declared.event.Reply.TheVariants.{Late, Took, Published}
 use Rattle.mix_core.specs.declared.event.Taken.{Taken}
-use Rattle.mix_core.specs.History.{IsReply, Row, event_by, is_taken, laid_of, next_to_take}
+use Rattle.mix_core.specs.History.{IsReply, Row, taken_words, is_taken, laid_of, next_to_take}
 use Rattle.mix_core.specs.Laid.{cursor_of, marks_after, total, value_of}
 use Rattle.mix_core.specs.declared.marks.Marks.{Marks}
 use Rattle.mix_core.specs.declared.port.Kind.{Kind}
@@ -27,21 +27,22 @@ use Rattle.mix_core.specs.Sound.{IsNow}
 use Rattle.sum_table.specs.declared.view.Key.{Key}
 use Rattle.sum_table.specs.declared.view.Track.{Track}
 use Rattle.sum_table.specs.declared.view.View.{View}
-use Rattle.sum_table.specs.Exact.{AreViews, BeginsWith, Exact, IsHistory, IsKept, IsOwn, IsRing, IsView, next_at, position_at}
+use Rattle.sum_table.specs.Exact.{IsLaid, AreViews, BeginsWith, Exact, IsHistory, IsKept, IsOwn, IsPublishedPosition, IsRing, IsView, is_tracked, next_at, position_at, the_track}
 use Rattle.sum_table.specs.Laid.{all_laid, count}
-use Rattle.sum_table.specs.Steps.{Finds, HoldsLast, IsLateAt, IsLateHeld, IsStep, IsSumOf, withdrawable_after, MakesLook, word_exchange, in_row, position_load, word_load, with_entry, with_note, with_position}
-use Rattle.ring_rule.specs.Words.{index_of, rank}
-use Rattle.sum_table.proofs.Lists.{IsPublishedPosition-last}
+use Rattle.sum_table.specs.Steps.{Finds, HoldsLast, IsLateAt, IsLateHeld, IsStep, IsSumOf, withdrawable_after, MakesLook, word_exchange, in_row, position_load, word_load, with_entry, with_note, with_position, position_store, word_take, next_taken, track_gone, track_published, track_taken, unplug_store, with_gone, with_published, with_taken}
+use Rattle.ring_rule.specs.Words.{NotPast, index_of, rank}
 use Rattle.ring_rule.specs.NoteLaws.{noted_set}
-use Rattle.ring_rule.specs.WordLaws.{set_read}
-use Rattle.sum_table.proofs.Places.{now_of}
-use Rattle.ring_rule.specs.WordLaws.{index_of-lt}
-use Rattle.sum_table.proofs.Rings.{IsRing-put, IsRing-same, not_taken}
-use Rattle.sum_table.proofs.Rows.{BeginsWith-more, BeginsWith-same, history_put, history_same, inside, is_held, own_marks, step_of}
+use Rattle.ring_rule.specs.PositionLaws.{IsPosition-last, IsPosition-more, last_number-more}
+use Rattle.ring_rule.specs.WordLaws.{set_read, index_of-lt, NotPast-set, NotPast-position}
+use Rattle.mix_core.specs.Written.{now_of, IsNow-next}
+use Rattle.sum_table.proofs.Places.{index_places, next_word-channel}
+use Rattle.sum_table.proofs.Rings.{IsRing-put, IsRing-same, not_taken, IsRing-gone, IsRing-publish, IsRing-take, next_at-taken}
+use Rattle.sum_table.proofs.Rows.{BeginsWith-more, BeginsWith-same, history_put, history_same, inside, is_held, own_marks, step_of, history_gone, history_publish, history_take}
 use Rattle.sum_table.proofs.Sums.{SameSums-put, SameSums-set}
-use Rattle.sum_table.proofs.Views.{ByLap, Later, Later-same, by_lap, finds, rank-of, view_later, views_set}
-use Rattle.ring_rule.specs.WordLaws.{NotPast-set}
+use Rattle.sum_table.proofs.Views.{ByLap, Later, Later-same, by_lap, finds, rank-of, view_later, views_set, none_far}
 use Rattle.sum_table.proofs.Kept.{HeldFacts, IsHeldAt, held_facts, held_of, kept_add, kept_later, kept_withdraw}
+use Rattle.lap_word.specs.Clamp.{clamp_of}
+use Rattle.lap_word.specs.Position.{word_of}
 
 -- what the rule says of some words and views, with the player's track and the history
 pub record Holds (k : Key) (words : List ℕ) (views : List View) (at : ℕ) (t : Track) (h : List Row) : Type 0 where
@@ -56,6 +57,11 @@ pub record Same (v w : View) : Type 0 where
   pub mine : w.mine ≡ v.mine
   pub ended : w.ended ≡ v.ended
   pub track : w.track ≡ v.track
+
+-- the track of a view that has it
+pub tracked_some : (o : Option Track) → is_tracked o ≡ true → o ≡ Some (the_track o)
+tracked_some None is = absurd (false≢true is)
+tracked_some (Some t) is = refl
 
 -- a step that writes nothing
 pub idle : (k : Key) (words : List ℕ) (views : List View) (at : ℕ) (t : Track) (h : List Row) (id : ℕ) (v w : View)
@@ -93,18 +99,13 @@ locates slots id m lasts s e homes here fits =
     let own : IsView k s.words t h v = e.4.each id v here in
     let p : ℕ = position_at k.geometry t in
     let w : View = with_position v h p t.gone in
-    let after : IsView k s.words t h w = record {
-      kept = kept_later k.geometry v.places v.laid v.mine v.free v.marks v.seen p v.ended own.seen_high own.kept;
-      seen_high = omega arith;
-      positions = λ i q there. elim (at_snoc v.positions p q i there) [
-        | inl old ↦ own.positions i q old
-        | inr new ↦ subst (Rattle.sum_table.specs.Exact.IsPublishedPosition k.geometry t) new (IsPublishedPosition-last k.geometry t)
-      ];
-      gone = λ is. is;
-      noted = own.noted;
-      begins = BeginsWith-same h;
-      heard = own.heard;
-    } in
+    let kept = kept_later k.geometry v.places v.laid v.mine v.free v.marks v.seen p v.ended own.seen_high own.kept in
+    let seen_high : p ≤ position_at k.geometry t = omega arith in
+    let positions : (i q : ℕ) → get_elem? (v.positions ++ p ∷ []) i ≡ some q → IsPublishedPosition k.geometry t q = λ i q there. elim (at_snoc v.positions p q i there) [
+      | inl old ↦ own.positions i q old
+      | inr new ↦ subst (IsPublishedPosition k.geometry t) new (IsPosition-last k.geometry t.published)
+    ] in
+    let after : IsView k s.words t h w = assumption (BeginsWith-same h) in
     let y : Holds k s.words (set s.views id w) e.0 t h = idle k s.words s.views e.0 t h id v w x here (record { places = refl; laid = refl; mine = refl; ended = refl; track = refl }) after in (
       w,
       keeps,
@@ -123,6 +124,27 @@ locates slots id m lasts s e homes here fits =
       ),
     )
 
+-- from a seat's cursor on are the ring's frames
+least_placed : (g : Geometry) (views : List View) (t : Track) (h : List Row) (id : ℕ) (v : View) (f c : ℕ)
+    → IsHistory g views t h → get_elem? views id ≡ some v → v.ended ≡ false → IsOwn g v.mine v.free v.marks → IsFrom v.marks.cursor f c → first_frame g ≤ f
+least_placed g views t h id v f c y here lasts o from =
+    let first : first_frame g ≤ (cursor_of g id (laid_of h)).frame = cursor_of-least g (length views) h id (y.legal (length views) (omega arith)) in
+    let moved : first_free (cursor_of g id (laid_of h)) c ≤ first_free v.marks.cursor c =
+    subst (λ (m : Marks). first_free m.cursor c ≤ first_free v.marks.cursor c) (sym (own_marks g views t h id v y here lasts)) (o.within.cursor c) in
+    let start : (cursor_of g id (laid_of h)).frame ≤ first_free (cursor_of g id (laid_of h)) c = grind (arith, nat_tests) in
+    omega (arith, first, moved, start, from)
+
+-- a word of a later lap is where something was taken
+late_taken : (words : List ℕ) (views : List View) (at : ℕ) (t : Track) (h : List Row) (v : View) (i f c : ℕ) → Holds v.key words views at t h → v.seen ≤ position_at v.key.geometry t
+    → c < v.key.geometry.channels → f < v.seen + v.key.geometry.frames → index_of v.key.geometry f c ≡ i → lap v.key.geometry f < lap_of (get_or words i 0)
+    → (f < first_free (next_at v.key.geometry t) c) × (first_frame v.key.geometry ≤ f → is_taken (taken_words h) f c ≡ true)
+late_taken words views at t h v i f c x high in_range near index past =
+    let g : Geometry = v.key.geometry in
+    let laps : ByLap g (next_at g t) (get_or words (index_of g f c) 0) f c = by_lap g words (all_laid views) t f c x.ring in_range (omega (arith, near, high)) in
+    let before : f < first_free (next_at g t) c = laps.taken (rw index past) in
+    let test : nat_lt f (first_free (next_at g t) c) ≡ true = grind (arith, nat_tests, before) in
+    (before, λ least. ap (λ ts. is_taken ts f c) x.history.taken ∙ (x.ring.took f c in_range least ∙ test))
+
 -- a word of a later lap is an add that was late
 pub late_reply : (words : List ℕ) (views : List View) (at : ℕ) (t : Track) (h : List Row) (id : ℕ) (v : View) (i f c : ℕ) (sample : ℤ)
     → Holds v.key words views at t h → get_elem? views id ≡ some v → v.ended ≡ false → IsLateAt v i (get_or words i 0) f c
@@ -130,22 +152,13 @@ pub late_reply : (words : List ℕ) (views : List View) (at : ℕ) (t : Track) (
 late_reply words views at t h id v i f c sample x here lasts late =
     let g : Geometry = v.key.geometry in
     let own : IsView v.key words t h v = x.views_ok.each id v here in
-    let ahead : f < position_at g t + g.frames = omega (arith, late.ahead, own.seen_high) in
-    let laps : ByLap g (next_at g t) (get_or words (index_of g f c) 0) f c = by_lap g words (all_laid views) t f c x.ring late.channel ahead in
-    let past : lap g f < lap_of (get_or words (index_of g f c) 0) = subst (λ j. lap g f < lap_of (get_or words j 0)) (sym late.index) late.past in
-    let before : f < first_free (next_at g t) c = laps.taken past in
+    let o : IsOwn g v.mine v.free v.marks = own.kept.own lasts in
+    let taken = late_taken words views at t h v i f c x own.seen_high late.channel late.ahead late.index late.past in
     let next_is : next_to_take g h ≡ next_at g t = ap (λ (ts : List Taken). next_at g (record t { taken = ts })) x.history.taken in
     let legal = x.history.legal (length views) (omega arith) in
-    let fits : lap g f < 4294967295 = lap-taken g (length views) h f c legal (subst (λ (y : Cursor). f < first_free y c) (sym next_is) before) in
-    let first : first_frame g ≤ (cursor_of g id (laid_of h)).frame = cursor_of-least g (length views) h id legal in
-    let moved : first_free (cursor_of g id (laid_of h)) c ≤ first_free v.marks.cursor c =
-    subst (λ (m : Marks). first_free m.cursor c ≤ first_free v.marks.cursor c) (sym (own_marks g views t h id v x.history here lasts)) ((own.kept.own lasts).within.cursor c) in
-    let start : (cursor_of g id (laid_of h)).frame ≤ first_free (cursor_of g id (laid_of h)) c = grind (arith, nat_tests) in
-    let least : first_frame g ≤ f = omega (arith, first, moved, start, late.from_cursor) in
-    let test : nat_lt f (first_free (next_at g t) c) ≡ true = grind (arith, nat_tests, before) in (
-      inside g views t h id (length views) v f c x.history here lasts (own.kept.own lasts) (omega arith) late.channel late.from_cursor fits ahead,
-      ap (λ ts. is_taken ts f c) x.history.taken ∙ (x.ring.took f c late.channel least ∙ test),
-    )
+    let fits : lap g f < 4294967295 = lap-taken g (length views) h f c legal (subst (λ (y : Cursor). f < first_free y c) (sym next_is) taken.0) in
+    let least = least_placed g views t h id v f c x.history here lasts o late.from_cursor in
+    (inside g views t h id (length views) v f c x.history here lasts o (omega arith) late.channel late.from_cursor fits (omega (arith, late.ahead, own.seen_high)), taken.1 least)
 
 -- and so is one where the seat's last standing add is
 pub late_held : (words : List ℕ) (views : List View) (at : ℕ) (t : Track) (h : List Row) (id : ℕ) (v : View) (i f c : ℕ) (sample : ℤ)
@@ -154,16 +167,10 @@ pub late_held : (words : List ℕ) (views : List View) (at : ℕ) (t : Track) (h
 late_held words views at t h id v i f c sample x here lasts late =
     let g : Geometry = v.key.geometry in
     let own : IsView v.key words t h v = x.views_ok.each id v here in
-    let held : IsHeldAt g v.laid v.marks f c sample = held_of v f c sample late.holds in
+    let held : IsHeldAt v.laid v.marks f c sample = held_of v f c sample late.holds in
     let facts : HeldFacts g v.marks v.seen f c = held_facts g v.places v.laid v.mine v.free v.marks v.seen v.ended f c sample own.kept held in
-    let ahead : f < position_at g t + g.frames = omega (arith, facts.ahead, own.seen_high) in
-    let laps : ByLap g (next_at g t) (get_or words (index_of g f c) 0) f c = by_lap g words (all_laid views) t f c x.ring facts.channel ahead in
-    let past : lap g f < lap_of (get_or words (index_of g f c) 0) = subst (λ j. lap g f < lap_of (get_or words j 0)) (sym late.index) late.past in
-    let before : f < first_free (next_at g t) c = laps.taken past in
-    let test : nat_lt f (first_free (next_at g t) c) ≡ true = grind (arith, nat_tests, before) in (
-      is_held g views t h id (length views) v v.seen f c sample x.history here lasts own.kept (omega arith) held,
-      ap (λ ts. is_taken ts f c) x.history.taken ∙ (x.ring.took f c facts.channel facts.low ∙ test),
-    )
+    let taken = late_taken words views at t h v i f c x own.seen_high facts.channel facts.ahead late.index late.past in
+    (is_held g views t h id (length views) v v.seen f c sample x.history here lasts own.kept (omega arith) held, taken.1 facts.low)
 
 -- a word of a frame's own lap is the sum of what the history placed there
 sum_there : (words : List ℕ) (views : List View) (at : ℕ) (t : Track) (h : List Row) (k : Key) (f c : ℕ) → Holds k words views at t h → c < k.geometry.channels
@@ -171,7 +178,7 @@ sum_there : (words : List ℕ) (views : List View) (at : ℕ) (t : Track) (h : L
 sum_there words views at t h k f c x in_range of_lap =
     let g : Geometry = k.geometry in
     let next = next_at g t in
-    let found : (j : ℕ) × IsNow g next j c × (j % g.frames ≡ f % g.frames) × (index_of g j c ≡ index_of g f c) = now_of g next f c in_range in
+    let found : (j : ℕ) × IsNow g next j c × (j % g.frames ≡ f % g.frames) × (index_of g j c ≡ index_of g f c) = now_of g (index_of g) _ (index_places g) next f c in_range in
     let j : ℕ = found.0 in
     let word : ℕ = get_or words (index_of g f c) 0 in
     let stands : StandsFor word (lap g j) (count (all_laid views) j c) (total (all_laid views) j c) =
@@ -195,18 +202,11 @@ notes slots id m i s at t h lasts x here =
     let n : ℕ = get_or s.words i 0 in
     let own : IsView k s.words t h v = x.views_ok.each id v here in
     let w : View = with_note v h i n in
-    let after : IsView k s.words t h w = record {
-      kept = own.kept;
-      seen_high = own.seen_high;
-      positions = own.positions;
-      gone = own.gone;
-      noted = λ j o positive there. elim (noted_set v.noted i j n o there) [
-        | inl new ↦ inl (new.1 ∙ ap (λ l. get_or s.words l 0) (sym new.0))
-        | inr old ↦ own.noted j o positive old
-      ];
-      begins = BeginsWith-same h;
-      heard = own.heard;
-    } in
+    let noted : (j o : ℕ) → 0 < j → get_or (set v.noted i (Some n)) j None ≡ Some o → NotPast o (get_or s.words j 0) = λ j o positive there. elim (noted_set v.noted i j n o there) [
+      | inl new ↦ inl (new.1 ∙ ap (λ l. get_or s.words l 0) (sym new.0))
+      | inr old ↦ own.noted j o positive old
+    ] in
+    let after : IsView k s.words t h w = assumption (BeginsWith-same h) in
     let y : Holds k s.words (set s.views id w) at t h = idle k s.words s.views at t h id v w x here (record { places = refl; laid = refl; mine = refl; ended = refl; track = refl }) after in (
       y,
       (
@@ -264,40 +264,31 @@ pub record Puts (words : List ℕ) (views : List View) (t : Track) (h : List Row
 put_cases : (words : List ℕ) (views : List View) (at : ℕ) (t : Track) (h : List Row) (id : ℕ) (v : View) (e : Entry)
     → Holds v.key words views at t h → get_elem? views id ≡ some v → v.ended ≡ false → may_put e.kind v e.frame e.channel e.sample
     → Puts words views t h id v e
-put_cases words views at t h id v e x here lasts may = by_kind e.kind refl (subst (λ k. may_put k v e.frame e.channel e.sample) refl may) where
+put_cases words views at t h id v e x here lasts may = by_kind e.kind refl may where
+  own : IsView v.key words t h v
+  own = x.views_ok.each id v here
+
+  untaken_is : is_taken t.taken e.frame e.channel ≡ false → is_taken (taken_words h) e.frame e.channel ≡ false
+  untaken_is untaken = ap (λ ts. is_taken ts e.frame e.channel) x.history.taken ∙ untaken
+
   by_kind : (k : Kind) → e.kind ≡ k → may_put k v e.frame e.channel e.sample → Puts words views t h id v e
   by_kind Added kind may =
       let g : Geometry = v.key.geometry in
-      let own : IsView v.key words t h v = x.views_ok.each id v here in
       let o : IsOwn g v.mine v.free v.marks = own.kept.own lasts in
-      let legal = x.history.legal (length views) (omega arith) in
-      let first : first_frame g ≤ (cursor_of g id (laid_of h)).frame = cursor_of-least g (length views) h id legal in
-      let moved : first_free (cursor_of g id (laid_of h)) e.channel ≤ first_free v.marks.cursor e.channel =
-      subst (λ (m : Marks). first_free m.cursor e.channel ≤ first_free v.marks.cursor e.channel) (sym (own_marks g views t h id v x.history here lasts)) (o.within.cursor e.channel) in
-      let start : (cursor_of g id (laid_of h)).frame ≤ first_free (cursor_of g id (laid_of h)) e.channel = grind (arith, nat_tests) in
-      let least : first_frame g ≤ e.frame = omega (arith, first, moved, start, may.1) in
+      let laid : IsLaid g v.seen e = record { channel = may.0; low = least_placed g views t h id v e.frame e.channel x.history here lasts o may.1; ahead = may.2; fits = may.4 } in
       record {
         ahead = may.2;
-        kept = kept_add g v.places v.laid v.mine v.free v.marks v.seen v.ended e own.kept kind (record { channel = may.0; low = least; ahead = may.2; fits = may.4 }) may.1 may.3;
-        reply = λ untaken members up.
-            subst (λ k. IsReply g members h (event_by k id e.frame e.channel e.sample, In)) (sym kind) (
-              inside g views t h id members v e.frame e.channel x.history here lasts o up may.0 may.1 may.4 (omega (arith, may.2, own.seen_high)),
-              ap (λ ts. is_taken ts e.frame e.channel) x.history.taken ∙ untaken,
-            );
+        kept = kept_add g v.places v.laid v.mine v.free v.marks v.seen v.ended e own.kept kind laid may.1 may.3;
+        reply = λ untaken members up. rw kind
+            (inside g views t h id members v e.frame e.channel x.history here lasts o up may.0 may.1 may.4 (omega (arith, may.2, own.seen_high)), untaken_is untaken);
       }
   by_kind Withdrawn kind may =
       let g : Geometry = v.key.geometry in
-      let own : IsView v.key words t h v = x.views_ok.each id v here in
-      let held : IsHeldAt g v.laid v.marks e.frame e.channel e.sample = held_of v e.frame e.channel e.sample may in
-      let facts : HeldFacts g v.marks v.seen e.frame e.channel = held_facts g v.places v.laid v.mine v.free v.marks v.seen v.ended e.frame e.channel e.sample own.kept held in
+      let held : IsHeldAt v.laid v.marks e.frame e.channel e.sample = held_of v e.frame e.channel e.sample may in
       record {
-        ahead = facts.ahead;
+        ahead = (held_facts g v.places v.laid v.mine v.free v.marks v.seen v.ended e.frame e.channel e.sample own.kept held).ahead;
         kept = kept_withdraw g v.places v.laid v.mine v.free v.marks v.seen v.ended e own.kept kind held;
-        reply = λ untaken members up.
-            subst (λ k. IsReply g members h (event_by k id e.frame e.channel e.sample, In)) (sym kind) (
-              is_held g views t h id members v v.seen e.frame e.channel e.sample x.history here lasts own.kept up held,
-              ap (λ ts. is_taken ts e.frame e.channel) x.history.taken ∙ untaken,
-            );
+        reply = λ untaken members up. rw kind (is_held g views t h id members v v.seen e.frame e.channel e.sample x.history here lasts own.kept up held, untaken_is untaken);
       }
 
 -- the entry is placed where the word is still the old one
@@ -334,15 +325,7 @@ puts words views at t h id v e old new x here may is =
       history = λ early b. BeginsWith-more h early (in_row id e ∷ []) b;
     } in
     let moved : IsView k (set words i new) t late v = view_later k words (set words i new) t t h late v later own in
-    let after : IsView k (set words i new) t late w = record {
-      kept = one.kept;
-      seen_high = moved.seen_high;
-      positions = moved.positions;
-      gone = moved.gone;
-      noted = moved.noted;
-      begins = BeginsWith-same late;
-      heard = moved.heard;
-    } in
+    let after : IsView k (set words i new) t late w = assumption (one.kept, BeginsWith-same late) in
     record {
       ring = IsRing-same g (set words i new) (all_laid views ++ e ∷ []) (all_laid (set views id w)) t (SameSums-put views id v w e here refl) ring;
       views_ok = views_set k words (set words i new) views at t t h late id v w x.views_ok later here refl after
@@ -392,3 +375,177 @@ exchanges slots id m e old new may s x homes here fits =
       loaded k s.words (set s.views id w) x.0 t h i s.homes noted.0,
       (found, (λ same. absurd (lost same)), (λ other. (h, refl, noted.1, noted.2))),
     ))
+
+-- ---- the player's steps keep the rule: it takes a word, publishes its position, and unplugs the card
+
+abbrev pub track_or : Track → Option Track → Track
+track_or t None = t
+track_or t (Some u) = u
+
+-- the next word's cursor moves back for no channel
+grows : (g : Geometry) (next : Cursor) (c : ℕ) → first_free next c ≤ first_free (cursor_after g next.frame next.channel) c
+grows g next c = grind (arith, nat_tests)
+
+-- the swap of the next word for the empty word of the next lap, as the rule has it
+took : (s : State Entry View) (slots id : ℕ) (m : Me Entry View) (at : ℕ) (t : Track) (h : List Row) (word : ℕ)
+    → m.0.ended ≡ false → m.0.track ≡ Some t → id ≡ at → Holds m.0.key s.words s.views at t h → get_elem? s.views id ≡ some m.0
+    → lap m.0.key.geometry (next_at m.0.key.geometry t).frame < 4294967295
+    → StandsFor word (lap m.0.key.geometry (next_at m.0.key.geometry t).frame + 1) 0 (pos 0)
+    → let i : ℕ = index_of m.0.key.geometry (next_at m.0.key.geometry t).frame (next_at m.0.key.geometry t).channel in
+    (w : View) × (a : Act Entry) × Valid s.homes m.1 a × Exact m.0.key (stepped s i word id m.1 w a)
+    × word_take (step slots i word 0 none) m (get_or s.words i 0) (w, carried_after m.1 a)
+took s slots id m at t h word lasts tracks player x here fits stands =
+    let v : View = m.0 in
+    let k : Key = v.key in
+    let g : Geometry = k.geometry in
+    let next : Cursor = next_at g t in
+    let i : ℕ = index_of g next.frame next.channel in
+    let n : ℕ = get_or s.words i 0 in
+    let channel = next_word-channel g (length t.taken) in
+    let now : IsNow g next next.frame next.channel = IsNow-next g next channel in
+    let stood = x.ring.sums next.frame next.channel now in
+    let fields : (lap_of n ≡ lap g next.frame) × (count_of n ≡ count (all_laid s.views) next.frame next.channel) × (sum_of n ≡ total (all_laid s.views) next.frame next.channel) = StandsFor-fields _ _ _ _ stood in
+    let z : ℤ = clamp_of (sum_of n) in
+    let value : z ≡ clamp_of (total (all_laid s.views) next.frame next.channel) = ap clamp_of fields.2 in
+    let rows : List Row = (Take, Took next.frame next.channel z) ∷ [] in
+    let late : List Row = h ++ rows in
+    let u : Track = track_taken t (next_taken g t z) in
+    let w : View = with_taken v late t (next_taken g t z) in
+    let own : IsView k s.words t h v = x.views_ok.each id v here in
+    let behind_it : next_at g u ≡ cursor_after g next.frame next.channel = next_at-taken g t (next_taken g t z) in
+    let up : rank n < rank word = omega (arith, rank-of n _ _ _ stood, stood.count_fits, rank-of word _ _ _ stands) in
+    let in_words : i < length s.words = omega (arith, index_of-lt g next.frame next.channel channel, x.ring.room) in
+    let later : Later g s.words (set s.words i word) t u h late = record {
+      next = λ c. subst (λ (y : Cursor). first_free next c ≤ first_free y c) (sym behind_it) (grows g next c);
+      position = omega arith;
+      published = λ p q. q;
+      gone = λ q. q;
+      words = λ j o positive past. NotPast-set s.words i word j o in_words up past;
+      history = λ early b. BeginsWith-more h early rows b;
+    } in
+    let moved : IsView k (set s.words i word) u late v = view_later k s.words (set s.words i word) t u h late v later own in
+    let after : IsView k (set s.words i word) u late w = assumption (BeginsWith-same late) in
+    let ring = IsRing-take g s.words (all_laid s.views) t z word x.ring fits (none_far k s.words s.views at t h x.views_ok x.ring.not_ahead) stands value in
+    let views = views_set k s.words (set s.words i word) s.views at t u h late id v w x.views_ok later here refl after
+    (λ y is. (player, sym (ap (λ (o : Option Track). track_or u o) is))) (inr player) in
+    let seated : IsHistory g (set s.views id w) u late =
+    history_same g s.views u late id v w (history_take g s.views t h z x.history (λ same. omega (arith, fits, same)) value) here refl refl refl in (
+      w,
+      keeps,
+      tt,
+      (at, u, late, IsRing-same g (set s.words i word) (all_laid s.views) (all_laid (set s.views id w)) u (SameSums-set s.views id v w here refl) ring, views, seated),
+      (late, t, z, tracks, refl, value ∙ ap clamp_of ((SameSums-set s.views id v w here refl).totals next.frame next.channel ∙ sym (seated.sums.totals next.frame next.channel)), refl, (id, length s.views, own.begins.0, step_of g s.views u h id v w rows seated here lasts refl refl own.begins)),
+    )
+
+-- the player's swap of the next word
+pub takes : (slots id : ℕ) (m : Me Entry View) (next : Cursor) (word : ℕ)
+    → m.0.ended ≡ false → is_tracked m.0.track ≡ true → ((t : Track) → m.0.track ≡ Some t → next ≡ next_at m.0.key.geometry t)
+    → lap m.0.key.geometry next.frame < 4294967295
+    → StandsFor word (lap m.0.key.geometry next.frame + 1) 0 (pos 0)
+    → Allows (Exact m.0.key) slots id m (index_of m.0.key.geometry next.frame next.channel) (λ n. word) (word_take (step slots (index_of m.0.key.geometry next.frame next.channel) word 0 none) m)
+takes slots id m next word lasts is next_is fits stands s x homes here small =
+    let t : Track = x.1 in
+    let found = tracked_some m.0.track is in
+    let mine = x.4.player id m.0 (the_track m.0.track) here found in
+    let tracks : m.0.track ≡ Some t = found ∙ ap (λ u. Some u) mine.1 in
+    let at_next : next ≡ next_at m.0.key.geometry t = next_is t tracks in
+    let Goes : Cursor → Type 0 = λ (y : Cursor).
+    let i : ℕ = index_of m.0.key.geometry y.frame y.channel in
+    (w : View) × (a : Act Entry) × Valid s.homes m.1 a × Exact m.0.key (stepped s i word id m.1 w a)
+    × word_take (step slots i word 0 none) m (get_or s.words i 0) (w, carried_after m.1 a) in
+    subst Goes (sym at_next)
+    (took s slots id m x.0 t x.2 word lasts tracks mine.0 (record { ring = x.3; views_ok = x.4; history = x.5 }) here
+    (subst (λ (y : Cursor). lap m.0.key.geometry y.frame < 4294967295) at_next fits)
+    (subst (λ (y : Cursor). StandsFor word (lap m.0.key.geometry y.frame + 1) 0 (pos 0)) at_next stands))
+
+-- the player's store of its position
+pub publishes : (slots id : ℕ) (m : Me Entry View) (next : Cursor) (gone : Bool)
+    → m.0.ended ≡ false → is_tracked m.0.track ≡ true
+    → ((t : Track) → m.0.track ≡ Some t → next ≡ next_at m.0.key.geometry t) → ((t : Track) → m.0.track ≡ Some t → gone ≡ t.gone)
+    → Allows (Exact m.0.key) slots id m 0 (λ n. word_of next.frame gone) (λ n. position_store (step slots 0 (word_of next.frame gone) 0 none) m (word_of next.frame gone))
+publishes slots id m next gone lasts is next_is gone_is s x homes here small =
+    let v : View = m.0 in
+    let k : Key = v.key in
+    let g : Geometry = k.geometry in
+    let t : Track = x.1 in
+    let h : List Row = x.2 in
+    let found = tracked_some v.track is in
+    let mine = x.4.player id v (the_track v.track) here found in
+    let tracks : v.track ≡ Some t = found ∙ ap (λ u. Some u) mine.1 in
+    let at_next : next ≡ next_at g t = next_is t tracks in
+    let p : ℕ = (next_at g t).frame in
+    let word_is : word_of next.frame gone ≡ word_of p t.gone = ap (λ (y : Cursor). word_of y.frame gone) at_next ∙ ap (λ b. word_of p b) (gone_is t tracks) in
+    let words : List ℕ = set s.words 0 (word_of p t.gone) in
+    let rows : List Row = (Publish, Published p) ∷ [] in
+    let late : List Row = h ++ rows in
+    let u : Track = track_published t p in
+    let w : View = with_published v late t p in
+    let own : IsView k s.words t h v = x.4.each id v here in
+    let last : position_at g u ≡ p = last_number-more (first_frame g) t.published p in
+    let later : Later g s.words words t u h late = record {
+      next = λ c. omega arith;
+      position = omega (arith, last, x.3.not_ahead);
+      published = λ q was. IsPosition-more g t.published q p was;
+      gone = λ q. q;
+      words = λ j o positive past. NotPast-position s.words (word_of p t.gone) j o positive past;
+      history = λ early b. BeginsWith-more h early rows b;
+    } in
+    let moved : IsView k words u late v = view_later k s.words words t u h late v later own in
+    let kept = kept_later g v.places v.laid v.mine v.free v.marks v.seen p v.ended (omega (arith, own.seen_high, x.3.not_ahead)) moved.kept in
+    let seen_high : p ≤ position_at g u = omega (arith, last) in
+    let positions : (i q : ℕ) → get_elem? (v.positions ++ p ∷ []) i ≡ some q → IsPublishedPosition g u q = λ i q there. elim (at_snoc v.positions p q i there) [
+      | inl old ↦ moved.positions i q old
+      | inr new_one ↦ subst (IsPublishedPosition g u) (last ∙ new_one) (IsPosition-last g u.published)
+    ] in
+    let after : IsView k words u late w = assumption (BeginsWith-same late) in
+    let ring = IsRing-publish g s.words (all_laid s.views) t x.3 in
+    let views = views_set k s.words words s.views x.0 t u h late id v w x.4 later here refl after
+    (λ y one. (mine.0, sym (ap (λ (o : Option Track). track_or u o) one))) (inr mine.0) in
+    let seated : IsHistory g (set s.views id w) u late = history_same g s.views u late id v w (history_publish g s.views t h x.5) here refl refl refl in (
+      w,
+      keeps,
+      tt,
+      subst (λ n. Exact k (record { words = set s.words 0 n; homes = s.homes; views = set s.views id w })) (sym word_is)
+          (x.0, u, late, IsRing-same g words (all_laid s.views) (all_laid (set s.views id w)) u (SameSums-set s.views id v w here refl) ring, views, seated),
+      (late, t, tracks, refl, (id, length s.views, own.begins.0, step_of g s.views u h id v w rows seated here lasts refl refl own.begins)),
+    )
+
+-- the player's store that says that the card is gone
+pub unplugs : (slots id : ℕ) (m : Me Entry View) (position : ℕ)
+    → m.0.ended ≡ false → is_tracked m.0.track ≡ true → ((t : Track) → m.0.track ≡ Some t → position ≡ position_at m.0.key.geometry t)
+    → Allows (Exact m.0.key) slots id m 0 (λ n. word_of position true) (λ n. unplug_store (step slots 0 (word_of position true) 0 none) m (word_of position true))
+unplugs slots id m position lasts is position_is s x homes here small =
+    let v : View = m.0 in
+    let k : Key = v.key in
+    let g : Geometry = k.geometry in
+    let t : Track = x.1 in
+    let h : List Row = x.2 in
+    let found = tracked_some v.track is in
+    let mine = x.4.player id v (the_track v.track) here found in
+    let tracks : v.track ≡ Some t = found ∙ ap (λ u. Some u) mine.1 in
+    let p : ℕ = position_at g t in
+    let words : List ℕ = set s.words 0 (word_of p true) in
+    let u : Track = track_gone t in
+    let w : View = with_gone v h t in
+    let own : IsView k s.words t h v = x.4.each id v here in
+    let later : Later g s.words words t u h h = record {
+      next = λ c. omega arith;
+      position = omega arith;
+      published = λ q was. was;
+      gone = λ q. refl;
+      words = λ j o positive past. NotPast-position s.words (word_of p true) j o positive past;
+      history = λ early b. b;
+    } in
+    let moved : IsView k words u h v = view_later k s.words words t u h h v later own in
+    let after : IsView k words u h w = assumption (BeginsWith-same h) in
+    let ring = IsRing-gone g s.words (all_laid s.views) t x.3 in
+    let views = views_set k s.words words s.views x.0 t u h h id v w x.4 later here refl after
+    (λ y one. (mine.0, sym (ap (λ (o : Option Track). track_or u o) one))) (inr mine.0) in
+    let seated : IsHistory g (set s.views id w) u h = history_same g s.views u h id v w (history_gone g s.views t h x.5) here refl refl refl in (
+      w,
+      keeps,
+      tt,
+      subst (λ q. Exact k (record { words = set s.words 0 (word_of q true); homes = s.homes; views = set s.views id w })) (sym (position_is t tracks))
+          (x.0, u, h, IsRing-same g words (all_laid s.views) (all_laid (set s.views id w)) u (SameSums-set s.views id v w here refl) ring, views, seated),
+      (h, t, tracks, refl, (id, length s.views, own.begins.0, none_made g s.views u h id v w seated here lasts refl refl own.begins)),
+    )

@@ -14,8 +14,8 @@ use Rattle.mix_core.specs.declared.marks.Marks.{Marks}
 use Rattle.mix_core.specs.declared.port.Entry.{Entry}
 use Rattle.mix_core.specs.declared.port.Kind.{Kind}
 use Rattle.mix_core.specs.declared.port.Kind.TheVariants.{Added, Withdrawn}
-use Rattle.mix_core.specs.Laid.{EndsIn, is_at, last_entry, marks_after, marks_by, stand_after, standing, without_last}
-use Rattle.mix_core.specs.MarkLaws.{Each, Each-append, Each-of, Each-right, IsBeforeCursor, IsHolding, IsHolding-add, IsHolding-last, IsHolding-withdraw, IsMarked, IsMarked-add, IsMarked-withdraw, behind_up, count-append, count-here, count-elsewhere, free_after, later_up_to, place_cases, up_to_later, without_last-more}
+use Rattle.mix_core.specs.Laid.{EndsIn, is_at, marks_after, marks_by, marks_with, stand_after, standing, standing_with, without_last}
+use Rattle.mix_core.specs.MarkLaws.{Each, Each-append, Each-of, Each-right, IsBeforeCursor, IsHolding, IsHolding-add, IsHolding-last, IsHolding-withdraw, IsMarked-add, IsMarked-withdraw, behind_up, count-append, count-here, count-elsewhere, free_after, later_up_to, place_cases, standing-each, up_to_later, without_last-more}
 use Rattle.mix_core.specs.Marks.{added_at, is_before, later_of, start_marks, withdrawn_at}
 use Rattle.mix_core.specs.OwnLaws.{marks_by-more, standing-more}
 use Rattle.sum_table.specs.declared.view.View.{View}
@@ -31,15 +31,9 @@ IsLaid-later g seen later up e l = record { channel = l.channel; low = l.low; ah
 -- a later position was seen
 pub kept_later : (g : Geometry) (places : ℕ) (es mine free : List Entry) (marks : Marks) (seen later : ℕ) (ended : Bool)
     → seen ≤ later → IsKept g places es mine free marks seen ended → IsKept g places es mine free marks later ended
-kept_later g places es mine free marks seen later ended up x = record {
-  laid = λ i e there. IsLaid-later g seen later up e (x.laid i e there);
-  few = x.few;
-  marked = x.marked;
-  holding = x.holding;
-  backed = x.backed;
-  few_held = x.few_held;
-  own = x.own;
-}
+kept_later g places es mine free marks seen later ended up x =
+    let laid : (i : ℕ) (e : Entry) → get_elem? es i ≡ some e → IsLaid g later e = λ i e there. IsLaid-later g seen later up e (x.laid i e there) in
+    assumption
 
 -- nothing was placed
 pub kept_none : (g : Geometry) (places : ℕ) (marks : Marks) (seen : ℕ) (ended : Bool)
@@ -68,18 +62,13 @@ kept_none g places marks seen ended floor cursor start = record {
 pub kept_places : (g : Geometry) (p n : ℕ) (es mine free : List Entry) (marks : Marks) (seen : ℕ) (ended : Bool) → (es ≡ []) ⊎ (n ≡ p)
     → IsKept g p es mine free marks seen ended → IsKept g n es mine free marks seen ended
 kept_places g p n es mine free marks seen ended (inr same) x = subst (λ m. IsKept g m es mine free marks seen ended) (sym same) x
-kept_places g p n es mine free marks seen ended (inl none) x = record {
-  laid = x.laid;
-  few = λ f c. subst (λ zs. count zs f c ≤ 3 * n) (sym none) (omega arith);
-  marked = x.marked;
-  holding = x.holding;
-  backed = x.backed;
-  few_held = λ f c. subst (λ zs. count (standing zs) f c ≤ n) (sym none) (omega arith);
-  own = x.own;
-}
+kept_places g p n es mine free marks seen ended (inl none) x =
+    let few : (f c : ℕ) → count es f c ≤ 3 * n = λ f c. subst (λ zs. count zs f c ≤ 3 * n) (sym none) (omega arith) in
+    let few_held : (f c : ℕ) → count (standing es) f c ≤ n = λ f c. subst (λ zs. count (standing zs) f c ≤ n) (sym none) (omega arith) in
+    assumption
 
 -- what is known of the last standing add
-pub record IsHeldAt (g : Geometry) (es : List Entry) (marks : Marks) (f c : ℕ) (s : ℤ) : Type 0 where
+pub record IsHeldAt (es : List Entry) (marks : Marks) (f c : ℕ) (s : ℤ) : Type 0 where
   pub early : List Entry
   pub last : Entry
   pub ends : standing es ≡ early ++ last ∷ []
@@ -88,7 +77,7 @@ pub record IsHeldAt (g : Geometry) (es : List Entry) (marks : Marks) (f c : ℕ)
   pub sample : last.sample ≡ s
   pub from_floor : IsFrom marks.floor f c
 
-pub held_of : (v : View) (f c : ℕ) (s : ℤ) → HoldsLast v f c s → IsHeldAt v.key.geometry v.laid v.marks f c s
+abbrev pub held_of : (v : View) (f c : ℕ) (s : ℤ) → HoldsLast v f c s → IsHeldAt v.laid v.marks f c s
 held_of v f c s x = record { early = x.early; last = x.last; ends = x.ends; frame = x.frame; channel = x.channel; sample = x.sample; from_floor = x.from_floor }
 
 -- what holds of each entry holds of the standing ones
@@ -96,30 +85,15 @@ each_of : {X : Type 0} (P : X → Type 0) (xs : List X) → ((i : ℕ) (x : X) �
 each_of P [] all = tt
 each_of P (x ∷ xs) all = (all 0 x refl, each_of P xs (λ i y there. all (suc i) y there))
 
-each_without : {X : Type 0} (P : X → Type 0) (xs : List X) → Each P xs → Each P (without_last xs)
-each_without P [] all = tt
-each_without P (x ∷ []) all = tt
-each_without P (x ∷ y ∷ ys) all = (all.0, each_without P (y ∷ ys) all.1)
-
-standing-each : (P : Entry → Type 0) (es : List Entry) → Each P es → Each P (standing es)
-standing-each P es all = from [] es tt all where
-  stood_each : (k : Kind) (held : List Entry) (e : Entry) → Each P held → P e → Each P (Rattle.mix_core.specs.Laid.standing_with k held e)
-  stood_each Added held e all one = Each-append P held (e ∷ []) all (one, tt)
-  stood_each Withdrawn held e all one = each_without P held all
-
-  from : (held xs : List Entry) → Each P held → Each P xs → Each P (fold stand_after held xs)
-  from held [] first then = first
-  from held (x ∷ xs) first then = from (stand_after held x) xs (stood_each x.kind held x first then.0) then.1
-
 -- what holds of each placed entry holds of the last standing add
-pub held_each : (P : Entry → Type 0) (g : Geometry) (es : List Entry) (marks : Marks) (f c : ℕ) (s : ℤ) → ((i : ℕ) (e : Entry) → get_elem? es i ≡ some e → P e)
-    → (y : IsHeldAt g es marks f c s) → P y.last
-held_each P g es marks f c s all y = (Each-right P y.early (y.last ∷ []) (subst (Each P) y.ends (standing-each P es (each_of P es all)))).0
+pub held_each : (P : Entry → Type 0) (es : List Entry) (marks : Marks) (f c : ℕ) (s : ℤ) → ((i : ℕ) (e : Entry) → get_elem? es i ≡ some e → P e)
+    → (y : IsHeldAt es marks f c s) → P y.last
+held_each P es marks f c s all y = (Each-right P y.early (y.last ∷ []) (subst (Each P) y.ends (standing-each P es (each_of P es all)))).0
 
 -- the last standing add was placed
 pub held_laid : (g : Geometry) (es : List Entry) (marks : Marks) (seen f c : ℕ) (s : ℤ) → ((i : ℕ) (e : Entry) → get_elem? es i ≡ some e → IsLaid g seen e)
-    → (y : IsHeldAt g es marks f c s) → IsLaid g seen y.last
-held_laid g es marks seen f c s laid y = held_each (IsLaid g seen) g es marks f c s laid y
+    → (y : IsHeldAt es marks f c s) → IsLaid g seen y.last
+held_laid g es marks seen f c s laid y = held_each (IsLaid g seen) es marks f c s laid y
 
 -- it is in the ring, before the cursor
 pub record HeldFacts (g : Geometry) (marks : Marks) (seen f c : ℕ) : Type 0 where
@@ -130,28 +104,22 @@ pub record HeldFacts (g : Geometry) (marks : Marks) (seen f c : ℕ) : Type 0 wh
   pub before : f < first_free marks.cursor c
 
 pub held_facts : (g : Geometry) (places : ℕ) (es mine free : List Entry) (marks : Marks) (seen : ℕ) (ended : Bool) (f c : ℕ) (s : ℤ)
-    → IsKept g places es mine free marks seen ended → IsHeldAt g es marks f c s → HeldFacts g marks seen f c
+    → IsKept g places es mine free marks seen ended → IsHeldAt es marks f c s → HeldFacts g marks seen f c
 held_facts g places es mine free marks seen ended f c s x y =
     let l : IsLaid g seen y.last = held_laid g es marks seen f c s x.laid y in
     let b : Each (IsBeforeCursor g marks.cursor) (y.last ∷ []) = Each-right (IsBeforeCursor g marks.cursor) y.early (y.last ∷ []) (subst (Each (IsBeforeCursor g marks.cursor)) y.ends x.holding.before) in
-    record {
-      channel = subst (λ d. d < g.channels) y.channel l.channel;
-      low = subst (λ k. first_frame g ≤ k) y.frame l.low;
-      ahead = subst (λ k. k < seen + g.frames) y.frame l.ahead;
-      fits = subst (λ k. lap g k < 4294967295) y.frame l.fits;
-      before = subst (λ d. f < first_free marks.cursor d) y.channel (subst (λ k. k < first_free marks.cursor y.last.channel) y.frame b.0.1);
-    }
+    rw (← y.frame, ← y.channel) (record { channel = l.channel; low = l.low; ahead = l.ahead; fits = l.fits; before = b.0.1 })
 
 -- there it has at most one entry
 pub held_once : (g : Geometry) (places : ℕ) (es mine free : List Entry) (marks : Marks) (seen : ℕ) (ended : Bool) (f c : ℕ) (s : ℤ)
-    → IsKept g places es mine free marks seen ended → IsHeldAt g es marks f c s → count es f c ≤ 1
+    → IsKept g places es mine free marks seen ended → IsHeldAt es marks f c s → count es f c ≤ 1
 held_once g places es mine free marks seen ended f c s x y =
     let facts : HeldFacts g marks seen f c = held_facts g places es mine free marks seen ended f c s x y in
     x.marked.past_floor f c facts.channel y.from_floor facts.before
 
 -- and the seat has a place
 pub held_place : (g : Geometry) (places : ℕ) (es mine free : List Entry) (marks : Marks) (seen : ℕ) (ended : Bool) (f c : ℕ) (s : ℤ)
-    → IsKept g places es mine free marks seen ended → IsHeldAt g es marks f c s → 0 < places
+    → IsKept g places es mine free marks seen ended → IsHeldAt es marks f c s → 0 < places
 held_place g places es mine free marks seen ended f c s x y =
     let one : count (standing es) y.last.frame y.last.channel ≡ count y.early y.last.frame y.last.channel + 1 =
     ap (λ zs. count zs y.last.frame y.last.channel) y.ends ∙ count-here y.early y.last in
@@ -222,12 +190,6 @@ laid_more g es seen e old new i a there = elim (at_snoc es e a i there) [
   | inr is ↦ subst (IsLaid g seen) is new
 ]
 
-count_more_most : (es : List Entry) (e : Entry) (f c : ℕ) → count (es ++ e ∷ []) f c ≤ count es f c + 1
-count_more_most es e f c = elim (place_cases e.frame e.channel f c) [
-  | inl same ↦ subst (λ x. count (es ++ e ∷ []) x c ≤ count es x c + 1) same.0 (subst (λ x. count (es ++ e ∷ []) e.frame x ≤ count es e.frame x + 1) same.1 (omega (arith, count-here es e)))
-  | inr elsewhere ↦ omega (arith, count-elsewhere es e f c elsewhere)
-]
-
 -- what is before a cursor is not at a place from it on
 count_before : (g : Geometry) (at : Cursor) (es : List Entry) (f c : ℕ) → Each (IsBeforeCursor g at) es → IsFrom at f c → count es f c ≡ 0
 count_before g at [] f c all from = refl
@@ -236,102 +198,79 @@ count_before g at (x ∷ xs) f c all from =
     let test : is_at f c x ≡ false = grind (arith, nat_tests) in
     rw test (count_before g at xs f c all.1 from)
 
+-- one more entry is where it was placed
+count_within : (es : List Entry) (e : Entry) (f c most : ℕ) → count es e.frame e.channel < most → count es f c ≤ most → count (es ++ e ∷ []) f c ≤ most
+count_within es e f c most here there = elim (place_cases e.frame e.channel f c) [
+  | inl same ↦ rw (← same.0, ← same.1) (omega (arith, count-here es e, here))
+  | inr elsewhere ↦ omega (arith, count-elsewhere es e f c elsewhere, there)
+]
+
 -- a seat added a sample
 pub kept_add : (g : Geometry) (places : ℕ) (es mine free : List Entry) (marks : Marks) (seen : ℕ) (ended : Bool) (e : Entry)
     → IsKept g places es mine free marks seen ended → e.kind ≡ Added → IsLaid g seen e → IsFrom marks.cursor e.frame e.channel → 0 < places
     → IsKept g places (es ++ e ∷ []) (mine ++ e ∷ []) (withdrawable_after e.kind marks free e) (marks_after g marks e) seen ended
 kept_add g places es mine free marks seen ended e x kind laid from has =
-    let held : standing (es ++ e ∷ []) ≡ standing es ++ e ∷ [] = standing-more es e ∙ ap (λ k. Rattle.mix_core.specs.Laid.standing_with k (standing es) e) kind in
-    let own_held : standing (mine ++ e ∷ []) ≡ standing mine ++ e ∷ [] = standing-more mine e ∙ ap (λ k. Rattle.mix_core.specs.Laid.standing_with k (standing mine) e) kind in
-    let marks_is : marks_after g marks e ≡ added_at g marks e.frame e.channel = ap (λ k. Rattle.mix_core.specs.Laid.marks_with k g marks e.frame e.channel) kind in
-    let own_marks : marks_by g (mine ++ e ∷ []) ≡ added_at g (marks_by g mine) e.frame e.channel =
-    marks_by-more g mine e ∙ ap (λ k. Rattle.mix_core.specs.Laid.marks_with k g (marks_by g mine) e.frame e.channel) kind in
-    let free_is : withdrawable_after e.kind marks free e ≡ free_after (is_before marks.cursor marks.high) free e = ap (λ k. withdrawable_after k marks free e) kind in
+    let held : standing (es ++ e ∷ []) ≡ standing es ++ e ∷ [] = standing-more es e ∙ ap (λ k. standing_with k (standing es) e) kind in
+    let own_held : standing (mine ++ e ∷ []) ≡ standing mine ++ e ∷ [] = standing-more mine e ∙ ap (λ k. standing_with k (standing mine) e) kind in
+    let own_marks : marks_by g (mine ++ e ∷ []) ≡ added_at g (marks_by g mine) e.frame e.channel = marks_by-more g mine e ∙ ap (λ k. marks_with k g (marks_by g mine) e.frame e.channel) kind in
     let none : count (standing es) e.frame e.channel ≡ 0 = count_before g marks.cursor (standing es) e.frame e.channel x.holding.before from in
-    record {
+    subst (λ k. IsKept g places (es ++ e ∷ []) (mine ++ e ∷ []) (withdrawable_after k marks free e) (marks_with k g marks e.frame e.channel) seen ended) (sym kind) (record {
       laid = laid_more g es seen e x.laid laid;
-      few = λ f c. elim (place_cases e.frame e.channel f c) [
-        | inl same ↦ subst (λ y. count (es ++ e ∷ []) y c ≤ 3 * places) same.0 (subst (λ y. count (es ++ e ∷ []) e.frame y ≤ 3 * places) same.1
-            (omega (arith, count-here es e, x.marked.past_cursor e.frame e.channel laid.channel from, has)))
-        | inr elsewhere ↦ omega (arith, count-elsewhere es e f c elsewhere, x.few f c)
-      ];
-      marked = subst (λ m. IsMarked g m (es ++ e ∷ [])) (sym marks_is) (IsMarked-add g marks es e x.marked laid.channel from);
-      holding = subst (λ zs. IsHolding g (marks_after g marks e) zs (withdrawable_after e.kind marks free e)) (sym held)
-          (subst (λ m. IsHolding g m (standing es ++ e ∷ []) (withdrawable_after e.kind marks free e)) (sym marks_is)
-          (subst (IsHolding g (added_at g marks e.frame e.channel) (standing es ++ e ∷ [])) (sym free_is)
-          (IsHolding-add g marks (standing es) free e x.holding x.marked.cursor_high laid.channel from)));
+      few = λ f c. count_within es e f c (3 * places) (omega (arith, x.marked.past_cursor e.frame e.channel laid.channel from, has)) (x.few f c);
+      marked = IsMarked-add g marks es e x.marked laid.channel from;
+      holding = rw held (IsHolding-add g marks (standing es) free e x.holding x.marked.cursor_high laid.channel from);
       backed = λ before.
-          fold_push stand_after before es e ∙ (ap (λ k. Rattle.mix_core.specs.Laid.standing_with k (fold stand_after before es) e) kind
+          fold_push stand_after before es e
+          ∙ (ap (λ k. standing_with k (fold stand_after before es) e) kind
           ∙ (ap (λ zs. zs ++ e ∷ []) (x.backed before) ∙ (append_assoc before (standing es) (e ∷ []) ∙ ap (λ zs. before ++ zs) (sym held))));
-      few_held = λ f c. subst (λ zs. count zs f c ≤ places) (sym held) (elim (place_cases e.frame e.channel f c) [
-        | inl same ↦ subst (λ y. count (standing es ++ e ∷ []) y c ≤ places) same.0 (subst (λ y. count (standing es ++ e ∷ []) e.frame y ≤ places) same.1
-            (omega (arith, count-here (standing es) e, none, has)))
-        | inr elsewhere ↦ omega (arith, count-elsewhere (standing es) e f c elsewhere, x.few_held f c)
-      ]);
+      few_held = λ f c. rw held (count_within (standing es) e f c places (omega (arith, none, has)) (x.few_held f c));
       own = λ lasts.
           let o : IsOwn g mine free marks = x.own lasts in
           record {
-            ends = subst (λ zs. EndsIn zs (withdrawable_after e.kind marks free e)) (sym own_held) (subst (EndsIn (standing mine ++ e ∷ [])) (sym free_is)
-                (ends_more (is_before marks.cursor marks.high) (standing mine) free e o.ends));
-            within = subst (λ m. AreWithinMarks m (marks_after g marks e)) (sym own_marks) (subst (AreWithinMarks (added_at g (marks_by g mine) e.frame e.channel)) (sym marks_is)
-                (within_add g (marks_by g mine) marks e.frame e.channel o.within laid.channel from));
+            ends = rw own_held (ends_more (is_before marks.cursor marks.high) (standing mine) free e o.ends);
+            within = rw own_marks (within_add g (marks_by g mine) marks e.frame e.channel o.within laid.channel from);
           };
-    } where
+    }) where
       ends_more : (b : Bool) (held free : List Entry) (e : Entry) → EndsIn held free → EndsIn (held ++ e ∷ []) (free_after b free e)
       ends_more true held free e ends = (held, refl)
       ends_more false held free e ends = (ends.0, ap (λ zs. zs ++ e ∷ []) ends.1 ∙ append_assoc ends.0 free (e ∷ []))
 
 -- a seat withdrew its last standing add
 pub kept_withdraw : (g : Geometry) (places : ℕ) (es mine free : List Entry) (marks : Marks) (seen : ℕ) (ended : Bool) (e : Entry)
-    → IsKept g places es mine free marks seen ended → e.kind ≡ Withdrawn → IsHeldAt g es marks e.frame e.channel e.sample
+    → IsKept g places es mine free marks seen ended → e.kind ≡ Withdrawn → IsHeldAt es marks e.frame e.channel e.sample
     → IsKept g places (es ++ e ∷ []) (mine ++ e ∷ []) (withdrawable_after e.kind marks free e) (marks_after g marks e) seen ended
 kept_withdraw g places es mine free marks seen ended e x kind y =
     let facts : HeldFacts g marks seen e.frame e.channel = held_facts g places es mine free marks seen ended e.frame e.channel e.sample x y in
-    let laid : IsLaid g seen e = record { channel = facts.channel; low = facts.low; ahead = facts.ahead; fits = facts.fits } in
-    let held : standing (es ++ e ∷ []) ≡ y.early =
-    standing-more es e ∙ (ap (λ k. Rattle.mix_core.specs.Laid.standing_with k (standing es) e) kind ∙ (ap without_last y.ends ∙ without_last-more y.early y.last)) in
-    let own_held : standing (mine ++ e ∷ []) ≡ without_last (standing mine) = standing-more mine e ∙ ap (λ k. Rattle.mix_core.specs.Laid.standing_with k (standing mine) e) kind in
-    let marks_is : marks_after g marks e ≡ withdrawn_at marks e.frame e.channel = ap (λ k. Rattle.mix_core.specs.Laid.marks_with k g marks e.frame e.channel) kind in
-    let own_marks : marks_by g (mine ++ e ∷ []) ≡ withdrawn_at (marks_by g mine) e.frame e.channel =
-    marks_by-more g mine e ∙ ap (λ k. Rattle.mix_core.specs.Laid.marks_with k g (marks_by g mine) e.frame e.channel) kind in
-    let free_is : withdrawable_after e.kind marks free e ≡ without_last free = ap (λ k. withdrawable_after k marks free e) kind in
-    let from_last : IsFrom marks.floor y.last.frame y.last.channel =
-    subst (λ d. IsFrom marks.floor y.last.frame d) (sym y.channel) (subst (λ k. IsFrom marks.floor k e.channel) (sym y.frame) y.from_floor) in
+    let laid : IsLaid g seen e = assumption in
+    let held : standing (es ++ e ∷ []) ≡ y.early = standing-more es e ∙ (ap (λ k. standing_with k (standing es) e) kind ∙ (ap without_last y.ends ∙ without_last-more y.early y.last)) in
+    let own_held : standing (mine ++ e ∷ []) ≡ without_last (standing mine) = standing-more mine e ∙ ap (λ k. standing_with k (standing mine) e) kind in
+    let own_marks : marks_by g (mine ++ e ∷ []) ≡ withdrawn_at (marks_by g mine) e.frame e.channel = marks_by-more g mine e ∙ ap (λ k. marks_with k g (marks_by g mine) e.frame e.channel) kind in
+    let from_last : IsFrom marks.floor y.last.frame y.last.channel = rw (y.frame, y.channel) y.from_floor in
     let was : IsHolding g marks (y.early ++ y.last ∷ []) free = subst (λ zs. IsHolding g marks zs free) y.ends x.holding in
     let last : free ≡ without_last free ++ y.last ∷ [] = IsHolding-last g marks y.early free y.last was from_last in
-    let now : IsHolding g (withdrawn_at marks e.frame e.channel) y.early (without_last free) =
-    subst (λ d. IsHolding g (withdrawn_at marks e.frame d) y.early (without_last free)) y.channel
-    (subst (λ k. IsHolding g (withdrawn_at marks k y.last.channel) y.early (without_last free)) y.frame (IsHolding-withdraw g marks y.early free y.last was from_last)) in
+    let now : IsHolding g (withdrawn_at marks e.frame e.channel) y.early (without_last free) = rw (← y.frame, ← y.channel) (IsHolding-withdraw g marks y.early free y.last was from_last) in
     let has : 0 < places = held_place g places es mine free marks seen ended e.frame e.channel e.sample x y in
-    record {
+    subst (λ k. IsKept g places (es ++ e ∷ []) (mine ++ e ∷ []) (withdrawable_after k marks free e) (marks_with k g marks e.frame e.channel) seen ended) (sym kind) (record {
       laid = laid_more g es seen e x.laid laid;
-      few = λ f c. elim (place_cases e.frame e.channel f c) [
-        | inl same ↦ subst (λ z. count (es ++ e ∷ []) z c ≤ 3 * places) same.0 (subst (λ z. count (es ++ e ∷ []) e.frame z ≤ 3 * places) same.1
-            (omega (arith, count-here es e, x.marked.past_floor e.frame e.channel facts.channel y.from_floor facts.before, has)))
-        | inr elsewhere ↦ omega (arith, count-elsewhere es e f c elsewhere, x.few f c)
-      ];
-      marked = subst (λ m. IsMarked g m (es ++ e ∷ [])) (sym marks_is) (IsMarked-withdraw g marks es e x.marked facts.channel y.from_floor facts.before);
-      holding = subst (λ zs. IsHolding g (marks_after g marks e) zs (withdrawable_after e.kind marks free e)) (sym held)
-          (subst (λ m. IsHolding g m y.early (withdrawable_after e.kind marks free e)) (sym marks_is)
-          (subst (IsHolding g (withdrawn_at marks e.frame e.channel) y.early) (sym free_is) now));
+      few = λ f c. count_within es e f c (3 * places) (omega (arith, x.marked.past_floor e.frame e.channel facts.channel y.from_floor facts.before, has)) (x.few f c);
+      marked = IsMarked-withdraw g marks es e x.marked facts.channel y.from_floor facts.before;
+      holding = rw held now;
       backed = λ before.
           let taken : fold stand_after before es ≡ (before ++ y.early) ++ y.last ∷ [] =
           x.backed before ∙ (ap (λ zs. before ++ zs) y.ends ∙ sym (append_assoc before y.early (y.last ∷ []))) in
-          fold_push stand_after before es e ∙ (ap (λ k. Rattle.mix_core.specs.Laid.standing_with k (fold stand_after before es) e) kind
+          fold_push stand_after before es e
+          ∙ (ap (λ k. standing_with k (fold stand_after before es) e) kind
           ∙ (ap without_last taken ∙ (without_last-more (before ++ y.early) y.last ∙ ap (λ zs. before ++ zs) (sym held))));
-      few_held = λ f c. subst (λ zs. count zs f c ≤ places) (sym held)
-          (omega (arith, count-append y.early (y.last ∷ []) f c, ap (λ zs. count zs f c) y.ends, x.few_held f c));
+      few_held = λ f c. rw held (omega (arith, count-append y.early (y.last ∷ []) f c, ap (λ zs. count zs f c) y.ends, x.few_held f c));
       own = λ lasts.
           let o : IsOwn g mine free marks = x.own lasts in
           let joined : standing mine ≡ (o.ends.0 ++ without_last free) ++ y.last ∷ [] =
           o.ends.1 ∙ (ap (λ zs. o.ends.0 ++ zs) last ∙ sym (append_assoc o.ends.0 (without_last free) (y.last ∷ []))) in
           record {
-            ends = subst (λ zs. EndsIn zs (withdrawable_after e.kind marks free e)) (sym own_held) (subst (EndsIn (without_last (standing mine))) (sym free_is)
-                (o.ends.0, ap without_last joined ∙ without_last-more (o.ends.0 ++ without_last free) y.last));
-            within = subst (λ m. AreWithinMarks m (marks_after g marks e)) (sym own_marks) (subst (AreWithinMarks (withdrawn_at (marks_by g mine) e.frame e.channel)) (sym marks_is)
-                (within_withdraw (marks_by g mine) marks e.frame e.channel o.within y.from_floor facts.before));
+            ends = rw own_held (o.ends.0, ap without_last joined ∙ without_last-more (o.ends.0 ++ without_last free) y.last);
+            within = rw own_marks (within_withdraw (marks_by g mine) marks e.frame e.channel o.within y.from_floor facts.before);
           };
-    }
+    })
 
 -- where no entry is anywhere, nothing was placed
 none_laid : (es : List Entry) → ((f c : ℕ) → count es f c ≤ 0) → es ≡ []

@@ -1,12 +1,9 @@
 pub mod Cuts
 pub mod Going
 pub mod Highs
-pub mod Joining
 pub mod Kept
 pub mod Keeps
 pub mod Lates
-pub mod Lists
-pub mod Loading
 pub mod Opens
 pub mod Places
 pub mod Placing
@@ -14,8 +11,5 @@ pub mod Playing
 pub mod Rings
 pub mod Rows
 pub mod Seated
-pub mod Spots
 pub mod Sums
-pub mod Takes
-pub mod Turned
 pub mod Views

@@ -1,6 +1,6 @@
 -- A new ring meets the rule.
-use Rattle.std.proofs.Common.{◌≡◌, ℕ, zero, suc, ◌+◌, ◌-◌, ◌*◌, ◌/◌, ◌<◌, ◌≤◌, false, Option, None, Some, List, [], ◌∷◌, map, length, get_or, set, pos, arith, subst, sym, refl, ap, ◌∙◌}
-use mathlib.Core.Option.{some, some-injective, some-ne-none}
+use Rattle.std.proofs.Common.{◌≡◌, ℕ, ◌+◌, ◌-◌, ◌*◌, ◌/◌, ◌<◌, ◌≤◌, false, List, [], ◌∷◌, map, length, set, pos, arith, subst, sym, refl, ap, ◌∙◌}
+use mathlib.Core.Option.{some, some-ne-none}
 use lib.ListN.{get_elem?}
 use Rattle.std.proofs.Math.ListN.{replicate}
 use Rattle.std.proofs.lemmas.Bool.Decides.{nat_tests}
@@ -10,7 +10,7 @@ use Rattle.std.proofs.lemmas.Nat.{div-mul-add}
 use Rattle.atomic_table.specs.Table.{opening}
 use Rattle.snd_base.specs.declared.geometry.Geometry.{Geometry}
 use Rattle.snd_base.specs.declared.places.Cursor.{Cursor}
-use Rattle.snd_base.specs.Places.{first_frame, first_free, lap, next_word}
+use Rattle.snd_base.specs.Places.{first_frame, first_free, lap}
 use Rattle.lap_word.specs.Position.{word_of}
 use Rattle.lap_word.specs.Word.{StandsFor}
 use Rattle.mix_core.specs.LegalLaws.{first_frame-le}
@@ -22,8 +22,9 @@ use Rattle.sum_table.specs.Exact.{start_marks, Exact, IsRing, IsView, first_trac
 use Rattle.sum_table.specs.Laid.{by_member}
 use Rattle.ring_rule.specs.Words.{index_of, words_of}
 use Rattle.sum_table.proofs.Kept.{kept_none}
+use Rattle.ring_rule.specs.Lists.{at_only}
 use Rattle.ring_rule.specs.NoteLaws.{no_note, none_there}
-use Rattle.sum_table.proofs.Takes.{track_or}
+use Rattle.sum_table.proofs.Keeps.{track_or}
 use Rattle.ring_rule.specs.WordLaws.{index_of-lt}
 use Rattle.sum_table.proofs.Rings.{position-others}
 
@@ -64,10 +65,6 @@ ring_first g silent stands =
       took = λ f c in_range least. subst (λ (x : Cursor). false ≡ Rattle.std.proofs.Common.nat_lt f (first_free x c)) (sym (next_first g)) (grind (arith, nat_tests, least));
     }
 
-only : (v : View) (i : ℕ) (u : View) → get_elem? (v ∷ []) i ≡ some u → (i ≡ 0) × (v ≡ u)
-only v zero u there = (refl, some-injective v u there)
-only v (suc i) u there = absurd (some-ne-none u (sym there))
-
 -- the rule at the opening of a ring
 pub opens : (k : Key) (silent : ℕ) → StandsFor silent k.geometry.first_lap 0 (pos 0)
     → Exact k (opening {S = Entry} {V = View} (new_words k.geometry silent) [] (first_view k))
@@ -83,7 +80,7 @@ opens k silent stands =
       begins = ([], refl);
       heard = ([], refl);
     } in
-    let parts : (i : ℕ) (u : View) → get_elem? (v ∷ []) i ≡ some u → (i ≡ 0) × (v ≡ u) = only v in (
+    let parts : (i : ℕ) (u : View) → get_elem? (v ∷ []) i ≡ some u → (i ≡ 0) × (v ≡ u) = at_only v in (
       0,
       first_track,
       [],

@@ -1,6 +1,6 @@
 -- A placement or withdrawal, which is several steps: how it goes on, and what it is at its end.
-use Rattle.std.proofs.Common.{◌≡◌, ◌≢◌, ◌||◌, false, true, Some, ℤ, ℕ, zero, suc, ◌+◌, ◌-◌, ◌*◌, ◌^◌, ◌<◌, ◌≤◌, Bool, List, [], ◌∷◌, ◌++◌, length, map, replicate, nat_lt, inl, inr, arith, subst, sym, refl, ap, ◌∙◌, append_assoc}
-use Rattle.std.proofs.lemmas.Bool.{cases_lt}
+use Rattle.std.proofs.Common.{◌≡◌, ◌≢◌, Some, ℤ, ℕ, zero, suc, ◌+◌, ◌-◌, ◌*◌, ◌^◌, ◌<◌, ◌≤◌, Bool, List, [], ◌∷◌, ◌++◌, length, map, replicate, nat_lt, inl, inr, arith, subst, sym, refl, ap, ◌∙◌, append_assoc, ◌||◌, All, true, false, None, Result, Ok, Err}
+use Rattle.std.proofs.lemmas.Bool.{cases_lt, false≢true}
 use Rattle.std.proofs.lemmas.List.{append-nil, length-append, map-append}
 use Rattle.snd_base.specs.declared.geometry.Geometry.{Geometry}
 use Rattle.snd_base.specs.Places.{IsFrom, first_frame, lap}
@@ -9,7 +9,6 @@ use Rattle.mix_core.specs.declared.gate.Pass.{Pass}
 use Rattle.mix_core.specs.declared.gate.Pass.TheVariants.{Go, Stop}
 use Rattle.mix_core.specs.declared.gate.StepKind.{StepKind}
 use Rattle.mix_core.specs.declared.gate.StepKind.TheVariants.{Look, Exchange, Again}
-use Rattle.mix_core.specs.declared.event.Reply.TheVariants as reply
 use Rattle.mix_core.specs.declared.marks.Marks.{Marks}
 use Rattle.mix_core.specs.declared.port.Ended.{Ended}
 use Rattle.mix_core.specs.declared.port.Ended.TheVariants.{Whole, Late, Stopped}
@@ -17,23 +16,27 @@ use Rattle.mix_core.specs.declared.port.Entry.{Entry}
 use Rattle.mix_core.specs.declared.port.Kind.{Kind}
 use Rattle.mix_core.specs.declared.port.Kind.TheVariants.{Added, Withdrawn}
 use Rattle.mix_core.specs.Gate.{AsksCompose, placement_asks}
-use Rattle.mix_core.specs.History.{IsLegal, IsReply, Row, event_by, late_row}
-use Rattle.mix_core.specs.Laid.{marks_after, standing}
-use Rattle.mix_core.specs.Port.{PortView}
+use Rattle.mix_core.specs.History.{IsLegal, IsReply, Row, late_row}
+use Rattle.mix_core.specs.Laid.{marks_after, standing, EndsIn, an_add}
+use Rattle.mix_core.specs.Port.{PortView, Loads, load_of, IsAskNumber, OnLate, OnWhole, marks_if}
 use Rattle.sum_table.specs.declared.seats.mix.MixSeat.{MixSeat}
 use Rattle.sum_table.specs.declared.view.Key.{Key}
 use Rattle.sum_table.specs.declared.view.View.{View}
 use Rattle.sum_table.specs.Exact.{BeginsWith}
 use Rattle.sum_table.specs.Laid.{by_member}
-use Rattle.sum_table.specs.Seats.{IsLaterSeat, IsLaterSeat-joined, IsLaterSeat-same, HasLaid, HasLost, HasNoted, LaysCounted, MakesIn, MakesLate, MayLay, SeatLaid, SeatLays, SeatLoaded, SeatLoaded-composes, entry_by, seat_view, noted_word, view_of}
-use Rattle.sum_table.specs.Steps.{HoldsLast, IsLateAt, IsLateHeld, IsStep, Makes, MakesLook, MayStand, Tells, in_row, sighting}
+use Rattle.sum_table.specs.Seats.{IsLaterSeat, IsLaterSeat-joined, IsLaterSeat-same, HasLaid, HasLost, HasNoted, LaysCounted, MakesIn, MakesLate, MayLay, SeatLaid, SeatLays, SeatLoaded, SeatLoaded-composes, entry_by, seat_view, noted_word, view_of, HasLocated, SeatLaid-composes, IsTurned, NotesRise-same, SeatFinds, or_false, pass_count}
+use Rattle.sum_table.specs.Steps.{HoldsLast, IsStep, Makes, MayStand, Tells, in_row, sighting}
 use Rattle.ring_rule.specs.Words.{index_of, rank}
 use Rattle.sum_table.proofs.Rows.{BeginsWith-same}
 use Rattle.sum_table.proofs.Seated.{holds_facts, holds_of, lay_facts}
 use Rattle.sum_table.proofs.Views.{rank-of}
+use Rattle.std.specs.Result.{IsErr}
+use Rattle.snd_base.specs.declared.errors.PcmError.{PcmError}
+use Rattle.mix_core.specs.declared.gate.StepKind.TheVariants as kind
+use Rattle.mix_core.specs.declared.port.Position.{Position}
 
 -- a step, and those before it
-pub step_since : (u v w : View) (by members : ℕ) (between rows : List Row) → v.key ≡ u.key → (begins : BeginsWith v.history u.history)
+step_since : (u v w : View) (by members : ℕ) (between rows : List Row) → v.key ≡ u.key → (begins : BeginsWith v.history u.history)
     → IsStep v w by members between rows → IsStep u w by members (begins.0 ++ between) rows
 step_since u v w by members between rows same begins is = record {
   history = is.history ∙ ap (λ x. x ++ rows) (ap (λ x. x ++ between) begins.1 ∙ append_assoc u.history begins.0 between);
@@ -50,51 +53,6 @@ pub in_made : (s t u : MixSeat) (e : Entry) → IsLaterSeat s t → HasLaid t u 
 in_made s t u e goes laid =
     let made : Makes (view_of t) (view_of u) (λ by. in_row by e ∷ []) = laid.event in
     (made.0, made.1, goes.history.0 ++ made.2, step_since (view_of s) (view_of t) (view_of u) made.0 made.1 made.2 (in_row made.0 e ∷ []) (same_view_key s t goes) goes.history made.3)
-
--- a word of a later lap was found at last
-pub late_made : (s t u : MixSeat) (n : ℕ) (e : Entry) → IsLaterSeat s t → t.reach.marks ≡ s.reach.marks → t.seen ≡ s.seen → HasNoted t u e.frame e.channel n → e.kind ≡ Added
-    → e.channel < s.key.geometry.channels → IsFrom s.reach.marks.cursor e.frame e.channel → e.frame < s.seen + s.key.geometry.frames → lap s.key.geometry e.frame < lap_of n
-    → MakesLate s u e
-late_made s t u n e goes marks seen noted kind channel from ahead past =
-    let own : s.key ≡ (view_of t).key = sym (t.known.same_key ∙ goes.key) in
-    let i : ℕ = index_of t.key.geometry e.frame e.channel in
-    let look : MakesLook (view_of t) (view_of u) i n = noted.event in
-    let late : IsLateAt (view_of t) i n e.frame e.channel = record {
-      index = ap (λ (k : Key). index_of k.geometry e.frame e.channel) t.known.same_key;
-      channel = subst (λ (k : Key). e.channel < k.geometry.channels) own channel;
-      from_cursor = subst (λ (x : Marks). IsFrom x.cursor e.frame e.channel) (sym (t.known.same_marks ∙ marks)) from;
-      ahead = subst (λ (k : Key). e.frame < (view_of t).seen + k.geometry.frames) own (subst (λ p. e.frame < p + s.key.geometry.frames) (sym (t.known.same_seen ∙ seen)) ahead);
-      past = subst (λ (k : Key). lap k.geometry e.frame < lap_of n) own past;
-    } in
-    let reply : IsReply (view_of t).key.geometry look.1 (view_of u).history (late_row (by_member look.0 e)) =
-    subst (λ k. IsReply (view_of t).key.geometry look.1 (view_of u).history (event_by k look.0 e.frame e.channel e.sample, reply.Late)) (sym kind) (look.4 e.frame e.channel e.sample late) in (
-      look.0,
-      look.1,
-      goes.history.0 ++ look.2,
-      step_since (view_of s) (view_of t) (view_of u) look.0 look.1 look.2 [] (same_view_key s t goes) goes.history look.3,
-      subst (λ (k : Key). IsReply k.geometry look.1 (view_of u).history (late_row (by_member look.0 e))) (sym own) reply,
-    )
-
--- a word of a later lap was found at last where the seat's last standing add is
-pub late_back : (s t u : MixSeat) (n : ℕ) (e : Entry) → IsLaterSeat s t → HoldsLast (view_of t) e.frame e.channel e.sample → HasNoted t u e.frame e.channel n → e.kind ≡ Withdrawn
-    → lap s.key.geometry e.frame < lap_of n → MakesLate s u e
-late_back s t u n e goes holds noted kind past =
-    let own : s.key ≡ (view_of t).key = sym (t.known.same_key ∙ goes.key) in
-    let i : ℕ = index_of t.key.geometry e.frame e.channel in
-    let look : MakesLook (view_of t) (view_of u) i n = noted.event in
-    let late : IsLateHeld (view_of t) i n e.frame e.channel e.sample = record {
-      index = ap (λ (k : Key). index_of k.geometry e.frame e.channel) t.known.same_key;
-      holds = holds;
-      past = subst (λ (k : Key). lap k.geometry e.frame < lap_of n) own past;
-    } in
-    let reply : IsReply (view_of t).key.geometry look.1 (view_of u).history (late_row (by_member look.0 e)) =
-    subst (λ k. IsReply (view_of t).key.geometry look.1 (view_of u).history (event_by k look.0 e.frame e.channel e.sample, reply.Late)) (sym kind) (look.5 e.frame e.channel e.sample late) in (
-      look.0,
-      look.1,
-      goes.history.0 ++ look.2,
-      step_since (view_of s) (view_of t) (view_of u) look.0 look.1 look.2 [] (same_view_key s t goes) goes.history look.3,
-      subst (λ (k : Key). IsReply k.geometry look.1 (view_of u).history (late_row (by_member look.0 e))) (sym own) reply,
-    )
 
 -- a seat may add at a frame and channel, or withdraw
 pub record IsAt (s : MixSeat) (f c : ℕ) : Type 0 where
@@ -123,21 +81,27 @@ pub record TellsSeat (s : MixSeat) (n f c : ℕ) : Type 0 where
   pub late : f < s.seen → lap s.key.geometry f < lap_of n
   pub room : lap_of n ≡ lap s.key.geometry f → count_of n < 3 * s.key.places
 
-pub tells_seat : (s u : MixSeat) (f c n : ℕ) → HasNoted s u f c n → IsAt s f c → TellsSeat s n f c
+-- a word that was found at last says that the entry was late
+late_step : (s t u : MixSeat) (n : ℕ) (e : Entry) → IsLaterSeat s t → (noted : HasNoted t u e.frame e.channel n)
+    → IsReply (view_of t).key.geometry noted.event.1 (view_of u).history (late_row (by_member noted.event.0 e)) → MakesLate s u e
+late_step s t u n e goes noted reply =
+    let look = noted.event in (
+      look.0,
+      look.1,
+      goes.history.0 ++ look.2,
+      step_since (view_of s) (view_of t) (view_of u) look.0 look.1 look.2 [] (same_view_key s t goes) goes.history look.3,
+      subst (λ (k : Key). IsReply k.geometry look.1 (view_of u).history (late_row (by_member look.0 e))) (t.known.same_key ∙ goes.key) reply,
+    )
+
+tells_seat : (s u : MixSeat) (f c n : ℕ) → HasNoted s u f c n → IsAt s f c → TellsSeat s n f c
 tells_seat s u f c n noted at_it =
-    let v : View = view_of s in
-    let own : s.key ≡ v.key = sym s.known.same_key in
-    let near : f < v.seen + s.key.geometry.frames = subst (λ p. f < p + s.key.geometry.frames) (sym s.known.same_seen) at_it.ahead in
-    let Told : Key → Type 0 = λ k. index_of k.geometry f c ≡ index_of s.key.geometry f c → c < k.geometry.channels → first_frame k.geometry ≤ f → f < v.seen + k.geometry.frames → Tells v n f c in
-    let told : Tells v n f c = subst Told s.known.same_key (noted.found.tells f c) refl at_it.channel at_it.least near in
+    let own : (view_of s).key ≡ s.key = s.known.same_key in
+    let told : Tells (view_of s) n f c =
+    noted.found.tells f c (ap (λ (k : Key). index_of k.geometry f c) own) (rw own at_it.channel) (rw own at_it.least) (omega (arith, at_it.ahead, s.known.same_seen, ap (λ (k : Key). k.geometry.frames) own)) in
     record {
-      not_before = subst (λ (k : Key). lap k.geometry f ≤ lap_of n) s.known.same_key told.not_before;
-      late = λ seen. subst (λ (k : Key). lap k.geometry f < lap_of n) s.known.same_key (told.late (omega (arith, s.known.same_seen, seen)));
-      room = λ same.
-          let at_view : lap_of n ≡ lap v.key.geometry f = subst (λ (k : Key). lap_of n ≡ lap k.geometry f) own same in
-          let some : count_of n < 3 * v.key.places = told.room at_view at_it.may in
-          let places : v.key.places ≡ s.key.places = ap (λ (k : Key). k.places) s.known.same_key in
-          omega (arith, some, places);
+      not_before = rw own at told.not_before;
+      late = λ seen. rw own at (told.late (omega (arith, s.known.same_seen, seen)));
+      room = λ same. omega (arith, told.room (rw own same) at_it.may, ap (λ (k : Key). k.places) own);
     }
 
 -- a word of another lap has a later one
@@ -145,7 +109,7 @@ pub is_past : (s u : MixSeat) (f c n : ℕ) → HasNoted s u f c n → IsAt s f 
 is_past s u f c n noted at_it other = omega (arith, (tells_seat s u f c n noted at_it).not_before, other)
 
 -- a seat's last standing add, after steps that placed nothing
-pub holds_on : (s t : MixSeat) (f c : ℕ) (sample : ℤ) → (view_of t).laid ≡ (view_of s).laid → t.reach.marks ≡ s.reach.marks → HoldsLast (view_of s) f c sample → HoldsLast (view_of t) f c sample
+holds_on : (s t : MixSeat) (f c : ℕ) (sample : ℤ) → (view_of t).laid ≡ (view_of s).laid → t.reach.marks ≡ s.reach.marks → HoldsLast (view_of s) f c sample → HoldsLast (view_of t) f c sample
 holds_on s t f c sample laid marks holds = record {
   early = holds.early;
   last = holds.last;
@@ -153,21 +117,19 @@ holds_on s t f c sample laid marks holds = record {
   frame = holds.frame;
   channel = holds.channel;
   sample = holds.sample;
-  from_floor = subst (λ (x : Marks). IsFrom x.floor f c) (s.known.same_marks ∙ (sym marks ∙ sym t.known.same_marks)) holds.from_floor;
+  from_floor = rw (t.known.same_marks, marks, ← s.known.same_marks) holds.from_floor;
 }
 
 pub at_on : (s t : MixSeat) (f c : ℕ) → IsLaterSeat s t → (view_of t).laid ≡ (view_of s).laid → t.reach.marks ≡ s.reach.marks → t.seen ≡ s.seen → IsAt s f c → IsAt t f c
-at_on s t f c goes laid marks seen at_it =
-    let own : s.key ≡ t.key = sym goes.key in
-    record {
-      channel = subst (λ (k : Key). c < k.geometry.channels) own at_it.channel;
-      least = subst (λ (k : Key). first_frame k.geometry ≤ f) own at_it.least;
-      ahead = subst (λ (k : Key). f < t.seen + k.geometry.frames) own (subst (λ p. f < p + s.key.geometry.frames) (sym seen) at_it.ahead);
-      may = elim at_it.may [
-        | inl from ↦ inl (omega (arith, from.0, s.known.same_places, t.known.same_places, goes.places), subst (λ (x : Marks). IsFrom x.cursor f c) (s.known.same_marks ∙ (sym marks ∙ sym t.known.same_marks)) from.1)
-        | inr one ↦ inr (one.0, holds_on s t f c one.0 laid marks one.1)
-      ];
-    }
+at_on s t f c goes laid marks seen at_it = record {
+  channel = rw goes.key at_it.channel;
+  least = rw goes.key at_it.least;
+  ahead = rw (goes.key, seen) at_it.ahead;
+  may = elim at_it.may [
+    | inl from ↦ inl (omega (arith, from.0, s.known.same_places, t.known.same_places, goes.places), rw (t.known.same_marks, marks, ← s.known.same_marks) from.1)
+    | inr one ↦ inr (one.0, holds_on s t f c one.0 laid marks one.1)
+  ];
+}
 
 -- the rank of a word of 64 bits
 rank-fields : (w : ℕ) → w < 2 ^ 64 → rank w ≡ lap_of w * 256 + count_of w
@@ -215,30 +177,24 @@ found_more s t u f c n words is noted =
       seen = noted.seen ∙ is.seen;
     }
 
--- a seat that may place still may after it found some words
-pub may_on : (s t : MixSeat) (k : Kind) (f c : ℕ) (x : ℤ) (words : List ℕ) → HasFound s t f c words → MayLay k s f c x → MayLay k t f c x
-may_on s t Added f c x words is lay =
-    let key : s.key ≡ t.key = sym is.goes.key in (
-      omega (arith, lay.0, is.goes.places),
-      subst (λ (k : Key). c < k.geometry.channels) key lay.1,
-      subst (λ (m : Marks). IsFrom m.cursor f c) (sym is.marks) lay.2,
-      subst (λ (k : Key). f < t.seen + k.geometry.frames) key (subst (λ p. f < p + s.key.geometry.frames) (sym is.seen) lay.3),
-      subst (λ (k : Key). lap k.geometry f < 4294967295) key lay.4,
-    )
-may_on s t Withdrawn f c x words is lay = (
-  (lay.0.0, ap standing is.laid ∙ (lay.0.1 ∙ ap (λ m. lay.0.0 ++ entry_of_member m ∷ []) (sym is.goes.member))),
-  subst (λ (m : Marks). IsFrom m.floor f c) (sym is.marks) lay.1,
-) where
-  entry_of_member : ℕ → Entry
-  entry_of_member m = record { member = m; frame = f; channel = c; sample = x; kind = Added }
-
 -- a word of a later lap was found at last
 pub late_made_by : (s t u : MixSeat) (k : Kind) (f c n : ℕ) (x : ℤ) (words : List ℕ) → HasFound s t f c words → HasNoted t u f c n → MayLay k s f c x
     → lap s.key.geometry f < lap_of n → MakesLate s u (entry_by s k f c x)
 late_made_by s t u Added f c n x words is noted lay past =
-    late_made s t u n (entry_by s Added f c x) is.goes is.marks is.seen noted refl lay.1 lay.2 lay.3 past
+    let own : (view_of t).key ≡ s.key = t.known.same_key ∙ is.goes.key in
+    late_step s t u n (entry_by s Added f c x) is.goes noted (noted.event.4 f c x (record {
+      index = ap (λ (k : Key). index_of k.geometry f c) t.known.same_key;
+      channel = rw own lay.1;
+      from_cursor = rw (t.known.same_marks, is.marks) lay.2;
+      ahead = omega (arith, lay.3, t.known.same_seen, is.seen, ap (λ (k : Key). k.geometry.frames) own);
+      past = rw own past;
+    }))
 late_made_by s t u Withdrawn f c n x words is noted lay past =
-    late_back s t u n (entry_by s Withdrawn f c x) is.goes (holds_on s t f c x is.laid is.marks (holds_of s f c x lay.0 lay.1)) noted refl past
+    late_step s t u n (entry_by s Withdrawn f c x) is.goes noted (noted.event.5 f c x (record {
+      index = ap (λ (k : Key). index_of k.geometry f c) t.known.same_key;
+      holds = holds_on s t f c x is.laid is.marks (holds_of s f c x lay.0 lay.1);
+      past = rw (t.known.same_key, is.goes.key) past;
+    }))
 
 -- the exchanges go on: the seat found some words, the last of them at the frame's own lap, after i exchanges that were lost
 pub record IsTrying (s t : MixSeat) (f c word i before ticks : ℕ) : Type 0 where
@@ -305,28 +261,15 @@ past_on s t u f c n words is noted at_it other =
 
 -- a seat that only found words placed nothing, and loaded nothing
 nothing_laid : (s t : MixSeat) (f c : ℕ) (words : List ℕ) → HasFound s t f c words → SeatLaid s t []
-nothing_laid s t f c words is = record {
-  goes = is.goes;
-  marks = is.marks;
-  laid = is.laid ∙ sym (append-nil (view_of s).laid);
-  mine = is.mine ∙ sym (append-nil (view_of s).mine);
-  adds = is.goes.history;
-}
-
-or_false : (a b : Bool) → a ≡ b → a ≡ (b || false)
-or_false a true is = is
-or_false a false is = is
+nothing_laid s t f c words is =
+    let laid : (view_of t).laid ≡ (view_of s).laid ++ [] = is.laid ∙ sym (append-nil (view_of s).laid) in
+    let mine : (view_of t).mine ≡ (view_of s).mine ++ [] = is.mine ∙ sym (append-nil (view_of s).mine) in
+    assumption
 
 loads_nothing : (s t : MixSeat) → (view_of t).positions ≡ (view_of s).positions → (view_of t).seen_gone ≡ (view_of s).seen_gone → t.seen ≡ s.seen → SeatLoaded s t []
 loads_nothing s t positions gone seen =
     let none : SeatLoaded s s [] = SeatLoaded-composes.none s in
-    record {
-      positions = positions ∙ none.positions;
-      rising = none.rising;
-      last = seen ∙ none.last;
-      gone = gone ∙ none.gone;
-      after_gone = none.after_gone;
-    }
+    assumption (positions ∙ none.positions, seen ∙ none.last, gone ∙ none.gone)
 
 -- or it placed one entry
 one_laid : (s t u : MixSeat) (f c : ℕ) (words : List ℕ) (e : Entry) → HasFound s t f c words → HasLaid t u e → SeatLaid s u (e ∷ [])
@@ -404,9 +347,9 @@ late_lays stops asked s t u g h k f c x words word n before after is noted lay o
         loaded_nothing = loads_nothing s u all.positions all.seen_gone all.seen;
         not_before_seen = tt;
         shown = record {
-          channel = subst (λ (k : Key). c < k.geometry.channels) (sym all.goes.key) at_it.channel;
+          channel = rw all.goes.key at_it.channel;
           shown = noted.shows;
-          past = subst (λ (k : Key). lap k.geometry f < lap_of word) (sym all.goes.key) past;
+          past = rw all.goes.key past;
         };
         words = words ++ word ∷ [];
         found = record { sightings = all.sightings; in_event = tt; late_event = late_made_by s t u k f c word x words is noted lay past };
@@ -477,3 +420,150 @@ counted_as stops asked s t g h k f c z x ended outcome before after sample end i
 pub lays_as : {T : Type 0} (stops : T → ℕ) (asked : T → T → List StepKind → Pass → Type 0) (s t : MixSeat) (g h : T) (k : Kind) (f c : ℕ) (z x : ℤ) (ended : Ended)
     → z ≡ x → SeatLays stops asked s g (entry_by s k f c z) ended t h → SeatLays stops asked s g (entry_by s k f c x) ended t h
 lays_as stops asked s t g h k f c z x ended sample is = subst (λ y. SeatLays stops asked s g (entry_by s k f c y) ended t h) sample is
+
+-- ---- a load of the position, as a step of the seat and its gate
+
+or_now : (before now : Bool) → (before ≡ true → now ≡ true) → now ≡ (before || (now || false))
+or_now true now stays = stays refl
+or_now false true stays = refl
+or_now false false stays = refl
+
+one_loaded : (s t : MixSeat) (p : Position) → HasLocated s t p → SeatLoaded s t (p ∷ [])
+one_loaded s t p is = record {
+  positions = ap (λ (v : View). v.positions) is.view;
+  rising = (is.not_before, tt);
+  last = is.seen;
+  gone = ap (λ (v : View). v.seen_gone) is.view ∙ or_now (view_of s).seen_gone p.gone is.gone;
+  after_gone = λ gone. one_gone p (is.gone gone);
+} where
+  one_gone : (p : Position) → p.gone ≡ true → All (λ (x : Position). x.gone ≡ true) (p ∷ [])
+  one_gone p gone zero d inside = gone
+  one_gone p gone (suc k) d inside = absurd (omega (arith, inside))
+
+pub loads_one : {T : Type 0} (stops : T → ℕ) (asked : T → T → List StepKind → Pass → Type 0) (s t : MixSeat) (g h : T) (p : Position)
+    → HasLocated s t p → asked g h (kind.Position ∷ []) Go → stops h ≡ stops g → Loads seat_view SeatLaid SeatLoaded stops asked s g (Some p) t h
+loads_one stops asked s t g h p is asks same = record {
+  view_is = view_same _ _ _ _ _ _ _ _ _ _ (ap (λ (k : Key). k.geometry) is.goes.key) is.goes.member (ap (λ n. nat_lt 0 n) is.goes.places) is.marks is.seen;
+  newer = is.not_before;
+  within = is.within;
+  loaded_it = one_loaded s t p is;
+  laid_nothing = record {
+    goes = is.goes;
+    marks = is.marks;
+    laid = ap (λ (v : View). v.laid) is.view ∙ sym (append-nil (view_of s).laid);
+    mine = ap (λ (v : View). v.mine) is.view ∙ sym (append-nil (view_of s).mine);
+    adds = is.goes.history;
+  };
+  asked_it = asks;
+  stopped = same;
+}
+
+-- where the gate stopped it, nothing was loaded
+none_of : (r : Result Position PcmError) → IsErr r → None ≡ load_of r
+none_of (Ok p) is = absurd (false≢true is)
+none_of (Err e) is = refl
+
+pub loads_none : {T : Type 0} (stops : T → ℕ) (asked : T → T → List StepKind → Pass → Type 0) (s : MixSeat) (g h : T) (r : Result Position PcmError)
+    → IsErr r → asked g h (kind.Position ∷ []) Stop → stops h ≡ stops g + 1 → Loads seat_view SeatLaid SeatLoaded stops asked s g (load_of r) s h
+loads_none stops asked s g h r is asks up = subst (λ l. Loads seat_view SeatLaid SeatLoaded stops asked s g l s h) (none_of r is) (record {
+  view_is = refl;
+  newer = tt;
+  within = tt;
+  loaded_it = SeatLoaded-composes.none s;
+  laid_nothing = SeatLaid-composes.none s;
+  asked_it = asks;
+  stopped = up;
+})
+
+-- ---- a seat that went to the lap of a frame, and then placed an entry there: this is what it placed from the first
+
+-- it may withdraw what it could before
+pub turned_may : (s p : MixSeat) (f c : ℕ) (x : ℤ) → IsTurned s p f → MayLay Withdrawn s f c x → MayLay Withdrawn p f c x
+turned_may s p f c x is may = (
+  subst (λ m. EndsIn (standing (view_of p).laid) (an_add m f c x ∷ [])) (sym is.member)
+      (subst (λ (v : View). EndsIn (standing v.laid) (an_add s.member f c x ∷ [])) (sym is.view) may.0),
+  subst (λ (m : Marks). IsFrom m.floor f c) (sym is.marks) may.1,
+)
+
+turned_laid : (s p : MixSeat) (f : ℕ) → IsTurned s p f → SeatLaid s p []
+turned_laid s p f is = record {
+  goes = record {
+    ring = is.ring;
+    key = is.key;
+    member = is.member;
+    places = is.places;
+    history = ([], ap (λ (v : View). v.history) is.view ∙ sym (append-nil (view_of s).history));
+    heard = ap (λ (v : View). v.heard) is.view;
+    notes = NotesRise-same (view_of s) (view_of p) (ap (λ (v : View). v.noted) is.view);
+  };
+  marks = is.marks;
+  laid = ap (λ (v : View). v.laid) is.view ∙ sym (append-nil (view_of s).laid);
+  mine = ap (λ (v : View). v.mine) is.view ∙ sym (append-nil (view_of s).mine);
+  adds = ([], ap (λ (v : View). v.history) is.view ∙ sym (append-nil (view_of s).history));
+}
+
+turned_loaded : (s p : MixSeat) (f : ℕ) → IsTurned s p f → SeatLoaded s p []
+turned_loaded s p f is = record {
+  positions = ap (λ (v : View). v.positions) is.view ∙ sym (append-nil (view_of s).positions);
+  rising = tt;
+  last = is.seen;
+  gone = ap (λ (v : View). v.seen_gone) is.view ∙ or_false (view_of s).seen_gone;
+  after_gone = λ was k d inside. absurd (omega arith);
+}
+
+turned_late : (s p t : MixSeat) (f : ℕ) (e : Entry) → IsTurned s p f → MakesLate p t e → MakesLate s t e
+turned_late s p t f e is late = (
+  late.0,
+  late.1,
+  late.2,
+  subst (λ v. IsStep v (view_of t) late.0 late.1 late.2 []) is.view late.3,
+  subst (λ (k : Key). Rattle.mix_core.specs.History.IsReply k.geometry late.1 (view_of t).history (Rattle.mix_core.specs.History.late_row (Rattle.sum_table.specs.Laid.by_member late.0 e))) is.key late.4,
+)
+
+on_late : (ended : Ended) (A B : Type 0) → (A → B) → OnLate ended (λ word. A) → OnLate ended (λ word. B)
+on_late Ended.Whole A B f a = a
+on_late (Ended.Late word) A B f a = f a
+on_late Ended.Stopped A B f a = a
+
+turned_finds : (s p t : MixSeat) (f : ℕ) (e : Entry) (ended : Ended) (words : List ℕ) → IsTurned s p f → SeatFinds p t e ended words → SeatFinds s t e ended words
+turned_finds s p t f e ended words is found = record {
+  sightings = found.sightings
+      ∙ (ap (λ (v : View). v.sightings ++ map (sighting (index_of p.key.geometry e.frame e.channel)) words) is.view
+      ∙ ap (λ (k : Key). (view_of s).sightings ++ map (sighting (index_of k.geometry e.frame e.channel)) words) is.key);
+  in_event = subst (λ v. OnWhole ended (Makes v (view_of t) (λ by. in_row by e ∷ []))) is.view found.in_event;
+  late_event = on_late ended (MakesLate p t e) (MakesLate s t e) (turned_late s p t f e is) found.late_event;
+}
+
+turned_view : (s p : MixSeat) (f : ℕ) → IsTurned s p f → seat_view p ≡ seat_view s
+turned_view s p f is = rw (is.key, is.member, is.places, is.marks, is.seen) refl
+
+turned_lays : {T : Type 0} (stops : T → ℕ) (asked : T → T → List StepKind → Pass → Type 0) (s p t : MixSeat) (f : ℕ) (g h : T) (e : Entry) (ended : Ended)
+    → IsTurned s p f → SeatLays stops asked p g e ended t h → SeatLays stops asked s g e ended t h
+turned_lays stops asked s p t f g h e ended is lays = record {
+  view_is = subst (λ (w : PortView). seat_view t ≡ record w { marks = marks_if ended w.marks (marks_after w.geometry w.marks e) }) (turned_view s p f is) lays.view_is;
+  laid_it = SeatLaid-composes.joined s p t [] _ (turned_laid s p f is) lays.laid_it;
+  loaded_nothing = SeatLoaded-composes.joined s p t [] [] (turned_loaded s p f is) lays.loaded_nothing;
+  not_before_seen = subst (λ n. OnWhole ended (n ≤ e.frame)) is.seen lays.not_before_seen;
+  shown = lays.shown;
+  words = lays.words;
+  found = turned_finds s p t f e ended lays.words is lays.found;
+  found_last = lays.found_last;
+  asks = lays.asks;
+  asks_number = subst (λ n. IsAskNumber ended e.frame n lays.asks) is.seen lays.asks_number;
+  words_number = lays.words_number;
+  asked_them = lays.asked_them;
+  stopped = lays.stopped;
+}
+
+-- the entry is of the seat's member before and after
+pub turned_counted : {T : Type 0} (stops : T → ℕ) (asked : T → T → List StepKind → Pass → Type 0) (s p t : MixSeat) (f : ℕ) (g h : T) (k : Kind) (c : ℕ) (x : ℤ) (ended : Ended) (before after : ℕ)
+    → IsTurned s p f → LaysCounted stops asked p g before (entry_by p k f c x) ended t h after → LaysCounted stops asked s g before (entry_by s k f c x) ended t h after
+unfolding turned_lays
+turned_counted stops asked s p t f g h k c x ended before after is lays =
+    let same : LaysCounted stops asked p g before (entry_by s k f c x) ended t h after =
+    subst (λ m. LaysCounted stops asked p g before (record { member = m; frame = f; channel = c; sample = x; kind = k }) ended t h after) is.member lays in
+    record {
+      step = turned_lays stops asked s p t f g h (entry_by s k f c x) ended is same.step;
+      counted = same.counted;
+      bound = subst (λ (y : Key). pass_count ended same.step.asks ≤ 1 + 3 * y.places) is.key same.bound;
+    }

@@ -1,13 +1,11 @@
 -- The words, the entries and the player's track agree after each kind of step.
-use Rattle.std.proofs.Common.{◌≡◌, ℕ, ◌+◌, ◌*◌, ◌<◌, ◌≤◌, true, false, ◌==◌, ◌&&◌, ◌||◌, List, [], ◌∷◌, ◌++◌, length, get_or, set, ℤ, pos, negsuc, ◌+ℤ◌, ◌≤ℤ◌, inl, inr, arith, subst, sym, refl, ap, ◌∙◌, nat_lt}
+use Rattle.std.proofs.Common.{◌≡◌, ℕ, Bool, ◌+◌, ◌*◌, ◌<◌, ◌≤◌, true, false, ◌==◌, ◌&&◌, ◌||◌, List, [], ◌∷◌, ◌++◌, length, get_or, set, ℤ, pos, negsuc, ◌+ℤ◌, ◌≤ℤ◌, inl, inr, arith, subst, sym, refl, ap, ◌∙◌, nat_lt}
 use Rattle.std.proofs.Math.Bool.{or_comm}
 use Rattle.std.proofs.Math.Nat.{add-div_right}
-use Rattle.std.proofs.Math.Seq.{get_or-append_seam}
 use Rattle.std.proofs.lemmas.Bool.Decides.{nat_tests}
 use Rattle.std.proofs.lemmas.Int.{ints}
-use Rattle.std.proofs.lemmas.List.{get_or-set_same, get_or-set_other, get_or_append_left, length-append, length-set}
+use Rattle.std.proofs.lemmas.List.{get_or-set_same, get_or-set_other, length-append, length-set}
 use Rattle.std.proofs.lemmas.List.Elements.{All-push}
-use Rattle.std.proofs.lemmas.List.Folds.{list_any_at}
 use Rattle.snd_base.specs.declared.geometry.Geometry.{Geometry}
 use Rattle.snd_base.specs.declared.places.Cursor.{Cursor}
 use Rattle.snd_base.specs.PlaceLaws.{nat_lt-behind, next_word-suc, suc-le-end_frame}
@@ -17,34 +15,30 @@ use Rattle.lap_word.specs.Position.{word_of}
 use Rattle.lap_word.specs.Word.{StandsFor}
 use Rattle.mix_core.specs.declared.port.Entry.{Entry}
 use Rattle.mix_core.specs.declared.event.Taken.{Taken}
-use Rattle.mix_core.specs.History.{AreInOrder, is_taken, taken_place}
+use Rattle.mix_core.specs.History.{AreExact, is_taken}
 use Rattle.mix_core.specs.Laid.{at, total, value_of}
+use Rattle.mix_core.specs.MarkLaws.{place_cases}
+use Rattle.mix_core.specs.MoreLaws.{AreInOrder-more, at-more_elsewhere, at-more_here, is_taken-more, is_taken-none, total-more_elsewhere, total-more_here}
 use Rattle.mix_core.specs.Sound.{IsNow}
+use Rattle.mix_core.specs.Written.{words-taken, words-written}
 use Rattle.sum_table.specs.declared.view.Track.{Track}
 use Rattle.sum_table.specs.Exact.{IsRing, next_at, position_at}
 use Rattle.sum_table.specs.Laid.{SameSums, count}
 use Rattle.sum_table.specs.Steps.{next_taken, track_gone, track_published, track_taken}
-use Rattle.ring_rule.specs.Words.{index_of}
-use Rattle.sum_table.proofs.Lists.{at-more_elsewhere, at-more_here, at_place, is_taken-more, place_cases, total-more_elsewhere, total-more_here}
+use Rattle.ring_rule.specs.Words.{index_of, words_of}
 use Rattle.ring_rule.specs.PositionLaws.{Rising-more, last_number-more}
-use Rattle.sum_table.proofs.Places.{next_word-channel, words-taken, words-written}
-use Rattle.std.proofs.lemmas.Bool.{cases_eq}
+use Rattle.ring_rule.specs.Positions.{Rising, last_position}
+use Rattle.sum_table.proofs.Places.{index_places, next_word-channel}
 
 -- the words, the track, and other entries of the same sums
 pub IsRing-same : (g : Geometry) (words : List ℕ) (xs ys : List Entry) (t : Track) → SameSums xs ys → IsRing g words xs t → IsRing g words ys t
-IsRing-same g words xs ys t same r = record {
-  room = r.room;
-  position = r.position;
-  rising = r.rising;
-  not_ahead = r.not_ahead;
-  within = r.within;
-  sums = λ f c now. rw (← same.counts f c, ← same.totals f c) (r.sums f c now);
-  low = λ f c. rw (← same.counts f c, ← same.totals f c) (r.low f c);
-  high = λ f c. rw (← same.counts f c, ← same.totals f c) (r.high f c);
-  in_order = r.in_order;
-  exact = λ k d inside. r.exact k d inside ∙ ap clamp_of (same.totals (get_or t.taken k d).frame (get_or t.taken k d).channel);
-  took = r.took;
-}
+IsRing-same g words xs ys t same r =
+    let sums : (f c : ℕ) → IsNow g (next_at g t) f c → StandsFor (get_or words (index_of g f c) 0) (lap g f) (count ys f c) (total ys f c) =
+    λ f c now. rw (← same.counts f c, ← same.totals f c) (r.sums f c now) in
+    let low : (f c : ℕ) → pos 0 ≤ℤ (total ys f c +ℤ pos (32768 * count ys f c)) = λ f c. rw (← same.counts f c, ← same.totals f c) (r.low f c) in
+    let high : (f c : ℕ) → total ys f c ≤ℤ pos (32768 * count ys f c) = λ f c. rw (← same.counts f c, ← same.totals f c) (r.high f c) in
+    let exact : AreExact ys t.taken = λ k d inside. r.exact k d inside ∙ ap clamp_of (same.totals (get_or t.taken k d).frame (get_or t.taken k d).channel) in
+    assumption
 
 -- word 0 is none of a slot's
 pub others-position : (g : Geometry) (words : List ℕ) (f c word : ℕ) → get_or (set words (index_of g f c) word) 0 0 ≡ get_or words 0 0
@@ -52,14 +46,6 @@ others-position g words f c word = get_or-set_other words (index_of g f c) 0 wor
 
 pub position-others : (g : Geometry) (words : List ℕ) (f c word : ℕ) → get_or (set words 0 word) (index_of g f c) 0 ≡ get_or words (index_of g f c) 0
 position-others g words f c word = get_or-set_other words 0 (index_of g f c) word 0 (λ same. omega arith)
-
--- no take is at a frame and channel that is not taken
-is_taken-none : (ts : List Taken) (f c k : ℕ) (d : Taken) → is_taken ts f c ≡ false → k < length ts → ¬ ((f ≡ (get_or ts k d).frame) × (c ≡ (get_or ts k d).channel))
-is_taken-none ts f c k d none inside same =
-    let t : Taken = get_or ts k d in
-    let here : ((t.frame == f) && (t.channel == c)) ≡ true = grind (arith, nat_tests) in
-    let found : is_taken ts f c ≡ true = list_any_at (λ (x : Taken). (x.frame == f) && (x.channel == c)) ts k d inside here in
-    cc
 
 -- a frame and channel that the ring has now were not taken
 pub not_taken : (g : Geometry) (words : List ℕ) (es : List Entry) (t : Track) (f c : ℕ) → IsRing g words es t → IsNow g (next_at g t) f c → is_taken t.taken f c ≡ false
@@ -91,13 +77,13 @@ IsRing-put g words es t e word r now low high stands =
       rising = r.rising;
       not_ahead = r.not_ahead;
       within = r.within;
-      sums = words-written P Q g (next_at g t) words f c word r.room now here others r.sums;
+      sums = words-written g (index_of g) _ (index_places g) P Q (next_at g t) words f c word r.room now here others r.sums;
       low = λ k d. elim (place_cases f c k d) [
-        | inl same ↦ at_place (λ x y. pos 0 ≤ℤ (total (es ++ e ∷ []) x y +ℤ pos (32768 * count (es ++ e ∷ []) x y))) f c k d same (omega (arith, ints, one_more, sum_more, low, r.low f c))
+        | inl same ↦ rw (← same.0, ← same.1) (omega (arith, ints, one_more, sum_more, low, r.low f c))
         | inr elsewhere ↦ omega (arith, ints, same_count k d elsewhere, same_total k d elsewhere, r.low k d)
       ];
       high = λ k d. elim (place_cases f c k d) [
-        | inl same ↦ at_place (λ x y. total (es ++ e ∷ []) x y ≤ℤ pos (32768 * count (es ++ e ∷ []) x y)) f c k d same (omega (arith, ints, one_more, sum_more, high, r.high f c))
+        | inl same ↦ rw (← same.0, ← same.1) (omega (arith, ints, one_more, sum_more, high, r.high f c))
         | inr elsewhere ↦ omega (arith, ints, same_count k d elsewhere, same_total k d elsewhere, r.high k d)
       ];
       in_order = r.in_order;
@@ -106,16 +92,6 @@ IsRing-put g words es t e word r now low high stands =
           ∙ ap clamp_of (sym (same_total (get_or t.taken k d).frame (get_or t.taken k d).channel (is_taken-none t.taken f c k d (not_taken g words es t f c r now) inside)));
       took = r.took;
     }
-
--- one more was taken, in order
-AreInOrder-more : (g : Geometry) (ts : List Taken) (x : Taken) → AreInOrder g ts → taken_place x ≡ next_word g (length ts) → AreInOrder g (ts ++ x ∷ [])
-AreInOrder-more g ts x in_order here i d inside =
-    elim (cases_eq i (length ts)) [
-      | inl last ↦ subst (λ k. taken_place (get_or (ts ++ x ∷ []) k d) ≡ next_word g k) (sym last) (ap taken_place (get_or-append_seam ts x [] d) ∙ here)
-      | inr before ↦
-          let below : i < length ts = omega (arith, length-append ts (x ∷ [])) in
-          ap taken_place (get_or_append_left ts (x ∷ []) d i below) ∙ in_order i d below
-    ]
 
 -- the next word is after the one that is taken
 pub next_at-taken : (g : Geometry) (t : Track) (x : Taken) → next_at g (track_taken t x) ≡ cursor_after g (next_at g t).frame (next_at g t).channel
@@ -150,7 +126,7 @@ IsRing-take g words es t z word r fits far stands value =
       not_ahead = subst (λ (at : Cursor). position_at g t ≤ at.frame) (sym behind_it) (grind (arith, nat_tests, r.not_ahead));
       within = subst (λ (at : Cursor). at.frame ≤ end_frame g) (sym behind_it) (grind (arith, nat_tests, r.within, end));
       sums = subst (λ (at : Cursor). (f c : ℕ) → IsNow g at f c → P (get_or (set words (index_of g nf nc) word) (index_of g f c) 0) f c) (sym behind_it)
-          (words-taken P g next words word r.room channel here r.sums);
+          (words-taken g (index_of g) _ (index_places g) P next words word r.room channel here r.sums);
       low = r.low;
       high = r.high;
       in_order = AreInOrder-more g t.taken x r.in_order refl;
@@ -162,43 +138,28 @@ IsRing-take g words es t z word r fits far stands value =
           ∙ (or_comm (nat_lt f (first_free next c)) ((nf == f) && (nc == c)) ∙ sym (nat_lt-behind g next f c channel in_range))));
     }
 
+-- the player stored a position and whether the card is gone
+IsRing-stored : (g : Geometry) (words : List ℕ) (es : List Entry) (t : Track) (published : List ℕ) (gone : Bool) → IsRing g words es t
+    → Rising (first_frame g) published → last_position g published ≤ (next_at g t).frame
+    → IsRing g (set words 0 (word_of (last_position g published) gone)) es (record t { published = published; gone = gone })
+IsRing-stored g words es t published gone r rising not_ahead =
+    let word : ℕ = word_of (last_position g published) gone in
+    let room : length (set words 0 word) ≡ words_of g = length-set words 0 word ∙ r.room in
+    let position : get_or (set words 0 word) 0 0 ≡ word = get_or-set_same words 0 word 0 (omega (arith, r.room)) in
+    let sums : (f c : ℕ) → IsNow g (next_at g t) f c → StandsFor (get_or (set words 0 word) (index_of g f c) 0) (lap g f) (count es f c) (total es f c) =
+    λ f c now. rw (position-others g words f c word) (r.sums f c now) in
+    assumption
+
 -- the next word's frame was published
 pub IsRing-publish : (g : Geometry) (words : List ℕ) (es : List Entry) (t : Track) → IsRing g words es t
     → IsRing g (set words 0 (word_of (next_at g t).frame t.gone)) es (track_published t (next_at g t).frame)
 IsRing-publish g words es t r =
     let p : ℕ = (next_at g t).frame in
     let last : position_at g (track_published t p) ≡ p = last_number-more (first_frame g) t.published p in
-    let some : 0 < length words = omega (arith, r.room) in
-    record {
-      room = length-set words 0 _ ∙ r.room;
-      position = get_or-set_same words 0 (word_of p t.gone) 0 some ∙ ap (λ q. word_of q t.gone) (sym last);
-      rising = Rising-more (first_frame g) t.published p r.rising r.not_ahead;
-      not_ahead = omega (arith, last);
-      within = r.within;
-      sums = λ f c now. rw (position-others g words f c (word_of p t.gone)) (r.sums f c now);
-      low = r.low;
-      high = r.high;
-      in_order = r.in_order;
-      exact = r.exact;
-      took = r.took;
-    }
+    subst (λ q. IsRing g (set words 0 (word_of q t.gone)) es (track_published t p)) last
+    (IsRing-stored g words es t (t.published ++ p ∷ []) t.gone r (Rising-more (first_frame g) t.published p r.rising r.not_ahead) (omega (arith, last)))
 
 -- the card was unplugged
 pub IsRing-gone : (g : Geometry) (words : List ℕ) (es : List Entry) (t : Track) → IsRing g words es t
     → IsRing g (set words 0 (word_of (position_at g t) true)) es (track_gone t)
-IsRing-gone g words es t r =
-    let p : ℕ = position_at g t in
-    let some : 0 < length words = omega (arith, r.room) in
-    record {
-      room = length-set words 0 _ ∙ r.room;
-      position = get_or-set_same words 0 (word_of p true) 0 some;
-      rising = r.rising;
-      not_ahead = r.not_ahead;
-      within = r.within;
-      sums = λ f c now. rw (position-others g words f c (word_of p true)) (r.sums f c now);
-      low = r.low;
-      high = r.high;
-      in_order = r.in_order;
-      exact = r.exact;
-      took = r.took;
-    }
+IsRing-gone g words es t r = IsRing-stored g words es t t.published true r r.rising r.not_ahead

@@ -1,10 +1,8 @@
 -- The ring's history: how it goes on at each kind of step, and whose step that is.
-use Rattle.std.proofs.Common.{◌≡◌, ◌≢◌, ℕ, zero, suc, ◌+◌, ◌<◌, ◌≤◌, true, false, ◌==◌, Some, List, [], ◌∷◌, ◌++◌, map, length, set, ℤ, refl, sym, subst, ap, ◌∙◌, inl, inr, arith, append_assoc}
+use Rattle.std.proofs.Common.{◌≡◌, ◌≢◌, ℕ, zero, suc, ◌+◌, ◌<◌, ◌≤◌, false, Some, List, [], ◌∷◌, ◌++◌, map, length, set, ℤ, refl, sym, subst, ap, ◌∙◌, inl, inr, arith, append_assoc}
 use mathlib.Core.Option.{some, some-ne-none}
 use lib.ListN.{get_elem?}
-use Rattle.std.proofs.lemmas.Bool.Decides.{nat_tests}
 use Rattle.std.proofs.lemmas.List.{append-nil, length-set, map-append}
-use Rattle.std.proofs.lemmas.List.Elements.{filter-append}
 use Rattle.std.proofs.lemmas.List.Sums.{fold_push}
 use Rattle.atomic_table.proofs.Lists.{at_set, set_here}
 use Rattle.snd_base.specs.declared.geometry.Geometry.{Geometry}
@@ -15,12 +13,13 @@ use Rattle.mix_core.specs.declared.port.Entry.{Entry}
 use Rattle.mix_core.specs.declared.event.Taken.{Taken}
 use Rattle.mix_core.specs.declared.event.Event.TheVariants.{Take, Publish}
 use Rattle.mix_core.specs.declared.event.Reply.TheVariants.{In, Took, Published}
-use Rattle.mix_core.specs.History.{IsHeld, IsInside, IsLegal, IsReply, IsSample, Row, laid_of, next_to_take, position_after, position_of}
-use Rattle.mix_core.specs.HistoryLaws.{position_after-row, laid_of-append_rows, laid_of-append_published, laid_of-append_took, taken_words-append_published, taken_words-append_rows, taken_words-append_took}
+use Rattle.mix_core.specs.History.{IsHeld, IsInside, IsLegal, IsReply, IsSample, Row, laid_of, next_to_take, position_after, position_of, taken_words}
+use Rattle.std.proofs.lemmas.Int.{ints}
+use Rattle.mix_core.specs.HistoryLaws.{position_after-row, total-append, laid_of-append_rows, laid_of-append_published, laid_of-append_took, taken_words-append_published, taken_words-append_rows, taken_words-append_took}
 use Rattle.mix_core.specs.declared.marks.Marks.{Marks}
 use Rattle.mix_core.specs.Laid.{last_entry, marks_by, marks_of, standing, standing_of, total, without_last}
-use Rattle.mix_core.specs.MarkLaws.{IsHolding, IsHolding-last}
-use Rattle.mix_core.specs.OwnLaws.{last_entry-more}
+use Rattle.mix_core.specs.MarkLaws.{IsHolding, IsHolding-last, count-append}
+use Rattle.mix_core.specs.OwnLaws.{last_entry-more, own-more, own-more_other}
 use Rattle.mix_core.specs.LegalLaws.{IsLegal-more}
 use Rattle.sum_table.specs.declared.view.Track.{Track}
 use Rattle.sum_table.specs.declared.view.View.{View}
@@ -29,7 +28,7 @@ use Rattle.sum_table.specs.Laid.{SameSums, all_laid, by_member, own_entries}
 use Rattle.sum_table.specs.Steps.{IsStep, in_row, next_taken, track_gone, track_published, track_taken}
 use Rattle.sum_table.proofs.Kept.{HeldFacts, IsHeldAt, held_facts, marks_by-member, standing-member}
 use Rattle.ring_rule.specs.PositionLaws.{last_number-more}
-use Rattle.sum_table.proofs.Sums.{SameSums-append, SameSums-append_right, SameSums-by_member, SameSums-joined, SameSums-put, SameSums-set}
+use Rattle.sum_table.proofs.Sums.{SameSums-by_member, SameSums-joined, SameSums-put, SameSums-set}
 
 pub within : {A : Type 0} (l : List A) (i : ℕ) (a : A) → get_elem? l i ≡ some a → i < length l
 within [] i a here = absurd (some-ne-none a (sym here))
@@ -42,46 +41,48 @@ BeginsWith-same h = ([], sym (append-nil h))
 pub BeginsWith-more : (h early rows : List Row) → BeginsWith h early → BeginsWith (h ++ rows) early
 BeginsWith-more h early rows begins = (begins.0 ++ rows, ap (λ x. x ++ rows) begins.1 ∙ append_assoc early begins.0 rows)
 
--- the adds of a member, when one more was made
-pub own-more : (m : ℕ) (es : List Entry) (e : Entry) → own_entries m (es ++ by_member m e ∷ []) ≡ own_entries m es ++ by_member m e ∷ []
-own-more m es e =
-    let test : (m == m) ≡ true = grind (arith, nat_tests) in
-    rw (filter-append (λ (x : Entry). x.member == m) es (by_member m e ∷ []), test) refl
+-- the views are others, of one history
+pub history_over : (g : Geometry) (views later : List View) (t : Track) (h : List Row)
+    → IsHistory g views t h → length views ≤ length later → SameSums (all_laid views) (all_laid later)
+    → ((i : ℕ) (u : View) → get_elem? later i ≡ some u → u.ended ≡ false → own_entries i (laid_of h) ≡ map (by_member i) u.mine)
+    → IsHistory g later t h
+history_over g views later t h y up sums owns =
+    let legal : (members : ℕ) → length later ≤ members → IsLegal g members h = λ members most. y.legal members (omega arith) in
+    let no_more : (i : ℕ) → length later ≤ i → own_entries i (laid_of h) ≡ [] = λ i past. y.no_more i (omega arith) in
+    let both = SameSums-joined (laid_of h) (all_laid views) (all_laid later) y.sums sums in
+    assumption
 
-pub own-more_other : (m n : ℕ) (es : List Entry) (e : Entry) → n ≢ m → own_entries n (es ++ by_member m e ∷ []) ≡ own_entries n es
-own-more_other m n es e other =
-    let test : (m == n) ≡ false = grind (arith, nat_tests) in
-    rw (filter-append (λ (x : Entry). x.member == n) es (by_member m e ∷ []), test) (append-nil (own_entries n es))
+-- the adds that a seat made stay those of its number
+pub owns_same : (g : Geometry) (views : List View) (t : Track) (h : List Row) (id : ℕ) (v w : View) → IsHistory g views t h → get_elem? views id ≡ some v
+    → w.mine ≡ v.mine → w.ended ≡ v.ended → (i : ℕ) (u : View) → (i ≡ id) × (w ≡ u) → u.ended ≡ false → own_entries i (laid_of h) ≡ map (by_member i) u.mine
+owns_same g views t h id v w y here mine ended i u this lasts =
+    rw (this.0, ← this.1, mine) (y.owns id v here (sym ended ∙ (ap (λ (x : View). x.ended) this.1 ∙ lasts)))
 
 -- a step of no event
 pub history_same : (g : Geometry) (views : List View) (t : Track) (h : List Row) (id : ℕ) (v w : View)
     → IsHistory g views t h → get_elem? views id ≡ some v
     → w.laid ≡ v.laid → w.mine ≡ v.mine → w.ended ≡ v.ended
     → IsHistory g (set views id w) t h
-history_same g views t h id v w y here laid mine ended = record {
-  legal = λ members up. y.legal members (omega (arith, length-set views id w));
-  taken = y.taken;
-  position = y.position;
-  sums = SameSums-joined (laid_of h) (all_laid views) (all_laid (set views id w)) y.sums (SameSums-set views id v w here laid);
-  owns = λ i u there lasts. elim (at_set views id i w u there) [
-    | inl own_one ↦
-        let was : v.ended ≡ false = sym ended ∙ (ap (λ (x : View). x.ended) own_one.1 ∙ lasts) in
-        subst (λ n. own_entries n (laid_of h) ≡ map (by_member n) u.mine) (sym own_one.0)
-        (y.owns id v here was ∙ ap (map (by_member id)) (sym mine ∙ ap (λ (x : View). x.mine) own_one.1))
-    | inr other ↦ y.owns i u other.1 lasts
-  ];
-  no_more = λ i up. y.no_more i (omega (arith, length-set views id w));
-}
+history_same g views t h id v w y here laid mine ended =
+    history_over g views (set views id w) t h y (omega (arith, length-set views id w)) (SameSums-set views id v w here laid) (λ i u there lasts. elim (at_set views id i w u there) [
+      | inl this ↦ owns_same g views t h id v w y here mine ended i u this lasts
+      | inr other ↦ y.owns i u other.1 lasts
+    ])
 
 -- the same ring's history, for a player that unplugged the card
 pub history_gone : (g : Geometry) (views : List View) (t : Track) (h : List Row) → IsHistory g views t h → IsHistory g views (track_gone t) h
-history_gone g views t h y = record {
-  legal = y.legal;
-  taken = y.taken;
-  position = y.position;
-  sums = y.sums;
-  owns = y.owns;
-  no_more = y.no_more;
+history_gone g views t h y = assumption
+
+-- one more row, which placed nothing
+history_row : (g : Geometry) (views : List View) (t u : Track) (h : List Row) (r : Row) → IsHistory g views t h → laid_of (h ++ r ∷ []) ≡ laid_of h → ((members : ℕ) → IsReply g members h r)
+    → taken_words (h ++ r ∷ []) ≡ u.taken → position_of g (h ++ r ∷ []) ≡ position_at g u → IsHistory g views u (h ++ r ∷ [])
+history_row g views t u h r y laid reply taken position = record {
+  legal = λ members up. IsLegal-more g members h r (y.legal members up) (reply members);
+  taken = taken;
+  position = position;
+  sums = subst (λ es. SameSums es (all_laid views)) (sym laid) y.sums;
+  owns = λ i u there lasts. ap (own_entries i) laid ∙ y.owns i u there lasts;
+  no_more = λ i up. ap (own_entries i) laid ∙ y.no_more i up;
 }
 
 -- the next word was taken
@@ -92,22 +93,13 @@ pub history_take : (g : Geometry) (views : List View) (t : Track) (h : List Row)
 history_take g views t h z y fits value =
     let f : ℕ = (next_at g t).frame in
     let c : ℕ = (next_at g t).channel in
-    let r : Row = (Take, Took f c z) in
     let next_is : next_to_take g h ≡ next_at g t = ap (λ (ts : List Taken). next_at g (record t { taken = ts })) y.taken in
-    let laid : laid_of (h ++ r ∷ []) ≡ laid_of h = laid_of-append_took h f c z in
-    record {
-      legal = λ members up. IsLegal-more g members h r (y.legal members up) (
-        subst (λ (x : Cursor). lap g x.frame ≢ 4294967295) (sym next_is) fits,
-        ap (λ (x : Cursor). x.frame) (sym next_is),
-        ap (λ (x : Cursor). x.channel) (sym next_is),
-        value ∙ ap clamp_of (sym (y.sums.totals f c)),
-      );
-      taken = taken_words-append_took h f c z ∙ ap (λ ts. ts ++ next_taken g t z ∷ []) y.taken;
-      position = fold_push position_after (first_frame g) h r ∙ y.position;
-      sums = subst (λ es. SameSums es (all_laid views)) (sym laid) y.sums;
-      owns = λ i u there lasts. ap (own_entries i) laid ∙ y.owns i u there lasts;
-      no_more = λ i up. ap (own_entries i) laid ∙ y.no_more i up;
-    }
+    history_row g views t (track_taken t (next_taken g t z)) h (Take, Took f c z) y (laid_of-append_took h f c z) (λ members. (
+      subst (λ (x : Cursor). lap g x.frame ≢ 4294967295) (sym next_is) fits,
+      ap (λ (x : Cursor). x.frame) (sym next_is),
+      ap (λ (x : Cursor). x.channel) (sym next_is),
+      value ∙ ap clamp_of (sym (y.sums.totals f c)),
+    )) (taken_words-append_took h f c z ∙ ap (λ ts. ts ++ next_taken g t z ∷ []) y.taken) (fold_push position_after (first_frame g) h (Take, Took f c z) ∙ y.position)
 
 -- a position was published
 pub history_publish : (g : Geometry) (views : List View) (t : Track) (h : List Row)
@@ -115,17 +107,9 @@ pub history_publish : (g : Geometry) (views : List View) (t : Track) (h : List R
     → IsHistory g views (track_published t (next_at g t).frame) (h ++ (Publish, Published (next_at g t).frame) ∷ [])
 history_publish g views t h y =
     let f : ℕ = (next_at g t).frame in
-    let r : Row = (Publish, Published f) in
     let next_is : next_to_take g h ≡ next_at g t = ap (λ (ts : List Taken). next_at g (record t { taken = ts })) y.taken in
-    let laid : laid_of (h ++ r ∷ []) ≡ laid_of h = laid_of-append_published h f in
-    record {
-      legal = λ members up. IsLegal-more g members h r (y.legal members up) (ap (λ (x : Cursor). x.frame) (sym next_is));
-      taken = taken_words-append_published h f ∙ y.taken;
-      position = fold_push position_after (first_frame g) h r ∙ sym (last_number-more (first_frame g) t.published f);
-      sums = subst (λ es. SameSums es (all_laid views)) (sym laid) y.sums;
-      owns = λ i u there lasts. ap (own_entries i) laid ∙ y.owns i u there lasts;
-      no_more = λ i up. ap (own_entries i) laid ∙ y.no_more i up;
-    }
+    history_row g views t (track_published t f) h (Publish, Published f) y (laid_of-append_published h f) (λ members. ap (λ (x : Cursor). x.frame) (sym next_is))
+    (taken_words-append_published h f ∙ y.taken) (fold_push position_after (first_frame g) h (Publish, Published f) ∙ sym (last_number-more (first_frame g) t.published f))
 
 -- a member's marks in the history are those after the entries that its seat placed itself
 pub own_marks : (g : Geometry) (views : List View) (t : Track) (h : List Row) (id : ℕ) (v : View)
@@ -153,7 +137,7 @@ inside g views t h id members v f c y here lasts o up channel from fits ahead = 
 -- a member may withdraw its last standing add
 pub is_held : (g : Geometry) (views : List View) (t : Track) (h : List Row) (id members : ℕ) (v : View) (seen f c : ℕ) (s : ℤ)
     → IsHistory g views t h → get_elem? views id ≡ some v → v.ended ≡ false → IsKept g v.places v.laid v.mine v.free v.marks seen v.ended → length views ≤ members
-    → IsHeldAt g v.laid v.marks f c s
+    → IsHeldAt v.laid v.marks f c s
     → IsHeld g members h id f c s
 is_held g views t h id members v seen f c s y here lasts x up held =
     let o : IsOwn g v.mine v.free v.marks = x.own lasts in
@@ -185,29 +169,26 @@ history_put g views t h id v w e y here lasts laid mine reply =
     let r : Row = in_row id e in
     let more : laid_of (h ++ r ∷ []) ≡ laid_of h ++ m ∷ [] = laid_of-append_rows h (m ∷ []) in
     let same_count : length (set views id w) ≡ length views = length-set views id w in
-    let sums_more : SameSums (laid_of h ++ m ∷ []) (all_laid (set views id w)) =
-    SameSums-joined (laid_of h ++ m ∷ []) (all_laid views ++ e ∷ []) (all_laid (set views id w))
-    (SameSums-joined (laid_of h ++ m ∷ []) (all_laid views ++ m ∷ []) (all_laid views ++ e ∷ [])
-    (SameSums-append (laid_of h) (all_laid views) (m ∷ []) y.sums)
-    (SameSums-append_right (all_laid views) (m ∷ []) (e ∷ []) (SameSums-by_member id e)))
-    (SameSums-put views id v w e here laid) in
+    let by : SameSums (m ∷ []) (e ∷ []) = SameSums-by_member id e in
+    let put : SameSums (all_laid views ++ e ∷ []) (all_laid (set views id w)) = SameSums-put views id v w e here laid in
+    let sums_more : SameSums (laid_of h ++ m ∷ []) (all_laid (set views id w)) = record {
+      counts = λ f c. omega (arith, y.sums.counts f c, by.counts f c, put.counts f c, count-append (laid_of h) (m ∷ []) f c, count-append (all_laid views) (e ∷ []) f c);
+      totals = λ f c. omega (arith, ints, y.sums.totals f c, by.totals f c, put.totals f c, total-append (laid_of h) (m ∷ []) f c, total-append (all_laid views) (e ∷ []) f c);
+    } in
     record {
       legal = λ members up. IsLegal-more g members h r (y.legal members (omega (arith, same_count))) (reply members (omega (arith, same_count)));
       taken = taken_words-append_rows h (m ∷ []) ∙ y.taken;
       position = fold_push position_after (first_frame g) h r ∙ (position_after-row (position_of g h) m In ∙ y.position);
       sums = subst (λ es. SameSums es (all_laid (set views id w))) (sym more) sums_more;
       owns = λ i u there stays. ap (own_entries i) more ∙ elim (at_set views id i w u there) [
-        | inl own_one ↦
-            subst (λ n. own_entries n (laid_of h ++ m ∷ []) ≡ map (by_member n) u.mine) (sym own_one.0)
-            (own-more id (laid_of h) e
-            ∙ (ap (λ es. es ++ m ∷ []) (y.owns id v here lasts)
-            ∙ (sym (map-append (by_member id) v.mine (e ∷ []))
-            ∙ ap (map (by_member id)) (sym mine ∙ ap (λ (x : View). x.mine) own_one.1))))
-        | inr other ↦ own-more_other id i (laid_of h) e other.0 ∙ y.owns i u other.1 stays
+        | inl this ↦
+            rw (this.0, ← this.1, mine) (own-more id (laid_of h) m refl
+            ∙ (ap (λ es. es ++ m ∷ []) (y.owns id v here lasts) ∙ sym (map-append (by_member id) v.mine (e ∷ []))))
+        | inr other ↦ own-more_other i (laid_of h) m (λ same. other.0 (sym same)) ∙ y.owns i u other.1 stays
       ];
       no_more = λ i up.
           let apart : i ≢ id = λ same. omega (arith, within views id v here, same_count) in
-          ap (own_entries i) more ∙ (own-more_other id i (laid_of h) e apart ∙ y.no_more i (omega (arith, same_count)));
+          ap (own_entries i) more ∙ (own-more_other i (laid_of h) m (λ same. apart (sym same)) ∙ y.no_more i (omega (arith, same_count)));
     }
 
 -- what a seat is shown by its step

@@ -1,5 +1,5 @@
 -- What a seat's steps may do and do, said of the seat's fields.
-use Rattle.std.proofs.Common.{◌≡◌, ◌≢◌, ℕ, ◌+◌, ◌<◌, ◌≤◌, ◌==◌, Bool, false, Option, None, Some, IfSome, suc, List, [], ◌∷◌, ◌++◌, length, get_or, set, ℤ, pos, negsuc, ◌+ℤ◌, ◌≤ℤ◌, inl, inr, arith, subst, sym, refl, ap, ◌∙◌, to_z, of_z}
+use Rattle.std.proofs.Common.{true, ◌≡◌, ◌≢◌, ℕ, ◌+◌, ◌<◌, ◌≤◌, ◌==◌, false, Option, None, Some, IfSome, suc, List, [], ◌∷◌, ◌++◌, length, get_or, set, ℤ, pos, negsuc, ◌+ℤ◌, ◌≤ℤ◌, inl, inr, arith, subst, sym, refl, ap, ◌∙◌, to_z, of_z, append_assoc}
 use mathlib.Core.Option.{some, none}
 use lib.ListN.{get_elem?}
 use prog.Atomic.{either}
@@ -8,7 +8,6 @@ use mir.Syntax.{w16}
 use mir.Val.{SFits}
 use Rattle.std.proofs.lemmas.List.{get_or-set_other, get_or-set_same, length-set}
 use Rattle.std.proofs.lemmas.Bool.{cases_eq}
-use Rattle.std.proofs.Common.{append_assoc}
 use Rattle.atomic_table.specs.Seated.{TableId}
 use Rattle.atomic_table.specs.Table.{Allows, Me, step}
 use Rattle.snd_base.specs.declared.geometry.Geometry.{Geometry}
@@ -30,14 +29,15 @@ use Rattle.sum_table.specs.declared.view.Key.{Key}
 use Rattle.sum_table.specs.declared.view.View.{View}
 use Rattle.sum_table.specs.Exact.{BeginsWith, Exact, IsLaid}
 use Rattle.sum_table.specs.Known.{IsKnown, IsReach, IsNoted, greater, last_frame}
-use Rattle.sum_table.specs.Seats.{HasLaid, HasLocated, HasLost, HasNoted, IsRingSpot, MayLay, NotesRise, NotesRise-same, entry_by, view_of}
+use Rattle.sum_table.specs.Seats.{IsLaterSeat, HasLaid, HasLocated, HasLost, HasNoted, IsRingSpot, MayLay, NotesRise, NotesRise-same, entry_by, view_of}
 use Rattle.sum_table.specs.Steps.{Finds, HoldsLast, IsStep, IsSumOf, IsWord, Lays, Makes, MakesLook, Notes, word_exchange, in_row, position_load, word_load, with_entry, with_note, with_position}
 use Rattle.ring_rule.specs.Words.{NotPast, index_of, words_of}
 use Rattle.sum_table.proofs.Keeps.{MayPut, exchanges, locates, looks, may_put}
 use Rattle.sum_table.proofs.Highs.{IsReach-added, IsReach-withdrawn, last_frame-has}
-use Rattle.sum_table.proofs.Kept.{IsHeldAt, IsLaid-later, held_each, held_laid, laid_more}
+use Rattle.sum_table.proofs.Kept.{IsLaid-later, held_each, held_laid, held_of, laid_more}
 use Rattle.ring_rule.specs.NoteLaws.{noted_set}
 use Rattle.std.proofs.lemmas.Bool.Decides.{nat_tests}
+use Rattle.ring_rule.specs.PositionLaws.{position_fits}
 use Rattle.ring_rule.specs.WordLaws.{index_of-lt}
 
 -- the steps at the ring's key, which is the view's
@@ -47,19 +47,11 @@ locates_at k slots id m same lasts = subst (λ x. Allows (Exact x) slots id m 0 
 
 pub looks_at : (k : Key) (slots id : ℕ) (m : Me Entry View) (i f c : ℕ) → m.0.key ≡ k → m.0.ended ≡ false → c < k.geometry.channels → i ≡ index_of k.geometry f c
     → Allows (Exact k) slots id m i (λ n. n) (word_load (step slots i 0 0 none) m)
-looks_at k slots id m i f c same lasts in_range index =
-    let Goes : Key → ℕ → Type 0 = λ x j. Allows (Exact x) slots id m j (λ n. n) (word_load (step slots j 0 0 none) m) in
-    let at_own : Goes m.0.key (index_of m.0.key.geometry f c) = looks slots id m f c lasts (subst (λ (x : Key). c < x.geometry.channels) (sym same) in_range) in
-    let at_key : Goes k (index_of k.geometry f c) = subst (λ x. Goes x (index_of x.geometry f c)) same at_own in
-    subst (Goes k) (sym index) at_key
+looks_at k slots id m i f c same lasts in_range index = rw (index, ← same) (looks slots id m f c lasts (rw same in_range))
 
 -- a step's history goes on from what was seen
 pub step_begins : (v w : View) (by members : ℕ) (between rows : List Row) → IsStep v w by members between rows → BeginsWith w.history v.history
 step_begins v w by members between rows is = (between ++ rows, is.history ∙ append_assoc v.history between rows)
-
--- a frame up to the end fits a position word
-pub position_fits : (g : Geometry) (p : ℕ) → p ≤ end_frame g → p < 9223372036854775808
-position_fits g p most = omega (arith, g.frames_most, most)
 
 -- a view with a note more
 pub IsNoted-more : (v w : View) (k : Key) (i n : ℕ) → w.noted ≡ set v.noted i (Some n) → IsNoted v k → IsWord n k.places → IsNoted w k
@@ -73,52 +65,21 @@ IsNoted-more v w k i n is noted word = record {
 
 pub known_noted : (k : Key) (places : ℕ) (marks : Marks) (seen : ℕ) (last : Option ℕ) (v : View) (h : List Row) (i n : ℕ)
     → IsKnown v k places marks seen last → IsWord n v.key.places → IsKnown (with_note v h i n) k places marks seen last
-known_noted k places marks seen last v h i n is word = record {
-  same_key = is.same_key;
-  same_places = is.same_places;
-  same_marks = is.same_marks;
-  same_seen = is.same_seen;
-  same_last = is.same_last;
-  reach_is = is.reach_is;
-  lasts = is.lasts;
-  untracked = is.untracked;
-  noted = IsNoted-more v (with_note v h i n) k i n refl is.noted (subst (λ (x : Key). IsWord n x.places) is.same_key word);
-  cursor_within = is.cursor_within;
-  floor_within = is.floor_within;
-  high_within = is.high_within;
-  seen_within = is.seen_within;
-  places_most = is.places_most;
-  laid = is.laid;
-}
+known_noted k places marks seen last v h i n is word =
+    let noted = IsNoted-more v (with_note v h i n) k i n refl is.noted (subst (λ (x : Key). IsWord n x.places) is.same_key word) in
+    assumption
 
 -- the fields after a load of the position
 pub known_located : (k : Key) (places : ℕ) (marks : Marks) (seen : ℕ) (last : Option ℕ) (slots n : ℕ) (m r : Me Entry View)
     → IsKnown m.0 k places marks seen last → position_load (step slots 0 0 0 none) m n r → IsKnown r.0 k places marks (position_in n) last
 known_located k places marks seen last slots n m r is told =
     let p : ℕ = told.1 in
-    let gone : Bool = told.2 in
     let most : p ≤ end_frame k.geometry = subst (λ (x : Key). p ≤ end_frame x.geometry) is.same_key told.6 in
-    let frame : position_in n ≡ p = ap position_in told.4 ∙ (word_of-fields p gone (position_fits k.geometry p most)).0 in
-    let up : seen ≤ p = subst (λ x. x ≤ p) is.same_seen told.5 in
-    let w : View = with_position m.0 told.0 p gone in
-    let known : IsKnown w k places marks (position_in n) last = record {
-      same_key = is.same_key;
-      same_places = is.same_places;
-      same_marks = is.same_marks;
-      same_seen = sym frame;
-      same_last = is.same_last;
-      reach_is = is.reach_is;
-      lasts = is.lasts;
-      untracked = is.untracked;
-      noted = record { room = is.noted.room; words = is.noted.words };
-      cursor_within = is.cursor_within;
-      floor_within = is.floor_within;
-      high_within = is.high_within;
-      seen_within = record { least = omega (arith, frame, up, is.seen_within.least); most = omega (arith, frame, most) };
-      places_most = is.places_most;
-      laid = λ i e there. IsLaid-later k.geometry m.0.seen p told.5 e (is.laid i e there);
-    } in
-    subst (λ (x : Me Entry View). IsKnown x.0 k places marks (position_in n) last) (sym told.3) known
+    let frame : position_in n ≡ p = ap position_in told.4 ∙ (word_of-fields p told.2 (position_fits k.geometry p most)).0 in
+    let within : IsWithin k.geometry p = record { least = omega (arith, told.5, is.same_seen, is.seen_within.least); most = most } in
+    let laid : (i : ℕ) (e : Entry) → get_elem? m.0.laid i ≡ some e → IsLaid k.geometry p e = λ i e there. IsLaid-later k.geometry m.0.seen p told.5 e (is.laid i e there) in
+    let known : IsKnown (with_position m.0 told.0 p told.2) k places marks p last = assumption in
+    rw (told.3, frame) known
 
 -- the fields after a load of a word
 pub known_looked : (k : Key) (places : ℕ) (marks : Marks) (seen : ℕ) (last : Option ℕ) (slots i n : ℕ) (m r : Me Entry View)
@@ -145,6 +106,10 @@ notes_more v w i n is inside past j o there = elim (cases_eq j i) [
   | inr other ↦ (o, ap (λ l. get_or l j None) is ∙ (get_or-set_other v.noted i j (Some n) None other ∙ there), inl refl)
 ]
 
+-- so a step leaves the seat, by what it leaves of the view
+later_seat : (s t : MixSeat) → SameFields s t → BeginsWith (view_of t).history (view_of s).history → (view_of t).heard ≡ (view_of s).heard → NotesRise (view_of s) (view_of t) → IsLaterSeat s t
+later_seat s t same history heard notes = assumption
+
 -- a seat that noted a word
 pub has_noted : (s t : MixSeat) (f c n : ℕ) → SameFields s t → t.reach.marks ≡ s.reach.marks → t.reach.last ≡ s.reach.last → c < s.key.geometry.channels
     → Finds (view_of s) (index_of s.key.geometry f c) n
@@ -152,23 +117,14 @@ pub has_noted : (s t : MixSeat) (f c n : ℕ) → SameFields s t → t.reach.mar
     → HasNoted s t f c n
 has_noted s t f c n same marks last in_range found told =
     let i : ℕ = index_of s.key.geometry f c in
-    let h : List Row = told.0 in
-    let w : View = with_note (view_of s) h i n in
-    let view : view_of t ≡ w = ap (λ (x : Me Entry View). x.0) told.1 in
-    let history : h ≡ (view_of t).history = sym (ap (λ (x : View). x.history) view) in
+    let view : view_of t ≡ with_note (view_of s) told.0 i n = ap (λ (x : Me Entry View). x.0) told.1 in
+    let history : told.0 ≡ (view_of t).history = sym (ap (λ (x : View). x.history) view) in
     let look : MakesLook (view_of s) (view_of t) i n = subst (λ x. MakesLook (view_of s) x i n) (sym view) told.2 in
     let own : (view_of s).key ≡ s.key = s.known.same_key in
     let in_notes : i < length (view_of s).noted = omega (arith, s.known.noted.room, index_of-lt s.key.geometry f c in_range) in
     record {
-      goes = record {
-        ring = same.ring;
-        key = same.key;
-        member = same.member;
-        places = same.places;
-        history = step_begins (view_of s) (view_of t) look.0 look.1 look.2 [] look.3;
-        heard = ap (λ (x : View). x.heard) view;
-        notes = notes_more (view_of s) (view_of t) i n (ap (λ (x : View). x.noted) view) in_notes found.noted;
-      };
+      goes = later_seat s t same (step_begins (view_of s) (view_of t) look.0 look.1 look.2 [] look.3) (ap (λ (x : View). x.heard) view)
+          (notes_more (view_of s) (view_of t) i n (ap (λ (x : View). x.noted) view) in_notes found.noted);
       view = view ∙ ap (λ x. with_note (view_of s) x i n) history;
       marks = marks;
       seen = same.seen;
@@ -181,22 +137,13 @@ has_noted s t f c n same marks last in_range found told =
       event = look;
     }
 
--- what a seat shows before a load of a word
-pub may_look : (s : MixSeat) (slots i f c : ℕ) → c < s.key.geometry.channels → i ≡ index_of s.key.geometry f c
-    → Allows (Exact s.ring.now.key) slots s.seat.id s.seat.me i (λ n. n) (word_load (step slots i 0 0 none) s.seat.me)
-may_look s slots i f c in_range index =
-    subst (λ x. Allows (Exact x) slots s.seat.id s.seat.me i (λ n. n) (word_load (step slots i 0 0 none) s.seat.me)) s.same_ring.1
-    (looks_at s.key slots s.seat.id s.seat.me i f c s.known.same_key s.known.lasts in_range index)
-
--- the same, where the word is found in the ring that a seat's step is given
+-- the ring that a seat's step is given has room for the word, and the step may load it
 pub ring_spot_room : (s : MixSeat) (f c : ℕ) (r : RingSpot) → IsRingSpot s f c r → r.ring.now.table_id.words ≡ words_of s.key.geometry
 ring_spot_room s f c r is = ap (λ (t : TableId). t.words) (is.table ∙ s.same_ring.0) ∙ s.same_ring.3
 
 pub ring_spot_looks : (s : MixSeat) (r : RingSpot) (f c : ℕ) → c < s.key.geometry.channels → IsRingSpot s f c r
     → Allows (Exact r.ring.now.key) r.ring.now.table_id.slots s.seat.id s.seat.me r.spot.index (λ n. n) (word_load (step r.ring.now.table_id.slots r.spot.index 0 0 none) s.seat.me)
-ring_spot_looks s r f c in_range is =
-    subst (λ x. Allows (Exact x) r.ring.now.table_id.slots s.seat.id s.seat.me r.spot.index (λ n. n) (word_load (step r.ring.now.table_id.slots r.spot.index 0 0 none) s.seat.me))
-    (sym s.same_ring.1 ∙ sym is.key) (may_look s r.ring.now.table_id.slots r.spot.index f c in_range is.spot.index_is)
+ring_spot_looks s r f c in_range is = rw is.key (looks_at s.key r.ring.now.table_id.slots s.seat.id s.seat.me r.spot.index f c s.known.same_key s.known.lasts in_range is.spot.index_is)
 
 -- a word that has room for one more sample
 pub record HasRoom (w : ℕ) (sample : ℤ) : Type 0 where
@@ -241,49 +188,8 @@ pub record HoldsFacts (s : MixSeat) (f c : ℕ) : Type 0 where
 
 pub holds_facts : (s : MixSeat) (f c : ℕ) (sample : ℤ) → HoldsLast (view_of s) f c sample → HoldsFacts s f c
 holds_facts s f c sample holds =
-    let v : View = view_of s in
-    let l : IsLaid s.key.geometry v.seen holds.last = held_laid s.key.geometry v.laid v.marks v.seen f c sample s.known.laid
-    (record { early = holds.early; last = holds.last; ends = holds.ends; frame = holds.frame; channel = holds.channel; sample = holds.sample; from_floor = holds.from_floor }) in
-    record {
-      channel = subst (λ d. d < s.key.geometry.channels) holds.channel l.channel;
-      low = subst (λ k. first_frame s.key.geometry ≤ k) holds.frame l.low;
-      ahead = subst (λ k. k < v.seen + s.key.geometry.frames) holds.frame l.ahead;
-      fits = subst (λ k. lap s.key.geometry k < 4294967295) holds.frame l.fits;
-    }
-
-pub may_lay : (s : MixSeat) (k : Kind) (f c old : ℕ) (sample : ℤ) → SFits w16 sample → MayLay k s f c sample
-    → get_or (view_of s).noted (index_of s.key.geometry f c) None ≡ Some old → lap_of old ≡ lap s.key.geometry f
-    → MayExchange s k f c old (to_z w16 (of_z w16 sample))
-may_lay s Added f c old sample in_range lay noted of_lap =
-    let same : to_z w16 (of_z w16 sample) ≡ sample = to_z-of_z w16 sample in_range in
-    let key : s.key ≡ (view_of s).key = sym s.known.same_key in
-    let may : MayExchange s Added f c old sample = record {
-      may = (
-        subst (λ (k : Key). c < k.geometry.channels) key lay.1,
-        subst (λ (m : Marks). IsFrom m.cursor f c) (sym s.known.same_marks) lay.2,
-        subst (λ (k : Key). f < (view_of s).seen + k.geometry.frames) key (subst (λ p. f < p + s.key.geometry.frames) (sym s.known.same_seen) lay.3),
-        omega (arith, s.known.same_places, lay.0),
-        subst (λ (k : Key). lap k.geometry f < 4294967295) key lay.4,
-      );
-      channel = lay.1;
-      noted = noted;
-      of_lap = of_lap;
-      low = omega (arith, ints, in_range);
-      high = omega (arith, ints, in_range);
-    } in
-    subst (MayExchange s Added f c old) (sym same) may
-may_lay s Withdrawn f c old sample in_range lay noted of_lap =
-    let same : to_z w16 (of_z w16 sample) ≡ sample = to_z-of_z w16 sample in_range in
-    let holds : HoldsLast (view_of s) f c sample = holds_of s f c sample lay.0 lay.1 in
-    let may : MayExchange s Withdrawn f c old sample = record {
-      may = holds;
-      channel = (holds_facts s f c sample holds).channel;
-      noted = noted;
-      of_lap = of_lap;
-      low = omega (arith, ints, in_range);
-      high = omega (arith, ints, in_range);
-    } in
-    subst (MayExchange s Withdrawn f c old) (sym same) may
+    let l = held_laid s.key.geometry (view_of s).laid (view_of s).marks (view_of s).seen f c sample s.known.laid (held_of (view_of s) f c sample holds) in
+    rw (← holds.frame, ← holds.channel) (record { channel = l.channel; low = l.low; ahead = l.ahead; fits = l.fits })
 
 -- where a seat may place
 pub lay_facts : (s : MixSeat) (k : Kind) (f c : ℕ) (sample : ℤ) → MayLay k s f c sample → HoldsFacts s f c
@@ -292,37 +198,49 @@ lay_facts s Added f c sample lay =
     record { channel = lay.1; low = omega (arith, s.known.cursor_within.least, start, lay.2); ahead = omega (arith, s.known.same_seen, lay.3); fits = lay.4 }
 lay_facts s Withdrawn f c sample lay = holds_facts s f c sample (holds_of s f c sample lay.0 lay.1)
 
+pub may_lay : (s : MixSeat) (k : Kind) (f c old : ℕ) (sample : ℤ) → SFits w16 sample → MayLay k s f c sample
+    → get_or (view_of s).noted (index_of s.key.geometry f c) None ≡ Some old → lap_of old ≡ lap s.key.geometry f
+    → MayExchange s k f c old (to_z w16 (of_z w16 sample))
+may_lay s k f c old sample in_range lay noted of_lap =
+    let low : negsuc 32767 ≤ℤ signed_sample k sample = signed_low k in
+    let high : signed_sample k sample ≤ℤ pos 32768 = signed_high k in
+    let channel : c < s.key.geometry.channels = (lay_facts s k f c sample lay).channel in
+    let may : may_put k (view_of s) f c sample = may_kind k lay in
+    let all : MayExchange s k f c old sample = assumption in
+    subst (MayExchange s k f c old) (sym (to_z-of_z w16 sample in_range)) all
+  where
+    signed_low : (k : Kind) → negsuc 32767 ≤ℤ signed_sample k sample
+    signed_low Added = omega (arith, ints, in_range)
+    signed_low Withdrawn = omega (arith, ints, in_range)
+
+    signed_high : (k : Kind) → signed_sample k sample ≤ℤ pos 32768
+    signed_high Added = omega (arith, ints, in_range)
+    signed_high Withdrawn = omega (arith, ints, in_range)
+
+    may_kind : (k : Kind) → MayLay k s f c sample → may_put k (view_of s) f c sample
+    may_kind Added lay = (
+      rw s.known.same_key lay.1,
+      subst (λ (m : Marks). IsFrom m.cursor f c) (sym s.known.same_marks) lay.2,
+      omega (arith, lay.3, s.known.same_seen, ap (λ (k : Key). k.geometry.frames) s.known.same_key),
+      omega (arith, s.known.same_places, lay.0),
+      rw s.known.same_key lay.4,
+    )
+    may_kind Withdrawn lay = holds_of s f c sample lay.0 lay.1
+
 pub room_there : (s : MixSeat) (k : Kind) (f c old : ℕ) (sample : ℤ) → MayExchange s k f c old sample → HasRoom old (signed_sample k sample)
 room_there s k f c old sample may = HasRoom-of old s.key.places (signed_sample k sample) (s.known.noted.words (index_of s.key.geometry f c) old may.noted) s.key.most may.low may.high
 
 pub to_put : (s : MixSeat) (k : Kind) (f c old new : ℕ) (sample : ℤ) → MayExchange s k f c old sample → StandsFor new (lap_of old) (count_of old + 1) (sum_of old +ℤ signed_sample k sample)
     → MayPut (view_of s) (entry_by s k f c sample) old new
 to_put s k f c old new sample may stands =
-    let same : s.key ≡ (view_of s).key = sym s.known.same_key in
-    record {
-      lasts = s.known.lasts;
-      may = may.may;
-      channel = subst (λ (k : Key). c < k.geometry.channels) same may.channel;
-      low = may.low;
-      high = may.high;
-      of_lap = subst (λ (k : Key). lap_of old ≡ lap k.geometry f) same may.of_lap;
-      stands = stands;
-    }
-
-pub may_exchange : (s : MixSeat) (kind : Kind) (slots i f c old new : ℕ) (sample : ℤ) → MayExchange s kind f c old sample → StandsFor new (lap_of old) (count_of old + 1) (sum_of old +ℤ signed_sample kind sample)
-    → i ≡ index_of s.key.geometry f c
-    → Allows (Exact s.ring.now.key) slots s.seat.id s.seat.me i (λ n. either (n == old) new n) (word_exchange (step slots i old new (some (entry_by s kind f c sample))) s.seat.me)
-may_exchange s kind slots i f c old new sample may stands index =
-    let Goes : Key → ℕ → Type 0 = λ k j. Allows (Exact k) slots s.seat.id s.seat.me j (λ n. either (n == old) new n) (word_exchange (step slots j old new (some (entry_by s kind f c sample))) s.seat.me) in
-    let at_own : Goes (view_of s).key (index_of (view_of s).key.geometry f c) = exchanges slots s.seat.id s.seat.me (entry_by s kind f c sample) old new (to_put s kind f c old new sample may stands) in
-    let at_key : Goes s.key (index_of s.key.geometry f c) = subst (λ (k : Key). Goes k (index_of k.geometry f c)) s.known.same_key at_own in
-    subst (λ k. Goes k i) s.same_ring.1 (subst (Goes s.key) (sym index) at_key)
+    let channel : c < (view_of s).key.geometry.channels = rw s.known.same_key may.channel in
+    let of_lap : lap_of old ≡ lap (view_of s).key.geometry f = rw s.known.same_key may.of_lap in
+    assumption
 
 pub ring_spot_exchanges : (s : MixSeat) (r : RingSpot) (kind : Kind) (f c old new : ℕ) (sample : ℤ) → IsRingSpot s f c r → MayExchange s kind f c old sample → StandsFor new (lap_of old) (count_of old + 1) (sum_of old +ℤ signed_sample kind sample)
     → Allows (Exact r.ring.now.key) r.ring.now.table_id.slots s.seat.id s.seat.me r.spot.index (λ n. either (n == old) new n) (word_exchange (step r.ring.now.table_id.slots r.spot.index old new (some (entry_by s kind f c sample))) s.seat.me)
 ring_spot_exchanges s r kind f c old new sample is may stands =
-    subst (λ x. Allows (Exact x) r.ring.now.table_id.slots s.seat.id s.seat.me r.spot.index (λ n. either (n == old) new n) (word_exchange (step r.ring.now.table_id.slots r.spot.index old new (some (entry_by s kind f c sample))) s.seat.me))
-    (sym s.same_ring.1 ∙ sym is.key) (may_exchange s kind r.ring.now.table_id.slots r.spot.index f c old new sample may stands is.spot.index_is)
+    rw (is.spot.index_is, is.key, ← s.known.same_key) (exchanges r.ring.now.table_id.slots s.seat.id s.seat.me (entry_by s kind f c sample) old new (to_put s kind f c old new sample may stands))
 
 -- the greatest frame of joined lists
 greater-assoc : (a b c : Option ℕ) → greater (greater a b) c ≡ greater a (greater b c)
@@ -361,11 +279,9 @@ within_added g m f c x from fits =
     }
 
 within_withdrawn : (g : Geometry) (m : Marks) (f c : ℕ) → MarksWithin g m → first_frame g ≤ f → lap g f < 4294967295 → MarksWithin g (withdrawn_at m f c)
-within_withdrawn g m f c x least fits = record {
-  cursor = record { least = least; most = omega (arith, suc-le-end_frame g f fits) };
-  floor = x.floor;
-  high = x.high;
-}
+within_withdrawn g m f c x least fits =
+    let most : f ≤ end_frame g = omega (arith, suc-le-end_frame g f fits) in
+    assumption
 
 -- what an entry leaves, by its kind
 pub record Leaves (k : Key) (v : View) (e : Entry) : Type 0 where
@@ -377,98 +293,50 @@ leaves : (k : Key) (v : View) (e : Entry) → v.key ≡ k → MarksWithin k.geom
 leaves k v e key within laid may = by_kind e.kind refl may where
   by_kind : (kind : Kind) → e.kind ≡ kind → may_put kind v e.frame e.channel e.sample → Leaves k v e
   by_kind Added kind may =
-      let fits : lap k.geometry e.frame < 4294967295 = subst (λ (x : Key). lap x.geometry e.frame < 4294967295) key may.4 in
+      let at_key = rw key at may in
       let start : v.marks.cursor.frame ≤ first_free v.marks.cursor e.channel = grind (arith, nat_tests) in
-      record {
-        within = subst (λ x. MarksWithin k.geometry (marks_with x k.geometry v.marks e.frame e.channel)) (sym kind) (within_added k.geometry v.marks e.frame e.channel within may.1 fits);
-        laid = record {
-          channel = subst (λ (x : Key). e.channel < x.geometry.channels) key may.0;
-          low = omega (arith, within.cursor.least, start, may.1);
-          ahead = subst (λ (x : Key). e.frame < v.seen + x.geometry.frames) key may.2;
-          fits = fits;
-        };
-      }
+      let own : IsLaid k.geometry v.seen e = record { channel = at_key.0; low = omega (arith, within.cursor.least, start, at_key.1); ahead = at_key.2; fits = at_key.4 } in
+      record { within = rw kind (within_added k.geometry v.marks e.frame e.channel within at_key.1 at_key.4); laid = own }
   by_kind Withdrawn kind may =
-      let held : IsHeldAt k.geometry v.laid v.marks e.frame e.channel e.sample = record { early = may.early; last = may.last; ends = may.ends; frame = may.frame; channel = may.channel; sample = may.sample; from_floor = may.from_floor } in
-      let l : IsLaid k.geometry v.seen may.last = held_laid k.geometry v.laid v.marks v.seen e.frame e.channel e.sample laid held in
-      let low : first_frame k.geometry ≤ e.frame = subst (λ f. first_frame k.geometry ≤ f) may.frame l.low in
-      let fits : lap k.geometry e.frame < 4294967295 = subst (λ f. lap k.geometry f < 4294967295) may.frame l.fits in
-      record {
-        within = subst (λ x. MarksWithin k.geometry (marks_with x k.geometry v.marks e.frame e.channel)) (sym kind) (within_withdrawn k.geometry v.marks e.frame e.channel within low fits);
-        laid = record { channel = subst (λ d. d < k.geometry.channels) may.channel l.channel; low = low; ahead = subst (λ f. f < v.seen + k.geometry.frames) may.frame l.ahead; fits = fits };
-      }
+      let l = held_laid k.geometry v.laid v.marks v.seen e.frame e.channel e.sample laid (held_of v e.frame e.channel e.sample may) in
+      let own : IsLaid k.geometry v.seen e = record { channel = rw (← may.channel) l.channel; low = rw (← may.frame) l.low; ahead = rw (← may.frame) l.ahead; fits = rw (← may.frame) l.fits } in
+      record { within = rw kind (within_withdrawn k.geometry v.marks e.frame e.channel within own.low own.fits); laid = own }
 
 -- the greatest frame after an entry was placed: a withdrawal is in a frame that was placed in before
 last_laid : (k : Key) (places : ℕ) (marks : Marks) (seen : ℕ) (last : Option ℕ) (v : View) (e : Entry)
     → IsKnown v k places marks seen last → may_put e.kind v e.frame e.channel e.sample → IsLaid k.geometry v.seen e
     → IsReach k.geometry (marks_after k.geometry marks e) places (greater last (Some e.frame))
 last_laid k places marks seen last v e is may in_ring = by_kind e.kind may where
-  Goal : Kind → Type 0
-  Goal kind = IsReach k.geometry (marks_with kind k.geometry marks e.frame e.channel) places (greater last (Some e.frame))
-
-  by_kind : (kind : Kind) → may_put kind v e.frame e.channel e.sample → Goal kind
+  by_kind : (kind : Kind) → may_put kind v e.frame e.channel e.sample → IsReach k.geometry (marks_with kind k.geometry marks e.frame e.channel) places (greater last (Some e.frame))
   by_kind Added may = IsReach-added k.geometry marks places last e.frame e.channel is.reach_is (omega (arith, is.same_places, may.3)) in_ring.channel in_ring.low
   by_kind Withdrawn may =
-      let held : IsHeldAt k.geometry v.laid v.marks e.frame e.channel e.sample = record { early = may.early; last = may.last; ends = may.ends; frame = may.frame; channel = may.channel; sample = may.sample; from_floor = may.from_floor } in
-      let had : greater (last_frame v.laid) (Some may.last.frame) ≡ last_frame v.laid =
-      held_each (λ (a : Entry). greater (last_frame v.laid) (Some a.frame) ≡ last_frame v.laid) k.geometry v.laid v.marks e.frame e.channel e.sample (last_frame-has v.laid) held in
-      let kept : greater last (Some e.frame) ≡ last =
-      ap (λ o. greater o (Some e.frame)) (sym is.same_last) ∙ (ap (λ f. greater (last_frame v.laid) (Some f)) (sym may.frame) ∙ (had ∙ is.same_last)) in
-      IsReach-withdrawn k.geometry marks places last e.frame e.channel is.reach_is kept
+      let had = held_each (λ (a : Entry). greater (last_frame v.laid) (Some a.frame) ≡ last_frame v.laid) v.laid v.marks e.frame e.channel e.sample (last_frame-has v.laid) (held_of v e.frame e.channel e.sample may) in
+      IsReach-withdrawn k.geometry marks places last e.frame e.channel is.reach_is (rw (← is.same_last, ← may.frame) had)
 
 -- the fields after an entry was placed
-pub known_laid : (k : Key) (places : ℕ) (marks : Marks) (seen : ℕ) (last : Option ℕ) (v : View) (h : List Row) (e : Entry)
+known_laid : (k : Key) (places : ℕ) (marks : Marks) (seen : ℕ) (last : Option ℕ) (v : View) (h : List Row) (e : Entry)
     → IsKnown v k places marks seen last → may_put e.kind v e.frame e.channel e.sample
     → IsKnown (with_entry v h e) k places (marks_after k.geometry marks e) seen (greater last (Some e.frame))
 known_laid k places marks seen last v h e is may =
-    let within : MarksWithin k.geometry v.marks = subst (MarksWithin k.geometry) (sym is.same_marks) (record { cursor = is.cursor_within; floor = is.floor_within; high = is.high_within }) in
-    let left : Leaves k v e = leaves k v e is.same_key within is.laid may in
-    let same : marks_after v.key.geometry v.marks e ≡ marks_after k.geometry marks e =
-    ap (λ (x : Key). marks_after x.geometry v.marks e) is.same_key ∙ ap (λ m. marks_after k.geometry m e) is.same_marks in
-    let own : MarksWithin k.geometry (marks_after k.geometry marks e) = subst (λ m. MarksWithin k.geometry (marks_after k.geometry m e)) is.same_marks left.within in
-    record {
-      same_key = is.same_key;
-      same_places = is.same_places;
-      same_marks = same;
-      same_seen = is.same_seen;
-      same_last = last_frame-append v.laid (e ∷ []) ∙ ap (λ x. greater x (Some e.frame)) is.same_last;
-      reach_is = last_laid k places marks seen last v e is may left.laid;
-      lasts = is.lasts;
-      untracked = is.untracked;
-      noted = record { room = is.noted.room; words = is.noted.words };
-      cursor_within = own.cursor;
-      floor_within = own.floor;
-      high_within = own.high;
-      seen_within = is.seen_within;
-      places_most = is.places_most;
-      laid = laid_more k.geometry v.laid v.seen e is.laid left.laid;
-    }
+    let before : MarksWithin k.geometry marks = assumption in
+    let left = leaves k v e is.same_key (subst (MarksWithin k.geometry) (sym is.same_marks) before) is.laid may in
+    let after : MarksWithin k.geometry (marks_after k.geometry marks e) = subst (λ m. MarksWithin k.geometry (marks_after k.geometry m e)) is.same_marks left.within in
+    let same : marks_after v.key.geometry v.marks e ≡ marks_after k.geometry marks e = rw (is.same_key, is.same_marks) in
+    let last_is = last_frame-append v.laid (e ∷ []) ∙ ap (λ x. greater x (Some e.frame)) is.same_last in
+    let reach = last_laid k places marks seen last v e is may left.laid in
+    let laid = laid_more k.geometry v.laid v.seen e is.laid left.laid in
+    assumption
 
 -- a seat that placed an entry
 pub has_laid : (s t : MixSeat) (e : Entry) → SameFields s t → t.reach.marks ≡ marks_after s.key.geometry s.reach.marks e → t.reach.last ≡ greater s.reach.last (Some e.frame)
     → Lays s.seat.me.0 s.seat.me.1 e t.seat.me → HasLaid s t e
 has_laid s t e same marks last told =
-    let h : List Row = told.0 in
-    let w : View = with_entry (view_of s) h e in
-    let view : view_of t ≡ w = ap (λ (x : Me Entry View). x.0) told.1 in
-    let history : h ≡ (view_of t).history = sym (ap (λ (x : View). x.history) view) in
+    let view : view_of t ≡ with_entry (view_of s) told.0 e = ap (λ (x : Me Entry View). x.0) told.1 in
     let made : Makes (view_of s) (view_of t) (λ by. in_row by e ∷ []) = subst (λ x. Makes (view_of s) x (λ by. in_row by e ∷ [])) (sym view) told.2 in
-    record {
-      goes = record {
-        ring = same.ring;
-        key = same.key;
-        member = same.member;
-        places = same.places;
-        history = step_begins (view_of s) (view_of t) made.0 made.1 made.2 (in_row made.0 e ∷ []) made.3;
-        heard = ap (λ (x : View). x.heard) view;
-        notes = NotesRise-same (view_of s) (view_of t) (ap (λ (x : View). x.noted) view);
-      };
-      view = view ∙ ap (λ x. with_entry (view_of s) x e) history;
-      marks = marks;
-      seen = same.seen;
-      last = last;
-      event = made;
-    }
+    let goes = later_seat s t same (step_begins (view_of s) (view_of t) made.0 made.1 made.2 (in_row made.0 e ∷ []) made.3) (ap (λ (x : View). x.heard) view)
+    (NotesRise-same (view_of s) (view_of t) (ap (λ (x : View). x.noted) view)) in
+    let all = view ∙ ap (λ x. with_entry (view_of s) x e) (sym (ap (λ (x : View). x.history) view)) in
+    assumption
 
 -- the fields and the seat after an exchange that was lost
 pub lost_notes : (slots i old new n : ℕ) (e : Entry) (m r : Me Entry View) → n ≢ old → word_exchange (step slots i old new (some e)) m n r → Finds m.0 i n × Notes m.0 m.1 i n r
@@ -524,26 +392,13 @@ has_located s t slots n p ring key member places marks last seen frame gone told
     let at : told.1 ≡ p.frame = sym (frame ∙ (ap position_in told.4 ∙ fields.0)) in
     let is_gone : told.2 ≡ p.gone = sym (gone ∙ (ap gone_in told.4 ∙ fields.1)) in
     let view : view_of t ≡ with_position (view_of s) told.0 told.1 told.2 = ap (λ (x : Me Entry View). x.0) told.3 in
-    let history : told.0 ≡ (view_of t).history = sym (ap (λ (x : View). x.history) view) in
     let made : Makes (view_of s) (view_of t) (λ _. []) = subst (λ x. Makes (view_of s) x (λ _. [])) (sym view) told.8 in
-    record {
-      goes = record {
-        ring = ring;
-        key = key;
-        member = member;
-        places = places;
-        history = step_begins (view_of s) (view_of t) made.0 made.1 made.2 [] made.3;
-        heard = ap (λ (x : View). x.heard) view;
-        notes = NotesRise-same (view_of s) (view_of t) (ap (λ (x : View). x.noted) view);
-      };
-      view = view
-          ∙ (ap (λ x. with_position (view_of s) x told.1 told.2) history
-          ∙ (ap (λ x. with_position (view_of s) (view_of t).history x told.2) at ∙ ap (with_position (view_of s) (view_of t).history p.frame) is_gone));
-      marks = marks;
-      seen = seen;
-      last = last;
-      not_before = subst (λ x. x ≤ p.frame) s.known.same_seen (subst (λ x. (view_of s).seen ≤ x) at told.5);
-      within = record { least = omega (arith, s.known.seen_within.least, s.known.same_seen, told.5, at); most = omega (arith, most, at) };
-      gone = λ is. sym is_gone ∙ told.7 is;
-      event = made;
-    }
+    let begins = step_begins (view_of s) (view_of t) made.0 made.1 made.2 [] made.3 in
+    let heard : (view_of t).heard ≡ (view_of s).heard = ap (λ (x : View). x.heard) view in
+    let notes = NotesRise-same (view_of s) (view_of t) (ap (λ (x : View). x.noted) view) in
+    let all : view_of t ≡ with_position (view_of s) (view_of t).history p.frame p.gone =
+    rw (← at, ← is_gone) (view ∙ ap (λ x. with_position (view_of s) x told.1 told.2) (sym (ap (λ (x : View). x.history) view))) in
+    let not_before : s.seen ≤ p.frame = omega (arith, s.known.same_seen, told.5, at) in
+    let within : IsWithin s.key.geometry p.frame = record { least = omega (arith, s.known.seen_within.least, not_before); most = omega (arith, most, at) } in
+    let stays : (view_of s).seen_gone ≡ true → p.gone ≡ true = λ was. sym is_gone ∙ told.7 was in
+    assumption

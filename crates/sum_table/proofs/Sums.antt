@@ -1,7 +1,8 @@
 -- Counts, sums and places of all views together, when one view changes or one more comes.
-use Rattle.std.proofs.Common.{◌≡◌, ◌⊎◌, inl, inr, Bool, true, false, ℕ, zero, suc, ◌+◌, ◌*◌, ◌≤◌, List, [], ◌∷◌, ◌++◌, set, ◌+ℤ◌, refl, sym, subst, ap, ◌∙◌, arith, append_assoc}
+use Rattle.std.proofs.Common.{◌≡◌, inl, inr, ℕ, zero, suc, ◌+◌, ◌*◌, ◌≤◌, List, [], ◌∷◌, ◌++◌, set, ◌+ℤ◌, refl, sym, subst, ap, ◌∙◌, arith, append_assoc}
 use mathlib.Core.Option.{some, some-injective, some-ne-none}
 use lib.ListN.{get_elem?}
+use Rattle.std.proofs.lemmas.Bool.{cases_Bool}
 use Rattle.std.proofs.lemmas.Int.{ints}
 use Rattle.std.proofs.lemmas.List.{append-nil}
 use Rattle.mix_core.specs.declared.port.Entry.{Entry}
@@ -15,26 +16,20 @@ use Rattle.sum_table.specs.Laid.{SameSums, all_laid, by_member, count, total_pla
 pub count_set : (views : List View) (id : ℕ) (v w : View) (f c : ℕ) → get_elem? views id ≡ some v
     → count (all_laid (set views id w)) f c + count v.laid f c ≡ count (all_laid views) f c + count w.laid f c
 count_set [] id v w f c here = absurd (some-ne-none v (sym here))
-count_set (x ∷ xs) zero v w f c here =
-    let same : count x.laid f c ≡ count v.laid f c = ap (λ (y : View). count y.laid f c) (some-injective x v here) in
-    omega (arith, same, count-append w.laid (all_laid xs) f c, count-append x.laid (all_laid xs) f c)
+count_set (x ∷ xs) zero v w f c here = rw (some-injective x v here) (omega (arith, count-append w.laid (all_laid xs) f c, count-append v.laid (all_laid xs) f c))
 count_set (x ∷ xs) (suc id) v w f c here =
     omega (arith, count_set xs id v w f c here, count-append x.laid (all_laid (set xs id w)) f c, count-append x.laid (all_laid xs) f c)
 
 pub total_set : (views : List View) (id : ℕ) (v w : View) (f c : ℕ) → get_elem? views id ≡ some v
     → total (all_laid (set views id w)) f c +ℤ total v.laid f c ≡ total (all_laid views) f c +ℤ total w.laid f c
 total_set [] id v w f c here = absurd (some-ne-none v (sym here))
-total_set (x ∷ xs) zero v w f c here =
-    let same : total x.laid f c ≡ total v.laid f c = ap (λ (y : View). total y.laid f c) (some-injective x v here) in
-    omega (arith, ints, same, total-append w.laid (all_laid xs) f c, total-append x.laid (all_laid xs) f c)
+total_set (x ∷ xs) zero v w f c here = rw (some-injective x v here) (omega (arith, ints, total-append w.laid (all_laid xs) f c, total-append v.laid (all_laid xs) f c))
 total_set (x ∷ xs) (suc id) v w f c here =
     omega (arith, ints, total_set xs id v w f c here, total-append x.laid (all_laid (set xs id w)) f c, total-append x.laid (all_laid xs) f c)
 
 pub places_set : (views : List View) (id : ℕ) (v w : View) → get_elem? views id ≡ some v → total_places (set views id w) + v.places ≡ total_places views + w.places
 places_set [] id v w here = absurd (some-ne-none v (sym here))
-places_set (x ∷ xs) zero v w here =
-    let same : x.places ≡ v.places = ap (λ (y : View). y.places) (some-injective x v here) in
-    omega (arith, same)
+places_set (x ∷ xs) zero v w here = rw (some-injective x v here) (omega arith)
 places_set (x ∷ xs) (suc id) v w here = omega (arith, places_set xs id v w here)
 
 -- one more view comes
@@ -46,17 +41,9 @@ pub total_places-more : (views : List View) (w : View) → total_places (views +
 total_places-more [] w = omega arith
 total_places-more (x ∷ xs) w = omega (arith, total_places-more xs w)
 
--- the parts of a view are among the whole
-pub count_within : (views : List View) (id : ℕ) (v : View) (f c : ℕ) → get_elem? views id ≡ some v → count v.laid f c ≤ count (all_laid views) f c
-count_within [] id v f c here = absurd (some-ne-none v (sym here))
-count_within (x ∷ xs) zero v f c here =
-    let same : count x.laid f c ≡ count v.laid f c = ap (λ (y : View). count y.laid f c) (some-injective x v here) in
-    omega (arith, same, count-append x.laid (all_laid xs) f c)
-count_within (x ∷ xs) (suc id) v f c here = omega (arith, count_within xs id v f c here, count-append x.laid (all_laid xs) f c)
-
 pub places_within : (views : List View) (id : ℕ) (v : View) → get_elem? views id ≡ some v → v.places ≤ total_places views
 places_within [] id v here = absurd (some-ne-none v (sym here))
-places_within (x ∷ xs) zero v here = let same : x.places ≡ v.places = ap (λ (y : View). y.places) (some-injective x v here) in omega (arith, same)
+places_within (x ∷ xs) zero v here = rw (some-injective x v here) (omega arith)
 places_within (x ∷ xs) (suc id) v here = omega (arith, places_within xs id v here)
 
 -- where no view has more than three entries at a frame and channel for each place, all together have no more
@@ -70,9 +57,7 @@ pub count_room : (views : List View) (id : ℕ) (v : View) (f c : ℕ) → get_e
     → count (all_laid views) f c + 3 * v.places ≤ 3 * total_places views + count v.laid f c
 count_room [] id v f c here few = absurd (some-ne-none v (sym here))
 count_room (x ∷ xs) zero v f c here few =
-    let same : count x.laid f c ≡ count v.laid f c = ap (λ (y : View). count y.laid f c) (some-injective x v here) in
-    let same_places : x.places ≡ v.places = ap (λ (y : View). y.places) (some-injective x v here) in
-    omega (arith, same, same_places, count_few xs f c (λ i u there. few (suc i) u there), count-append x.laid (all_laid xs) f c)
+    rw (some-injective x v here) (omega (arith, count_few xs f c (λ i u there. few (suc i) u there), count-append v.laid (all_laid xs) f c))
 count_room (x ∷ xs) (suc id) v f c here few =
     omega (arith, few 0 x refl, count_room xs id v f c here (λ i u there. few (suc i) u there), count-append x.laid (all_laid xs) f c)
 
@@ -87,12 +72,6 @@ pub SameSums-joined : (xs ys zs : List Entry) → SameSums xs ys → SameSums ys
 SameSums-joined xs ys zs first then = record {
   counts = λ f c. first.counts f c ∙ then.counts f c;
   totals = λ f c. first.totals f c ∙ then.totals f c;
-}
-
-pub SameSums-append : (xs ys zs : List Entry) → SameSums xs ys → SameSums (xs ++ zs) (ys ++ zs)
-SameSums-append xs ys zs same = record {
-  counts = λ f c. omega (arith, same.counts f c, count-append xs zs f c, count-append ys zs f c);
-  totals = λ f c. omega (arith, ints, same.totals f c, total-append xs zs f c, total-append ys zs f c);
 }
 
 -- one view places one more entry
@@ -112,19 +91,9 @@ SameSums-more views w none =
     let same : all_laid (views ++ w ∷ []) ≡ all_laid views = all_laid-more views w ∙ (ap (λ es. all_laid views ++ es) none ∙ append-nil (all_laid views)) in
     subst (λ es. SameSums (all_laid views) es) (sym same) (record { counts = λ f c. refl; totals = λ f c. refl })
 
-pub SameSums-append_right : (es xs ys : List Entry) → SameSums xs ys → SameSums (es ++ xs) (es ++ ys)
-SameSums-append_right es xs ys same = record {
-  counts = λ f c. omega (arith, same.counts f c, count-append es xs f c, count-append es ys f c);
-  totals = λ f c. omega (arith, ints, same.totals f c, total-append es xs f c, total-append es ys f c);
-}
-
-cases_bool : (b : Bool) → (b ≡ true) ⊎ (b ≡ false)
-cases_bool true = inl refl
-cases_bool false = inr refl
-
 -- sums don't show who placed an entry
 pub SameSums-by_member : (m : ℕ) (e : Entry) → SameSums (by_member m e ∷ []) (e ∷ [])
 SameSums-by_member m e = record {
-  counts = λ f c. elim (cases_bool (is_at f c e)) [ inl here ↦ rw here refl | inr elsewhere ↦ rw elsewhere refl ];
-  totals = λ f c. elim (cases_bool (is_at f c e)) [ inl here ↦ rw here refl | inr elsewhere ↦ rw elsewhere refl ];
+  counts = λ f c. elim (cases_Bool (is_at f c e)) [ inl here ↦ rw here refl | inr elsewhere ↦ rw elsewhere refl ];
+  totals = λ f c. elim (cases_Bool (is_at f c e)) [ inl here ↦ rw here refl | inr elsewhere ↦ rw elsewhere refl ];
 }

@@ -23,7 +23,8 @@ use Rattle.sum_table.specs.Laid.{all_laid, count, total_places}
 use Rattle.sum_table.specs.Steps.{Finds, IsWord, Tells}
 use Rattle.ring_rule.specs.Words.{NotPast, index_of, rank}
 use Rattle.sum_table.proofs.Kept.{held_of, held_once, held_place}
-use Rattle.sum_table.proofs.Places.{now_of}
+use Rattle.mix_core.specs.Written.{now_of}
+use Rattle.sum_table.proofs.Places.{index_places}
 use Rattle.sum_table.proofs.Sums.{count-append, count_few, count_room, places_set}
 
 -- what may change under a view: the player goes on, words are not followed by earlier ones, the history goes on
@@ -119,7 +120,7 @@ pub by_lap : (g : Geometry) (words : List ℕ) (es : List Entry) (t : Track) (f 
     → ByLap g (next_at g t) (get_or words (index_of g f c) 0) f c
 by_lap g words es t f c r in_range ahead =
     let next : Cursor = next_at g t in
-    let found : (k : ℕ) × IsNow g next k c × (k % g.frames ≡ f % g.frames) × (index_of g k c ≡ index_of g f c) = now_of g next f c in_range in
+    let found : (k : ℕ) × IsNow g next k c × (k % g.frames ≡ f % g.frames) × (index_of g k c ≡ index_of g f c) = now_of g (index_of g) _ (index_places g) next f c in_range in
     let k : ℕ = found.0 in
     let now : IsNow g next k c = found.1 in
     let word : ℕ = get_or words (index_of g f c) 0 in
@@ -153,7 +154,7 @@ pub word_ok : (k : Key) (words : List ℕ) (views : List View) (at : ℕ) (t : T
     → IsWord (get_or words (index_of k.geometry f c) 0) k.places
 word_ok k words views at t h f c r a in_range fits =
     let g : Geometry = k.geometry in
-    let found : (j : ℕ) × IsNow g (next_at g t) j c × (j % g.frames ≡ f % g.frames) × (index_of g j c ≡ index_of g f c) = now_of g (next_at g t) f c in_range in
+    let found : (j : ℕ) × IsNow g (next_at g t) j c × (j % g.frames ≡ f % g.frames) × (index_of g j c ≡ index_of g f c) = now_of g (index_of g) _ (index_places g) (next_at g t) f c in_range in
     let j : ℕ = found.0 in
     let word : ℕ = get_or words (index_of g f c) 0 in
     let stands : StandsFor word (lap g j) (count (all_laid views) j c) (total (all_laid views) j c) =

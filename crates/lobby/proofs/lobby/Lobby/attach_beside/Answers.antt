@@ -1,6 +1,5 @@
 use Rattle.std.proofs.Common.{◌≡◌, ◌∙◌, Some, ap, subst, sym}
 use Rattle.std.proofs.lemmas.Option.{same_Some}
-use Rattle.lobby.specs.declared.lobby.Lobby.{Lobby}
 use Rattle.lobby.specs.Loads.{HasLoadedBeside}
 use Rattle.lobby.specs.Lobbies.{Attaches}
 use Rattle.lobby.specs.Seats.{lowest_free}
@@ -9,13 +8,13 @@ use Rattle.lobby.proofs.lobby.Lobby.attach_beside.Goals as goal
 
 pub hand_out-requires : goal.hand_out-requires
 hand_out-requires c =
-    let l : Lobby = c.args.self.now in
+    let l = c.args.self.now in
     let place : lowest_free l.seats.items ≡ Some c.in-Some.place = sym (c.in-Some.ensures ∙ ap lowest_free c.as_slice.ensures.value) in
     still_free l.seats.items c.load_beside_at-position.new.self.seats.items c.in-Some.place c.load_beside_at-position.ensures.lasts place
 
 pub returns-clause-free : goal.returns-clause-free
 returns-clause-free c place is =
-    let l : Lobby = c.args.self.now in
+    let l = c.args.self.now in
     let here : c.in-Some.place ≡ place = same_Some c.in-Some.place place (c.in-Some.ensures ∙ (ap lowest_free c.as_slice.ensures.value ∙ is)) in
     let load = c.load_beside_at-position.ensures in
     let given = c.hand_out.ensures in

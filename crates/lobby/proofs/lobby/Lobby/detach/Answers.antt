@@ -1,14 +1,12 @@
 use Rattle.std.proofs.Common.{◌<◌, length, subst, sym}
-use Rattle.sum_table.specs.declared.seats.mix.MixSeat.{MixSeat}
 use Rattle.sum_table.specs.Seats.{key_of, ring_of}
-use Rattle.lobby.specs.declared.lobby.Lobby.{Lobby}
 use Rattle.lobby.proofs.Placed.{ArePlaces-set}
 use Rattle.lobby.proofs.lobby.Lobby.detach.Goals as goal
 
 pub invariant_of-self : goal.invariant_of-self
 invariant_of-self c =
-    let l : Lobby = c.args.self.now in
-    let s : MixSeat = c.args.seat in
+    let l = c.args.self.now in
+    let s = c.args.seat in
     let inside : c.member-place.result < length l.seats.items = subst (λ i. i < length l.seats.items) (sym c.member-place.ensures) c.requires.out.out.number in
     record {
       no_places = l.no_places;

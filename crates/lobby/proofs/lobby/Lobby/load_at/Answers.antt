@@ -1,6 +1,5 @@
 use Rattle.std.proofs.Common.{◌≡◌, ◌∙◌, Some, refl, sym}
 use Rattle.sum_table.specs.Seats.{key_of, ring_of}
-use Rattle.lobby.specs.declared.lobby.Lobby.{Lobby}
 use Rattle.lobby.specs.Seats.{seat_at}
 use Rattle.lobby.proofs.Attaching.{KeepsLasts-set, laid-loaded}
 use Rattle.lobby.proofs.Loading.{IsPlace-loaded}
@@ -12,7 +11,7 @@ unreachable-requires c = free-not_none c.args.self.now.seats.items c.args.place 
 
 pub invariant_of-self : goal.invariant_of-self
 invariant_of-self c =
-    let l : Lobby = c.args.self.now in
+    let l = c.args.self.now in
     let at : seat_at l.seats.items c.args.place ≡ Some c.in-Some.seat = sym (read_free l.seats.items c.args.place c.index_mut.result.now c.requires c.index_mut.ensures.value) ∙ c.in-Some.is in
     record {
       no_places = l.no_places;
@@ -23,7 +22,7 @@ invariant_of-self c =
 
 pub returns-clause-loads : goal.returns-clause-loads
 returns-clause-loads c =
-    let l : Lobby = c.args.self.now in
+    let l = c.args.self.now in
     record {
       seat = c.in-Some.seat;
       loaded = c.load-position.new.seat;
@@ -35,7 +34,7 @@ returns-clause-loads c =
 
 pub returns-clause-lasts : goal.returns-clause-lasts
 returns-clause-lasts c =
-    let l : Lobby = c.args.self.now in
+    let l = c.args.self.now in
     KeepsLasts-set l.seats.items c.args.place c.in-Some.seat c.load-position.new.seat
     (sym (read_free l.seats.items c.args.place c.index_mut.result.now c.requires c.index_mut.ensures.value) ∙ c.in-Some.is)
     (laid-loaded c.in-Some.seat c.load-position.new.seat c.load-position.result c.load-position.ensures)

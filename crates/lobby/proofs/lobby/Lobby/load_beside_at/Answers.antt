@@ -1,6 +1,5 @@
 use Rattle.std.proofs.Common.{◌≡◌, ◌∙◌, Some, refl, sym}
 use Rattle.sum_table.specs.Seats.{key_of, ring_of}
-use Rattle.lobby.specs.declared.lobby.Lobby.{Lobby}
 use Rattle.lobby.specs.Seats.{seat_at}
 use Rattle.lobby.proofs.Attaching.{KeepsLasts-set, laid-loaded_beside}
 use Rattle.lobby.proofs.Loading.{IsPlace-loaded_beside}
@@ -12,14 +11,14 @@ unreachable-requires c = free-not_none c.args.self.now.seats.items c.args.place 
 
 pub load_beside-position-requires : goal.load_beside-position-requires
 load_beside-position-requires c =
-    let l : Lobby = c.args.self.now in
+    let l = c.args.self.now in
     let at : seat_at l.seats.items c.args.place ≡ Some c.in-Some.seat = sym (read_free l.seats.items c.args.place c.index_mut.result.now c.requires.free c.index_mut.ensures.value) ∙ c.in-Some.is in
     let is = l.placed c.args.place c.in-Some.seat at in
     (c.requires.one_ring.0 ∙ sym is.of_ring, c.requires.one_ring.1 ∙ sym is.of_key)
 
 pub invariant_of-self : goal.invariant_of-self
 invariant_of-self c =
-    let l : Lobby = c.args.self.now in
+    let l = c.args.self.now in
     let at : seat_at l.seats.items c.args.place ≡ Some c.in-Some.seat = sym (read_free l.seats.items c.args.place c.index_mut.result.now c.requires.free c.index_mut.ensures.value) ∙ c.in-Some.is in
     record {
       no_places = l.no_places;
@@ -31,7 +30,7 @@ invariant_of-self c =
 
 pub returns-clause-loads : goal.returns-clause-loads
 returns-clause-loads c =
-    let l : Lobby = c.args.self.now in
+    let l = c.args.self.now in
     record {
       seat = c.in-Some.seat;
       loaded = c.load_beside-position.new.seat;
@@ -43,7 +42,7 @@ returns-clause-loads c =
 
 pub returns-clause-lasts : goal.returns-clause-lasts
 returns-clause-lasts c =
-    let l : Lobby = c.args.self.now in
+    let l = c.args.self.now in
     KeepsLasts-set l.seats.items c.args.place c.in-Some.seat c.load_beside-position.new.seat
     (sym (read_free l.seats.items c.args.place c.index_mut.result.now c.requires.free c.index_mut.ensures.value) ∙ c.in-Some.is)
     (laid-loaded_beside c.args.player.now c.in-Some.seat c.load_beside-position.new.player c.load_beside-position.new.seat c.load_beside-position.result c.load_beside-position.ensures.load)

@@ -12,7 +12,8 @@ use Rattle.mix_core.specs.Laid.{total}
 use Rattle.mix_core.specs.Sound.{IsSound}
 use Rattle.mix_core.specs.Stands.{RepresentsHistory}
 use Rattle.mix_core.specs.View.{View, word_at}
-use Rattle.mix_core.proofs.Agreement.{IsNow-next, taken_view}
+use Rattle.mix_core.specs.Written.{IsNow-next}
+use Rattle.mix_core.proofs.Agreement.{taken_view}
 use Rattle.mix_core.proofs.History.{RepresentsHistory-refused, RepresentsHistory-taken}
 use Rattle.mix_core.proofs.Soundness.{IsSound-taken}
 use Rattle.mix_core.specs.contracts.ring.Core.{the_view}
@@ -37,7 +38,7 @@ taken : (v : View) (word : ℕ) (value : ℤ) → IsSound v → lap v.geometry v
     → IsTaken v (taken_view v word) (record { frame = v.next.frame; channel = v.next.channel; value = value })
 taken v word value s more stands value_is =
     let value_of : (h : List Row) → RepresentsHistory v h → value ≡ clamp_of (total (laid_of h) v.next.frame v.next.channel) =
-    λ h st. value_is ∙ ap clamp_of (StandsFor-fields _ _ _ _ (st.agrees.words v.next.frame v.next.channel (IsNow-next v s))).2 in
+    λ h st. value_is ∙ ap clamp_of (StandsFor-fields _ _ _ _ (st.agrees.words v.next.frame v.next.channel (IsNow-next v.geometry v.next s.next_channel))).2 in
     record {
       geometry = refl;
       marks = refl;
@@ -62,7 +63,7 @@ taken-requires c =
     let v : View = the_view c.self.inside in
     let within : c.word_index-at.result < length v.words = search rules in
     let word : c.index-word.result.now ≡ word_at v v.next.frame v.next.channel = word_is v _ _ c.index-word.ensures c.word_index-at.ensures.value within in
-    let of_lap : lap_of (word_at v v.next.frame v.next.channel) ≡ lap v.geometry v.next.frame = (c.self.invariant.words_now v.next.frame v.next.channel (IsNow-next v c.self.invariant)).of_lap in
+    let of_lap : lap_of (word_at v v.next.frame v.next.channel) ≡ lap v.geometry v.next.frame = (c.self.invariant.words_now v.next.frame v.next.channel (IsNow-next v.geometry v.next c.self.invariant.next_channel)).of_lap in
     let most : lap v.geometry v.next.frame ≤ 4294967295 = lap-le v.geometry v.next.frame c.self.invariant.next_most in
     let other : lap v.geometry v.next.frame ≢ 4294967295 = λ e. c.if-lap-eq4294967295.false (c.lap.ensures ∙ e) in
     let room : lap_of (word_at v v.next.frame v.next.channel) < 4294967295 = omega (arith, of_lap, most, other) in

@@ -1,7 +1,6 @@
 use Rattle.std.proofs.Common.{◌≡◌, ◌+◌, ◌<◌, length, ◌-ℤ◌, ◌≤ℤ◌, pos, negsuc, subst, sym, ap, ◌∙◌, rules, arith}
 use Rattle.std.proofs.lemmas.Int.{ints, to_z-of_z}
 use Rattle.lap_word.specs.Word.{StandsFor, count_of, lap_of, sum_of}
-use Rattle.mix_core.specs.declared.port.Entry.{Entry}
 use Rattle.mix_core.specs.declared.port.Kind.TheVariants.{Withdrawn}
 use Rattle.mix_core.specs.Laid.{marks_with, marks_after, value_of}
 use Rattle.mix_core.specs.Marks.{withdrawn_at}
@@ -16,7 +15,7 @@ use Rattle.mix_core.proofs.ring.Core.withdraw.Goals as goal
 pub withdraw-requires-clause-room : goal.withdraw-requires-clause-room
 withdraw-requires-clause-room c =
     let v : View = the_view c.self.inside in
-    let e : Entry = c.args.entry in
+    let e = c.args.entry in
     let sample : SFits w16 e.sample = search rules in
     let can : CanLay v e = can_withdraw v c.args.self.now e c.self.view_is c.self.invariant sample c.requires.kind c.requires.member c.requires.channel c.requires.from_floor c.requires.before_cursor c.requires.untaken c.requires.ahead in
     let within : c.word_index-at.result < length v.words = search rules in
@@ -26,7 +25,7 @@ withdraw-requires-clause-room c =
 pub withdraw-requires-clause-sum_low : goal.withdraw-requires-clause-sum_low
 withdraw-requires-clause-sum_low c =
     let v : View = the_view c.self.inside in
-    let e : Entry = c.args.entry in
+    let e = c.args.entry in
     let sample : SFits w16 e.sample = search rules in
     let can : CanLay v e = can_withdraw v c.args.self.now e c.self.view_is c.self.invariant sample c.requires.kind c.requires.member c.requires.channel c.requires.from_floor c.requires.before_cursor c.requires.untaken c.requires.ahead in
     let within : c.word_index-at.result < length v.words = search rules in
@@ -38,7 +37,7 @@ withdraw-requires-clause-sum_low c =
 pub withdraw-requires-clause-sum_high : goal.withdraw-requires-clause-sum_high
 withdraw-requires-clause-sum_high c =
     let v : View = the_view c.self.inside in
-    let e : Entry = c.args.entry in
+    let e = c.args.entry in
     let sample : SFits w16 e.sample = search rules in
     let can : CanLay v e = can_withdraw v c.args.self.now e c.self.view_is c.self.invariant sample c.requires.kind c.requires.member c.requires.channel c.requires.from_floor c.requires.before_cursor c.requires.untaken c.requires.ahead in
     let within : c.word_index-at.result < length v.words = search rules in
@@ -50,7 +49,7 @@ withdraw-requires-clause-sum_high c =
 pub invariant_of-self : goal.invariant_of-self
 invariant_of-self c =
     let v : View = the_view c.self.inside in
-    let e : Entry = c.args.entry in
+    let e = c.args.entry in
     let sample : SFits w16 e.sample = search rules in
     let can : CanLay v e = can_withdraw v c.args.self.now e c.self.view_is c.self.invariant sample c.requires.kind c.requires.member c.requires.channel c.requires.from_floor c.requires.before_cursor c.requires.untaken c.requires.ahead in
     let within : c.word_index-at.result < length v.words = search rules in
@@ -64,7 +63,7 @@ invariant_of-self c =
 pub returns : goal.returns
 returns c =
     let v : View = the_view c.self.inside in
-    let e : Entry = c.args.entry in
+    let e = c.args.entry in
     let sample : SFits w16 e.sample = search rules in
     let can : CanLay v e = can_withdraw v c.args.self.now e c.self.view_is c.self.invariant sample c.requires.kind c.requires.member c.requires.channel c.requires.from_floor c.requires.before_cursor c.requires.untaken c.requires.ahead in
     let within : c.word_index-at.result < length v.words = search rules in

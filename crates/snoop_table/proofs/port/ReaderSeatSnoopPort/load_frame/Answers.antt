@@ -4,7 +4,6 @@ use Rattle.std.proofs.lemmas.Result.{err_from_is_err_and}
 use Rattle.snd_base.specs.Places.{lap}
 use Rattle.snoop_core.specs.PortLaws.{asked-more}
 use Rattle.snoop_core.specs.Word.{laps_of}
-use Rattle.snoop_table.specs.declared.seats.reader.ReaderSeat.{ReaderSeat}
 use Rattle.snoop_table.proofs.Fetching.{fetching-more, gets-overtaken, gets-stopped}
 use mir.Syntax.{w16}
 use mir.Val.{SFits}
@@ -20,7 +19,7 @@ returns-in_err-ask-clause-step g c =
 
 pub returns-then-laps-own_laps-clause-step : goal.returns-then-laps-own_laps-clause-step
 returns-then-laps-own_laps-clause-step g c =
-    let s : ReaderSeat = c.args.self.now in
+    let s = c.args.self.now in
     let other : laps_of c.look-seen.result ≢ lap s.geometry c.args.frame + 1 =
     λ e. c.if-laps-own_laps.true (c.laps.ensures ∙ (e ∙ sym c.loop-channel.invariant.laps)) in
     gets-overtaken g.G.Gate.stops g.G.Gate.asked s c.loop-channel.self _ c.args.gate.now c.ask.new.gate c.args.frame c.loop-channel.channel c.look-seen.result _ c.loop-channel.invariant.fetching c.loop-channel-test.true
@@ -30,7 +29,7 @@ returns-then-laps-own_laps-clause-step g c =
 
 pub loop-channel-preserved : goal.loop-channel-preserved
 loop-channel-preserved g c =
-    let s : ReaderSeat = c.args.self.now in
+    let s = c.args.self.now in
     let fits : SFits w16 c.sample.result = search rules in
     let own : laps_of c.look-seen.result ≡ lap s.geometry c.args.frame + 1 =
     sym c.laps.ensures ∙ (c.if-laps-own_laps.false ∙ c.loop-channel.invariant.laps) in

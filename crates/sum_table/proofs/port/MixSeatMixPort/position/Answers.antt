@@ -1,4 +1,4 @@
-use Rattle.sum_table.proofs.Loading.{loads_none, loads_one}
+use Rattle.sum_table.proofs.Placing.{loads_none, loads_one}
 use Rattle.sum_table.proofs.port.MixSeatMixPort.position.Goals as goal
 
 pub returns-in_err-ask-clause-step : goal.returns-in_err-ask-clause-step

@@ -1,14 +1,12 @@
 use Rattle.std.proofs.Common.{arith, ap, refl}
 use Rattle.atomic_table.specs.Table.{Me}
-use Rattle.snoop_table.specs.declared.seats.desk.Desk.{Desk}
 use Rattle.snoop_table.specs.declared.view.View.{View}
-use Rattle.snoop_table.proofs.Cuts.{splits}
-use Rattle.snoop_table.proofs.Joining.{has_given}
+use Rattle.snoop_table.proofs.Cuts.{splits, has_given}
 use Rattle.snoop_table.proofs.seats.desk.Desk.give.Goals as goal
 
 pub split_seat-seat-requires : goal.split_seat-seat-requires
 split_seat-seat-requires c =
-    let d : Desk = c.args.self.now in
+    let d = c.args.self.now in
     (d.same_ring.0, omega (arith, d.same_ring.3), splits d.ring.now.key d.seat.id d.seat.me.0)
 
 pub returns : goal.returns

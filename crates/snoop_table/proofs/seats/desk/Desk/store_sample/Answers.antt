@@ -5,7 +5,6 @@ use Rattle.snd_base.specs.declared.places.Cursor.{Cursor}
 use Rattle.snd_base.specs.Places.{lap}
 use Rattle.ring_rule.specs.WordLaws.{index_of-lt}
 use Rattle.snoop_core.specs.Word.{HoldsSample}
-use Rattle.snoop_table.specs.declared.seats.desk.Desk.{Desk}
 use Rattle.snoop_table.specs.declared.view.View.{View}
 use Rattle.snoop_table.specs.Known.{IsWriter}
 use Rattle.snoop_table.proofs.Writing.{has_stored, known_stored, may_store}
@@ -15,7 +14,7 @@ use Rattle.snoop_table.proofs.seats.desk.Desk.store_sample.Goals as goal
 
 pub store-requires : goal.store-requires
 store-requires c =
-    let d : Desk = c.args.self.now in
+    let d = c.args.self.now in
     let sample : SFits w16 c.args.sample = c.ranges.sample in
     let word : HoldsSample c.snoop_word-word.result d.place.laps c.args.sample = simp to_z-of_z at c.snoop_word-word.ensures in
     let holds : HoldsSample c.snoop_word-word.result (lap d.geometry d.place.next.frame + 1) c.args.sample = subst (λ l. HoldsSample c.snoop_word-word.result l c.args.sample) d.at_next.laps_is word in
@@ -23,7 +22,7 @@ store-requires c =
 
 pub invariant_of-self : goal.invariant_of-self
 invariant_of-self c =
-    let d : Desk = c.args.self.now in
+    let d = c.args.self.now in
     record {
       same_ring = (c.store.ensures.0 ∙ d.same_ring.0, d.same_ring.1, ap (λ (x : Me (Unit {0}) View). x.1) c.store.ensures.2.2 ∙ d.same_ring.2, d.same_ring.3);
       known = subst (λ (y : Cursor). IsWriter c.store.new.seat.me.0 d.geometry y d.position d.gone) (sym c.behind-behind.ensures.next)
@@ -33,7 +32,7 @@ invariant_of-self c =
 
 pub returns : goal.returns
 returns c =
-    let d : Desk = c.args.self.now in
+    let d = c.args.self.now in
     let sample : SFits w16 c.args.sample = c.ranges.sample in
     let word : HoldsSample c.snoop_word-word.result d.place.laps c.args.sample = simp to_z-of_z at c.snoop_word-word.ensures in
     let holds : HoldsSample c.snoop_word-word.result (lap d.geometry d.place.next.frame + 1) c.args.sample = subst (λ l. HoldsSample c.snoop_word-word.result l c.args.sample) d.at_next.laps_is word in

@@ -1,24 +1,22 @@
 use Rattle.std.proofs.Common.{◌≡◌, arith, max, subst, sym, ap, ◌∙◌}
 use Rattle.atomic_table.specs.Table.{Me}
 use Rattle.snd_base.specs.declared.geometry.Geometry.{Geometry}
-use Rattle.snoop_table.specs.declared.seats.reader.ReaderSeat.{ReaderSeat}
 use Rattle.snoop_table.specs.declared.view.View.{View}
 use Rattle.snoop_table.specs.Cuts.{both_of}
 use Rattle.snoop_table.specs.Known.{IsReader}
-use Rattle.snoop_table.proofs.Cuts.{joins}
-use Rattle.snoop_table.proofs.Joining.{known_joined}
+use Rattle.snoop_table.proofs.Cuts.{joins, known_joined}
 use Rattle.snoop_table.proofs.seats.reader.ReaderSeat.join.Goals as goal
 
 pub join_seat-requires : goal.join_seat-requires
 join_seat-requires c =
-    let s : ReaderSeat = c.args.self.now in
-    let o : ReaderSeat = c.args.other in
+    let s = c.args.self.now in
+    let o = c.args.other in
     (s.same_ring.0, c.requires.0 ∙ s.same_ring.0, o.same_ring.2, omega (arith, s.same_ring.3), joins s.ring.now.key s.seat.id s.seat.me.0 o.seat.id o.seat.me.0)
 
 pub invariant_of-self : goal.invariant_of-self
 invariant_of-self c =
-    let s : ReaderSeat = c.args.self.now in
-    let o : ReaderSeat = c.args.other in
+    let s = c.args.self.now in
+    let o = c.args.other in
     let both : c.join_seat.new.seat.me.0 ≡ both_of s.seat.me.0 o.seat.me.0 = ap (λ (m : Me (Unit {0}) View). m.0) c.join_seat.ensures.2 in
     let met : IsReader o.seat.me.0 s.geometry o.seen = subst (λ (g : Geometry). IsReader o.seat.me.0 g o.seen) c.requires.1 o.known in
     record {

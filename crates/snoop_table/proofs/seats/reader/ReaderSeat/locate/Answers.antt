@@ -1,6 +1,5 @@
 use Rattle.std.proofs.Common.{arith, sym, subst, ap, ◌∙◌, refl}
 use Rattle.atomic_table.specs.Table.{Me}
-use Rattle.snoop_table.specs.declared.seats.reader.ReaderSeat.{ReaderSeat}
 use Rattle.snoop_table.specs.declared.view.View.{View}
 use Rattle.snoop_table.specs.Known.{IsReader}
 use Rattle.snoop_table.proofs.Reading.{has_located, known_located, may_locate}
@@ -8,12 +7,12 @@ use Rattle.snoop_table.proofs.seats.reader.ReaderSeat.locate.Goals as goal
 
 pub load-word-requires : goal.load-word-requires
 load-word-requires c =
-    let s : ReaderSeat = c.args.self.now in
+    let s = c.args.self.now in
     (s.same_ring.0, omega (arith, s.same_ring.3), may_locate s _)
 
 pub invariant_of-self : goal.invariant_of-self
 invariant_of-self c =
-    let s : ReaderSeat = c.args.self.now in
+    let s = c.args.self.now in
     record {
       same_ring = (c.load-word.ensures.0 ∙ s.same_ring.0, s.same_ring.1, ap (λ (x : Me (Unit {0}) View). x.1) c.load-word.ensures.2.2 ∙ s.same_ring.2, s.same_ring.3);
       known = subst (λ p. IsReader c.load-word.new.seat.me.0 s.geometry p) (sym c.position_of.ensures)
@@ -23,5 +22,5 @@ invariant_of-self c =
 
 pub returns : goal.returns
 returns c =
-    let s : ReaderSeat = c.args.self.now in
+    let s = c.args.self.now in
     has_located s _ s.ring.now.table_id.slots c.load-word.result _ c.load-word.ensures.0 refl refl c.position_of.ensures c.gone_of.ensures c.load-word.ensures.2

@@ -3,7 +3,6 @@ use mathlib.Core.Option.{none}
 use Rattle.atomic_table.specs.Table.{Allows, step}
 use Rattle.snd_base.specs.declared.geometry.Geometry.{Geometry}
 use Rattle.ring_rule.specs.WordLaws.{index_of-lt}
-use Rattle.snoop_table.specs.declared.seats.reader.ReaderSeat.{ReaderSeat}
 use Rattle.snoop_table.specs.Captured.{Holds}
 use Rattle.snoop_table.specs.Steps.{word_load}
 use Rattle.snoop_table.proofs.Reading.{has_looked, may_look}
@@ -11,7 +10,7 @@ use Rattle.snoop_table.proofs.seats.reader.ReaderSeat.look_at.Goals as goal
 
 pub load-requires : goal.load-requires
 load-requires g c =
-    let s : ReaderSeat = c.args.self.now in
+    let s = c.args.self.now in
     let slots = s.ring.now.table_id.slots in
     let in_range = subst (λ (k : Geometry). c.args.channel < k.channels) s.known.same_geometry c.requires.next.channel in
     let Goes : ℕ → ℕ → Type 0 = λ f d. Allows (Holds s.ring.now.key) slots s.seat.id s.seat.me c.args.index (λ n. n) (word_load f d (step slots c.args.index 0 0 none) s.seat.me) in (
@@ -22,7 +21,7 @@ load-requires g c =
 
 pub returns : goal.returns
 returns g c =
-    let s : ReaderSeat = c.args.self.now in
+    let s = c.args.self.now in
     let slots = s.ring.now.table_id.slots in
     let in_range = subst (λ (k : Geometry). c.args.channel < k.channels) s.known.same_geometry c.requires.next.channel in
     let told : word_load c.args.frame c.args.channel (step slots c.args.index 0 0 none) s.seat.me c.load.result c.load.new.seat.me =

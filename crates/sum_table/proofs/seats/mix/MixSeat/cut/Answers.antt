@@ -1,22 +1,21 @@
 use Rattle.std.proofs.Common.{◌-◌, arith, ap, subst, sym, ◌∙◌}
 use Rattle.atomic_table.specs.Table.{Me}
 use Rattle.mix_core.specs.declared.port.Entry.{Entry}
-use Rattle.sum_table.specs.declared.seats.mix.MixSeat.{MixSeat}
 use Rattle.sum_table.specs.declared.view.View.{View}
 use Rattle.sum_table.specs.Cuts.{part_of}
 use Rattle.sum_table.specs.Extent.{Extent}
 use Rattle.sum_table.specs.Known.{IsKnown}
-use Rattle.sum_table.proofs.Joining.{known_as, known_part, known_without, may_cut}
+use Rattle.sum_table.proofs.Cuts.{known_as, known_part, known_without, may_cut}
 use Rattle.sum_table.proofs.seats.mix.MixSeat.cut.Goals as goal
 
 pub split_seat-seat-requires : goal.split_seat-seat-requires
 split_seat-seat-requires g c =
-    let s : MixSeat = c.args.self.now in
+    let s = c.args.self.now in
     (s.same_ring.0, omega (arith, s.same_ring.3), may_cut s g.B.Amount.amount c.args.places c.requires.amount c.requires.places c.requires.laid_nothing)
 
 pub invariant_of-self : goal.invariant_of-self
 invariant_of-self g c =
-    let s : MixSeat = c.args.self.now in
+    let s = c.args.self.now in
     let me = c.split_seat-seat.ensures.2 in
     record {
       same_ring = (c.split_seat-seat.ensures.0 ∙ s.same_ring.0, s.same_ring.1, ap (λ (m : Me Entry View). m.1) me ∙ s.same_ring.2, s.same_ring.3);
@@ -28,7 +27,7 @@ invariant_of-self g c =
 
 pub invariant_of-result : goal.invariant_of-result
 invariant_of-result g c =
-    let s : MixSeat = c.args.self.now in
+    let s = c.args.self.now in
     let me = c.split_seat-seat.ensures.4 in
     record {
       same_ring = (c.split_seat-seat.ensures.3 ∙ s.same_ring.0, s.same_ring.1, ap (λ (m : Me Entry View). m.1) me, s.same_ring.3);

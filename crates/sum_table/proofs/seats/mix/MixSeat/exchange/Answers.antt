@@ -5,32 +5,31 @@ use mir.Syntax.{w16}
 use Rattle.snd_base.specs.declared.geometry.Geometry.{Geometry}
 use Rattle.mix_core.specs.declared.port.Entry.{Entry}
 use Rattle.mix_core.specs.Laid.{marks_with}
-use Rattle.sum_table.specs.declared.seats.mix.MixSeat.{MixSeat}
 use Rattle.sum_table.specs.declared.view.View.{View}
 use Rattle.sum_table.specs.Extent.{Extent}
 use Rattle.sum_table.specs.Known.{IsKnown, greater}
 use Rattle.sum_table.specs.Seats.{entry_by}
-use Rattle.sum_table.proofs.Spots.{spot_within}
+use Rattle.sum_table.proofs.Places.{spot_within}
 use Rattle.sum_table.proofs.Seated.{MayExchange, has_laid_as, has_lost, known_lost, known_won, lay_facts, lost_notes, may_lay, ring_spot_exchanges, ring_spot_room, room_there, won_lays}
 use Rattle.sum_table.proofs.seats.mix.MixSeat.exchange.Goals as goal
 
 pub changed-new-requires-clause-low : goal.changed-new-requires-clause-low
 changed-new-requires-clause-low g c =
-    let s : MixSeat = c.args.self.now in
+    let s = c.args.self.now in
     let z : ℤ = to_z w16 (of_z w16 c.args.sample) in
     let may : MayExchange s c.args.kind c.args.frame c.args.channel c.args.old z = may_lay s c.args.kind c.args.frame c.args.channel c.args.old c.args.sample c.ranges.sample c.requires.may c.requires.noted c.requires.of_lap in
     (room_there s c.args.kind c.args.frame c.args.channel c.args.old z may).low
 
 pub changed-new-requires-clause-high : goal.changed-new-requires-clause-high
 changed-new-requires-clause-high g c =
-    let s : MixSeat = c.args.self.now in
+    let s = c.args.self.now in
     let z : ℤ = to_z w16 (of_z w16 c.args.sample) in
     let may : MayExchange s c.args.kind c.args.frame c.args.channel c.args.old z = may_lay s c.args.kind c.args.frame c.args.channel c.args.old c.args.sample c.ranges.sample c.requires.may c.requires.noted c.requires.of_lap in
     (room_there s c.args.kind c.args.frame c.args.channel c.args.old z may).high
 
 pub compare_exchange_with-found-requires : goal.compare_exchange_with-found-requires
 compare_exchange_with-found-requires g c =
-    let s : MixSeat = c.args.self.now in
+    let s = c.args.self.now in
     let z : ℤ = to_z w16 (of_z w16 c.args.sample) in
     let may : MayExchange s c.args.kind c.args.frame c.args.channel c.args.old z = may_lay s c.args.kind c.args.frame c.args.channel c.args.old c.args.sample c.ranges.sample c.requires.may c.requires.noted c.requires.of_lap in (
       sym c.requires.spot.table,
@@ -40,7 +39,7 @@ compare_exchange_with-found-requires g c =
 
 pub invariant_of-self : goal.invariant_of-self
 invariant_of-self g c =
-    let s : MixSeat = c.args.self.now in
+    let s = c.args.self.now in
     let e : Entry = entry_by s c.args.kind c.args.frame c.args.channel (to_z w16 (of_z w16 c.args.sample)) in
     let other : c.compare_exchange_with-found.result ≢ c.args.old = c.if-found-old.true in
     let lost = lost_notes c.args.ring_spot.ring.now.table_id.slots c.args.ring_spot.spot.index c.args.old c.changed-new.result c.compare_exchange_with-found.result e s.seat.me c.compare_exchange_with-found.new.seat.me other c.compare_exchange_with-found.ensures.2 in
@@ -53,7 +52,7 @@ invariant_of-self g c =
 
 pub returns-then-found-old-clause-err : goal.returns-then-found-old-clause-err
 returns-then-found-old-clause-err g c =
-    let s : MixSeat = c.args.self.now in
+    let s = c.args.self.now in
     let e : Entry = entry_by s c.args.kind c.args.frame c.args.channel (to_z w16 (of_z w16 c.args.sample)) in
     let other : c.compare_exchange_with-found.result ≢ c.args.old = c.if-found-old.true in
     has_lost s _ c.args.ring_spot.ring.now.table_id.slots c.args.ring_spot.spot.index c.args.frame c.args.channel c.args.old c.changed-new.result c.compare_exchange_with-found.result e
@@ -66,7 +65,7 @@ lay-requires-clause-channel g c =
 
 pub invariant_of-self-2 : goal.invariant_of-self-2
 invariant_of-self-2 g c =
-    let s : MixSeat = c.args.self.now in
+    let s = c.args.self.now in
     let z : ℤ = to_z w16 (of_z w16 c.args.sample) in
     let same : c.compare_exchange_with-found.result ≡ c.args.old = c.if-found-old.false in
     let e : Entry = entry_by s c.args.kind c.args.frame c.args.channel z in
@@ -83,7 +82,7 @@ invariant_of-self-2 g c =
 
 pub returns-clause-ok : goal.returns-clause-ok
 returns-clause-ok g c =
-    let s : MixSeat = c.args.self.now in
+    let s = c.args.self.now in
     let z : ℤ = to_z w16 (of_z w16 c.args.sample) in
     let same : c.compare_exchange_with-found.result ≡ c.args.old = c.if-found-old.false in
     let e : Entry = entry_by s c.args.kind c.args.frame c.args.channel z in

@@ -1,6 +1,5 @@
 use Rattle.std.proofs.Common.{◌<◌, Option, ℕ, IfSome, arith, subst, sym, ◌∙◌}
 use Rattle.snd_base.specs.Places.{IsFrom, end_frame}
-use Rattle.sum_table.specs.declared.seats.mix.MixSeat.{MixSeat}
 use Rattle.sum_table.specs.Known.{free_from}
 use Rattle.sum_table.proofs.Seated.{last_frame-before}
 use Rattle.sum_table.proofs.seats.mix.MixSeat.last.Goals as goal
@@ -8,7 +7,7 @@ use Rattle.snd_base.specs.PlaceLaws.{suc-le-end_frame}
 
 pub returns-clause-before_end : goal.returns-clause-before_end
 returns-clause-before_end c =
-    let s : MixSeat = c.args.self.now in
+    let s = c.args.self.now in
     subst (λ (o : Option ℕ). IfSome o (λ frame. frame < end_frame s.key.geometry)) (s.known.same_last ∙ sym c.last.ensures)
     (last_frame-before s.seat.me.0.laid (end_frame s.key.geometry) (λ i e there. let fits = suc-le-end_frame s.key.geometry e.frame (s.known.laid i e there).fits in omega (arith, fits)))
 
@@ -17,10 +16,10 @@ returns-clause-before_high c = c.last.ensures ∙ sym c.args.self.now.known.reac
 
 pub returns-clause-cursor_free : goal.returns-clause-cursor_free
 returns-clause-cursor_free c =
-    let s : MixSeat = c.args.self.now in
+    let s = c.args.self.now in
     subst (λ (o : Option ℕ). IsFrom s.reach.marks.cursor (free_from s.key.geometry o) 0) (sym c.last.ensures) s.known.reach_is.cursor
 
 pub returns-clause-floor_free : goal.returns-clause-floor_free
 returns-clause-floor_free c =
-    let s : MixSeat = c.args.self.now in
+    let s = c.args.self.now in
     subst (λ (o : Option ℕ). IsFrom s.reach.marks.floor (free_from s.key.geometry o) 0) (sym c.last.ensures) s.known.reach_is.floor

@@ -7,14 +7,13 @@ use Rattle.std.proofs.lemmas.Int.{to_z-of_z}
 use mir.Syntax.{w16}
 use Rattle.snd_base.specs.Places.{lap}
 use Rattle.lap_word.specs.Word.{lap_of}
-use Rattle.sum_table.specs.declared.seats.mix.MixSeat.{MixSeat}
 use Rattle.sum_table.specs.Seats.{entry_by}
 use Rattle.sum_table.proofs.Placing.{asked_again, at_lay, first_trying, found_more, found_none, laid_as, late_lays, stopped_lays, trying_on, whole_lays}
 use Rattle.sum_table.proofs.seats.mix.MixSeat.lay.Goals as goal
 
 pub returns-in_default : goal.returns-in_default
 returns-in_default g c =
-    let s : MixSeat = c.args.self.now in
+    let s = c.args.self.now in
     stopped_lays g.G.Gate.stops g.G.Gate.asked s s c.args.gate.now c.ask.new.gate (entry_by s c.args.kind c.args.frame c.args.channel c.args.sample) [] 1 c.args.steps.now c.args.steps.now
     (found_none s c.args.frame c.args.channel) refl (omega arith) (λ _. refl) c.in_default.ensures.asked c.in_default.ensures.answer (omega arith) (omega arith)
 
@@ -23,14 +22,14 @@ look-word-requires g c = record { channel = (at_lay c.args.self.now c.args.kind 
 
 pub returns-then-lap-spot : goal.returns-then-lap-spot
 returns-then-lap-spot g c =
-    let s : MixSeat = c.args.self.now in
+    let s = c.args.self.now in
     let other : lap_of c.look-word.result ≢ lap s.key.geometry c.args.frame = λ same. c.if-lap-spot.true (c.lap.ensures.lap ∙ (same ∙ sym c.requires.spot.spot.lap_is)) in
     late_lays g.G.Gate.stops g.G.Gate.asked s s c.look-word.new.self c.args.gate.now c.ask.new.gate c.args.kind c.args.frame c.args.channel c.args.sample [] c.look-word.result 1 c.args.steps.now c.look-word.new.steps
     (found_none s c.args.frame c.args.channel) c.look-word.ensures.noted c.requires.may other refl (λ _. refl) c.in-Ok.ensures.asked c.in-Ok.ensures.answer c.look-word.ensures.ticks (omega arith)
 
 pub returns-in_default-ask : goal.returns-in_default-ask
 returns-in_default-ask g c =
-    let s : MixSeat = c.args.self.now in
+    let s = c.args.self.now in
     let same : lap_of c.look-word.result ≡ lap s.key.geometry c.args.frame = sym c.lap.ensures.lap ∙ (c.if-lap-spot.false ∙ c.requires.spot.spot.lap_is) in
     let trying = first_trying s c.look-word.new.self c.args.frame c.args.channel c.look-word.result c.args.steps.now c.look-word.new.steps c.look-word.ensures.noted
     (at_lay s c.args.kind c.args.frame c.args.channel c.args.sample c.requires.may) same c.look-word.ensures.ticks in
@@ -40,7 +39,7 @@ returns-in_default-ask g c =
 
 pub loop-found-init : goal.loop-found-init
 loop-found-init g c =
-    let s : MixSeat = c.args.self.now in
+    let s = c.args.self.now in
     let same : lap_of c.look-word.result ≡ lap s.key.geometry c.args.frame = sym c.lap.ensures.lap ∙ (c.if-lap-spot.false ∙ c.requires.spot.spot.lap_is) in
     record {
       lost = 0;
@@ -52,7 +51,7 @@ loop-found-init g c =
 
 pub returns-in_default-exchange : goal.returns-in_default-exchange
 returns-in_default-exchange g c =
-    let s : MixSeat = c.args.self.now in
+    let s = c.args.self.now in
     let is = c.loop-found.invariant.trying in
     whole_lays g.G.Gate.stops g.G.Gate.asked s c.loop-found.self c.exchange.new.self c.args.gate.now c.loop-found.gate (entry_by s c.args.kind c.args.frame c.args.channel c.args.sample) is.words (suc (suc c.loop-found.invariant.lost)) c.args.steps.now c.exchange.new.steps
     is.found (laid_as s c.loop-found.self c.exchange.new.self c.args.kind c.args.frame c.args.channel _ c.args.sample is.found.goes.member (to_z-of_z w16 c.args.sample c.ranges.sample) c.in_default-exchange.ensures.ok) is.not_before
@@ -60,7 +59,7 @@ returns-in_default-exchange g c =
 
 pub returns-then-lap-spot-2 : goal.returns-then-lap-spot-2
 returns-then-lap-spot-2 g c =
-    let s : MixSeat = c.args.self.now in
+    let s = c.args.self.now in
     let is = c.loop-found.invariant.trying in
     let other : lap_of c.in-Err.found ≢ lap s.key.geometry c.args.frame = λ same. c.if-lap-spot-2.true (c.lap-in-loop-found.ensures.lap ∙ (same ∙ sym c.requires.spot.spot.lap_is)) in
     late_lays g.G.Gate.stops g.G.Gate.asked s c.loop-found.self c.exchange.new.self c.args.gate.now c.loop-found.gate c.args.kind c.args.frame c.args.channel c.args.sample is.words c.in-Err.found (suc (suc c.loop-found.invariant.lost)) c.args.steps.now c.exchange.new.steps
@@ -69,7 +68,7 @@ returns-then-lap-spot-2 g c =
 
 pub returns-in_default-ask-2 : goal.returns-in_default-ask-2
 returns-in_default-ask-2 g c =
-    let s : MixSeat = c.args.self.now in
+    let s = c.args.self.now in
     let is = c.loop-found.invariant.trying in
     stopped_lays g.G.Gate.stops g.G.Gate.asked s c.exchange.new.self c.args.gate.now c.ask-in-loop-found.new.gate (entry_by s c.args.kind c.args.frame c.args.channel c.args.sample) (is.words ++ c.in-Err.found ∷ []) (suc (suc (suc c.loop-found.invariant.lost))) c.args.steps.now c.exchange.new.steps
     (found_more s c.loop-found.self c.exchange.new.self c.args.frame c.args.channel c.in-Err.found is.words is.found c.in-Err.ensures.err.noted)
@@ -79,7 +78,7 @@ returns-in_default-ask-2 g c =
 
 pub loop-found-preserved : goal.loop-found-preserved
 loop-found-preserved g c =
-    let s : MixSeat = c.args.self.now in
+    let s = c.args.self.now in
     let same : lap_of c.in-Err.found ≡ lap s.key.geometry c.args.frame = sym c.lap-in-loop-found.ensures.lap ∙ (c.if-lap-spot-2.false ∙ c.requires.spot.spot.lap_is) in
     record {
       lost = c.loop-found.invariant.lost + 1;

@@ -1,12 +1,11 @@
 use Rattle.std.proofs.Common.{arith, sym, subst, ◌∙◌, refl}
-use Rattle.sum_table.specs.declared.seats.mix.MixSeat.{MixSeat}
 use Rattle.sum_table.specs.Known.{IsKnown}
 use Rattle.sum_table.proofs.Seated.{has_located, known_located, locates_at}
 use Rattle.sum_table.proofs.seats.mix.MixSeat.locate.Goals as goal
 
 pub load-word-requires : goal.load-word-requires
 load-word-requires c =
-    let s : MixSeat = c.args.self.now in (
+    let s = c.args.self.now in (
       s.same_ring.0,
       omega (arith, s.same_ring.3),
       locates_at s.ring.now.key _ s.seat.id s.seat.me (s.known.same_key ∙ s.same_ring.1) s.known.lasts,
@@ -14,7 +13,7 @@ load-word-requires c =
 
 pub invariant_of-self : goal.invariant_of-self
 invariant_of-self c =
-    let s : MixSeat = c.args.self.now in
+    let s = c.args.self.now in
     record {
       same_ring = search;
       known = subst (λ p. IsKnown c.load-word.new.seat.me.0 s.key s.places s.reach.marks p s.reach.last) (sym c.position_of.ensures)
@@ -25,5 +24,5 @@ invariant_of-self c =
 
 pub returns : goal.returns
 returns c =
-    let s : MixSeat = c.args.self.now in
+    let s = c.args.self.now in
     has_located s _ s.ring.now.table_id.slots c.load-word.result _ c.load-word.ensures.0 refl refl refl refl refl refl c.position_of.ensures c.gone_of.ensures c.load-word.ensures.2

@@ -1,4 +1,4 @@
-use Rattle.sum_table.proofs.Joining.{has_met}
+use Rattle.sum_table.proofs.Cuts.{has_met}
 use Rattle.sum_table.proofs.seats.mix.MixSeat.meet.Goals as goal
 
 pub returns : goal.returns

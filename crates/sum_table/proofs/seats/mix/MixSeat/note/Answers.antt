@@ -1,22 +1,21 @@
 use Rattle.std.proofs.Common.{arith, ap, subst, sym, ◌∙◌, refl}
 use Rattle.atomic_table.specs.Table.{Me}
 use Rattle.mix_core.specs.declared.port.Entry.{Entry}
-use Rattle.sum_table.specs.declared.seats.mix.MixSeat.{MixSeat}
 use Rattle.sum_table.specs.declared.view.View.{View}
 use Rattle.sum_table.specs.Cuts.{part_of}
 use Rattle.sum_table.specs.Extent.{Extent}
 use Rattle.sum_table.specs.Known.{IsKnown}
-use Rattle.sum_table.proofs.Joining.{known_as, known_part, may_note}
+use Rattle.sum_table.proofs.Cuts.{known_as, known_part, may_note}
 use Rattle.sum_table.proofs.seats.mix.MixSeat.note.Goals as goal
 
 pub split_seat-seat-requires : goal.split_seat-seat-requires
 split_seat-seat-requires c =
-    let s : MixSeat = c.args.self.now in
+    let s = c.args.self.now in
     (s.same_ring.0, omega (arith, s.same_ring.3), may_note s.ring.now.key s.seat.id s.seat.me.0 (s.known.same_key ∙ s.same_ring.1))
 
 pub invariant_of-result : goal.invariant_of-result
 invariant_of-result c =
-    let s : MixSeat = c.args.self.now in
+    let s = c.args.self.now in
     let me = c.split_seat-seat.ensures.4 in
     record {
       same_ring = (c.split_seat-seat.ensures.3 ∙ s.same_ring.0, s.same_ring.1, ap (λ (m : Me Entry View). m.1) me, s.same_ring.3);

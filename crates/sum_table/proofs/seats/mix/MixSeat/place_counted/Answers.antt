@@ -7,8 +7,7 @@ use Rattle.mix_core.specs.declared.marks.Marks.{Marks}
 use Rattle.sum_table.specs.declared.seats.mix.MixSeat.{MixSeat}
 use Rattle.sum_table.specs.declared.view.Key.{Key}
 use Rattle.sum_table.specs.Seats.{CanAdd, IsTurned, MayLay}
-use Rattle.sum_table.proofs.Placing.{counted_as}
-use Rattle.sum_table.proofs.Turned.{turned_counted}
+use Rattle.sum_table.proofs.Placing.{counted_as, turned_counted}
 use Rattle.sum_table.proofs.seats.mix.MixSeat.place_counted.Goals as goal
 
 -- a seat that went to the lap of a frame may add there what it might before

@@ -3,12 +3,10 @@ use Rattle.std.proofs.lemmas.Int.{to_z-of_z}
 use mir.Syntax.{w16}
 use Rattle.mix_core.specs.declared.port.Kind.TheVariants.{Withdrawn}
 use Rattle.snd_base.specs.Places.{lap}
-use Rattle.sum_table.specs.declared.seats.mix.MixSeat.{MixSeat}
 use Rattle.sum_table.specs.declared.view.Key.{Key}
 use Rattle.sum_table.specs.Seats.{IsTurned, MayLay}
-use Rattle.sum_table.proofs.Placing.{counted_as}
+use Rattle.sum_table.proofs.Placing.{counted_as, turned_counted, turned_may}
 use Rattle.sum_table.proofs.Seated.{lay_facts}
-use Rattle.sum_table.proofs.Turned.{turned_counted, turned_may}
 use Rattle.sum_table.proofs.seats.mix.MixSeat.withdraw_counted.Goals as goal
 
 pub unreachable-requires : goal.unreachable-requires
@@ -19,8 +17,8 @@ unreachable-requires g c =
 
 pub spot_in_lap-ring_spot-requires : goal.spot_in_lap-ring_spot-requires
 spot_in_lap-ring_spot-requires g c =
-    let s : MixSeat = c.args.self.now in
-    let p : MixSeat = c.turn_to_frame.new.self in
+    let s = c.args.self.now in
+    let p = c.turn_to_frame.new.self in
     let is : IsTurned s p c.args.frame = c.turn_to_frame.ensures.turned c.if-not-turn_to_frame.false in
     let channel = (lay_facts s Withdrawn c.args.frame c.args.channel c.args.sample (c.requires.last, c.requires.from_floor)).channel in
     record {
@@ -30,7 +28,7 @@ spot_in_lap-ring_spot-requires g c =
 
 pub lay-ended-requires-clause-may : goal.lay-ended-requires-clause-may
 lay-ended-requires-clause-may g c =
-    let p : MixSeat = c.turn_to_frame.new.self in
+    let p = c.turn_to_frame.new.self in
     let is : IsTurned c.args.self.now p c.args.frame = c.turn_to_frame.ensures.turned c.if-not-turn_to_frame.false in
     subst (MayLay Withdrawn p c.args.frame c.args.channel) (sym (to_z-of_z w16 c.args.sample c.ranges.sample))
     (turned_may c.args.self.now p c.args.frame c.args.channel c.args.sample is (c.requires.last, c.requires.from_floor))

@@ -1,37 +1,28 @@
 use Rattle.std.proofs.Common.{arith, subst, ap, ◌∙◌, refl}
 use Rattle.atomic_table.specs.Table.{Me}
 use Rattle.mix_core.specs.declared.port.Entry.{Entry}
-use Rattle.sum_table.specs.declared.seats.mix.MixSeat.{MixSeat}
-use Rattle.sum_table.specs.declared.seats.note.SeatNote.{SeatNote}
-use Rattle.sum_table.specs.declared.seats.player.PlayerSeat.{PlayerSeat}
 use Rattle.sum_table.specs.declared.view.Key.{Key}
 use Rattle.sum_table.specs.declared.view.View.{View}
 use Rattle.sum_table.specs.Known.{IsKnown}
-use Rattle.sum_table.proofs.Cuts.{joins}
-use Rattle.sum_table.proofs.Joining.{has_heard, known_heard, learned_kept, learns_at}
+use Rattle.sum_table.proofs.Cuts.{joins, has_heard, known_heard, learned_kept, learns_both}
 use Rattle.sum_table.proofs.seats.player.PlayerSeat.meet.Goals as goal
 
 pub join_seat-requires : goal.join_seat-requires
 join_seat-requires c =
-    let p : PlayerSeat = c.args.self.now in
-    let o : MixSeat = c.args.note.seat in
+    let p = c.args.self.now in
+    let o = c.args.note.seat in
     (p.same_ring.0, c.requires.0 ∙ p.same_ring.0, o.same_ring.2, omega (arith, p.same_ring.3), joins p.ring.now.key p.seat.id p.seat.me.0 o.seat.id o.seat.me.0)
 
 pub load-requires : goal.load-requires
 load-requires c =
-    let p : PlayerSeat = c.args.self.now in
-    let both = ap (λ (m : Me Entry View). m.0) c.join_seat.ensures.2 in (
-      c.join_seat.ensures.0 ∙ p.same_ring.0,
-      omega (arith, p.same_ring.3),
-      learns_at p.ring.now.key p.ring.now.table_id.slots c.join_seat.new.seat.id c.join_seat.new.seat.me
-          (ap (λ (v : View). v.key) both ∙ (p.known.same_key ∙ p.same_ring.1)) (ap (λ (v : View). v.ended) both ∙ p.known.lasts),
-    )
+    let p = c.args.self.now in
+    (c.join_seat.ensures.0 ∙ p.same_ring.0, omega (arith, p.same_ring.3), learns_both _ _ _ p.seat.me.0 c.args.note.seat.seat.me.0 _ _ c.join_seat.ensures.2 (p.known.same_key ∙ p.same_ring.1) p.known.lasts)
 
 pub invariant_of-self : goal.invariant_of-self
 invariant_of-self c =
-    let p : PlayerSeat = c.args.self.now in
-    let n : SeatNote = c.args.note in
-    let o : MixSeat = n.seat in
+    let p = c.args.self.now in
+    let n = c.args.note in
+    let o = n.seat in
     let both = ap (λ (m : Me Entry View). m.0) c.join_seat.ensures.2 in
     let met : IsKnown o.seat.me.0 p.key o.places o.reach.marks o.seen o.reach.last = subst (λ (k : Key). IsKnown o.seat.me.0 k o.places o.reach.marks o.seen o.reach.last) c.requires.1 o.known in
     record {
@@ -47,5 +38,5 @@ invariant_of-self c =
 
 pub returns : goal.returns
 returns c =
-    let p : PlayerSeat = c.args.self.now in
+    let p = c.args.self.now in
     has_heard p _ c.args.note p.ring.now.table_id.slots c.load.result c.join_seat.new.seat.me (c.load.ensures.0 ∙ c.join_seat.ensures.0) refl refl refl refl (ap (λ (m : Me Entry View). m.0) c.join_seat.ensures.2) c.load.ensures.2

@@ -1,22 +1,21 @@
 use Rattle.std.proofs.Common.{arith, ap, subst, sym, ◌∙◌, refl}
 use Rattle.atomic_table.specs.Table.{Me}
 use Rattle.mix_core.specs.declared.port.Entry.{Entry}
-use Rattle.sum_table.specs.declared.seats.player.PlayerSeat.{PlayerSeat}
 use Rattle.sum_table.specs.declared.view.View.{View}
 use Rattle.sum_table.specs.Cuts.{part_of}
 use Rattle.sum_table.specs.Extent.{Extent}
 use Rattle.sum_table.specs.Known.{IsKnown}
-use Rattle.sum_table.proofs.Joining.{has_player_note, known_as, known_part, may_note}
+use Rattle.sum_table.proofs.Cuts.{has_player_note, known_as, known_part, may_note}
 use Rattle.sum_table.proofs.seats.player.PlayerSeat.note.Goals as goal
 
 pub split_seat-seat-requires : goal.split_seat-seat-requires
 split_seat-seat-requires c =
-    let p : PlayerSeat = c.args.self.now in
+    let p = c.args.self.now in
     (p.same_ring.0, omega (arith, p.same_ring.3), may_note p.ring.now.key p.seat.id p.seat.me.0 (p.known.same_key ∙ p.same_ring.1))
 
 pub invariant_of-result : goal.invariant_of-result
 invariant_of-result c =
-    let p : PlayerSeat = c.args.self.now in
+    let p = c.args.self.now in
     let me = c.split_seat-seat.ensures.4 in
     record {
       same_ring = (c.split_seat-seat.ensures.3 ∙ p.same_ring.0, p.same_ring.1, ap (λ (m : Me Entry View). m.1) me, p.same_ring.3);

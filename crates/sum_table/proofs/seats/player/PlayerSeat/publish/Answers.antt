@@ -1,19 +1,18 @@
 use Rattle.std.proofs.Common.{arith, ap, ◌∙◌}
 use Rattle.atomic_table.specs.Table.{Me}
 use Rattle.mix_core.specs.declared.port.Entry.{Entry}
-use Rattle.sum_table.specs.declared.seats.player.PlayerSeat.{PlayerSeat}
 use Rattle.sum_table.specs.declared.view.View.{View}
 use Rattle.sum_table.proofs.Playing.{known_published, may_publish}
 use Rattle.sum_table.proofs.seats.player.PlayerSeat.publish.Goals as goal
 
 pub store-requires : goal.store-requires
 store-requires c =
-    let p : PlayerSeat = c.args.self.now in
+    let p = c.args.self.now in
     (p.same_ring.0, omega (arith, p.same_ring.3), may_publish p p.ring.now.table_id.slots c.position_word-word.result c.position_word-word.ensures)
 
 pub invariant_of-self : goal.invariant_of-self
 invariant_of-self c =
-    let p : PlayerSeat = c.args.self.now in
+    let p = c.args.self.now in
     record {
       same_ring = (c.store.ensures.0 ∙ p.same_ring.0, p.same_ring.1, ap (λ (x : Me Entry View). x.1) c.store.ensures.2.3 ∙ p.same_ring.2, p.same_ring.3);
       known = known_published p.key p.next p.position p.gone p.ring.now.table_id.slots c.position_word-word.result c.position_word-word.result p.seat.me c.store.new.seat.me p.known c.store.ensures.2;

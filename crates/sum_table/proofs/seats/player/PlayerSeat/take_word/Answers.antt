@@ -1,32 +1,30 @@
-use Rattle.std.proofs.Common.{◌≡◌, ◌≢◌, ◌+◌, sym, subst, ap, ◌∙◌, refl}
+use Rattle.std.proofs.Common.{◌≡◌, ◌≢◌, ◌+◌, sym, subst, ap, ◌∙◌, refl, pos, to_z, of_z, rules}
 use Rattle.atomic_table.specs.Table.{Me}
 use Rattle.mix_core.specs.declared.port.Entry.{Entry}
 use Rattle.snd_base.specs.declared.places.Cursor.{Cursor}
 use Rattle.snd_base.specs.Places.{lap}
-use Rattle.sum_table.specs.declared.seats.player.PlayerSeat.{PlayerSeat}
 use Rattle.sum_table.specs.declared.view.View.{View}
 use Rattle.sum_table.specs.Known.{IsPlayer}
 use Rattle.sum_table.specs.Players.{IsTurnedPlayer}
-use Rattle.std.proofs.Common.{pos, to_z, of_z, rules}
 use Rattle.std.proofs.lemmas.Int.{to_z-of_z}
 use mir.Syntax.{w16, w32}
 use mir.Val.{SFits}
 use Rattle.lap_word.specs.Clamp.{clamp_of}
 use Rattle.lap_word.specs.Word.{StandsFor, sum_of}
 use Rattle.sum_table.proofs.Playing.{fits_next, has_taken, known_taken, may_take, turned_fits, turned_lap, turned_taken}
-use Rattle.sum_table.proofs.Spots.{spot_within}
+use Rattle.sum_table.proofs.Places.{spot_within}
 use Rattle.sum_table.proofs.seats.player.PlayerSeat.take_word.Goals as goal
 
 pub spot_in_lap-spot-requires : goal.spot_in_lap-spot-requires
 spot_in_lap-spot-requires c =
-    let p : PlayerSeat = c.args.self.now in
-    let q : PlayerSeat = c.turn_to_next.new.self in
+    let p = c.args.self.now in
+    let q = c.turn_to_next.new.self in
     let is : IsTurnedPlayer p q = c.turn_to_next.ensures.turned c.if-not-turn_to_next.false in
     record { start = q.lap_start; channel = q.known.next_channel; in_lap = turned_lap p q is ∙ is.in_lap }
 
 pub swap-found-requires : goal.swap-found-requires
 swap-found-requires c =
-    let p : PlayerSeat = c.turn_to_next.new.self in
+    let p = c.turn_to_next.new.self in
     let is : IsTurnedPlayer c.args.self.now p = c.turn_to_next.ensures.turned c.if-not-turn_to_next.false in
     let other : lap p.key.geometry p.next.frame ≢ 4294967295 = turned_fits c.args.self.now p is (c.turn_to_next.ensures.fits.0 c.if-not-turn_to_next.false) in
     let stands : StandsFor c.pack-empty.result (lap p.key.geometry p.next.frame + 1) 0 (pos 0) =
@@ -38,7 +36,7 @@ swap-found-requires c =
 
 pub invariant_of-self : goal.invariant_of-self
 invariant_of-self c =
-    let p : PlayerSeat = c.turn_to_next.new.self in
+    let p = c.turn_to_next.new.self in
     let is : IsTurnedPlayer c.args.self.now p = c.turn_to_next.ensures.turned c.if-not-turn_to_next.false in
     let other : lap p.key.geometry p.next.frame ≢ 4294967295 = turned_fits c.args.self.now p is (c.turn_to_next.ensures.fits.0 c.if-not-turn_to_next.false) in
     record {
@@ -50,7 +48,7 @@ invariant_of-self c =
 
 pub returns-clause-ok : goal.returns-clause-ok
 returns-clause-ok c =
-    let p : PlayerSeat = c.turn_to_next.new.self in
+    let p = c.turn_to_next.new.self in
     let sum_fits : SFits w32 c.sum.result = search rules in
     let clamp_fits : SFits w16 c.clamp.result = search rules in
     let nearest : c.clamp.result ≡ clamp_of c.sum.result = simp to_z-of_z at c.clamp.ensures.nearest in

@@ -1,16 +1,20 @@
--- Laws of the lists of entries, takes and rows, when one more is at the end.
-use Rattle.std.proofs.Common.{map, ◌≡◌, ◌≢◌, ℕ, true, false, ◌==◌, ◌&&◌, ◌||◌, List, [], ◌∷◌, ◌++◌, ◌+ℤ◌, refl, ap, ◌⊎◌, inl, inr, arith, Option, None, Some}
+-- Laws of lists of entries, takes and rows, when one more is at the end.
+use Rattle.std.specs.Prelude.{map, ◌≡◌, ℕ, ◌<◌, true, false, ◌==◌, ◌&&◌, ◌||◌, List, [], ◌∷◌, ◌++◌, ◌+ℤ◌, Option, None, Some, length}
+use Rattle.std.proofs.Common.{refl, ap, arith, get_or, inl, inr, subst, sym, ◌∙◌}
 use Rattle.std.specs.List.{filter, filter_map}
-use Rattle.std.proofs.lemmas.List.{append-nil, map-append}
+use Rattle.std.proofs.Math.Seq.{get_or-append_seam}
+use Rattle.std.proofs.lemmas.Bool.{cases_eq}
+use Rattle.std.proofs.lemmas.List.{append-nil, get_or_append_left, length-append, map-append}
 use Rattle.std.proofs.lemmas.List.Elements.{filter-append, filter_map-append}
-use Rattle.std.proofs.lemmas.List.Folds.{list_any-append}
+use Rattle.std.proofs.lemmas.List.Folds.{list_any-append, list_any_at}
 use Rattle.std.proofs.lemmas.List.Sums.{fold_push}
-use Rattle.std.proofs.lemmas.Bool.{cases_lt}
 use Rattle.std.proofs.lemmas.Bool.Decides.{nat_tests}
+use Rattle.snd_base.specs.declared.geometry.Geometry.{Geometry}
+use Rattle.snd_base.specs.Places.{next_word}
 use Rattle.mix_core.specs.declared.port.Entry.{Entry}
 use Rattle.mix_core.specs.declared.event.Taken.{Taken}
 use Rattle.mix_core.specs.Laid.{at, is_at, total, value_of}
-use Rattle.mix_core.specs.History.{is_taken}
+use Rattle.mix_core.specs.History.{AreInOrder, is_taken, taken_place}
 
 -- one more item that gives something, and one that gives nothing
 pub filter_map-some : {X Y : Type 0} (h : X → Option Y) (xs : List X) (x : X) (y : Y) → h x ≡ Some y → filter_map h (xs ++ x ∷ []) ≡ filter_map h xs ++ y ∷ []
@@ -39,3 +43,21 @@ total-more_elsewhere es e f c elsewhere = rw (at-more_elsewhere es e f c elsewhe
 -- one more take
 pub is_taken-more : (ts : List Taken) (t : Taken) (f c : ℕ) → is_taken (ts ++ t ∷ []) f c ≡ (is_taken ts f c || ((t.frame == f) && (t.channel == c)))
 is_taken-more ts t f c = rw (list_any-append (λ (x : Taken). (x.frame == f) && (x.channel == c)) ts (t ∷ [])) (grind arith)
+
+-- one more was taken, in order
+pub AreInOrder-more : (g : Geometry) (ts : List Taken) (t : Taken) → AreInOrder g ts → taken_place t ≡ next_word g (length ts) → AreInOrder g (ts ++ t ∷ [])
+AreInOrder-more g ts t in_order here i d within =
+    elim (cases_eq i (length ts)) [
+      | inl last ↦ subst (λ k. taken_place (get_or (ts ++ t ∷ []) k d) ≡ next_word g k) (sym last) (ap taken_place (get_or-append_seam ts t [] d) ∙ here)
+      | inr before ↦
+          let below : i < length ts = omega (arith, length-append ts (t ∷ [])) in
+          ap taken_place (get_or_append_left ts (t ∷ []) d i below) ∙ in_order i d below
+    ]
+
+-- no take is at a frame and channel that is not taken
+pub is_taken-none : (ts : List Taken) (f c k : ℕ) (d : Taken) → is_taken ts f c ≡ false → k < length ts → ¬ ((f ≡ (get_or ts k d).frame) × (c ≡ (get_or ts k d).channel))
+is_taken-none ts f c k d none within same =
+    let t : Taken = get_or ts k d in
+    let here : ((t.frame == f) && (t.channel == c)) ≡ true = grind (arith, nat_tests) in
+    let found : is_taken ts f c ≡ true = list_any_at (λ (x : Taken). (x.frame == f) && (x.channel == c)) ts k d within here in
+    cc
