@@ -9,7 +9,7 @@ use Rattle.snd_base.specs.declared.errors.XrunWhy.TheVariants.{Avail, Late}
 use Rattle.snd_base.specs.declared.places.Cursor.{Cursor}
 use Rattle.mix_core.specs.declared.port.Position.{Position}
 use Rattle.pcm_states.specs.declared.states.State.{State}
-use Rattle.pcm_states.specs.declared.states.State.TheVariants.{Draining, Prepared, Running}
+use Rattle.pcm_states.specs.declared.states.State.TheVariants.{Prepared, Running}
 use Rattle.pcm_states.specs.declared.calls.Call.{Call}
 use Rattle.pcm_states.specs.declared.calls.Call.TheVariants as call
 use Rattle.pcm_states.specs.declared.calls.Outcome.{Outcome}
@@ -18,11 +18,10 @@ use Rattle.dmix_client.specs.declared.commit.Commit.{Commit}
 use Rattle.mix_core.specs.declared.port.Ended.{Ended}
 use Rattle.mix_core.specs.declared.port.Ended.TheVariants as ended
 use Rattle.dmix_client.specs.declared.stream.PlaybackStream.{PlaybackStream}
-use Rattle.dmix_client.specs.Calls.{Answered, with_accepted, accepted_if, commit_count, committed_by, end_channel, end_of_commit, is_running, is_stop, late_at, late_of, over_of, seen_at, with_outcome, after_start, started_in, sync_count, after_sync, taken_of, with_number, written_on}
-use Rattle.dmix_client.specs.Causes.{IsCaused, IsGone, IsOfSteps, Reaches}
+use Rattle.dmix_client.specs.Calls.{Answered, accepted_if, commit_count, committed_by, end_channel, end_of_commit, is_running, is_stop, late_at, late_of, over_of, seen_at, with_outcome, after_start, started_in, sync_count, after_sync, taken_of, with_number, written_on}
+use Rattle.dmix_client.specs.Causes.{IsCaused, IsCausedBy, IsGone, IsOfSteps, Reaches}
 use Rattle.mix_core.specs.Port.{IsPast, OnLate, PortView}
 use Rattle.dmix_client.specs.Port.{IsCommit, IsFound, IsFrameStep}
-use Rattle.pcm_stream.specs.Status.{is_moving}
 use Rattle.dmix_client.specs.View.{avail_of, queued_of}
 use Rattle.dmix_client.proofs.Ends.{by-test, next-ends, after_start-ends, written-ends}
 use Rattle.dmix_client.proofs.Sound.{none-of}
@@ -70,10 +69,10 @@ late-found ended.Whole frame channel w P is late = absurd (cc)
 late-found (ended.Late word) frame channel w P is late = (word, cc, late)
 late-found ended.Stopped frame channel w P is late = absurd (cc)
 
-module _ {S : Type 0} (view : S → PortView) (shows : S → ℕ → ℕ → Option ℕ) (q : S) where
+module _ {Missed : ℕ → ℕ → ℕ → Type 0} {c : PlaybackStream} where
   -- the gate stopped the load
-  pub caused-none : (c d : PlaybackStream) → IsCaused {X = Unit {0}} view shows q c d None (Err Stopped)
-  caused-none c d = record {
+  pub caused-none : {X : Type 0} → IsCausedBy {X = X} Missed c None (Err Stopped)
+  caused-none = record {
     unless_stopped = refl;
     of_steps = tt;
     no_device = (λ h. cc, λ h. absurd h);
@@ -83,8 +82,8 @@ module _ {S : Type 0} (view : S → PortView) (shows : S → ℕ → ℕ → Opt
   }
 
   -- the card is gone
-  caused-gone : (c d : PlaybackStream) (position : Position) → position.gone ≡ true → IsCaused {X = Unit {0}} view shows q c d (Some position) (Err NoDevice)
-  caused-gone c d position gone = record {
+  caused-gone : (position : Position) → position.gone ≡ true → IsCausedBy {X = Unit {0}} Missed c (Some position) (Err NoDevice)
+  caused-gone position gone = record {
     unless_stopped = tt;
     of_steps = tt;
     no_device = (λ h. gone, λ h. refl);
@@ -94,9 +93,9 @@ module _ {S : Type 0} (view : S → PortView) (shows : S → ℕ → ℕ → Opt
   }
 
   -- the stop threshold is reached
-  caused-over : (c d : PlaybackStream) (position : Position) (x y : ℕ) → Reaches c (Some position) x y
-      → IsCaused {X = Unit {0}} view shows q c d (Some position) (Err (Xrun (Avail x y)))
-  caused-over c d position x y reaches = record {
+  caused-over : (position : Position) (x y : ℕ) → Reaches c (Some position) x y
+      → IsCausedBy {X = Unit {0}} Missed c (Some position) (Err (Xrun (Avail x y)))
+  caused-over position x y reaches = record {
     unless_stopped = tt;
     of_steps = tt;
     no_device = (λ h. cc, λ h. absurd (let here = reaches.0 in cc));
@@ -110,9 +109,8 @@ module _ {S : Type 0} (view : S → PortView) (shows : S → ℕ → ℕ → Opt
   }
 
   -- any other answer
-  pub caused-other : {X : Type 0} (c d : PlaybackStream) (load : Option Position) (answer : Result X PcmError) → IsFree c load → IsOther answer
-      → IsCaused view shows q c d load answer
-  caused-other c d load answer free other = record {
+  pub caused-other : {X : Type 0} {load : Option Position} {answer : Result X PcmError} → IsFree c load → IsOther answer → IsCausedBy Missed c load answer
+  caused-other {load = load} free other = record {
     unless_stopped = if-none load (λ h. absurd h) free.loaded;
     of_steps = other.of_steps;
     no_device = (λ h. absurd (other.here h), λ h. absurd (free.here h));
@@ -121,67 +119,70 @@ module _ {S : Type 0} (view : S → PortView) (shows : S → ℕ → ℕ → Opt
     never_lap_end = other.never;
   }
 
-  -- a late one, where the commit ended in the client that it left
-  caused-late : {X : Type 0} (c at d : PlaybackStream) (load : Option Position) (x : Commit) (w : XrunWhy) → IsFree c load
-      → end_of_commit at x ≡ d.stretch.card + d.stretch.committed
-      → end_channel at x ≡ slice_index d.setup.bindings (slice_index (rising d.setup.bindings) d.stretch.part) → late_of at x ≡ Some w
-      → OnLate x.ended (λ word. IsPast view shows q (end_of_commit at x) (end_channel at x) word) → IsCaused {X = X} view shows q c d load (Err (Xrun w))
-  caused-late {X = X} c at d load x w free is_frame is_channel is shown =
-      let found = late-found x.ended (end_of_commit at x) (end_channel at x) w (λ word. IsPast view shows q (end_of_commit at x)
-      (end_channel at x) word) is shown in
-      subst (λ (v : XrunWhy). IsCaused {X = X} view shows q c d load (Err (Xrun v))) (sym found.1) (record {
-        unless_stopped = if-none load (λ h. absurd h) free.loaded;
-        of_steps = tt;
-        no_device = (λ h. cc, λ h. absurd (free.here h));
-        reached = λ a f. (λ h. cc, λ h. absurd (free.below a f h));
-        late = λ frame channel word h.
-            let frame_is : end_of_commit at x ≡ frame = cc in
-            let channel_is : end_channel at x ≡ channel = cc in
-            let word_is : found.0 ≡ word = cc in
-            record {
-              frame_is = sym frame_is ∙ is_frame;
-              channel_is = sym channel_is ∙ is_channel;
-              past = subst (λ (k : ℕ). IsPast view shows q frame channel k) word_is (subst (λ (k : ℕ). IsPast view shows q frame k found.0) channel_is
-                  (subst (λ (k : ℕ). IsPast view shows q k (end_channel at x) found.0) frame_is found.2));
-            };
-        never_lap_end = λ h. cc;
-      })
+  -- a late one
+  pub caused-late : {X : Type 0} {load : Option Position} (frame channel word : ℕ) → IsFree c load → Missed frame channel word
+      → IsCausedBy {X = X} Missed c load (Err (Xrun (Late frame channel word)))
+  caused-late {load = load} frame channel word free missed = record {
+    unless_stopped = if-none load (λ h. absurd h) free.loaded;
+    of_steps = tt;
+    no_device = (λ h. cc, λ h. absurd (free.here h));
+    reached = λ a f. (λ h. cc, λ h. absurd (free.below a f h));
+    late = λ f k w h.
+        let is_frame : frame ≡ f = cc in
+        let is_channel : channel ≡ k = cc in
+        let is_word : word ≡ w = cc in
+        subst (λ (x : ℕ). Missed x k w) is_frame (subst (λ (x : ℕ). Missed frame x w) is_channel (subst (λ (x : ℕ). Missed frame channel x) is_word missed));
+    never_lap_end = λ h. cc;
+  }
 
   -- after a load that went well
-  pub free-by : (c u : PlaybackStream) (load : Option Position) → IsCaused {X = Unit {0}} view shows q c u load (Ok tt) → IsFree c load
-  free-by c u load why = record {
+  pub free-by : {load : Option Position} → IsCausedBy {X = Unit {0}} Missed c load (Ok tt) → IsFree c load
+  free-by {load = load} why = record {
     loaded = if-none load (λ h. cc) why.unless_stopped;
     here = λ h. let x = why.no_device.1 h in cc;
     below = λ a f h. let x = (why.reached a f).1 h in cc;
   }
 
-  -- an error has the same causes whatever the call would answer
-  caused-error : {Y : Type 0} (load : Option Position) (c d : PlaybackStream) (e : PcmError) → IsCaused {X = Unit {0}} view shows q c d load (Err e)
-      → IsCaused {X = Y} view shows q c d load (Err e)
-  caused-error {Y = Y} load c d e why = record {
-    unless_stopped = if-none load (same-error {X = Unit {0}} {Y = Y} e Stopped) why.unless_stopped;
-    of_steps = why.of_steps;
-    no_device = (λ h. why.no_device.0 (same-error {X = Y} e NoDevice h), λ h. same-error {X = Unit {0}} {Y = Y} e NoDevice (why.no_device.1 h));
-    reached = λ a f. (
-      λ h. (why.reached a f).0 (same-error {X = Y} e (Xrun (Avail a f)) h),
-      λ h. same-error {X = Unit {0}} {Y = Y} e (Xrun (Avail a f))
-          ((why.reached a f).1 h),
-    );
-    late = λ frame channel word h. why.late frame channel word (same-error {X = Y} e (Xrun (Late frame channel word)) h);
-    never_lap_end = λ h. why.never_lap_end (same-error {X = Y} e LapEnd h);
-  }
+-- an error has the same causes whatever the call would answer, but for what is late
+pub caused-error : {X Y : Type 0} {Missed Other : ℕ → ℕ → ℕ → Type 0} {c : PlaybackStream} {load : Option Position} (e : PcmError)
+    → ((frame channel word : ℕ) → e ≡ Xrun (Late frame channel word) → Missed frame channel word → Other frame channel word)
+    → IsCausedBy {X = X} Missed c load (Err e) → IsCausedBy {X = Y} Other c load (Err e)
+caused-error {X = X} {Y = Y} {load = load} e goes why = record {
+  unless_stopped = if-none load (same-error {X = X} {Y = Y} e Stopped) why.unless_stopped;
+  of_steps = why.of_steps;
+  no_device = (λ h. why.no_device.0 (same-error {X = Y} e NoDevice h), λ h. same-error {X = X} {Y = Y} e NoDevice (why.no_device.1 h));
+  reached = λ a f. (
+    λ h. (why.reached a f).0 (same-error {X = Y} e (Xrun (Avail a f)) h),
+    λ h. same-error {X = X} {Y = Y} e (Xrun (Avail a f)) ((why.reached a f).1 h),
+  );
+  late = λ frame channel word h.
+      let is : e ≡ Xrun (Late frame channel word) = cc in
+      goes frame channel word is (why.late frame channel word (same-error {X = Y} e (Xrun (Late frame channel word)) h));
+  never_lap_end = λ h. why.never_lap_end (same-error {X = Y} e LapEnd h);
+}
 
-  -- so has an answer with a number, and that of a write that starts a stream
-  pub caused-number : (load : Option Position) (c : PlaybackStream) (number : PlaybackStream → ℕ) (a : Answered (Unit {0}))
-      → IsCaused {X = Unit {0}} view shows q c a.0 load a.1
+module _ {S : Type 0} {view : S → PortView} {shows : S → ℕ → ℕ → Option ℕ} {q : S} {load : Option Position} {c : PlaybackStream} where
+  -- a commit was late, and ended in the client that it left
+  caused-commit : {X : Type 0} (at d : PlaybackStream) (x : Commit) (w : XrunWhy) → IsFree c load
+      → end_of_commit at x ≡ d.stretch.card + d.stretch.committed
+      → end_channel at x ≡ slice_index d.setup.bindings (slice_index (rising d.setup.bindings) d.stretch.part) → late_of at x ≡ Some w
+      → OnLate x.ended (λ word. IsPast view shows q (end_of_commit at x) (end_channel at x) word) → IsCaused {X = X} view shows q c d load (Err (Xrun w))
+  caused-commit {X = X} at d x w free is_frame is_channel is shown =
+      let found = late-found x.ended (end_of_commit at x) (end_channel at x) w (λ word. IsPast view shows q (end_of_commit at x)
+      (end_channel at x) word) is shown in
+      subst (λ (v : XrunWhy). IsCaused {X = X} view shows q c d load (Err (Xrun v))) (sym found.1)
+      (caused-late (end_of_commit at x) (end_channel at x) found.0 free (record { frame_is = is_frame; channel_is = is_channel; past = found.2 }))
+
+  -- an answer with a number has the same causes, and so has that of a write that starts a stream
+  pub caused-number : (number : PlaybackStream → ℕ) (a : Answered (Unit {0})) → IsCaused {X = Unit {0}} view shows q c a.0 load a.1
       → IsCaused {X = ℕ} view shows q c (with_number number a).0 load (with_number number a).1
-  caused-number load c number (d, Ok done) why = caused-other c d load (Ok (number d)) (free-by c d load why) (other-ok (number d))
-  caused-number load c number (d, Err e) why = caused-error load c d e why
+  caused-number number (d, Ok done) why = caused-other (free-by why) (other-ok (number d))
+  caused-number number (d, Err e) why = caused-error e (λ frame channel word is missed. missed) why
 
-  pub caused-accepted : (load : Option Position) (c : PlaybackStream) (m : ℕ) (a : Answered (Unit {0})) → IsCaused {X = Unit {0}} view shows q c a.0 load a.1
+  pub caused-accepted : (m : ℕ) (a : Answered (Unit {0})) → IsCaused {X = Unit {0}} view shows q c a.0 load a.1
       → IsCaused {X = ℕ} view shows q c (accepted_if m a).0 load (accepted_if m a).1
-  caused-accepted load c m (d, Ok done) why = caused-other c (with_accepted d m) load (Ok m) (free-by c d load why) (other-ok m)
-  caused-accepted load c m (d, Err e) why = caused-error load c d e why
+  caused-accepted m (d, Ok done) why = caused-other (free-by why) (other-ok m)
+  caused-accepted m (d, Err e) why = caused-error e (λ frame channel word is missed. missed) why
 
 -- ---- a sync
 
@@ -256,16 +257,16 @@ free-at c position here none = record {
   below = λ a f h. let is = some-of c position a f h.1 h.2 h.3 h.4 in let no = none h.1 in cc;
 }
 
-module _ {S : Type 0} (view : S → PortView) (shows : S → ℕ → ℕ → Option ℕ) (q : S) where
+module _ {S : Type 0} {view : S → PortView} {shows : S → ℕ → ℕ → Option ℕ} {q : S} where
   pub IsCaused-plain : (c : PlaybackStream) (call : Call) (load : Option Position) (x : Commit) → IsFrameStep c.status.state call
       → IfSome load (λ position. IsPlain position.gone (over_of (seen_at c position) position) x.ended)
       → IfSome load (λ position. OnLate x.ended (λ word. IsPast view shows q (end_of_commit c x) (end_channel c x) word))
       → IsCaused {X = Unit {0}} view shows q c (after_sync c call load x).0 load (after_sync c call load x).1
-  IsCaused-plain c call None x step plain shown = caused-none view shows q c (record c { status = record c.status { stopped = true } })
+  IsCaused-plain c call None x step plain shown = caused-none
   IsCaused-plain c call (Some position) x step plain shown =
       let done : PlaybackStream = committed_by (seen_at c position) x in
       by-test (λ (a : Answered (Unit {0})). IsCaused {X = Unit {0}} view shows q c a.0 (Some position) a.1) (is_stop x.ended) _ _
-      (λ stop. caused-other view shows q c _ (Some position) (Err Stopped) (record {
+      (λ stop. caused-other (record {
         loaded = tt;
         here = λ gone. let no : is_stop ended.Whole ≡ true = subst (λ (e : Ended). is_stop e ≡ true) (plain.here gone) stop in cc;
         below = λ a f h. let no : is_stop ended.Whole ≡ true = subst (λ (e : Ended). is_stop e ≡ true)
@@ -273,13 +274,13 @@ module _ {S : Type 0} (view : S → PortView) (shows : S → ℕ → ℕ → Opt
       }) other-stopped)
       (λ going. next-ends (λ (o : Outcome). IsCaused {X = Unit {0}} view shows q c (with_outcome done o).0 (Some position) o.answer) c.status.state call
       (queued_of done) position.gone (over_of (seen_at c position) position) (late_of (seen_at c position) x) step
-      (λ gone. caused-gone view shows q c _ position gone)
-      (λ a f here runs is. caused-over view shows q c _ position a f (reaches-of c position a f here is))
-      (λ w here none is. caused-late view shows q c c _ (Some position) x w (free-at c position here none) refl refl is shown)
-      (λ here runs none in_time. caused-other view shows q c _ (Some position) _ (free-at c position here (λ same. none)) (other-ok tt))
-      (λ here drains in_time. caused-other view shows q c _ (Some position) _ (free-at c position here (λ runs. absurd (cc))) (other-ok tt))
-      (λ here drains in_time same. caused-other view shows q c _ (Some position) _ (free-at c position here (λ runs. absurd (cc))) (other-ok tt))
-      (λ here drains in_time same. caused-other view shows q c _ (Some position) _ (free-at c position here (λ runs. absurd (cc))) other-again))
+      (λ gone. caused-gone position gone)
+      (λ a f here runs is. caused-over position a f (reaches-of c position a f here is))
+      (λ w here none is. caused-commit c _ x w (free-at c position here none) refl refl is shown)
+      (λ here runs none in_time. caused-other (free-at c position here (λ same. none)) (other-ok tt))
+      (λ here drains in_time. caused-other (free-at c position here (λ runs. absurd (cc))) (other-ok tt))
+      (λ here drains in_time same. caused-other (free-at c position here (λ runs. absurd (cc))) (other-ok tt))
+      (λ here drains in_time same. caused-other (free-at c position here (λ runs. absurd (cc))) other-again))
 
   pub IsCaused-after_sync : (c : PlaybackStream) (call : Call) (load : Option Position) (x : Commit) → IsFrameStep c.status.state call
       → IsFound load x (λ position. c) (sync_count c) (length c.setup.bindings)
@@ -299,43 +300,34 @@ module _ {S : Type 0} (view : S → PortView) (shows : S → ℕ → ℕ → Opt
       → IfSome load (λ (position : Position). OnLate x.ended (λ word. IsPast view shows q (end_of_commit (started_in c Running position cursor) x)
       (end_channel (started_in c Running position cursor) x) word))
       → IsCaused {X = Unit {0}} view shows q c (after_start c state cursor load x).0 load (after_start c state cursor load x).1
-  IsCaused-after_start c state cursor None x waits shown = caused-none view shows q c (record c { status = record c.status { stopped = true } })
+  IsCaused-after_start c state cursor None x waits shown = caused-none
   IsCaused-after_start c state cursor (Some position) x waits shown =
       after_start-ends (λ (a : Answered (Unit {0})). IsCaused {X = Unit {0}} view shows q c a.0 (Some position) a.1) c state cursor position x
-      (λ gone. caused-gone view shows q c _ position gone)
-      (λ here stop. caused-other view shows q c _ (Some position) (Err Stopped) (free-at c position here (λ runs. absurd (cc))) other-stopped)
-      (λ w here going is. caused-late view shows q c (started_in c Running position cursor) _ (Some position) x w
-      (free-at c position here (λ runs. absurd (cc))) refl refl is shown)
-      (λ here going in_time. caused-other view shows q c _ (Some position) _ (free-at c position here (λ runs. absurd (cc))) (other-ok tt))
+      (λ gone. caused-gone position gone)
+      (λ here stop. caused-other (free-at c position here (λ runs. absurd (cc))) other-stopped)
+      (λ w here going is. caused-commit (started_in c Running position cursor) _ x w (free-at c position here (λ runs. absurd (cc))) refl refl is shown)
+      (λ here going in_time. caused-other (free-at c position here (λ runs. absurd (cc))) (other-ok tt))
 
   -- ---- a write after its sync
 
-  pub caused-on : (load : Option Position) (c : PlaybackStream) (a : Answered (Unit {0})) (n : ℕ) (last : Commit)
+  pub caused-on : {load : Option Position} {c : PlaybackStream} (a : Answered (Unit {0})) (n : ℕ) (last : Commit)
       → IsCaused {X = Unit {0}} view shows q c a.0 load a.1
       → OnLate last.ended (λ word. IsPast view shows q (end_of_commit a.0 last) (end_channel a.0 last) word)
       → IsCaused {X = ℕ} view shows q c (written_on a n last).0 load (written_on a n last).1
-  caused-on load c (u, Ok done) n last first shown =
-      let free = free-by view shows q c u load first in
+  caused-on {load = load} {c = c} (u, Ok done) n last first shown =
+      let free = free-by first in
       written-ends (λ (a : Answered ℕ). IsCaused {X = ℕ} view shows q c a.0 load a.1) u n last
-      (λ some none. caused-other view shows q c u load (Err Again) free other-again)
-      (λ full stop. caused-other view shows q c _ load (Err Stopped) free other-stopped)
-      (λ w full going is. caused-late view shows q c u _ load last w free refl refl is shown)
-      (λ full going in_time. caused-other view shows q c _ load _ free (other-ok (taken_of u n)))
-  caused-on load c (u, Err e) n last first shown = caused-error view shows q load c u e first
+      (λ some none. caused-other free other-again)
+      (λ full stop. caused-other free other-stopped)
+      (λ w full going is. caused-commit u _ last w free refl refl is shown)
+      (λ full going in_time. caused-other free (other-ok (taken_of u n)))
+  caused-on (u, Err e) n last first shown = caused-error e (λ frame channel word is missed. missed) first
 
--- what was found of a sync that went well holds at later states of the port too
-pub caused-moved : {S : Type 0} (view : S → PortView) (shows : S → ℕ → ℕ → Option ℕ) (q r : S) (load : Option Position) (c : PlaybackStream)
-    (a : Answered (Unit {0}))
-    → IsCaused {X = Unit {0}} view shows q c a.0 load a.1 → ((e : PcmError) → a.1 ≡ Err e → r ≡ q) → IsCaused {X = Unit {0}} view shows r c a.0 load a.1
-caused-moved view shows q r load c (d, Err e) first same = subst (λ s. IsCaused {X = Unit {0}} view shows s c d load (Err e)) (sym (same e refl)) first
-caused-moved view shows q r load c (d, Ok done) first same = record {
-  unless_stopped = first.unless_stopped;
-  of_steps = first.of_steps;
-  no_device = first.no_device;
-  reached = first.reached;
-  late = λ frame channel word h. cc;
-  never_lap_end = first.never_lap_end;
-}
+  -- what was found of a sync that went well holds at later states of the port too
+  pub caused-moved : {load : Option Position} {c : PlaybackStream} (r : S) (a : Answered (Unit {0}))
+      → IsCaused {X = Unit {0}} view shows q c a.0 load a.1 → ((e : PcmError) → a.1 ≡ Err e → r ≡ q) → IsCaused {X = Unit {0}} view shows r c a.0 load a.1
+  caused-moved {load = load} {c = c} r (d, Err e) first same = subst (λ s. IsCaused {X = Unit {0}} view shows s c d load (Err e)) (sym (same e refl)) first
+  caused-moved r (d, Ok done) first same = caused-other (free-by first) (other-ok tt)
 
 -- ---- when a write is to be made again
 
@@ -357,9 +349,3 @@ written_on-again (c, Ok done) n last other =
     (λ some none. (λ h. (refl, some, none), λ h. refl)) (λ full stop. (λ h. cc, λ h. absurd (full h.1 h.2)))
     (λ w full going late. (λ h. cc, λ h. absurd (full h.1 h.2))) (λ full going in_time. (λ h. cc, λ h. absurd (full h.1 h.2)))
 written_on-again (c, Err e) n last other = (λ h. absurd (other (same-error {X = ℕ} e Again h)), λ h. let x = h.0 in cc)
-
--- the calls of a stream that moves frames
-pub step-sync : (s : State) → is_moving s ≡ true → IsFrameStep s call.Sync
-step-sync Running is = tt
-step-sync Draining is = tt
-step-sync s is = absurd (cc)

@@ -32,7 +32,7 @@ use Rattle.snd_base.specs.declared.errors.PcmError.TheVariants as error
 use Rattle.snd_base.specs.declared.errors.PcmError.{PcmError}
 use Rattle.snd_base.specs.declared.geometry.Geometry.{Geometry}
 use Rattle.snd_base.specs.declared.places.Cursor.{Cursor}
-use Rattle.dmix_client.proofs.Caused.{IsCaused-after_start, IsCaused-after_sync, caused-accepted, caused-moved, caused-none, caused-number, caused-on, after_sync-not_again, written_on-again}
+use Rattle.dmix_client.proofs.Caused.{IsCaused-after_start, IsCaused-after_sync, caused-accepted, caused-moved, caused-none, caused-on, after_sync-not_again, written_on-again}
 use Rattle.dmix_client.proofs.Ends.{by-test, after_start-ends, written-ends}
 use Rattle.dmix_client.proofs.Going.{IsStill, OnOk-of, accepted_if-told, after_start-still, after_sync-runs, after_sync-still, told-going, told-stop}
 use Rattle.dmix_client.proofs.Growing.{StandsFor-after, StandsUpTo-filled, accepted-none, laid_at, laid_at-none, segment_entries-after}
@@ -142,6 +142,13 @@ drain-set_up false Xrun is = refl
 drain-set_up false Draining is = refl
 drain-set_up false s is = absurd (cc)
 
+-- which then has its counts in order after a drain with nothing to play
+pub IsSoundClient-dropped : (c : PlaybackStream) (ring : List ℤ) → IsSoundClient c ring → refusal_of Playback c.status call.Drain ≡ None
+    → IsSoundClient (after_drop c) ring
+IsSoundClient-dropped c ring sound admitted =
+    IsSoundClient-status c (record c.status { state = Setup }) c.seen ring sound sound.seen
+    (λ is. sound.set_up (drain-set_up c.status.stopped c.status.state admitted)) (λ is. absurd (cc)) (λ moves going. absurd (cc)) (λ is. absurd (cc))
+
 accepted-count : (m : ℕ) (a : Answered (Unit {0})) → IfOk (accepted_if m a).1 (λ k. k ≡ m)
 accepted-count m (c, Ok done) = refl
 accepted-count m (c, Err e) = tt
@@ -165,13 +172,13 @@ module _ {S T : Type 0} (P : mixport.Ghosts S) (G : gates.Ghosts T) (laid_compos
       c.setup.bindings (after_start c state cursor) s t a bound (λ position. refl) takes
 
   -- what a call keeps that placed nothing and left the segment as it was
-  pub Keeps-still : {X : Type 0} (s t : S × T) (c d : PlaybackStream) (ring new : List ℤ) (answer : Result X PcmError) (For : List ℤ → Type 0)
+  pub Keeps-still : {X : Type 0} {s t : S × T} {c d : PlaybackStream} {ring new : List ℤ} {answer : Result X PcmError} {For : List ℤ → Type 0}
       → IsSoundClient d new → CanUse d (P.view t.0) → P.laid s.0 t.0 []
       → (c.status.stopped ≡ false → CountsStop answer (G.stops s.1) (G.stops t.1))
       → ((samples : List ℤ) → StandsFor c ring samples → segment_entries d samples ≡ segment_entries c samples) → d.identity.member ≡ c.identity.member
       → d.setup.bindings ≡ c.setup.bindings
       → ((samples : List ℤ) → StandsFor c ring samples → For samples → StandsFor d new samples) → Keeps P G s t (client c ring) (client d new) answer For
-  Keeps-still s t c d ring new answer For sound port laid_nothing told same same_member same_bindings stands = record {
+  Keeps-still {c = c} sound port laid_nothing told same same_member same_bindings stands = record {
     sound = sound;
     port = port;
     told = told;
@@ -184,6 +191,15 @@ module _ {S T : Type 0} (P : mixport.Ghosts S) (G : gates.Ghosts T) (laid_compos
     };
     stands = stands;
   }
+
+  -- what one keeps that left the client in another status, in which it doesn't move frames
+  pub Keeps-status : {X : Type 0} {s t : S × T} {c : PlaybackStream} {ring : List ℤ} {answer : Result X PcmError} {For : List ℤ → Type 0} (st : Status)
+      → IsSoundClient (record c { status = st }) ring → CanUse c (P.view s.0) → IsSamePort (P.view s.0) (P.view t.0) → P.laid s.0 t.0 []
+      → (c.status.stopped ≡ false → CountsStop answer (G.stops s.1) (G.stops t.1)) → (is_moving st.state ≡ true → st.stopped ≡ false → ⊥)
+      → Keeps P G s t (client c ring) (client (record c { status = st }) ring) answer For
+  Keeps-status {c = c} st sound port same laid_nothing told rests =
+      Keeps-still sound (CanUse-still c (record c { status = st }) _ _ port same refl rests) laid_nothing told (λ samples stands. refl) refl refl
+      (λ samples stands for. stands)
 
   -- what a call keeps that placed a commit
   pub Keeps-after : {X : Type 0} (s t : S × T) (c b : PlaybackStream) (ring new : List ℤ) (x : Commit) (count upto : ℕ) (For : List ℤ → Type 0)
@@ -226,9 +242,7 @@ module _ {S T : Type 0} (P : mixport.Ghosts S) (G : gates.Ghosts T) (laid_compos
   pub unloaded-kept : (s t : S × T) (c : PlaybackStream) (ring : List ℤ) (Past : PlaybackStream → Type 0) → IsSoundClient c ring → CanUse c (P.view s.0)
       → IsSamePort (P.view s.0) (P.view t.0) → P.laid s.0 t.0 [] → G.stops t.1 ≡ G.stops s.1 + 1 → Synced s t c ring Past (stopped_in c)
   unloaded-kept s t c ring Past sound port same laid_nothing told = record {
-    keeps = Keeps-still s t c (stopped_in {T = Unit {0}} c).0 ring ring (Err error.Stopped) AnySamples (IsSoundClient-stopped c ring sound)
-        (CanUse-still c _ _ _ port same refl (λ moves going. cc)) laid_nothing (λ unstopped. told) (λ samples stands. refl) refl refl
-        (λ samples stands any. stands);
+    keeps = Keeps-status (record c.status { stopped = true }) (IsSoundClient-stopped c ring sound) port same laid_nothing (λ unstopped. told) (λ moves going. cc);
     goes = tt;
     past = λ moves going. absurd (cc);
     same = record { written = refl; fed = refl; bindings = refl };
@@ -318,9 +332,8 @@ module _ {S T : Type 0} (P : mixport.Ghosts S) (G : gates.Ghosts T) (laid_compos
       (λ position. start_count c (P.view s.0).marks.cursor position (c.stretch.written + m)) (length c.setup.bindings) load x
       → Begun s t c ring state m (after_start c state (P.view s.0).marks.cursor load x)
   begun-kept s t c ring state m None x sound waits leads fits near port same l = record {
-    keeps = Keeps-still s t c (stopped_in {T = ℕ} c).0 ring ring (Err error.Stopped) _ (IsSoundClient-stopped c ring sound)
-        (CanUse-still c _ _ _ port same refl (λ moves going. cc)) l.laid_them (λ unstopped. l.stopped) (λ samples stands. refl) refl refl
-        (λ samples stands up. stands);
+    keeps = Keeps-status (record c.status { stopped = true }) (IsSoundClient-stopped c ring sound) port same l.laid_them (λ unstopped. l.stopped)
+        (λ moves going. cc);
     goes = tt;
   }
   begun-kept s t c ring state m (Some position) x sound waits leads fits near port same l =
@@ -339,7 +352,7 @@ module _ {S T : Type 0} (P : mixport.Ghosts S) (G : gates.Ghosts T) (laid_compos
       (ap (λ (g : Bool). if g then 0 else commit_count b position.frame upto) gone) l.found.commit_is) in
       let d : PlaybackStream = record c { status = record c.status { state = Disconnected }; seen = Some position.frame } in
       record {
-        keeps = Keeps-still s t c d ring ring (Err error.NoDevice) _ (IsSoundClient-status c d.status d.seen ring sound most (λ is. absurd (cc))
+        keeps = Keeps-still (IsSoundClient-status c d.status d.seen ring sound most (λ is. absurd (cc))
             (λ is. absurd (cc)) (λ moves going. absurd (cc)) (λ is. absurd (cc)))
             (CanUse-still c d _ _ port same refl (λ moves going. cc)) (subst (P.laid s.0 t.0) (laid_at-none c b ring x none.0 none.1) l.laid_them)
             (λ unstopped. subst (λ (e : Ended). CountsEnd e (G.stops s.1) (G.stops t.1)) none.2 l.stopped)
@@ -406,7 +419,7 @@ module _ {S T : Type 0} (P : mixport.Ghosts S) (G : gates.Ghosts T) (laid_compos
       → CanUse c.stream (P.view s.0)
       → (c.stream.status.stopped ≡ false → pass_by answer ≡ Go) → Keeps P G s s c c answer For
   Keeps-none s c answer For sound port told =
-      Keeps-still s s c.stream c.stream c.ring c.ring answer For sound port (laid_composes.none s.0)
+      Keeps-still {c = c.stream} {d = c.stream} {ring = c.ring} {new = c.ring} sound port (laid_composes.none s.0)
       (λ unstopped. ap (λ pass. stops_after pass (G.stops s.1)) (sym (told unstopped))) (λ samples stands. refl) refl refl (λ samples stands any. stands)
 
   -- the answer is a number
@@ -467,7 +480,7 @@ module _ {S T : Type 0} (P : mixport.Ghosts S) (G : gates.Ghosts T) (laid_compos
         newer = λ m going. saw;
       } in
       record {
-        keeps = Keeps-still s t c c ring new (Err error.Again) (λ all. Follows c all offered n) sound_new still
+        keeps = Keeps-still sound_new still
             (subst (P.laid s.0 t.0) (laid_at-none c c new x nothing.0 nothing.1) laid.laid_them)
             (λ unstopped. subst (λ (e : Ended). CountsEnd e (G.stops s.1) (G.stops t.1)) nothing.2 laid.stopped)
             (λ samples stands. refl) refl refl (λ samples stands for j q low high in_range. up samples stands for j q low (omega (arith, high)) in_range);
@@ -519,17 +532,22 @@ module _ {S T : Type 0} (P : mixport.Ghosts S) (G : gates.Ghosts T) (laid_compos
         late = laid.late;
       }))
 
-  -- why a sync and a start answered so
+  -- why a call answered so, by its step
+  pub explained-by : {s t : S × T} {c : ClientView} {at : Position → PlaybackStream} {count : Position → ℕ} {call : Option Position → Commit → Answered (Unit {0})}
+      {a : Answered (Unit {0})} (st : TakesStep P G s t c.ring at count (length c.stream.setup.bindings) call a)
+      → IsCaused {X = Unit {0}} P.view P.shows t.0 c.stream (call st.load st.commit).0 st.load (call st.load st.commit).1 → Explains P G s t c at count call a
+  explained-by {t = t} {c = c} st why = record {
+    step = st;
+    why = subst (λ (d : Answered (Unit {0})). IsCaused P.view P.shows t.0 c.stream d.0 st.load d.1) st.outcome why;
+  }
+
+  -- a sync and a start
   pub syncs-explained : (s t : S × T) (c : PlaybackStream) (ring : List ℤ) (call : Call) (a : Answered (Unit {0})) → AreBindings c.setup.bindings
       → IsFrameStep c.status.state call
       → TakesAt P G s (syncs c call ring) t a → Explains P G s t (client c ring) (λ position. c) (sync_count c) (after_sync c call) a
   syncs-explained s t c ring call a bound step takes =
       let st = syncs-step s t c ring call a bound takes in
-      record {
-        step = st;
-        why = subst (λ (d : Answered (Unit {0})). IsCaused P.view P.shows t.0 c d.0 st.load d.1) st.outcome
-            (IsCaused-after_sync P.view P.shows t.0 c call st.load st.commit step st.looked.found st.looked.shown);
-      }
+      explained-by st (IsCaused-after_sync c call st.load st.commit step st.looked.found st.looked.shown)
 
   pub starts-explained : (s t : S × T) (c : PlaybackStream) (ring : List ℤ) (state : State) (cursor : Cursor) (upto : ℕ) (a : Answered (Unit {0}))
       → AreBindings c.setup.bindings → c.status.state ≡ Prepared
@@ -538,28 +556,18 @@ module _ {S T : Type 0} (P : mixport.Ghosts S) (G : gates.Ghosts T) (laid_compos
       (after_start c state cursor) a
   starts-explained s t c ring state cursor upto a bound waits takes =
       let st = starts-step s t c ring state cursor upto a bound takes in
-      record {
-        step = st;
-        why = subst (λ (d : Answered (Unit {0})). IsCaused P.view P.shows t.0 c d.0 st.load d.1) st.outcome
-            (IsCaused-after_start P.view P.shows t.0 c state cursor st.load st.commit waits st.looked.shown);
-      }
+      explained-by st (IsCaused-after_start c state cursor st.load st.commit waits st.looked.shown)
 
   -- with a number in its answer
-  Explains-by : (f : Answered (Unit {0}) → Answered ℕ) (s t : S × T) (c : ClientView) (at : Position → PlaybackStream) (count : Position → ℕ)
-      (call : Option Position → Commit → Answered (Unit {0})) (a : Answered (Unit {0})) (b : Answered ℕ)
+  pub Explains-by : (f : Answered (Unit {0}) → Answered ℕ) {s t : S × T} {c : ClientView} {at : Position → PlaybackStream} {count : Position → ℕ}
+      {call : Option Position → Commit → Answered (Unit {0})} {a : Answered (Unit {0})} {b : Answered ℕ}
       → ((load : Option Position) → IsCaused {X = Unit {0}} P.view P.shows t.0 c.stream a.0 load a.1 → IsCaused {X = ℕ} P.view P.shows t.0 c.stream (f a).0 load
       (f a).1) → f a ≡ b → Explains P G s t c at count call a → Explains P G s t c at count (λ load commit. f (call load commit)) b
-  Explains-by f s t c at count call a b caused is one =
+  Explains-by f {s = s} {t = t} {c = c} {at = at} {count = count} {call = call} caused is one =
       subst (λ (d : Answered ℕ). Explains P G s t c at count (λ load commit. f (call load commit)) d) is (record {
         step = record { load = one.step.load; commit = one.step.commit; looked = one.step.looked; outcome = ap f one.step.outcome };
         why = caused one.step.load one.why;
       })
-
-  pub Explains-number : (s t : S × T) (c : ClientView) (at : Position → PlaybackStream) (count : Position → ℕ)
-      (call : Option Position → Commit → Answered (Unit {0})) (number : PlaybackStream → ℕ) (a : Answered (Unit {0})) (b : Answered ℕ)
-      → with_number number a ≡ b → Explains P G s t c at count call a → Explains P G s t c at count (λ load commit. with_number number (call load commit)) b
-  Explains-number s t c at count call number a b is one =
-      Explains-by (with_number number) s t c at count call a b (λ load why. caused-number P.view P.shows t.0 load c.stream number a why) is one
 
   -- a drain of a stream that moves frames is to be made again exactly where it still drains
   pub syncs-still : (s t : S × T) (c : PlaybackStream) (ring : List ℤ) (a : Answered (Unit {0})) → AreBindings c.setup.bindings → c.status.state ≡ Draining
@@ -589,8 +597,7 @@ module _ {S T : Type 0} (P : mixport.Ghosts S) (G : gates.Ghosts T) (laid_compos
         rest = rest;
         ring_is = is_ring;
         why = subst (λ (d : Answered ℕ). IsCaused P.view P.shows t.0 c d.0 st.load d.1) outcome
-            (caused-on P.view P.shows t.0 st.load c middle n last (caused-moved P.view P.shows m.0 t.0 st.load c middle one.why
-            (λ e is. ap (λ (u : S × T). u.0) (stays e is))) late);
+            (caused-on middle n last (caused-moved t.0 middle one.why (λ e is. ap (λ (u : S × T). u.0) (stays e is))) late);
         again = subst (λ (d : Answered ℕ). (d.1 ≡ Err error.Again) ↔ ((middle.1 ≡ Ok tt) × (0 < n) × (avail_of middle.0 ≡ 0))) outcome
             (written_on-again middle n last (λ is. after_sync-not_again c st.load st.commit runs (ap (λ (b : Answered (Unit {0})). b.1) st.outcome ∙ is)));
       }
@@ -618,8 +625,7 @@ module _ {S T : Type 0} (P : mixport.Ghosts S) (G : gates.Ghosts T) (laid_compos
       → n * length c.setup.bindings ≤ length samples → CanUse c (P.view s.0)
       → Keeps P G s s (client c ring) (client (with_accepted c m) stored) (let r : Result ℕ PcmError = Ok m in r) (λ all. Follows c all samples n)
   stored-kept s c ring stored samples n m is is_stored sound sound_stored waits held_all port =
-      Keeps-still s s c (with_accepted c m) ring stored (Ok m) (λ all. Follows c all samples n)
-      (IsSoundClient-filled c stored m sound_stored waits (omega (
+      Keeps-still (IsSoundClient-filled c stored m sound_stored waits (omega (
         arith,
         is,
         taken-room n c.setup.config.buffer_size c.stretch.written
@@ -666,9 +672,7 @@ module _ {S T : Type 0} (P : mixport.Ghosts S) (G : gates.Ghosts T) (laid_compos
               (λ j q low high in_range. up j q low (omega (arith, high)) in_range) up;
         };
         count = accepted-count m parts.1;
-        explains = Explains-by (accepted_if m) s parts.0 (client c stored) (λ position. started_in c Running position (P.view s.0).marks.cursor)
-            (λ position. start_count c (P.view s.0).marks.cursor position (c.stretch.written + m)) (after_start c Running (P.view s.0).marks.cursor) parts.1
-            (accepted_if m parts.1) (λ load why. caused-accepted P.view P.shows parts.0.0 load c m parts.1 why) refl
+        explains = Explains-by (accepted_if m) (λ load why. caused-accepted m parts.1 why) refl
             (starts-explained s parts.0 c stored Running (P.view s.0).marks.cursor (c.stretch.written + m) parts.1
             (configured-prepared c stored sound_stored waits).bound waits parts.2);
       }))
@@ -715,18 +719,14 @@ module _ {S T : Type 0} (P : mixport.Ghosts S) (G : gates.Ghosts T) (laid_compos
       → Keeps P G s s (client c ring) (client (record c { status = record c.status { state = state } }) ring)
       (let r : Result (Unit {0}) PcmError = Ok tt in r) AnySamples
   left-kept s c ring state sound port rests =
-      Keeps-still s s c (record c { status = record c.status { state = state } }) ring ring (Ok tt) AnySamples sound
-      (CanUse-still c (record c { status = record c.status { state = state } }) (P.view s.0) (P.view s.0) port (IsSamePort-refl (P.view s.0)) refl
-      (λ moves going. cc)) (laid_composes.none s.0) (λ unstopped. refl) (λ samples stands. refl) refl refl (λ samples stands any. stands)
+      Keeps-status (record c.status { state = state }) sound port (IsSamePort-refl (P.view s.0)) (laid_composes.none s.0) (λ unstopped. refl) (λ moves going. cc)
 
   -- a drain with nothing to play
   pub dropped-kept : (s : S × T) (c : PlaybackStream) (ring : List ℤ) → IsSoundClient c ring
       → refusal_of Playback c.status call.Drain ≡ None → CanUse c (P.view s.0)
       → Keeps P G s s (client c ring) (client (after_drop c) ring) (let r : Result (Unit {0}) PcmError = Ok tt in r) AnySamples
   dropped-kept s c ring sound admitted port =
-      left-kept s c ring Setup (IsSoundClient-status c (record c.status { state = Setup }) c.seen ring sound sound.seen
-      (λ is. sound.set_up (drain-set_up c.status.stopped c.status.state admitted)) (λ is. absurd (cc)) (λ moves going. absurd (cc))
-      (λ is. absurd (cc))) port refl
+      left-kept s c ring Setup (IsSoundClient-dropped c ring sound admitted) port refl
 
 -- ---- what a pause and a resume keep, and why a resume answered so
 
@@ -800,9 +800,7 @@ module _ {S T : Type 0} (P : mixport.Ghosts S) (G : gates.Ghosts T) (laid_compos
       → refusal_of Playback c.status call.Pause ≡ None → CanUse c (P.view s.0)
       → Keeps P G s s (client (base_of c (after_pause c)) ring) (client (after_pause c) ring) (let r : Result (Unit {0}) PcmError = Ok tt in r) AnySamples
   paused-kept s c ring sound admitted port =
-      subst (λ (b : PlaybackStream). Keeps P G s s (client b ring) (client (after_pause c) ring) (let r : Result (Unit {0}) PcmError = Ok tt in r) AnySamples)
-      (sym (base-kept c (after_pause c) (λ is. refl)))
-      (left-kept P G laid_composes loaded_composes s c ring Paused (IsSoundClient-paused c ring sound admitted) port refl)
+      rw (base-kept c (after_pause c) (λ is. refl)) (left-kept P G laid_composes loaded_composes s c ring Paused (IsSoundClient-paused c ring sound admitted) port refl)
 
   CanUse-rebased : (c : PlaybackStream) (v : PortView) → CanUse c v → CanUse (with_new_base c) v
   CanUse-rebased c v port = CanUse-still c (with_new_base c) v v port (IsSamePort-refl v) refl (λ moves going. cc)
@@ -813,9 +811,7 @@ module _ {S T : Type 0} (P : mixport.Ghosts S) (G : gates.Ghosts T) (laid_compos
       → Keeps P G s s (client (base_of c (with_new_base c)) ring) (client (with_new_base c) ring) (let r : Result (Unit {0}) PcmError = Ok tt in r) AnySamples
   rebased-kept s c ring sound admitted port =
       let is = resume-paused c.status.stopped c.status.state admitted in
-      subst (λ (b : PlaybackStream). Keeps P G s s (client b ring) (client (with_new_base c) ring) (let r : Result (Unit {0}) PcmError = Ok tt in r) AnySamples)
-      (sym (base-anew c (with_new_base c) is refl))
-      (Keeps-none P G laid_composes loaded_composes s (client (with_new_base c) ring) (Ok tt) AnySamples (IsSoundClient-rebased c ring sound is)
+      rw (base-anew c (with_new_base c) is refl) (Keeps-none P G laid_composes loaded_composes s (client (with_new_base c) ring) (Ok tt) AnySamples (IsSoundClient-rebased c ring sound is)
       (CanUse-rebased c (P.view s.0) port) (λ unstopped. refl))
 
   -- a resume with pending frames
@@ -827,17 +823,12 @@ module _ {S T : Type 0} (P : mixport.Ghosts S) (G : gates.Ghosts T) (laid_compos
       → Keeps P G s t (client (base_of c (after_resume c cursor load commit).0) ring) (client (after_resume c cursor load commit).0 ring)
       (after_resume c cursor load commit).1 AnySamples
   resumed-by s t c ring cursor None commit sound is port same laid_nothing keeps =
-      let d : PlaybackStream = record c { status = record c.status { stopped = true } } in
-      subst (λ (b : PlaybackStream). Keeps P G s t (client b ring) (client d ring) (let r : Result (Unit {0}) PcmError = Err error.Stopped in r) AnySamples)
-      (sym (base-kept c d (λ is. is)))
-      (Keeps-still P G laid_composes loaded_composes s t c d ring ring (Err error.Stopped) AnySamples (IsSoundClient-stopped c ring sound)
-      (CanUse-still c d (P.view s.0) (P.view t.0) port same refl (λ moves going. cc)) laid_nothing keeps.told (λ samples stands. refl) refl refl
-      (λ samples stands any. stands))
+      let st : Status = record c.status { stopped = true } in
+      rw (base-kept c (record c { status = st }) (λ is. is)) (Keeps-status P G laid_composes loaded_composes st (IsSoundClient-stopped c ring sound) port same
+      laid_nothing keeps.told (λ moves going. cc))
   resumed-by s t c ring cursor (Some position) commit sound is port same laid_nothing keeps =
-      subst (λ (b : PlaybackStream). Keeps P G s t (client b ring) (client (after_start (with_new_base c) Running cursor (Some position) commit).0 ring)
-      (after_start (with_new_base c) Running cursor (Some position) commit).1 AnySamples)
-      (sym (base-anew c (after_start (with_new_base c) Running cursor (Some position) commit).0 is
-      (not_paused-after_start (with_new_base c) cursor position commit))) keeps
+      rw (base-anew c (after_start (with_new_base c) Running cursor (Some position) commit).0 is
+      (not_paused-after_start (with_new_base c) cursor position commit)) keeps
 
   pub resumes-kept : (s t : S × T) (c : PlaybackStream) (ring : List ℤ) (a : Answered (Unit {0})) → IsSoundClient c ring → c.status.state ≡ Paused
       → (P.view s.0).marks.cursor.frame ≤ end_frame c.identity.geometry → CanUse c (P.view s.0)
@@ -864,9 +855,9 @@ module _ {S T : Type 0} (P : mixport.Ghosts S) (G : gates.Ghosts T) (laid_compos
       → IfSome load (λ position. OnLate commit.ended (λ word. IsPast P.view P.shows t.0 (end_of_commit (started_in (with_new_base c) Running position cursor)
       commit) (end_channel (started_in (with_new_base c) Running position cursor) commit) word))
       → IsCaused {X = Unit {0}} P.view P.shows t.0 (with_new_base c) (after_resume c cursor load commit).0 load (after_resume c cursor load commit).1
-  why-resumed t c cursor None commit shown = caused-none P.view P.shows t.0 (with_new_base c) (record c { status = record c.status { stopped = true } })
+  why-resumed t c cursor None commit shown = caused-none
   why-resumed t c cursor (Some position) commit shown =
-      IsCaused-after_start P.view P.shows t.0 (with_new_base c) Running cursor (Some position) commit refl shown
+      IsCaused-after_start (with_new_base c) Running cursor (Some position) commit refl shown
 
   pub resumes-explained : (s t : S × T) (c : PlaybackStream) (ring : List ℤ) (cursor : Cursor) (a : Answered (Unit {0})) → IsSoundClient c ring
       → c.status.state ≡ Paused → TakesAt P G s (resumes c cursor ring) t a
@@ -878,8 +869,4 @@ module _ {S T : Type 0} (P : mixport.Ghosts S) (G : gates.Ghosts T) (laid_compos
       let st = TakesAt-step P G laid_composes loaded_composes (λ position. started_in (with_new_base c) Running position cursor)
       (λ position. start_count (with_new_base c) cursor position (pending_of c)) ring c.setup.bindings (after_resume c cursor) s t a bound
       (λ position. refl) takes in
-      record {
-        step = st;
-        why = subst (λ (d : Answered (Unit {0})). IsCaused P.view P.shows t.0 (with_new_base c) d.0 st.load d.1) st.outcome
-            (why-resumed t c cursor st.load st.commit st.looked.shown);
-      }
+      explained-by P G laid_composes loaded_composes st (why-resumed t c cursor st.load st.commit st.looked.shown)

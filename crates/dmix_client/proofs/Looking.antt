@@ -16,9 +16,8 @@ use Rattle.pcm_states.specs.declared.calls.Call.TheVariants as call
 use Rattle.dmix_client.specs.declared.commit.Commit.{Commit}
 use Rattle.dmix_client.specs.declared.stream.PlaybackStream.{PlaybackStream}
 use Rattle.pcm_stream.specs.Status.{is_moving}
-use Rattle.dmix_client.specs.Calls.{Answered, is_running, after_pause, pending_of, with_new_base, after_resume, start_count, after_start, started_in, sync_count, after_sync, taken_of, with_number, written_after}
+use Rattle.dmix_client.specs.Calls.{Answered, is_running, pending_of, with_new_base, after_resume, start_count, after_start, started_in, sync_count, after_sync, taken_of, with_number, written_after}
 use Rattle.dmix_client.specs.Course.{commits, drain_on, drains, fills, looks, nothing, number_course, course_with_number, pause_course, resumes, starts, syncs, takes_more, write_course, write_on, writes_on}
-use Rattle.dmix_client.specs.Rewind.{rewind_course, rewinds}
 use Rattle.dmix_client.specs.Writes.{count_with, frames_in, ring_with}
 
 nonzero : (n : ℕ) → 0 < n → nat_eq n 0 ≡ false
@@ -95,11 +94,7 @@ module _ {S T : Type 0} (P : mixport.Ghosts S) (G : gates.Ghosts T) where
       → TakesAt P G s (number_course number c ring) s (let x : Answered ℕ = (c, Ok n) in x)
   number-resting s number c ring n rests is = rw rests (record { there = refl; result = ap (λ (k : ℕ). let x : Answered ℕ = (c, Ok k) in x) is })
 
-  -- a pause, and a resume without pending frames and with some
-  pub pauses-takes : (s : S × T) (c d : PlaybackStream) (ring : List ℤ) (cursor : Cursor) → d ≡ after_pause c
-      → TakesAt P G s (pause_course true c ring cursor) s (let x : Answered (Unit {0}) = (d, Ok tt) in x)
-  pauses-takes s c d ring cursor is = record { there = refl; result = ap (λ (e : PlaybackStream). let x : Answered (Unit {0}) = (e, Ok tt) in x) is }
-
+  -- a resume without pending frames and with some
   pub rebases-takes : (s : S × T) (c d : PlaybackStream) (ring : List ℤ) (cursor : Cursor) → pending_of c ≡ 0 → d ≡ with_new_base c
       → TakesAt P G s (pause_course false c ring cursor) s (let x : Answered (Unit {0}) = (d, Ok tt) in x)
   rebases-takes s c d ring cursor none is =
@@ -133,11 +128,6 @@ module _ {S T : Type 0} (P : mixport.Ghosts S) (G : gates.Ghosts T) where
       → is_running c.status.state ≡ true → n ≡ frames_in c samples
       → TakesAt P G s (writes_on c ring samples n) t done → TakesAt P G s (write_course c ring samples cursor) t done
   write-running s t c ring samples cursor n done runs is takes = rw runs (subst (λ k. TakesAt P G s (writes_on c ring samples k) t done) is takes)
-
-  -- the rewind of a client that runs
-  pub rewind-running : (s t : S × T) (c : PlaybackStream) (ring : List ℤ) (floor : Cursor) (n : ℕ) (done : Answered ℕ) → is_running c.status.state ≡ true
-      → TakesAt P G s (rewinds c ring floor n) t done → TakesAt P G s (rewind_course c ring floor n) t done
-  rewind-running s t c ring floor n done runs takes = rw runs takes
 
   -- the write of a client that is prepared
   pub write-prepared : (s t : S × T) (c : PlaybackStream) (ring samples : List ℤ) (cursor : Cursor) (n : ℕ) (done : Answered ℕ)

@@ -1,5 +1,5 @@
 -- What a rewind keeps, and why it answered so: by its load, by its withdrawals, and by both.
-use Rattle.std.proofs.Common.{[], add-zero, ap, arith, inl, inr, length, refl, subst, sym, ℕ, ◌++◌, ◌+◌, ◌-◌, ◌<◌, ◌∙◌, ◌≡◌, ◌≤◌}
+use Rattle.std.proofs.Common.{[], ◌∷◌, add-zero, ap, arith, inl, inr, length, refl, subst, sym, ℕ, ◌++◌, ◌+◌, ◌-◌, ◌<◌, ◌∙◌, ◌≡◌, ◌≤◌}
 use Rattle.std.proofs.lemmas.Bool.Decides.{nat_tests}
 use Rattle.std.proofs.lemmas.Bool.{cases_eq}
 use Rattle.std.specs.Prelude.{Bool, Err, IfSome, List, None, Ok, OnOk, Option, Result, Some, false, if◌then◌else◌, max, min, nat_eq, slice_index, true, unwrap_or, ℤ}
@@ -9,6 +9,7 @@ use Rattle.course.specs.Course.{ends}
 use Rattle.course.specs.CourseLaws.{Takes-map, Takes-parts, Takes-then}
 use Rattle.course.specs.Stops.{CountsStop, pass_by}
 use Rattle.mix_core.specs.Gate.{stops_after}
+use Rattle.mix_core.specs.Laid.{a_withdrawal, an_add}
 use Rattle.mix_core.specs.Port.{IsPast, OnLate, PortView}
 use Rattle.mix_core.specs.declared.gate.Gate as gates
 use Rattle.mix_core.specs.declared.marks.Marks.{Marks}
@@ -28,7 +29,7 @@ use Rattle.snd_base.specs.declared.errors.PcmError.TheVariants as error
 use Rattle.snd_base.specs.declared.errors.PcmError.{PcmError}
 use Rattle.snd_base.specs.declared.errors.XrunWhy.TheVariants as why
 use Rattle.snd_base.specs.declared.places.Cursor.{Cursor}
-use Rattle.dmix_client.proofs.Caused.{IsCaused-plain, IsOther, caused-number, caused-other, free-by, if-none, other-ok, other-stopped}
+use Rattle.dmix_client.proofs.Caused.{IsCaused-plain, caused-error, caused-late, caused-number, caused-other, free-by, other-ok, other-stopped}
 use Rattle.dmix_client.proofs.Ends.{next-ends, after_sync-leaves}
 use Rattle.dmix_client.proofs.Frames.{IsFrom-later}
 use Rattle.dmix_client.proofs.Going.{after_sync-runs}
@@ -42,11 +43,20 @@ use Rattle.dmix_client.specs.Expansion.{run_entries, sample_at}
 use Rattle.dmix_client.specs.ExpansionLaws.{frames_used, run_entries-append, run_entries-same}
 use Rattle.dmix_client.specs.Growth.{AnySamples, Keeps, KeepsBack, Loses, StandsFor, TakesAway, segment_entries}
 use Rattle.dmix_client.specs.Port.{CanUse, IsFrameStep, least_channel}
-use Rattle.dmix_client.specs.Rewind.{back_of, checks, held_entries, last_channel, last_laid, rewind_on, rewindable_of, rewinds, after_rewind, take_frames, taken_back, takes_back, without_frames}
+use Rattle.dmix_client.specs.Rewind.{back_of, checks, held_entries, last_laid, rewind_on, rewindable_of, rewinds, after_rewind, take_frames, taken_back, takes_back, without_frames}
 use Rattle.dmix_client.specs.RewindCauses.{ExplainsCheck, ExplainsRewind, IsKeptCause}
 use Rattle.dmix_client.specs.View.{ClientView, IsGoing, IsMoving, IsSoundClient, hw_of, queued_of, ring_sample}
 use Rattle.dmix_client.specs.declared.commit.Commit.{Commit}
 use Rattle.dmix_client.specs.declared.stream.PlaybackStream.{PlaybackStream}
+
+-- the laws of a port, by those that its trait has
+pub holds-by : {S : Type 0} (P : mixport.Ghosts S) → Composes P.laid → Composes P.loaded
+    → ((p : S) (xs ys : List Entry) → P.ends_in p (xs ++ ys) → P.ends_in p ys)
+    → ((p q : S) (xs : List Entry) → P.laid p q [] → P.ends_in p xs → P.ends_in q xs)
+    → ((p q : S) (xs : List Entry) (f c : ℕ) (s : ℤ) → IsFrom (P.view p).marks.floor f c
+    → P.laid p q (a_withdrawal (P.view p).member f c s ∷ []) → P.ends_in p (xs ++ an_add (P.view p).member f c s ∷ []) → P.ends_in q xs)
+    → HoldsBy P
+holds-by P laid loaded part nothing back = record { laid_composes = laid; loaded_composes = loaded; part = part; nothing = nothing; back = back }
 
 -- what it leaves: the client but for its status and the position that it saw
 pub record Checked {S T : Type 0} (P : mixport.Ghosts S) (G : gates.Ghosts T) (s t : S × T) (c : PlaybackStream) (ring : List ℤ)
@@ -140,7 +150,7 @@ module _ {S T : Type 0} (P : mixport.Ghosts S) (G : gates.Ghosts T) (laid_compos
           loaded_it = step.loaded_it;
           laid_nothing = step.laid_nothing;
           outcome = refl;
-          why = IsCaused-plain P.view P.shows m.0 c call.Transfer load nothing callable (any-of load _
+          why = IsCaused-plain c call.Transfer load nothing callable (any-of load _
               (λ position. record { here = λ gone. refl; below = λ x f over. refl })) (any-of load _ (λ position. tt));
         };
         timely = λ frame channel word is. after_sync-timely c load frame channel word runs is;
@@ -218,59 +228,6 @@ frame-same first f part some = grind (arith, nat_tests)
 
 here-from : (at : Cursor) (f c : ℕ) → at ≡ record { frame = f; channel = c } → first_free at c ≤ f
 here-from at f c is = subst (λ (x : Cursor). first_free x c ≤ f) (sym is) (grind (arith, nat_tests))
-
--- the answers of a rewind
-module _ {S : Type 0} (view : S → PortView) (shows : S → ℕ → ℕ → Option ℕ) (q : S) where
-  -- one that isn't late has the causes of any other call's
-  kept-of : {X : Type 0} (load : Option Position) (c d : PlaybackStream) (answer : Result X PcmError) → IsCaused view shows q c d load answer
-      → ((frame channel word : ℕ) → answer ≡ Err (error.Xrun (why.Late frame channel word)) → ⊥)
-      → IsKeptCause view shows q c d load answer
-  kept-of load c d answer why timely = record {
-    unless_stopped = why.unless_stopped;
-    of_steps = why.of_steps;
-    no_device = why.no_device;
-    reached = why.reached;
-    late = λ frame channel word h. absurd (timely frame channel word h);
-    never_lap_end = why.never_lap_end;
-  }
-
-  -- after a load that went well
-  kept-other : (load : Option Position) (c u d : PlaybackStream) (answer : Result ℕ PcmError) → IsCaused {X = Unit {0}} view shows q c u load (Ok tt)
-      → IsOther answer → IsKeptCause view shows q c d load answer
-  kept-other load c u d answer first other =
-      kept-of load c d answer (caused-other view shows q c d load answer (free-by view shows q c u load first) other) other.in_time
-
-  kept-late : (load : Option Position) (c u d : PlaybackStream) (word : ℕ) → IsCaused {X = Unit {0}} view shows q c u load (Ok tt)
-      → IsPast view shows q (last_laid d) (last_channel d) word
-      → IsKeptCause {X = ℕ} view shows q c d load (Err (error.Xrun (why.Late (last_laid d) (last_channel d) word)))
-  kept-late load c u d word first past =
-      let free = free-by view shows q c u load first in
-      record {
-        unless_stopped = if-none load (λ h. absurd h) free.loaded;
-        of_steps = tt;
-        no_device = (λ h. cc, λ h. absurd (free.here h));
-        reached = λ a f. (λ h. cc, λ h. absurd (free.below a f h));
-        late = λ frame channel w h.
-            let is_frame : last_laid d ≡ frame = cc in
-            let is_channel : last_channel d ≡ channel = cc in
-            let is_word : word ≡ w = cc in
-            record {
-              frame_is = sym is_frame;
-              channel_is = sym is_channel;
-              past = subst (λ (k : ℕ). IsPast view shows q frame channel k) is_word (subst (λ (k : ℕ). IsPast view shows q frame k word) is_channel
-                  (subst (λ (k : ℕ). IsPast view shows q k (last_channel d) word) is_frame past));
-            };
-        never_lap_end = λ h. cc;
-      }
-
-  -- an answer of the load itself
-  pub kept-err : (load : Option Position) (c d : PlaybackStream) (e : PcmError) → IsCaused {X = Unit {0}} view shows q c d load (Err e)
-      → ((frame channel word : ℕ) → (let r : Result (Unit {0}) PcmError = Err e in r) ≡ Err (error.Xrun (why.Late frame channel word)) → ⊥)
-      → IsKeptCause {X = ℕ} view shows q c d load (Err e)
-  kept-err load c d e first timely =
-      kept-of load c d (Err e) (caused-number view shows q load c (λ x. 0) (d, Err e) first)
-      (λ frame channel word h. timely frame channel word (let is : e ≡ error.Xrun (why.Late frame channel word) = cc in
-      ap (λ (x : PcmError). let r : Result (Unit {0}) PcmError = Err x in r) is))
 
 module _ (d : PlaybackStream) (ring : List ℤ) (floor : Cursor) (n : ℕ) (sound : IsSoundClient d ring) (runs : d.status.state ≡ Running)
     (going : d.status.stopped ≡ false) (is : IsBack d floor n) where
@@ -462,15 +419,18 @@ module _ (d : PlaybackStream) (ring : List ℤ) (floor : Cursor) (n : ℕ) (soun
         (slice_index d.setup.bindings (slice_index (rising d.setup.bindings) (last_place part (length d.setup.bindings)))) word)
         → IsCaused {X = Unit {0}} P.view P.shows t.0 c u load (Ok tt)
         → (let a : Answered ℕ = after_rewind d n (record { frames = frames; part = part; ended = e }) in IsKeptCause {X = ℕ} P.view P.shows t.0 c a.0 load a.1)
-    why_end t c u load frames part Whole are late why_ok = kept-other P.view P.shows t.0 load c u _ (Ok n) why_ok (other-ok n)
-    why_end t c u load frames part Stopped are late why_ok = kept-other P.view P.shows t.0 load c u _ (Err error.Stopped) why_ok other-stopped
+    why_end t c u load frames part Whole are late why_ok = caused-other (free-by why_ok) (other-ok n)
+    why_end t c u load frames part Stopped are late why_ok = caused-other (free-by why_ok) other-stopped
     why_end t c u load frames part (Late word) are late why_ok =
         let there : d.stretch.card + (d.stretch.committed - back_of d n + last_frame frames part) ≡ last_laid
         (back_in d n (record { frames = frames; part = part; ended = Late word }) Xrun d.status.stopped) =
         ap (λ (k : ℕ). d.stretch.card + k) (frame-same (d.stretch.committed - back_of d n) frames part are.0) in
-        kept-late P.view P.shows t.0 load c u (back_in d n (record { frames = frames; part = part; ended = Late word }) Xrun d.status.stopped) word why_ok
-        (subst (λ (k : ℕ). IsPast P.view P.shows t.0 k (slice_index d.setup.bindings (slice_index (rising d.setup.bindings)
-        (last_place part (length d.setup.bindings)))) word) there late)
+        caused-late _ _ word (free-by why_ok) (record {
+          frame_is = refl;
+          channel_is = refl;
+          past = subst (λ (k : ℕ). IsPast P.view P.shows t.0 k (slice_index d.setup.bindings (slice_index (rising d.setup.bindings)
+              (last_place part (length d.setup.bindings)))) word) there late;
+        })
 
     pub takes_back-why : (s t : S × T) (c u : PlaybackStream) (load : Option Position) (a : Answered ℕ) → (P.view s.0).marks.floor ≡ floor
         → CanUse d (P.view s.0) → TakesAt P G s (takes_back d ring n) t a
@@ -513,18 +473,6 @@ min-both k h g low = (grind (arith, nat_tests), grind (arith, nat_tests))
 pub few-of : (n r : ℕ) → min n r ≤ r
 few-of n r = grind (arith, nat_tests)
 
--- why a call went well is the same later
-caused-later : {S : Type 0} (view : S → PortView) (shows : S → ℕ → ℕ → Option ℕ) (q r : S) (load : Option Position) (c d : PlaybackStream)
-    → IsCaused {X = Unit {0}} view shows q c d load (Ok tt) → IsCaused {X = Unit {0}} view shows r c d load (Ok tt)
-caused-later view shows q r load c d first = record {
-  unless_stopped = first.unless_stopped;
-  of_steps = tt;
-  no_device = first.no_device;
-  reached = first.reached;
-  late = λ frame channel word h. cc;
-  never_lap_end = first.never_lap_end;
-}
-
 module _ {S T : Type 0} (P : mixport.Ghosts S) (G : gates.Ghosts T) (holds : HoldsBy P) where
   -- a rewind of a stream that runs
   pub record Rewound (s t : S × T) (c : PlaybackStream) (ring : List ℤ) (n : ℕ) (a : Answered ℕ) : Type 0 where
@@ -561,7 +509,8 @@ module _ {S T : Type 0} (P : mixport.Ghosts S) (G : gates.Ghosts T) (holds : Hol
           first = checked.explains;
           rest = record { there = refl; result = refl };
           loaded_nothing = holds.loaded_composes.none m.0;
-          why = kept-err P.view P.shows m.0 checked.explains.load c d e checked.explains.why checked.timely;
+          why = caused-error e (λ frame channel word is missed. absurd (checked.timely frame channel word (ap (λ (x : PcmError). let r : Result (Unit {0}) PcmError =
+              Err x in r) is))) checked.explains.why;
         };
       }))
 
@@ -598,7 +547,7 @@ module _ {S T : Type 0} (P : mixport.Ghosts S) (G : gates.Ghosts T) (holds : Hol
           loaded_nothing = back.loaded_nothing;
           why = takes_back-why d ring floor (min n (rewindable_of floor d)) checked.keeps.sound checked.runs going is P G holds m t c d checked.explains.load a
               is_floor checked.keeps.port takes
-              (caused-later P.view P.shows m.0 t.0 checked.explains.load c d checked.explains.why);
+              (caused-other (free-by checked.explains.why) (other-ok tt));
         };
       }
 
@@ -664,7 +613,7 @@ module _ {S T : Type 0} (P : mixport.Ghosts S) (G : gates.Ghosts T) (holds : Hol
           loaded_it = checked.explains.loaded_it;
           laid_nothing = checked.explains.laid_nothing;
           outcome = ap (with_number number) checked.explains.outcome;
-          why = caused-number P.view P.shows parts.0.0 checked.explains.load c number a checked.explains.why;
+          why = caused-number number a checked.explains.why;
         };
       }))
 

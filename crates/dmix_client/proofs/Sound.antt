@@ -163,7 +163,7 @@ pub if-le : (b : Bool) (n : ℕ) → (if b then 0 else n) ≤ n
 if-le true n = omega arith
 if-le false n = omega arith
 
-frames-le : (e : Ended) (frames part count channels : ℕ) → IsCommit e frames part count channels → frames ≤ count
+pub frames-le : (e : Ended) (frames part count channels : ℕ) → IsCommit e frames part count channels → frames ≤ count
 frames-le ended.Whole frames part count channels is = omega (arith, is.0)
 frames-le (ended.Late word) frames part count channels is = omega (arith, is.0)
 frames-le ended.Stopped frames part count channels is = omega (arith, is.0)

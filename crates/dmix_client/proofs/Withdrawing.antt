@@ -25,6 +25,7 @@ use Rattle.mix_core.specs.declared.port.Entry.{Entry}
 use Rattle.mix_core.specs.Gate.{stops_after}
 use Rattle.mix_core.specs.MarkLaws.{without_last-more}
 use Rattle.mix_core.specs.Port.{IsPast, OnLate, OnWhole, PortView, pass_of_end}
+use Rattle.dmix_client.specs.CourseLaws.{OnWhole-map}
 use Rattle.dmix_client.specs.Expansion.{frame_entries, run_entries}
 use Rattle.dmix_client.specs.ExpansionLaws.{frames_used, run_entries-append}
 use Rattle.dmix_client.specs.Growth.{TakesAway}
@@ -176,11 +177,6 @@ OnWhole-all : (e : Ended) (X : Type 0) → X → OnWhole e X
 OnWhole-all Whole X is = is
 OnWhole-all (Late word) X is = tt
 OnWhole-all Stopped X is = tt
-
-OnWhole-map : (e : Ended) (X Y : Type 0) → (X → Y) → OnWhole e X → OnWhole e Y
-OnWhole-map Whole X Y f is = f is
-OnWhole-map (Late word) X Y f is = tt
-OnWhole-map Stopped X Y f is = tt
 
 more-left : (e : Ended) (frames part count channels : ℕ) → AreLeft e frames part count channels → AreLeft e frames part (suc count) channels
 more-left Whole frames part count channels are = are

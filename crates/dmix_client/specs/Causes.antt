@@ -50,17 +50,23 @@ IsOfSteps (Xrun (Avail avail seen)) = ⊤
 IsOfSteps (Xrun (Late frame channel seen)) = ⊤
 IsOfSteps other = ⊥
 
--- why a call of a client `c`, which loaded a position unless the gate stopped it before and left the client as `d`, answered so
-pub record IsCaused {S X : Type 0} (view : S → PortView) (shows : S → ℕ → ℕ → Option ℕ) (q : S)
-    (c d : PlaybackStream) (load : Option Position) (answer : Result X PcmError) : Type 0 where
+-- why a call of a client, which loaded a position unless the gate stopped it before, answered so, where a late answer says what `Missed`
+-- has of a frame, a channel and a word
+pub record IsCausedBy {X : Type 0} (Missed : ℕ → ℕ → ℕ → Type 0) (c : PlaybackStream)
+    (load : Option Position) (answer : Result X PcmError) : Type 0 where
   pub unless_stopped : IfNone load (answer ≡ Err Stopped)
   pub of_steps : IfErr answer IsOfSteps
   pub no_device : (answer ≡ Err NoDevice) ↔ IsGone load
   pub reached : (avail frame : ℕ) → (answer ≡ Err (Xrun (Avail avail frame)))
       ↔ Reaches c load avail frame
   pub late : (frame channel word : ℕ) → answer ≡ Err (Xrun (Late frame channel word))
-      → IsMissed view shows q d frame channel word
+      → Missed frame channel word
   pub never_lap_end : answer ≡ Err LapEnd → ⊥
+
+-- of one that left the client as `d`: what was late is the first of the segment in which nothing is placed
+abbrev pub IsCaused : {S X : Type 0} → (S → PortView) → (S → ℕ → ℕ → Option ℕ) → S
+    → PlaybackStream → PlaybackStream → Option Position → Result X PcmError → Type 0
+IsCaused view shows q c d load answer = IsCausedBy (IsMissed view shows q d) c load answer
 
 -- what the step of a call did, and why it answered so by the position that this step loaded
 pub record Explains {S T X : Type 0} (P : mixport.Ghosts S) (G : gates.Ghosts T) (s t : S × T)

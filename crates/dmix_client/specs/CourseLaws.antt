@@ -90,7 +90,7 @@ OnWhole-not Whole X not_whole = absurd (not_whole refl)
 OnWhole-not (Late word) X not_whole = tt
 OnWhole-not Stopped X not_whole = tt
 
-OnWhole-map : (e : Ended) (X Y : Type 0) → (X → Y) → OnWhole e X → OnWhole e Y
+pub OnWhole-map : (e : Ended) (X Y : Type 0) → (X → Y) → OnWhole e X → OnWhole e Y
 OnWhole-map Whole X Y f is = f is
 OnWhole-map (Late word) X Y f is = tt
 OnWhole-map Stopped X Y f is = tt

@@ -9,11 +9,7 @@ use Rattle.std.proofs.lemmas.List.Concat.{flat_map-append}
 use Rattle.mix_core.specs.declared.port.Entry.{Entry}
 use Rattle.bindings.specs.Bound.{AreBindings, rising}
 use Rattle.bindings.specs.RisingLaws.{length-rising, rising-within}
-use Rattle.dmix_client.specs.declared.commit.Commit.{Commit}
-use Rattle.dmix_client.specs.declared.stream.PlaybackStream.{PlaybackStream}
-use Rattle.dmix_client.specs.Calls.{commit_entries}
-use Rattle.dmix_client.specs.Expansion.{frame_entries, run_entries, sample_at}
-use Rattle.dmix_client.specs.View.{ring_sample}
+use Rattle.dmix_client.specs.Expansion.{frame_entries, run_entries}
 
 -- n numbers and then k more
 pub range_with_len-append : (a n k : ℕ) → range_with_len a (n + k) ≡ range_with_len a n
@@ -40,11 +36,6 @@ run_entries-append member bindings sample_of card first n k part =
     ∙ ap (λ (j : ℕ). flat_map frame (range_with_len first n) ++ (flat_map frame (range_with_len (first + n) k) ++ rest j)) at
     ∙ ap (λ (es : List Entry). es ++ (flat_map frame (range_with_len (first + n) k) ++ rest (first + n + k)))
     (sym (append-nil (flat_map frame (range_with_len first n))))
-
--- a list of accepted frames, of which those from one to before another are in the local ring
-abbrev pub HoldsFrames : PlaybackStream → List ℤ → List ℤ → ℕ → ℕ → Type 0
-HoldsFrames c ring samples from to =
-    (j q : ℕ) → from ≤ j → j < to → q < length c.setup.bindings → ring_sample c ring j q ≡ sample_at samples (length c.setup.bindings) j q
 
 -- two functions that agree on a list's elements give one list
 pub map-same : {X : Type 0} (f g : ℕ → X) (xs : List ℕ)
@@ -105,32 +96,3 @@ run_entries-same member bindings s t card first whole part are same =
     (λ some q h. same (first + whole) q (omega arith) (grind (arith, nat_tests)) h) in
     ap (λ (es : List Entry). es ++ frame_entries member bindings (s (first + whole)) part (card + (first + whole))) frames
     ∙ ap (λ (es : List Entry). flat_map (λ j. frame_entries member bindings (t j) (length bindings) (card + j)) (range_with_len first whole) ++ es) last
-
--- what a commit placed of the local ring is what it placed of the accepted frames
-pub commit_entries-accepted : (c : PlaybackStream) (ring samples : List ℤ) (commit : Commit) (to : ℕ)
-    → AreBindings c.setup.bindings → HoldsFrames c ring samples c.stretch.committed to
-    → c.stretch.committed + frames_used commit.frames commit.part ≤ to
-    → commit_entries c ring commit ≡ run_entries c.identity.member c.setup.bindings
-    (sample_at samples (length c.setup.bindings)) c.stretch.card c.stretch.committed commit.frames
-    commit.part
-commit_entries-accepted c ring samples commit to are holds within =
-    run_entries-same c.identity.member c.setup.bindings (ring_sample c ring) (sample_at samples (length c.setup.bindings)) c.stretch.card c.stretch.committed
-    commit.frames commit.part are
-    (λ j q least most h. holds j q least (omega (arith, most, within)) h)
-
--- the entries of a segment grow by exactly what a commit placed
-pub expand-grows : (c : PlaybackStream) (ring samples : List ℤ) (commit : Commit) (to : ℕ)
-    → AreBindings c.setup.bindings → HoldsFrames c ring samples c.stretch.committed to
-    → c.stretch.committed + frames_used commit.frames commit.part ≤ to → c.stretch.part ≡ 0
-    → run_entries c.identity.member c.setup.bindings (sample_at samples (length c.setup.bindings))
-    c.stretch.card 0 (c.stretch.committed + commit.frames) commit.part
-    ≡ run_entries c.identity.member c.setup.bindings (sample_at samples (length c.setup.bindings))
-    c.stretch.card 0 c.stretch.committed c.stretch.part ++ commit_entries c ring commit
-expand-grows c ring samples commit to are holds within whole =
-    let s : ℕ → ℕ → ℤ = sample_at samples (length c.setup.bindings) in
-    run_entries-append c.identity.member c.setup.bindings s c.stretch.card 0 c.stretch.committed commit.frames commit.part
-    ∙ ap (λ (n : ℕ). run_entries c.identity.member c.setup.bindings s c.stretch.card 0 c.stretch.committed 0 ++ run_entries c.identity.member c.setup.bindings s
-    c.stretch.card n commit.frames commit.part) (zero-add c.stretch.committed)
-    ∙ ap (λ (es : List Entry). run_entries c.identity.member c.setup.bindings s c.stretch.card 0 c.stretch.committed 0 ++ es)
-    (sym (commit_entries-accepted c ring samples commit to are holds within))
-    ∙ ap (λ (p : ℕ). run_entries c.identity.member c.setup.bindings s c.stretch.card 0 c.stretch.committed p ++ commit_entries c ring commit) (sym whole)

@@ -1,7 +1,6 @@
 -- What a port did for a client: what it loaded and placed, what it kept, and how a commit ended there.
-use Rattle.std.specs.Prelude.{◌≡◌, ℕ, ◌+◌, ◌<◌, ◌≤◌, true, false, ℤ, List, [], Option, None, Some, IfNone, IfSome, Result, Ok, Err, ⊤, All, slice_index, unwrap_or}
+use Rattle.std.specs.Prelude.{◌≡◌, ℕ, ◌+◌, ◌<◌, ◌≤◌, true, false, ℤ, List, [], Option, None, Some, IfNone, IfSome, ⊤, All, slice_index, unwrap_or}
 use Rattle.std.specs.Option.{option_to_list}
-use Rattle.snd_base.specs.declared.errors.PcmError.{PcmError}
 use Rattle.snd_base.specs.declared.geometry.Geometry.{Geometry}
 use Rattle.snd_base.specs.Places.{IsFrom, IsWithin}
 use Rattle.mix_core.specs.declared.gate.Gate as gates

@@ -1,9 +1,7 @@
 -- Why a rewind answered an error: by the position that it loaded, and by where its withdrawals ended.
-use Rattle.std.specs.Prelude.{◌≡◌, ℕ, ◌↔◌, ℤ, List, [], Option, IfErr, IfNone, Result, Err}
+use Rattle.std.specs.Prelude.{◌≡◌, ℕ, ℤ, List, [], Option, Result}
 use Rattle.std.specs.Option.{option_to_list}
 use Rattle.snd_base.specs.declared.errors.PcmError.{PcmError}
-use Rattle.snd_base.specs.declared.errors.PcmError.TheVariants.{LapEnd, NoDevice, Stopped, Xrun}
-use Rattle.snd_base.specs.declared.errors.XrunWhy.TheVariants.{Avail, Late}
 use Rattle.snd_base.specs.declared.places.Cursor.{Cursor}
 use Rattle.mix_core.specs.declared.gate.Gate as gates
 use Rattle.mix_core.specs.declared.port.MixPort as mixport
@@ -13,7 +11,7 @@ use Rattle.course.specs.AtPort.{TakesAt}
 use Rattle.pcm_states.specs.declared.calls.Call.TheVariants as call
 use Rattle.dmix_client.specs.declared.stream.PlaybackStream.{PlaybackStream}
 use Rattle.dmix_client.specs.Calls.{Answered, after_sync}
-use Rattle.dmix_client.specs.Causes.{IsCaused, IsGone, IsOfSteps, Reaches}
+use Rattle.dmix_client.specs.Causes.{IsCaused, IsCausedBy}
 use Rattle.dmix_client.specs.Course.{nothing}
 use Rattle.dmix_client.specs.Rewind.{last_channel, last_laid, rewind_on}
 
@@ -25,16 +23,9 @@ pub record IsLastPast {S : Type 0} (view : S → PortView) (shows : S → ℕ �
   pub past : IsPast view shows q frame channel word
 
 -- why a rewind of a client `c`, which loaded a position unless the gate stopped it before and left the client as `d`, answered so
-pub record IsKeptCause {S X : Type 0} (view : S → PortView) (shows : S → ℕ → ℕ → Option ℕ) (q : S)
-    (c d : PlaybackStream) (load : Option Position) (answer : Result X PcmError) : Type 0 where
-  pub unless_stopped : IfNone load (answer ≡ Err Stopped)
-  pub of_steps : IfErr answer IsOfSteps
-  pub no_device : (answer ≡ Err NoDevice) ↔ IsGone load
-  pub reached : (avail frame : ℕ) → (answer ≡ Err (Xrun (Avail avail frame)))
-      ↔ Reaches c load avail frame
-  pub late : (frame channel word : ℕ) → answer ≡ Err (Xrun (Late frame channel word))
-      → IsLastPast view shows q d frame channel word
-  pub never_lap_end : answer ≡ Err LapEnd → ⊥
+abbrev pub IsKeptCause : {S X : Type 0} → (S → PortView) → (S → ℕ → ℕ → Option ℕ) → S
+    → PlaybackStream → PlaybackStream → Option Position → Result X PcmError → Type 0
+IsKeptCause view shows q c d load answer = IsCausedBy (IsLastPast view shows q d) c load answer
 
 -- what a load did after which nothing is committed, and why the call answered so by its position
 pub record ExplainsCheck {S T X : Type 0} (P : mixport.Ghosts S) (G : gates.Ghosts T) (s t : S × T)

@@ -79,31 +79,6 @@ impl PlaybackStream {
         self.stretch.written.saturating_sub(self.hw())
     }
 
-    /// A position was loaded.
-    pub(crate) fn seen_at(&self, position: Position) -> PlaybackStream
-        ensures { result ≡ seen_at self.now position }
-    {
-        PlaybackStream {
-            seen: Some(position.frame),
-            ..*self
-        }
-    }
-
-    /// A commit placed frames.
-    pub(crate) fn committed_by(&self, commit: Commit) -> PlaybackStream
-        requires { self.now.stretch.committed + commit.frames < 2 ^ 64 }
-        ensures { result ≡ committed_by self.now commit }
-    {
-        PlaybackStream {
-            stretch: Stretch {
-                committed: self.stretch.committed + commit.frames,
-                part: commit.part,
-                ..self.stretch
-            },
-            ..*self
-        }
-    }
-
     /// The frames available and the position, where the stop threshold was reached in RUNNING.
     pub(crate) fn over(&self, position: Position) -> Option<(u64, u64)>
         requires { IsReady self.now }
@@ -155,7 +130,9 @@ impl PlaybackStream {
         requires ready { IsReady (seen_at self.now position) }
         ensures { result ≡ sync_count self.now position }
     {
-        if position.gone || self.seen_at(position).over(position).is_some() {
+        let mut seen = *self;
+        seen.see(position);
+        if position.gone || seen.over(position).is_some() {
             0
         } else {
             self.commit_count(position.frame, self.stretch.written)
@@ -195,27 +172,9 @@ pub(crate) fn is_stop(ended: Ended) -> bool
     }
 }
 
-/// The gate stopped the call.
-pub(crate) fn stopped_in<T>(stream: PlaybackStream) -> Answered<T>
-    ensures { result ≡ stopped_in stream }
-{
-    let stopped = PlaybackStream {
-        status: stream.status.stop(),
-        ..stream
-    };
-    (stopped, Err(PcmError::Stopped))
-}
-
-/// The call ends with an outcome of the state table.
-pub(crate) fn with_outcome(stream: PlaybackStream, outcome: Outcome) -> Answered<()>
-    ensures { result ≡ with_outcome stream outcome }
-{
-    (stream.in_state(outcome.state), outcome.answer)
-}
-
 impl PlaybackStream {
     /// The gate stops the call.
-    fn stop_call<T>(&mut self) -> Result<T, PcmError>
+    pub(crate) fn stop_call<T>(&mut self) -> Result<T, PcmError>
         ensures { (self.new, result) ≡ stopped_in self.old }
     {
         self.status = self.status.stop();
@@ -223,11 +182,27 @@ impl PlaybackStream {
     }
 
     /// The call ends with an outcome of the state table.
-    fn end_with(&mut self, outcome: Outcome) -> Result<(), PcmError>
+    pub(crate) fn end_with(&mut self, outcome: Outcome) -> Result<(), PcmError>
         ensures { (self.new, result) ≡ with_outcome self.old outcome }
     {
         self.status = self.status.in_state(outcome.state);
         outcome.answer
+    }
+
+    /// The call goes on in `state`, unless the table refuses it.
+    fn go_on(&mut self, state: State, outcome: Outcome) -> Result<(), PcmError>
+        ensures { (self.new, result) ≡ going_on self.old state outcome }
+    {
+        match outcome.answer {
+            Ok(()) => {
+                self.status = self.status.in_state(state);
+                Ok(())
+            }
+            Err(error) => {
+                self.status = self.status.in_state(outcome.state);
+                Err(error)
+            }
+        }
     }
 
     /// A position is loaded.
@@ -297,16 +272,6 @@ pub(crate) fn after_sync(
     };
     let outcome = next(stream.status.state, call, facts);
     stream.end_with(outcome)
-}
-
-/// The call goes on in `state`, unless the table refuses it.
-fn going_on(stream: PlaybackStream, state: State, outcome: Outcome) -> Answered<()>
-    ensures { result ≡ going_on stream state outcome }
-{
-    match outcome.answer {
-        Ok(()) => (stream.in_state(state), Ok(())),
-        Err(error) => (stream.in_state(outcome.state), Err(error)),
-    }
 }
 
 /// What a start found, or a commit after a sync.
@@ -428,36 +393,34 @@ impl PlaybackStream {
 
 /// The start of a client that is prepared and has frames, which leads to `state`.
 pub(crate) fn after_start(
-    stream: PlaybackStream,
+    stream: &mut PlaybackStream,
     state: State,
     cursor: Cursor,
     load: Option<Position>,
     commit: Commit,
-) -> Answered<()>
+) -> Result<(), PcmError>
     requires position { IfSome load (λ position. position.frame < 2 ^ 63) }
     requires cursor { cursor.frame < 2 ^ 63 }
-    requires fits { stream.stretch.committed + commit.frames < 2 ^ 62 }
-    requires part { OnLate commit.ended (λ _. commit.part < length stream.setup.bindings) }
-    ensures { result ≡ after_start stream state cursor load commit }
+    requires fits { stream.old.stretch.committed + commit.frames < 2 ^ 62 }
+    requires part { OnLate commit.ended (λ _. commit.part < length stream.old.setup.bindings) }
+    ensures { (stream.new, result) ≡ after_start stream.old state cursor load commit }
 {
     let Some(position) = load else {
-        return stopped_in(stream);
+        return stream.stop_call();
     };
     if position.gone {
+        stream.see(position);
         let facts = found_at(position, None);
-        return going_on(
-            stream.seen_at(position),
-            state,
-            next(State::Prepared, Call::Start, facts),
-        );
+        return stream.go_on(state, next(State::Prepared, Call::Start, facts));
     }
-    let from = stream.started_in(state, position, cursor);
-    let done = from.committed_by(commit);
+    *stream = stream.started_in(state, position, cursor);
+    let late = stream.late(commit);
+    stream.commit_by(commit);
     if is_stop(commit.ended) {
-        return stopped_in(done);
+        return stream.stop_call();
     }
-    let facts = found_at(position, from.late(commit));
-    going_on(done, state, next(State::Prepared, Call::Start, facts))
+    let facts = found_at(position, late);
+    stream.go_on(state, next(State::Prepared, Call::Start, facts))
 }
 
 impl PlaybackStream {
@@ -489,27 +452,22 @@ impl PlaybackStream {
 
 /// The resume of a client that has pending frames.
 pub(crate) fn resumed(
-    stream: PlaybackStream,
+    stream: &mut PlaybackStream,
     cursor: Cursor,
     load: Option<Position>,
     commit: Commit,
-) -> Answered<()>
+) -> Result<(), PcmError>
     requires position { IfSome load (λ position. position.frame < 2 ^ 63) }
     requires cursor { cursor.frame < 2 ^ 63 }
     requires fits { commit.frames < 2 ^ 62 }
-    requires part { OnLate commit.ended (λ _. commit.part < length stream.setup.bindings) }
-    ensures { result ≡ after_resume stream cursor load commit }
+    requires part { OnLate commit.ended (λ _. commit.part < length stream.old.setup.bindings) }
+    ensures { (stream.new, result) ≡ after_resume stream.old cursor load commit }
 {
-    match load {
-        None => stopped_in(stream),
-        Some(position) => after_start(
-            stream.rebased(),
-            State::Running,
-            cursor,
-            Some(position),
-            commit,
-        ),
-    }
+    let Some(position) = load else {
+        return stream.stop_call();
+    };
+    *stream = stream.rebased();
+    after_start(stream, State::Running, cursor, Some(position), commit)
 }
 
 /// Frames that were taken are accepted where the call went well.

@@ -1,9 +1,8 @@
 //! Frames are placed in the card's ring through a port: a commit, alone and after a load of the position.
 ghost use Rattle.std.specs.Prelude.{◌≡◌, ℕ, ◌+◌, ◌*◌, ◌%◌, ◌^◌, ◌<◌, ◌≤◌, true, false, pos, IfSome, length, slice_index, slice_index_or, unwrap_or};
 ghost use Rattle.snd_base.specs.Places.{IsFrom, end_frame};
-ghost use Rattle.mix_core.specs.Laid.{an_add};
 ghost use Rattle.bindings.specs.Bound.{rising};
-ghost use Rattle.course.specs.AtPort.{LaysAt, TakesAt};
+ghost use Rattle.course.specs.AtPort.{TakesAt};
 ghost use Rattle.dmix_client.specs.Calls.{start_count, started_in, sync_count, window_end};
 ghost use Rattle.dmix_client.specs.Course.{commits, lay_frame, lay_frames, looks};
 ghost use Rattle.dmix_client.specs.Port.{CanUse, IsFound, IsOnCard, least_channel};
@@ -121,26 +120,6 @@ pub(crate) fn bound_sample(
     }
 }
 
-/// Places one sample, of a frame below the last lap. `Whole` says that it was in time.
-#[inline(always)]
-fn place_sample<P: MixPort, G: Gate>(
-    port: &mut P,
-    gate: &mut G,
-    frame: u64,
-    bound: BoundSample,
-) -> Ended
-    requires can_add { (P.view port.old).can_add ≡ true }
-    requires channel { bound.channel < (P.view port.old).geometry.channels }
-    requires from_cursor { IsFrom (P.view port.old).marks.cursor frame bound.channel }
-    requires ahead { frame < (P.view port.old).seen + (P.view port.old).geometry.frames }
-    requires fits { frame < end_frame (P.view port.old).geometry }
-    ensures { LaysAt P.MixPort G.Gate (port.old, gate.old)
-        (an_add (P.view port.old).member frame bound.channel bound.sample) result
-        (port.new, gate.new) }
-{
-    Ended::of(port.place(gate, frame, bound.channel, bound.sample))
-}
-
 /// Places the samples of the frame that begins at `slot` of a local ring of so many channels at a frame of the card, by
 /// rising card channel.
 #[inline(always)]
@@ -167,7 +146,8 @@ fn place_frame<P: MixPort, G: Gate>(
 {
     for place in 0..channels {
         let bound = bound_sample(bindings, ring, slot, place, channels);
-        match place_sample(port, gate, frame, bound) {
+        let answer = port.place(gate, frame, bound.channel, bound.sample);
+        match Ended::of(answer) {
             Ended::Whole => {}
             ended => return Channels {
                 placed: place,

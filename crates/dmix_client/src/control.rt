@@ -42,7 +42,9 @@ pub(crate) fn begin<P: MixPort, G: Gate>(
 {
     let cursor = port.cursor();
     let found = look_and_start(stream, ring, port, gate, cursor, upto);
-    after_start(*stream, state, cursor, found.load, found.commit)
+    let mut begun = *stream;
+    let answer = after_start(&mut begun, state, cursor, found.load, found.commit);
+    (begun, answer)
 }
 
 /// The start, to `state`, of a client that is prepared and has frames.

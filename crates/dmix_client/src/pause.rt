@@ -45,9 +45,7 @@ fn resume<P: MixPort, G: Gate>(
     let cursor = port.cursor();
     let from = stream.rebased();
     let found = look_and_start(&from, ring, port, gate, cursor, from.stretch.written);
-    let (after, answer) = resumed(*stream, cursor, found.load, found.commit);
-    *stream = after;
-    answer
+    resumed(stream, cursor, found.load, found.commit)
 }
 
 impl Client {

@@ -67,9 +67,7 @@ fn take_back<P: MixPort, G: Gate>(
         (port.new, gate.new) (stream.new, result) }
 {
     let left = take_frames(port, gate, stream, ring, stream.back(frames));
-    let (after, answer) = rewound(*stream, frames, left);
-    *stream = after;
-    answer
+    rewound(stream, frames, left)
 }
 
 /// The frames that a client which runs can take back, after its load.

@@ -4,7 +4,7 @@ ghost use Rattle.mix_core.specs.Port.{OnLate};
 ghost use Rattle.dmix_client.specs.Calls.{late_at, with_number};
 ghost use Rattle.dmix_client.specs.Rewind.{back_of, last_channel, last_laid, rewindable_of, after_rewind, taken_back, without_frames};
 
-use crate::after_calls::{Answered, found_at, is_stop, stopped_in, with_outcome};
+use crate::after_calls::{found_at, is_stop};
 use crate::commit::Commit;
 use crate::stream::{PlaybackStream, Stretch};
 use mix_core::{Ended, Position};
@@ -114,39 +114,44 @@ impl PlaybackStream {
 }
 
 /// A rewind of `frames` frames, by what is left of the committed ones.
-pub(crate) fn rewound(stream: PlaybackStream, frames: u64, left: Commit) -> Answered<u64>
+pub(crate) fn rewound(
+    stream: &mut PlaybackStream,
+    frames: u64,
+    left: Commit,
+) -> Result<u64, PcmError>
     requires few { left.frames ≤ frames }
-    requires written { frames ≤ stream.stretch.written }
-    requires fed { stream.stretch.written ≤ stream.fed }
-    requires committed { left.frames ≤ back_of stream frames }
-    requires back { back_of stream frames ≤ stream.stretch.committed }
-    requires fits { stream.stretch.card + stream.stretch.committed < 2 ^ 64 }
-    requires part { OnLate left.ended (λ _. left.part < length stream.setup.bindings) }
-    ensures { result ≡ after_rewind stream frames left }
+    requires written { frames ≤ stream.old.stretch.written }
+    requires fed { stream.old.stretch.written ≤ stream.old.fed }
+    requires committed { left.frames ≤ back_of stream.old frames }
+    requires back { back_of stream.old frames ≤ stream.old.stretch.committed }
+    requires fits { stream.old.stretch.card + stream.old.stretch.committed < 2 ^ 64 }
+    requires part { OnLate left.ended (λ _. left.part < length stream.old.setup.bindings) }
+    ensures { (stream.new, result) ≡ after_rewind stream.old frames left }
 {
-    let done = stream.taken_back(frames, left);
+    *stream = stream.taken_back(frames, left);
     if is_stop(left.ended) {
-        return stopped_in(done);
+        return stream.stop_call();
     }
     let here = Position {
         frame: 0,
         gone: false,
     };
-    let facts = found_at(here, done.late_withdrawal(left.ended));
-    with_count(
-        frames,
-        with_outcome(done, next(State::Running, Call::Transfer, facts)),
-    )
+    let facts = found_at(here, stream.late_withdrawal(left.ended));
+    let answer = stream.end_with(next(State::Running, Call::Transfer, facts));
+    with_count(stream, frames, answer)
 }
 
-/// An answer with a number, where it is well.
-fn with_count(frames: u64, answered: Answered<()>) -> Answered<u64>
-    ensures { result ≡ with_number (λ d. frames) answered }
+/// The number of frames, where the withdrawals before went well.
+fn with_count(
+    stream: &PlaybackStream,
+    frames: u64,
+    answer: Result<(), PcmError>,
+) -> Result<u64, PcmError>
+    ensures { with_number (λ d. frames) (stream.now, answer) ≡ (stream.now, result) }
 {
-    let (stream, answer) = answered;
     match answer {
-        Ok(()) => (stream, Ok(frames)),
-        Err(error) => (stream, Err(error)),
+        Ok(()) => Ok(frames),
+        Err(error) => Err(error),
     }
 }
 

@@ -1,15 +1,14 @@
 //! Frames are withdrawn from the card's ring through a port, the last one first.
-ghost use Rattle.std.specs.Prelude.{◌≡◌, ℕ, ◌+◌, ◌-◌, ◌*◌, ◌%◌, ◌^◌, ◌<◌, ◌≤◌, [], ◌∷◌, length};
+ghost use Rattle.std.specs.Prelude.{◌≡◌, ℕ, ◌+◌, ◌-◌, ◌*◌, ◌%◌, ◌^◌, ◌<◌, ◌≤◌, length};
 ghost use Rattle.snd_base.specs.Places.{IsFrom};
-ghost use Rattle.mix_core.specs.Laid.{a_withdrawal, an_add};
 ghost use Rattle.bindings.specs.Bound.{AreBindings};
-ghost use Rattle.course.specs.AtPort.{LaysAt, TakesAt};
+ghost use Rattle.course.specs.AtPort.{TakesAt};
 ghost use Rattle.dmix_client.specs.Expansion.{frame_entries, run_entries};
 ghost use Rattle.dmix_client.specs.Port.{IsOnCard, least_channel};
 ghost use Rattle.dmix_client.specs.Rewind.{rewind_left, take_each, take_frames};
 ghost use Rattle.dmix_client.specs.View.{ring_sample};
 
-use crate::commit::{BoundSample, Commit, bound_sample, held_from};
+use crate::commit::{Commit, bound_sample, held_from};
 use crate::stream::PlaybackStream;
 use mix_core::{Ended, Gate, MixPort};
 
@@ -18,23 +17,6 @@ use mix_core::{Ended, Gate, MixPort};
 struct Left {
     pub channels: u8,
     pub ended: Ended,
-}
-
-/// Withdraws the port's last standing add. `Whole` says that it was in time.
-fn take_sample<P: MixPort, G: Gate>(
-    port: &mut P,
-    gate: &mut G,
-    frame: u64,
-    bound: BoundSample,
-) -> Ended
-    requires last { P.ends_in port.old
-        (an_add (P.view port.old).member frame bound.channel bound.sample ∷ []) }
-    requires from_floor { IsFrom (P.view port.old).marks.floor frame bound.channel }
-    ensures { LaysAt P.MixPort G.Gate (port.old, gate.old)
-        (a_withdrawal (P.view port.old).member frame bound.channel bound.sample) result
-        (port.new, gate.new) }
-{
-    Ended::of(port.withdraw(gate, frame, bound.channel, bound.sample))
 }
 
 /// Withdraws the samples of the client's frame `number`, by falling card channel.
@@ -66,7 +48,9 @@ fn take_frame<P: MixPort, G: Gate>(
     for place in (0..stream.setup.bindings.len()).rev() {
         let channels = stream.setup.bindings.len();
         let bound = bound_sample(&stream.setup.bindings, ring, slot, place, channels);
-        match take_sample(port, gate, stream.stretch.card + number, bound) {
+        let frame = stream.stretch.card + number;
+        let answer = port.withdraw(gate, frame, bound.channel, bound.sample);
+        match Ended::of(answer) {
             Ended::Whole => {}
             ended => return Left {
                 channels: place + 1,

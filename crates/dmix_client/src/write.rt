@@ -6,15 +6,15 @@ ghost use Rattle.pcm_stream.specs.Status.{is_moving};
 ghost use Rattle.dmix_client.specs.CallRelations.{WritesFrames};
 ghost use Rattle.dmix_client.specs.Calls.{accepted_if, start_count, after_start, started_in, taken_of};
 ghost use Rattle.dmix_client.specs.Causes.{Explains, ExplainsWrite};
-ghost use Rattle.dmix_client.specs.Course.{commits, fills, starts_taking, takes_more, writes_on};
+ghost use Rattle.dmix_client.specs.Course.{fills, starts_taking, takes_more, writes_on};
 ghost use Rattle.dmix_client.specs.Growth.{Follows, Keeps};
-ghost use Rattle.dmix_client.specs.Port.{CanUse, IsCommit};
+ghost use Rattle.dmix_client.specs.Port.{CanUse};
 ghost use Rattle.dmix_client.specs.View.{IsSoundClient};
-ghost use Rattle.dmix_client.specs.Writes.{IsOffer, count_with, frames_in, ring_with, starts_with};
+ghost use Rattle.dmix_client.specs.Writes.{IsOffer, frames_in, ring_with, starts_with};
 
 use crate::after_calls::{accepted_if, written_after};
 use crate::client::Client;
-use crate::commit::{Commit, lay_frames};
+use crate::commit::lay_frames;
 use crate::control::begin;
 use crate::ring::store;
 use crate::status::sync_call;
@@ -24,30 +24,7 @@ use pcm_states::{Call, State};
 use pcm_stream::Direction;
 use snd_base::PcmError;
 
-/// Commits, of a client that moves frames, what it has with `taken` frames after what is written, at the position that it
-/// has seen.
-fn commit_taken<P: MixPort, G: Gate>(
-    stream: &PlaybackStream,
-    ring: &[i16],
-    port: &mut P,
-    gate: &mut G,
-    taken: u64,
-) -> Commit
-    requires sound { IsSoundClient stream.now ring.now }
-    requires moving { is_moving stream.now.status.state ≡ true }
-    requires unstopped { stream.now.status.stopped ≡ false }
-    requires few { taken ≤ 16384 }
-    requires port { CanUse stream.now (P.view port.old) }
-    ensures takes { TakesAt P.MixPort G.Gate (port.old, gate.old)
-        (commits stream.now ring.now (count_with stream.now taken)) (port.new, gate.new) result }
-    ensures commit { IsCommit result.ended result.frames result.part (count_with stream.now taken)
-        (length stream.now.setup.bindings) }
-{
-    let count = stream.count_with(taken);
-    lay_frames(port, gate, stream, ring, count)
-}
-
-/// A write of `frames` frames into a stream that runs, after its sync.
+/// A write of `frames` frames into a stream that runs, after its sync: what it takes is stored, and committed at the position that was seen.
 fn write_taken<P: MixPort, G: Gate>(
     stream: &mut PlaybackStream,
     ring: &mut [i16],
@@ -72,7 +49,8 @@ fn write_taken<P: MixPort, G: Gate>(
     let avail = stream.avail();
     let taken = stream.taken_within(frames, avail);
     store_taken(stream, ring, samples, taken);
-    let last = commit_taken(stream, ring, port, gate, taken);
+    let count = stream.count_with(taken);
+    let last = lay_frames(port, gate, stream, ring, count);
     written_after(stream, frames, avail, last)
 }
 

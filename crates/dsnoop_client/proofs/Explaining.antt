@@ -120,14 +120,14 @@ at-least threshold a reached least none = grind (arith, nat_tests)
 
 module _ {S T : Type 0} (P : snoopport.Ghosts S) (G : gates.Ghosts T) where
   -- a call that loaded a position
-  unfoldable pub explained-some : {X : Type 0} (s t : S × T) (c d : CaptureStream) (position : Position) (answer : Result X PcmError) → CanUse c (P.view s.0)
+  unfoldable pub explained-some : {X : Type 0} {s t : S × T} {c d : CaptureStream} (position : Position) {answer : Result X PcmError} → CanUse c (P.view s.0)
       → P.view t.0 ≡ record (P.view s.0) { seen = position.frame } → P.loaded s.0 t.0 (position ∷ []) → G.stops t.1 ≡ stops_after (pass_by answer) (G.stops s.1)
       → d.geometry ≡ c.geometry → d.setup ≡ c.setup → d.seen ≡ Some position.frame → IsSoundReader d
       → ((answer ≡ Err Stopped) ↔ (d.status.stopped ≡ true)) → IfErr answer IsOfSteps → ((answer ≡ Err NoDevice) ↔ (position.gone ≡ true))
       → ((avail frame : ℕ) → (answer ≡ Err (Xrun (Avail avail frame))) ↔ Reaches c (Some position) avail frame)
       → ((frame channel word : ℕ) → answer ≡ Err (Xrun (Overtaken frame channel word)) → IsMissed P t.0 d frame channel word)
       → IsExplained P G s t c d answer
-  explained-some s t c d position answer can view_is loaded_it stops same_ring same_setup saw sound stopped of_steps no_device reached overtaken = record {
+  explained-some {s = s} {t = t} {c = c} {d = d} position can view_is loaded_it stops same_ring same_setup saw sound stopped of_steps no_device reached overtaken = record {
     keeps = record {
       sound = sound;
       port = use-newer c d (P.view s.0) (P.view t.0) position.frame can view_is same_ring saw;
@@ -185,8 +185,7 @@ module _ {S T : Type 0} (P : snoopport.Ghosts S) (G : gates.Ghosts T) where
       → LoadsAtSnoop P G s (Some position) t
       → position.gone ≡ true → IsExplained {X = X} P G s t c (in_state (seen_at c position) state.Disconnected) (Err NoDevice)
   explained-gone s t c position sound unstopped can step gone =
-      explained-some s t c (in_state (seen_at c position) state.Disconnected) position (Err NoDevice) can step.view_is step.loaded_it
-      step.stopped refl refl refl
+      explained-some position can step.view_is step.loaded_it step.stopped refl refl refl
       (sound-at c position.frame c.next state.Disconnected sound (subst (λ (g : Geometry). position.frame ≤ end_frame g) can.same_geometry step.within.most)
       refl (λ h. cc) (λ h. cc))
       (λ h. cc, λ h. cc) tt (λ h. gone, λ h. refl)
@@ -198,8 +197,7 @@ module _ {S T : Type 0} (P : snoopport.Ghosts S) (G : gates.Ghosts T) where
       → LoadsAtSnoop P G s (Some position) t → position.gone ≡ false → c.setup.params.stop_threshold ≤ position.frame - c.next
       → IsExplained {X = X} P G s t c (in_state (seen_at c position) state.Xrun) (Err (Xrun (Avail (position.frame - c.next) position.frame)))
   explained-over s t c position sound unstopped running can step here over =
-      explained-some s t c (in_state (seen_at c position) state.Xrun) position (Err (Xrun (Avail (position.frame - c.next) position.frame))) can step.view_is
-      step.loaded_it step.stopped refl refl refl
+      explained-some position can step.view_is step.loaded_it step.stopped refl refl refl
       (sound-at c position.frame c.next state.Xrun sound (subst (λ (g : Geometry). position.frame ≤ end_frame g) can.same_geometry step.within.most) refl
       (λ h. sound.set_up (rw running refl)) (λ h. cc))
       (λ h. cc, λ h. cc) tt (λ h. cc, λ h. cc)
@@ -219,15 +217,15 @@ module _ {S T : Type 0} (P : snoopport.Ghosts S) (G : gates.Ghosts T) where
     pub asked : G.asked s.1 t.1 (kind.Position ∷ []) (pass_by done.1)
 
   -- a call that went well from a position
-  unfoldable pub explained-went : {X : Type 0} (s t : S × T) (c u d : CaptureStream) (position : Position) (pass : Pass) (answer : Result X PcmError)
+  unfoldable pub explained-went : {X : Type 0} {s t : S × T} {c u d : CaptureStream} {position : Position} {pass : Pass} {answer : Result X PcmError}
       → Went P G s t c u position pass → pass_by answer ≡ pass
       → d.geometry ≡ u.geometry → d.setup ≡ u.setup → d.seen ≡ u.seen → IsSoundReader d → ((answer ≡ Err Stopped) ↔ (d.status.stopped ≡ true))
       → IfErr answer IsOfSteps
       → (answer ≡ Err NoDevice → ⊥) → ((avail frame : ℕ) → answer ≡ Err (Xrun (Avail avail frame)) → ⊥)
       → ((frame channel word : ℕ) → answer ≡ Err (Xrun (Overtaken frame channel word)) → IsMissed P t.0 d frame channel word)
       → IsExplained P G s t c d answer
-  explained-went s t c u d position pass answer went is_pass same_ring same_setup saw sound stopped of_steps never_gone never_over overtaken =
-      explained-some s t c d position answer went.can_use went.view_is went.loaded_it (went.stops ∙ ap (λ (p : Pass). stops_after p (G.stops s.1))
+  explained-went {s = s} {position = position} went is_pass same_ring same_setup saw sound stopped of_steps never_gone never_over overtaken =
+      explained-some position went.can_use went.view_is went.loaded_it (went.stops ∙ ap (λ (p : Pass). stops_after p (G.stops s.1))
       (sym is_pass)) (same_ring ∙ went.same_ring) (same_setup ∙ went.same_setup) (saw ∙ went.saw) sound
       stopped of_steps (λ h. absurd (never_gone h), λ h. let here = went.here in cc)
       (λ avail frame. (λ h. absurd (never_over avail frame h), λ h. absurd (went.below avail frame h))) overtaken
@@ -236,25 +234,41 @@ module _ {S T : Type 0} (P : snoopport.Ghosts S) (G : gates.Ghosts T) where
   went-on : (s t : S × T) (c u : CaptureStream) (position : Position) → Went P G s t c u position Go → G.asked s.1 t.1 (kind.Position ∷ []) Go
       → After s t c (u, Ok tt)
   went-on s t c u position went asked = record {
-    told = explained-went s t c u u position Go (Ok tt) went refl refl refl refl went.sound (λ h. cc, λ h. let runs = went.unstopped in cc) tt (λ h. cc)
+    told = explained-went went refl refl refl refl went.sound (λ h. cc, λ h. let runs = went.unstopped in cc) tt (λ h. cc)
         (λ avail frame h. cc) (λ frame channel word h. cc);
     went = (position, went);
     ended = tt;
     asked = asked;
   }
 
+  -- one that the gate stopped, and one whose card was gone
+  ended-none : (s t : S × T) (c : CaptureStream) → IsSoundReader c → CanUse c (P.view s.0) → LoadsAtSnoop P G s None t
+      → After s t c (record c { status = record c.status { stopped = true } }, Err Stopped)
+  unfolding explained-none
+  ended-none s t c sound can step = record {
+    told = explained-none s t c sound can step;
+    went = tt;
+    ended = (λ h. h, λ h. cc, tt);
+    asked = step.asked_it;
+  }
+
+  ended-gone : (s t : S × T) (c : CaptureStream) (position : Position) → IsSoundReader c → c.status.stopped ≡ false → CanUse c (P.view s.0)
+      → LoadsAtSnoop P G s (Some position) t
+      → position.gone ≡ true → After s t c (in_state (seen_at c position) state.Disconnected, Err NoDevice)
+  unfolding explained-gone explained-some
+  ended-gone s t c position sound unstopped can step gone = record {
+    told = explained-gone s t c position sound unstopped can step gone;
+    went = tt;
+    ended = (λ h. let here = h.0 in cc, λ h. cc, tt);
+    asked = step.asked_it;
+  }
+
   -- a start, by what its load gave
   pub start-after : (s t : S × T) (c : CaptureStream) (k : Call) (load : Option Position) (done : Answered (Unit {0})) → IsSoundReader c
       → c.status.state ≡ state.Prepared → c.status.stopped ≡ false → IsStart k
       → CanUse c (P.view s.0) → LoadsAtSnoop P G s load t → done ≡ after_start c k load → After s t c done
-  unfolding explained-none explained-gone explained-some
   start-after s t c k None done sound waits unstopped start can step is =
-      subst (λ (x : Answered (Unit {0})). After s t c x) (sym is) (record {
-        told = explained-none s t c sound can step;
-        went = tt;
-        ended = (λ h. h, λ h. cc, tt);
-        asked = step.asked_it;
-      })
+      subst (λ (x : Answered (Unit {0})). After s t c x) (sym is) (ended-none s t c sound can step)
   start-after s t c k (Some position) done sound waits unstopped start can step is = by position.gone refl
     where
       comes : (gone : Bool) → position.gone ≡ gone
@@ -266,13 +280,7 @@ module _ {S T : Type 0} (P : snoopport.Ghosts S) (G : gates.Ghosts T) where
 
       by : (gone : Bool) → position.gone ≡ gone → After s t c done
       by true gone =
-          subst (λ (x : Answered (Unit {0})). After s t c x) (sym (comes true gone)) (record {
-            told = explained-gone s t c position sound unstopped can step
-                gone;
-            went = tt;
-            ended = (λ h. let here = h.0 in cc, λ h. cc, tt);
-            asked = step.asked_it;
-          })
+          subst (λ (x : Answered (Unit {0})). After s t c x) (sym (comes true gone)) (ended-gone s t c position sound unstopped can step gone)
       by false here =
           let within : IsWithin c.geometry position.frame = subst (λ (g : Geometry). IsWithin g position.frame) can.same_geometry step.within in
           subst (λ (x : Answered (Unit {0})). After s t c x) (sym (comes false here)) (went-on s t c
@@ -298,14 +306,9 @@ module _ {S T : Type 0} (P : snoopport.Ghosts S) (G : gates.Ghosts T) where
   pub sync-after : (s t : S × T) (c : CaptureStream) (k : Call) (load : Option Position) (done : Answered (Unit {0})) → IsSoundReader c
       → c.status.state ≡ state.Running → c.status.stopped ≡ false → IsSync k
       → CanUse c (P.view s.0) → LoadsAtSnoop P G s load t → done ≡ after_sync c k load → After s t c done
-  unfolding explained-none explained-over explained-some explained-gone
+  unfolding explained-over explained-some
   sync-after s t c k None done sound runs unstopped sync can step is =
-      subst (λ (x : Answered (Unit {0})). After s t c x) (sym is) (record {
-        told = explained-none s t c sound can step;
-        went = tt;
-        ended = (λ h. h, λ h. cc, tt);
-        asked = step.asked_it;
-      })
+      subst (λ (x : Answered (Unit {0})). After s t c x) (sym is) (ended-none s t c sound can step)
   sync-after s t c k (Some position) done sound runs unstopped sync can step is =
       by position.gone (nat_le c.setup.params.stop_threshold (position.frame - c.next)) refl refl
     where
@@ -320,13 +323,7 @@ module _ {S T : Type 0} (P : snoopport.Ghosts S) (G : gates.Ghosts T) where
 
       by : (gone over : Bool) → position.gone ≡ gone → nat_le c.setup.params.stop_threshold (position.frame - c.next) ≡ over → After s t c done
       by true over gone reached =
-          subst (λ (x : Answered (Unit {0})). After s t c x) (sym (comes true over gone reached))
-          (record {
-            told = explained-gone s t c position sound unstopped can step gone;
-            went = tt;
-            ended = (λ h. let here = h.0 in cc, λ h. cc, tt);
-            asked = step.asked_it;
-          })
+          subst (λ (x : Answered (Unit {0})). After s t c x) (sym (comes true over gone reached)) (ended-gone s t c position sound unstopped can step gone)
       by false true here reached =
           subst (λ (x : Answered (Unit {0})). After s t c x) (sym (comes false true here reached))
           (record {
@@ -365,8 +362,8 @@ module _ {S T : Type 0} (P : snoopport.Ghosts S) (G : gates.Ghosts T) where
 pub same_error : {T : Type 0} (e f : PcmError) → (let r : Result T PcmError = Err e in r) ≡ Err f → e ≡ f
 same_error e f h = cc
 
-pub with_error : {T : Type 0} (e f : PcmError) → e ≡ f → (let r : Result T PcmError = Err e in r) ≡ Err f
-with_error e f h = cc
+pub same-answer : {X Y : Type 0} (e f : PcmError) → (let r : Result X PcmError = Err e in r) ≡ Err f → (let r : Result Y PcmError = Err e in r) ≡ Err f
+same-answer {X = X} {Y = Y} e f h = let is : e ≡ f = same_error {T = X} e f h in ap (λ (x : PcmError). let r : Result Y PcmError = Err x in r) is
 
 pub if-none : {X : Type 0} (o : Option X) {A B : Type 0} → (A → B) → IfNone o A → IfNone o B
 if-none None follows told = follows told
@@ -377,20 +374,15 @@ unfoldable pub why-error : {S X Y : Type 0} (P : snoopport.Ghosts S) (p q : S) (
 why-error {X = X} {Y = Y} P p q c d e why = record {
   load = why.load;
   loaded_it = why.loaded_it;
-  unless_stopped = if-none why.load (λ h. with_error {T = Y} e Stopped (same_error {T = X} e Stopped h)) why.unless_stopped;
+  unless_stopped = if-none why.load (same-answer {X = X} {Y = Y} e Stopped) why.unless_stopped;
   saw = why.saw;
   of_steps = why.of_steps;
-  no_device = (
-    λ h. why.no_device.0 (with_error {T = X} e NoDevice (same_error {T = Y} e NoDevice h)),
-    λ h. with_error {T = Y} e NoDevice
-        (same_error {T = X} e NoDevice (why.no_device.1 h)),
-  );
+  no_device = (λ h. why.no_device.0 (same-answer {X = Y} e NoDevice h), λ h. same-answer {X = X} {Y = Y} e NoDevice (why.no_device.1 h));
   reached = λ a f. (
-    λ h. (why.reached a f).0 (with_error {T = X} e (Xrun (Avail a f)) (same_error {T = Y} e (Xrun (Avail a f)) h)),
-    λ h. with_error {T = Y} e
-        (Xrun (Avail a f)) (same_error {T = X} e (Xrun (Avail a f)) ((why.reached a f).1 h)),
+    λ h. (why.reached a f).0 (same-answer {X = Y} e (Xrun (Avail a f)) h),
+    λ h. same-answer {X = X} {Y = Y} e (Xrun (Avail a f)) ((why.reached a f).1 h),
   );
-  overtaken = λ f ch w h. why.overtaken f ch w (with_error {T = X} e (Xrun (Overtaken f ch w)) (same_error {T = Y} e (Xrun (Overtaken f ch w)) h));
+  overtaken = λ f ch w h. why.overtaken f ch w (same-answer {X = Y} e (Xrun (Overtaken f ch w)) h);
 }
 
 -- a good answer with a number
@@ -420,11 +412,7 @@ explained-error {X = X} {Y = Y} P G s t c d e told = record {
     port = told.keeps.port;
     same_ring = told.keeps.same_ring;
     same_setup = told.keeps.same_setup;
-    stopped = (
-      λ h. told.keeps.stopped.0 (with_error {T = X} e Stopped (same_error {T = Y} e Stopped h)),
-      λ h. with_error {T = Y} e Stopped
-          (same_error {T = X} e Stopped (told.keeps.stopped.1 h)),
-    );
+    stopped = (λ h. told.keeps.stopped.0 (same-answer {X = Y} e Stopped h), λ h. same-answer {X = X} {Y = Y} e Stopped (told.keeps.stopped.1 h));
     told = told.keeps.told;
   };
   why = why-error P s.0 t.0 c d e told.why;

@@ -199,7 +199,7 @@ module _ {S T : Type 0} (P : snoopport.Ghosts S) (G : gates.Ghosts T) (composes 
       let none : avail_of u ≡ 0 = no-avail n (avail_of u) test in
       let nothing = no-frames n count done Whole none is_count came.up_to in
       record {
-        told = explained-went P G s t c u u position Go (Err Again) (went-frames count u.next done Whole came) refl refl refl refl went.sound
+        told = explained-went P G (went-frames count u.next done Whole came) refl refl refl refl went.sound
             (λ h. cc, λ h. let goes = went.unstopped in cc) tt (λ h. cc) (λ avail frame h. cc) (λ frame channel word h. cc);
         again = (λ h. (some-wanted n (avail_of u) test, finds-none none), λ h. refl);
         asks = asks-frames u n came.looks Go (Err Again) (came.looks_number ∙ ap (λ (k : ℕ). k * (P.view m.0).geometry.channels) nothing.1
@@ -210,7 +210,7 @@ module _ {S T : Type 0} (P : snoopport.Ghosts S) (G : gates.Ghosts T) (composes 
   read-explained-if true n count done Stopped test is_count came =
       absurd (let nothing = no-frames n count done Stopped (no-avail n (avail_of u) test) is_count came.up_to in let is = nothing.0 in cc)
   read-explained-if false n count done Whole test is_count came = record {
-    told = explained-went P G s t c u (record u { next = u.next + done }) position Go (Ok done) (went-frames count u.next done Whole came) refl refl refl refl
+    told = explained-went P G (went-frames count u.next done Whole came) refl refl refl refl
         (sound-next done (omega (arith, is_count, came.up_to)))
         (λ h. cc, λ h. let goes = went.unstopped in cc) tt (λ h. cc) (λ avail frame h. cc) (λ frame channel word h. cc);
     again = (λ h. cc, λ h. absurd (avail-found n (avail_of u) test (none-found h.1) h.0));
@@ -218,8 +218,7 @@ module _ {S T : Type 0} (P : snoopport.Ghosts S) (G : gates.Ghosts T) (composes 
         same-channels) refl came.asked_them;
   }
   read-explained-if false n count done (Overtaken channel word) test is_count came = record {
-    told = explained-went P G s t c u (in_state u state.Xrun) position Go (Err (Xrun (why.Overtaken (u.next + done) channel word)))
-        (went-frames count u.next done (Overtaken channel word) came) refl refl refl refl sound-missed
+    told = explained-went P G (went-frames count u.next done (Overtaken channel word) came) refl refl refl refl sound-missed
         (λ h. cc, λ h. let goes = went.unstopped in cc) tt (λ h. cc) (λ avail frame h. cc)
         (λ frame at seen h. missed-at count done channel word frame at seen (omega (arith, is_count)) came (cc) (cc) (cc));
     again = (λ h. cc, λ h. absurd (avail-found n (avail_of u) test (none-found h.1) h.0));
@@ -228,8 +227,7 @@ module _ {S T : Type 0} (P : snoopport.Ghosts S) (G : gates.Ghosts T) (composes 
         (let gone : done ≡ u.next + done - u.next = omega arith in gone)) refl came.asked_them;
   }
   read-explained-if false n count done Stopped test is_count came = record {
-    told = explained-went P G s t c u (record u { status = record u.status { stopped = true } }) position Stop (Err error.Stopped)
-        (went-frames count u.next done Stopped came) refl refl refl refl sound-stopped
+    told = explained-went P G (went-frames count u.next done Stopped came) refl refl refl refl sound-stopped
         (λ h. refl, λ h. refl) tt (λ h. cc) (λ avail frame h. cc) (λ frame channel word h. cc);
     again = (λ h. cc, λ h. absurd (avail-found n (avail_of u) test (none-found h.1) h.0));
     asks = asks-frames (record u { status = record u.status { stopped = true } }) n came.looks Stop (Err error.Stopped)

@@ -1,6 +1,5 @@
 use Rattle.std.proofs.Common.{ℕ, ◌+◌, ◌≤◌, length, refl, subst, arith}
 use Rattle.mix_core.specs.declared.port.Ended.{Ended}
-use Rattle.mix_core.specs.declared.port.Ended.TheVariants.{Whole, Late, Stopped}
 use Rattle.mix_core.specs.Port.{OnWhole}
 use Rattle.snd_base.specs.Places.{first_free}
 use Rattle.dmix_client.specs.Port.{IsCommit, least_channel}
@@ -9,6 +8,7 @@ use Rattle.dmix_client.specs.View.{ring_sample}
 use Rattle.dmix_client.proofs.CallLaws.{both}
 use Rattle.dmix_client.proofs.Frames.{marks-joined}
 use Rattle.dmix_client.proofs.Laying.{RestFrames-all, RestFrames-none, RestFrames-run, RestFrames-run_ended}
+use Rattle.dmix_client.proofs.Sound.{frames-le}
 use Rattle.dmix_client.proofs.commit.lay_frames.Goals as goal
 
 pub loop-done-init : goal.loop-done-init
@@ -22,11 +22,6 @@ loop-done-init g c =
           c.args.count stream.stretch.committed (c.args.port.now, c.args.gate.now);
     }
 
-few_frames : (e : Ended) (frames part count channels : ℕ) → IsCommit e frames part count channels → frames ≤ count
-few_frames Whole frames part count channels is = omega (arith, is.0)
-few_frames (Late word) frames part count channels is = omega (arith, is.0)
-few_frames Stopped frames part count channels is = omega (arith, is.0)
-
 pub overflow_add-result : goal.overflow_add-result
 overflow_add-result g c =
     let t = both c.loop-done.port c.loop-done.gate in
@@ -36,7 +31,7 @@ overflow_add-result g c =
     let laid = TakesAt-frames g.P.MixPort g.G.Gate g.met.P.MixPort.laid_composes g.met.P.MixPort.loaded_composes stream.identity.member stream.stretch.card
     stream.setup.bindings (ring_sample stream c.args.ring.now) c.min-run.result (stream.stretch.committed + c.loop-done.done)
     t u x c.requires.bound.bound c.lay_run-laid.ensures in
-    let frames : x.frames ≤ c.min-run.result = few_frames x.ended x.frames x.part c.min-run.result (length stream.setup.bindings) laid.commit_is in
+    let frames : x.frames ≤ c.min-run.result = frames-le x.ended x.frames x.part c.min-run.result (length stream.setup.bindings) laid.commit_is in
     omega (arith, frames, c.min-run.ensures, c.loop-done.invariant.few, c.ranges.count)
 
 pub returns-in_default : goal.returns-in_default

@@ -1,17 +1,21 @@
-use Rattle.std.proofs.Common.{◌≡◌, ℕ, ◌<◌, ap, sym, refl, subst, arith, length}
-use Rattle.std.specs.Prelude.{slice_index}
-use Rattle.snd_base.specs.Places.{IsFrom}
+use Rattle.std.proofs.Common.{◌≡◌, ◌∙◌, ℕ, ◌+◌, ◌<◌, SFits, ap, sym, refl, rules, subst, arith, length, of_z, to_z, to_z-of_z, w16}
+use Rattle.std.specs.Prelude.{ℤ, Result, slice_index}
+use Rattle.snd_base.specs.declared.errors.PcmError.{PcmError}
+use Rattle.snd_base.specs.Places.{IsFrom, end_frame, lap}
+use Rattle.mix_core.specs.declared.gate.Gate as gates
 use Rattle.mix_core.specs.declared.port.Ended.{Ended}
 use Rattle.mix_core.specs.declared.port.Ended.TheVariants.{Whole}
+use Rattle.mix_core.specs.declared.port.MixPort as mixport
+use Rattle.mix_core.specs.declared.port.Placed.{Placed}
 use Rattle.mix_core.specs.Laid.{an_add}
-use Rattle.mix_core.specs.Port.{PortView}
+use Rattle.mix_core.specs.Port.{PortView, ended_of}
 use Rattle.course.specs.AtPort.{LaysAt, TakesAt}
 use Rattle.bindings.specs.Bound.{rising}
 use Rattle.bindings.specs.RisingLaws.{length-rising, rising-rises, rising-within}
 use Rattle.dmix_client.specs.Course.{lay_frame}
 use Rattle.dmix_client.specs.View.{slot_sample}
 use Rattle.dmix_client.proofs.CallLaws.{both}
-use Rattle.dmix_client.proofs.Frames.{IsFrom-later, behind-later, entry-bound, marks-joined, rising-least}
+use Rattle.dmix_client.proofs.Frames.{IsFrom-later, behind-later, entry-bound, lap-below, marks-joined, rising-least}
 use Rattle.dmix_client.proofs.Laying.{Rest-all, Rest-ended, Rest-next, Rest-none}
 use Rattle.dmix_client.proofs.commit.place_frame.Goals as goal
 
@@ -24,25 +28,53 @@ loop-place-init g c = let view = g.P.MixPort.view c.args.port.now in let list = 
       (c.args.port.now, c.args.gate.now);
 }
 
+pub place-answer-requires : goal.place-answer-requires
+place-answer-requires g c =
+    let port = g.P.MixPort in
+    let list = c.args.bindings.now in
+    let before = c.loop-place.invariant in
+    let channel = c.bound_sample-bound.ensures.channel in
+    let place_within : c.loop-place.place < length list = omega (arith, c.requires.channels, c.loop-place-test.true) in
+    record {
+      can_add = ap (λ (v : PortView). v.can_add) before.view_is ∙ c.requires.can_add;
+      channel = subst (λ (v : PortView). c.bound_sample-bound.result.channel < v.geometry.channels) (sym before.view_is)
+          (subst (λ (k : ℕ). k < (port.view c.args.port.now).geometry.channels) (sym channel)
+          (c.requires.bound.below (slice_index (rising list) c.loop-place.place) 0 (rising-within list c.loop-place.place before.bound place_within)));
+      from_cursor = subst (λ (k : ℕ). IsFrom (port.view c.loop-place.port).marks.cursor c.args.frame k) (sym channel)
+          (before.ahead c.loop-place.place (omega arith) place_within);
+      ahead = subst (λ (v : PortView). c.args.frame < v.seen + v.geometry.frames) (sym before.view_is) c.requires.ahead;
+    }
+
+-- the step of a placement below the last lap, with the sample as it is, by how it ended
+LaysAt-placed : {S T : Type 0} (P : mixport.Ghosts S) (G : gates.Ghosts T) (s t : S × T) (frame channel : ℕ) (sample : ℤ) (answer : Result Placed PcmError) (ended : Ended)
+    → SFits w16 sample → frame < end_frame (P.view s.0).geometry → ended ≡ ended_of answer
+    → (lap (P.view s.0).geometry frame < 4294967295 → LaysAt P G s (an_add (P.view s.0).member frame channel (to_z w16 (of_z w16 sample))) (ended_of answer) t)
+    → LaysAt P G s (an_add (P.view s.0).member frame channel sample) ended t
+LaysAt-placed P G s t frame channel sample answer ended fits below is step =
+    subst (λ (e : Ended). LaysAt P G s (an_add (P.view s.0).member frame channel sample) e t) (sym is)
+    (subst (λ (x : ℤ). LaysAt P G s (an_add (P.view s.0).member frame channel x) (ended_of answer) t) (to_z-of_z fits)
+    (step (lap-below frame (P.view s.0).geometry.frames below)))
+
 pub loop-place-preserved : goal.loop-place-preserved
 loop-place-preserved g c =
     let s = both c.args.port.now c.args.gate.now in
     let t = both c.loop-place.port c.loop-place.gate in
-    let u = both c.place_sample.new.port c.place_sample.new.gate in
+    let u = both c.place-answer.new.self c.place-answer.new.gate in
     let port = g.P.MixPort in
     let list = c.args.bindings.now in
     let before = c.loop-place.invariant in
     let frame : ℕ = c.args.frame in
     let bound = c.bound_sample-bound.ensures in
     let member : (port.view c.loop-place.port).member ≡ (port.view c.args.port.now).member = ap (λ (v : PortView). v.member) before.view_is in
-    let step = subst (λ (e : Ended). LaysAt port g.G.Gate t (an_add (port.view c.loop-place.port).member frame c.bound_sample-bound.result.channel
-    c.bound_sample-bound.result.sample) e u) c.in-Whole.is c.place_sample.ensures in
+    let fits : SFits w16 c.bound_sample-bound.result.sample = search rules in
+    let step = LaysAt-placed port g.G.Gate t u frame c.bound_sample-bound.result.channel c.bound_sample-bound.result.sample c.place-answer.result Whole fits
+    (subst (λ (v : PortView). frame < end_frame v.geometry) (sym before.view_is) c.requires.fits) (sym c.in-Whole.is ∙ c.of.ensures) c.place-answer.ensures.step in
     let place_within : c.loop-place.place < length list = omega (arith, c.requires.channels, c.loop-place-test.true) in
     let in_range : (j : ℕ) → j < length list → slice_index list (slice_index (rising list) j) < (port.view c.loop-place.port).geometry.channels =
     λ j within. subst (λ (v : PortView). slice_index list (slice_index (rising list) j) < v.geometry.channels) (sym before.view_is)
     (c.requires.bound.below (slice_index (rising list) j) 0 (rising-within list j before.bound within)) in
     record {
-      view_is = marks-joined (port.view c.args.port.now) (port.view c.loop-place.port) (port.view c.place_sample.new.port) _ before.view_is step.view_is;
+      view_is = marks-joined (port.view c.args.port.now) (port.view c.loop-place.port) (port.view c.place-answer.new.self) _ before.view_is step.view_is;
       ahead = λ j least within. subst (λ (v : PortView). IsFrom v.marks.cursor frame (slice_index list (slice_index (rising list) j))) (sym step.view_is)
           (behind-later (port.view c.loop-place.port).geometry frame c.bound_sample-bound.result.channel (slice_index list (slice_index (rising list) j))
           (omega (arith, bound.channel, rising-rises list c.loop-place.place j before.bound (omega arith) within)) (in_range j within));
@@ -57,17 +89,20 @@ pub returns-in_default : goal.returns-in_default
 returns-in_default g c =
     let s = both c.args.port.now c.args.gate.now in
     let t = both c.loop-place.port c.loop-place.gate in
-    let u = both c.place_sample.new.port c.place_sample.new.gate in
+    let u = both c.place-answer.new.self c.place-answer.new.gate in
     let port = g.P.MixPort in
     let list = c.args.bindings.now in
     let before = c.loop-place.invariant in
     let frame : ℕ = c.args.frame in
     let bound = c.bound_sample-bound.ensures in
+    let fits : SFits w16 c.bound_sample-bound.result.sample = search rules in
+    let step = LaysAt-placed port g.G.Gate t u frame c.bound_sample-bound.result.channel c.bound_sample-bound.result.sample c.place-answer.result c.of.result fits
+    (subst (λ (v : PortView). frame < end_frame v.geometry) (sym before.view_is) c.requires.fits) c.of.ensures c.place-answer.ensures.step in
     Rest-ended port g.G.Gate (port.view c.args.port.now).member frame list (slot_sample c.args.ring.now c.args.slot) (rising list) s t u
-    c.loop-place.place _ c.place_sample.result
+    c.loop-place.place _ c.of.result
     (omega (arith, c.requires.channels, c.loop-place-test.true, length-rising list before.bound))
     (entry-bound (λ m k x. an_add m frame k x) list c.args.ring.now c.args.slot _ _ _ _ _ (ap (λ (v : PortView). v.member) before.view_is) bound.channel
-    bound.sample) c.in_default.not-Whole before.takes c.place_sample.ensures
+    bound.sample) c.in_default.not-Whole before.takes step
 
 pub returns : goal.returns
 returns g c =

@@ -23,8 +23,7 @@ returns-in-Err g c =
     let keeps = subst (λ (r : Result (Unit {0}) PcmError). Keeps port G s t (client stream c.args.ring.now)
     (client c.start_all-begun.new.stream c.args.ring.now) r AnySamples) c.in-Err.is c.start_all-begun.ensures.keeps in
     record {
-      takes = drains-by port G s t t stream c.args.ring.now (port.view c.args.port.now).marks.cursor
-          (c.start_all-begun.new.stream, c.start_all-begun.result) _ c.start_all-begun.ensures.takes (rw c.in-Err.is (record { there = refl; result = refl }));
+      takes = drains-by port G s t t stream _ _ (c.start_all-begun.new.stream, c.start_all-begun.result) _ c.start_all-begun.ensures.takes (rw c.in-Err.is (record { there = refl; result = refl }));
       sound = keeps.sound;
       keeps = keeps;
       again = subst (λ (r : Result (Unit {0}) PcmError). IsStill (c.start_all-begun.new.stream, r)) c.in-Err.is
@@ -63,8 +62,7 @@ returns g c =
     let well = OnOk-of c.start_all-begun.result _ ok c.start_all-begun.ensures.goes in
     let going : d.status.stopped ≡ false = well.1 ∙ c.requires.unstopped in
     record {
-      takes = drains-by port G s t u c.args.stream.now c.args.ring.now (port.view c.args.port.now).marks.cursor
-          (d, c.start_all-begun.result) (c.sync_call.new.stream, c.sync_call.result) c.start_all-begun.ensures.takes (rw ok c.sync_call.ensures.takes);
+      takes = drains-by port G s t u c.args.stream.now _ _ (d, c.start_all-begun.result) (c.sync_call.new.stream, c.sync_call.result) c.start_all-begun.ensures.takes (rw ok c.sync_call.ensures.takes);
       sound = c.sync_call.ensures.sound;
       keeps = Keeps-then port G g.met.P.MixPort.laid_composes g.met.P.MixPort.loaded_composes s t u
           (client c.args.stream.now c.args.ring.now) (client d c.args.ring.now) (client c.sync_call.new.stream c.args.ring.now) c.start_all-begun.result

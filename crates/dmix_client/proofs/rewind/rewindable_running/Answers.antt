@@ -6,8 +6,7 @@ use Rattle.dmix_client.specs.Course.{course_with_number}
 use Rattle.dmix_client.specs.Rewind.{checks, rewindable_of}
 use Rattle.dmix_client.specs.View.{IsSoundClient}
 use Rattle.dmix_client.proofs.CallLaws.{both}
-use Rattle.dmix_client.proofs.Rewinding.{numbered-by, numbered-kept}
-use Rattle.dmix_client.proofs.Withdrawing.{HoldsBy}
+use Rattle.dmix_client.proofs.Rewinding.{holds-by, numbered-by, numbered-kept}
 use Rattle.dmix_client.proofs.rewind.rewindable_running.Goals as goal
 
 pub returns : goal.returns
@@ -16,13 +15,8 @@ returns g c =
     let s = both c.args.port.now c.args.gate.now in
     let t = both c.check-checked.new.port c.check-checked.new.gate in
     let port = g.P.MixPort in
-    let holds : HoldsBy port = record {
-      laid_composes = g.met.P.MixPort.laid_composes;
-      loaded_composes = g.met.P.MixPort.loaded_composes;
-      part = g.met.P.MixPort.ends_in_part;
-      nothing = g.met.P.MixPort.held_nothing;
-      back = g.met.P.MixPort.held_back;
-    } in
+    let met = g.met.P.MixPort in
+    let holds = holds-by port met.laid_composes met.loaded_composes met.ends_in_part met.held_nothing met.held_back in
     let takes = subst (λ (x : Cursor). TakesAt port G s (course_with_number (rewindable_of x) (checks c.args.stream.now)) t
     (c.check-checked.new.stream, c.with_rewindable.result)) c.floor-floor.ensures.value
     (numbered-by port G holds s t c.args.stream.now (rewindable_of c.floor-floor.result) (c.check-checked.new.stream, c.check-checked.result) _

@@ -3,8 +3,7 @@ use Rattle.dmix_client.specs.Expansion.{run_entries}
 use Rattle.dmix_client.specs.Rewind.{back_of}
 use Rattle.dmix_client.specs.View.{IsMoving, ring_sample}
 use Rattle.dmix_client.proofs.CallLaws.{both}
-use Rattle.dmix_client.proofs.Rewinding.{IsBack, IsBack-of, held-last, left-few, left-part, take_frames-took, takes_back-by}
-use Rattle.dmix_client.proofs.Withdrawing.{HoldsBy}
+use Rattle.dmix_client.proofs.Rewinding.{holds-by, IsBack, IsBack-of, held-last, left-few, left-part, take_frames-took, takes_back-by}
 use Rattle.dmix_client.proofs.rewind.take_back.Goals as goal
 
 pub take_frames-left-requires-clause-held : goal.take_frames-left-requires-clause-held
@@ -19,21 +18,16 @@ take_frames-left-requires-clause-held g c =
     (g.met.P.MixPort.ends_in_part c.args.port.now _ _ (subst (port.ends_in c.args.port.now)
     (held-last d c.args.ring.now floor c.args.frames m is) c.requires.standing))
 
-pub rewound-after-requires : goal.rewound-after-requires
-rewound-after-requires g c =
+pub rewound-requires : goal.rewound-requires
+rewound-requires g c =
     let s = both c.args.port.now c.args.gate.now in
     let t = both c.take_frames-left.new.port c.take_frames-left.new.gate in
     let port = g.P.MixPort in
     let d = c.args.stream.now in
     let floor = (port.view c.args.port.now).marks.floor in
     let m : IsMoving d = c.requires.sound.moving (rw c.requires.running refl) c.requires.unstopped in
-    let holds : HoldsBy port = record {
-      laid_composes = g.met.P.MixPort.laid_composes;
-      loaded_composes = g.met.P.MixPort.loaded_composes;
-      part = g.met.P.MixPort.ends_in_part;
-      nothing = g.met.P.MixPort.held_nothing;
-      back = g.met.P.MixPort.held_back;
-    } in
+    let met = g.met.P.MixPort in
+    let holds = holds-by port met.laid_composes met.loaded_composes met.ends_in_part met.held_nothing met.held_back in
     let x = c.take_frames-left.result in
     let is = IsBack-of d floor c.args.frames m c.requires.few in
     let are = take_frames-took d c.args.ring.now floor c.args.frames c.requires.sound c.requires.running c.requires.unstopped is port g.G.Gate holds
@@ -57,13 +51,8 @@ returns g c =
     let d = c.args.stream.now in
     let floor = (port.view c.args.port.now).marks.floor in
     let m : IsMoving d = c.requires.sound.moving (rw c.requires.running refl) c.requires.unstopped in
-    let holds : HoldsBy port = record {
-      laid_composes = g.met.P.MixPort.laid_composes;
-      loaded_composes = g.met.P.MixPort.loaded_composes;
-      part = g.met.P.MixPort.ends_in_part;
-      nothing = g.met.P.MixPort.held_nothing;
-      back = g.met.P.MixPort.held_back;
-    } in
+    let met = g.met.P.MixPort in
+    let holds = holds-by port met.laid_composes met.loaded_composes met.ends_in_part met.held_nothing met.held_back in
     takes_back-by d c.args.ring.now floor c.args.frames c.requires.sound c.requires.running c.requires.unstopped
     (IsBack-of d floor c.args.frames m c.requires.few) port g.G.Gate holds
-    s t c.back.result c.take_frames-left.result c.rewound-after.result c.back.ensures c.take_frames-left.ensures (sym c.rewound-after.ensures)
+    s t c.back.result c.take_frames-left.result (c.rewound.new.stream, c.rewound.result) c.back.ensures c.take_frames-left.ensures (sym c.rewound.ensures)

@@ -1,4 +1,6 @@
 use Rattle.std.proofs.Common.{sym}
+use Rattle.course.specs.AtPort.{TakesAt}
+use Rattle.dmix_client.specs.Course.{syncs}
 use Rattle.dmix_client.proofs.CallLaws.{both}
 use Rattle.dmix_client.proofs.Keeping.{syncs-explained, syncs-kept}
 use Rattle.dmix_client.proofs.Looking.{syncs-by}
@@ -11,10 +13,8 @@ returns g c =
     let G = g.G.Gate in
     let s = both c.args.port.now c.args.gate.now in
     let t = both c.look_and_commit-found.new.port c.look_and_commit-found.new.gate in
-    let found = c.look_and_commit-found.result in
-    let takes = syncs-by P G s t
-    c.args.stream.now c.args.call c.args.ring.now found.load found.commit (c.after_sync.new.stream, c.after_sync.result) c.look_and_commit-found.ensures.takes
-    (sym c.after_sync.ensures) in
+    let takes : TakesAt P G s (syncs c.args.stream.now c.args.call c.args.ring.now) t (c.after_sync.new.stream, c.after_sync.result) =
+    syncs-by P G s t _ _ _ _ _ _ c.look_and_commit-found.ensures.takes (sym c.after_sync.ensures) in
     let kept = syncs-kept P G g.met.P.MixPort.laid_composes g.met.P.MixPort.loaded_composes s t
     c.args.stream.now c.args.ring.now c.args.call (c.after_sync.new.stream, c.after_sync.result) c.requires.sound c.requires.moving c.requires.unstopped
     c.requires.step c.requires.port takes in

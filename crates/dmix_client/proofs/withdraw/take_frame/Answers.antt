@@ -1,10 +1,15 @@
-use Rattle.std.proofs.Common.{◌≡◌, ℕ, ◌+◌, ◌-◌, ◌∙◌, ap, sym, subst, arith}
-use Rattle.std.specs.Prelude.{slice_index}
+use Rattle.std.proofs.Common.{◌≡◌, ℕ, ◌+◌, ◌-◌, ◌∙◌, SFits, ap, sym, subst, arith, of_z, rules, to_z, to_z-of_z, w16}
+use Rattle.std.specs.Prelude.{ℤ, [], ◌∷◌, Result, slice_index}
+use Rattle.snd_base.specs.declared.errors.PcmError.{PcmError}
 use Rattle.snd_base.specs.declared.places.Cursor.{Cursor}
 use Rattle.snd_base.specs.Places.{IsFrom}
+use Rattle.mix_core.specs.declared.gate.Gate as gates
 use Rattle.mix_core.specs.declared.port.Ended.{Ended}
+use Rattle.mix_core.specs.declared.port.Ended.TheVariants.{Whole}
+use Rattle.mix_core.specs.declared.port.MixPort as mixport
+use Rattle.mix_core.specs.declared.port.Placed.{Placed}
 use Rattle.mix_core.specs.Laid.{a_withdrawal, an_add}
-use Rattle.mix_core.specs.Port.{PortView}
+use Rattle.mix_core.specs.Port.{PortView, ended_of}
 use Rattle.course.specs.AtPort.{LaysAt}
 use Rattle.bindings.specs.Bound.{rising}
 use Rattle.dmix_client.specs.Expansion.{frame_entries}
@@ -15,21 +20,32 @@ use Rattle.dmix_client.proofs.Frames.{IsFrom-later, entry-ring_sample, rising-le
 use Rattle.dmix_client.proofs.Withdrawing.{Back-all, Back-ended, Back-next, stands-last}
 use Rattle.dmix_client.proofs.withdraw.take_frame.Goals as goal
 
-pub take_sample-requires : goal.take_sample-requires
-take_sample-requires g c =
+-- the step of a withdrawal, with the sample as it is, by how it ended
+LaysAt-withdrawn : {S T : Type 0} (P : mixport.Ghosts S) (G : gates.Ghosts T) (s t : S × T) (frame channel : ℕ) (sample : ℤ) (answer : Result Placed PcmError) (ended : Ended)
+    → SFits w16 sample → ended ≡ ended_of answer
+    → LaysAt P G s (a_withdrawal (P.view s.0).member frame channel (to_z w16 (of_z w16 sample))) (ended_of answer) t
+    → LaysAt P G s (a_withdrawal (P.view s.0).member frame channel sample) ended t
+LaysAt-withdrawn P G s t frame channel sample answer ended fits is step =
+    subst (λ (e : Ended). LaysAt P G s (a_withdrawal (P.view s.0).member frame channel sample) e t) (sym is)
+    (subst (λ (x : ℤ). LaysAt P G s (a_withdrawal (P.view s.0).member frame channel x) (ended_of answer) t) (to_z-of_z fits) step)
+
+pub withdraw-answer-requires : goal.withdraw-answer-requires
+withdraw-answer-requires g c =
     let P = g.P.MixPort in
     let stream = c.args.stream.now in
     let before = c.loop-place.invariant in
     let n : ℕ = c.loop-place.place - 1 in
     let frame : ℕ = stream.stretch.card + c.args.number in
     let bound = c.bound_sample-bound.ensures in
+    let fits : SFits w16 c.bound_sample-bound.result.sample = search rules in
     record {
-      last = g.met.P.MixPort.ends_in_part c.loop-place.port (frame_entries stream.identity.member stream.setup.bindings
+      last = subst (λ (x : ℤ). P.ends_in c.loop-place.port (an_add (P.view c.loop-place.port).member frame c.bound_sample-bound.result.channel x ∷ [])) (sym (to_z-of_z fits))
+          (g.met.P.MixPort.ends_in_part c.loop-place.port (frame_entries stream.identity.member stream.setup.bindings
           (ring_sample stream c.args.ring.now c.args.number) n frame) _
           (stands-last P.ends_in c.loop-place.port stream.identity.member frame stream.setup.bindings (ring_sample stream c.args.ring.now c.args.number) n
           c.loop-place.place _ before.bound (omega (arith, c.loop-place-test.true)) before.few
           (entry-ring_sample (λ m k x. an_add m frame k x) stream c.args.ring.now c.args.number c.held_from-slot.result
-          (slice_index (rising stream.setup.bindings) n) _ _ _ before.member bound.channel c.held_from-slot.ensures.value bound.sample) before.stand);
+          (slice_index (rising stream.setup.bindings) n) _ _ _ before.member bound.channel c.held_from-slot.ensures.value bound.sample) before.stand));
       from_floor = subst (λ (k : ℕ). IsFrom (P.view c.loop-place.port).marks.floor frame k) (sym bound.channel)
           (IsFrom-later (P.view c.loop-place.port).marks.floor _ _ _ (rising-least stream.setup.bindings n before.bound
           (omega (arith, before.few, c.loop-place-test.true))) before.from_floor);
@@ -39,7 +55,7 @@ pub loop-place-preserved : goal.loop-place-preserved
 loop-place-preserved g c =
     let s = both c.args.port.now c.args.gate.now in
     let t = both c.loop-place.port c.loop-place.gate in
-    let u = both c.take_sample.new.port c.take_sample.new.gate in
+    let u = both c.withdraw-answer.new.self c.withdraw-answer.new.gate in
     let port = g.P.MixPort in
     let stream = c.args.stream.now in
     let before = c.loop-place.invariant in
@@ -51,15 +67,16 @@ loop-place-preserved g c =
     let from_floor = subst (λ (k : ℕ). IsFrom (port.view c.loop-place.port).marks.floor frame k) (sym bound.channel)
     (IsFrom-later (port.view c.loop-place.port).marks.floor frame _ _ (rising-least stream.setup.bindings n before.bound
     (omega (arith, before.few, one))) before.from_floor) in
-    let step = subst (λ (e : Ended). LaysAt port g.G.Gate t (a_withdrawal (port.view c.loop-place.port).member frame c.bound_sample-bound.result.channel
-    c.bound_sample-bound.result.sample) e u) c.in-Whole.is c.take_sample.ensures in
+    let fits : SFits w16 c.bound_sample-bound.result.sample = search rules in
+    let step = LaysAt-withdrawn port g.G.Gate t u frame c.bound_sample-bound.result.channel c.bound_sample-bound.result.sample c.withdraw-answer.result Whole fits
+    (sym c.in-Whole.is ∙ c.of.ensures) c.withdraw-answer.ensures.step in
     record {
       member = ap (λ (v : PortView). v.member) step.view_is ∙ before.member;
       from_floor = subst (λ (x : Cursor). IsFrom x frame (least_channel stream.setup.bindings))
           (sym (ap (λ (v : PortView). v.marks.floor) step.view_is)) before.from_floor;
       bound = before.bound;
       few = omega (arith, before.few);
-      stand = g.met.P.MixPort.held_back c.loop-place.port c.take_sample.new.port (frame_entries stream.identity.member stream.setup.bindings samples n frame)
+      stand = g.met.P.MixPort.held_back c.loop-place.port c.withdraw-answer.new.self (frame_entries stream.identity.member stream.setup.bindings samples n frame)
           frame _ _ from_floor step.laid_it
           (stands-last port.ends_in c.loop-place.port stream.identity.member frame stream.setup.bindings samples n c.loop-place.place _
           before.bound one before.few
@@ -74,17 +91,20 @@ pub returns-in_default : goal.returns-in_default
 returns-in_default g c =
     let s = both c.args.port.now c.args.gate.now in
     let t = both c.loop-place.port c.loop-place.gate in
-    let u = both c.take_sample.new.port c.take_sample.new.gate in
+    let u = both c.withdraw-answer.new.self c.withdraw-answer.new.gate in
     let stream = c.args.stream.now in
     let before = c.loop-place.invariant in
     let n : ℕ = c.loop-place.place - 1 in
     let frame : ℕ = stream.stretch.card + c.args.number in
     let bound = c.bound_sample-bound.ensures in
+    let fits : SFits w16 c.bound_sample-bound.result.sample = search rules in
+    let step = LaysAt-withdrawn g.P.MixPort g.G.Gate t u frame c.bound_sample-bound.result.channel c.bound_sample-bound.result.sample c.withdraw-answer.result c.of.result fits
+    c.of.ensures c.withdraw-answer.ensures.step in
     let ended = Back-ended g.P.MixPort g.G.Gate stream.identity.member frame stream.setup.bindings (ring_sample stream c.args.ring.now c.args.number) _ s t u n
-    c.loop-place.place _ c.take_sample.result (omega (arith, c.loop-place-test.true))
+    c.loop-place.place _ c.of.result (omega (arith, c.loop-place-test.true))
     (entry-ring_sample (λ m k x. a_withdrawal m frame k x) stream c.args.ring.now c.args.number c.held_from-slot.result
     (slice_index (rising stream.setup.bindings) n) _ _ _ before.member bound.channel c.held_from-slot.ensures.value bound.sample) c.in_default.not-Whole
-    before.takes c.take_sample.ensures in
+    before.takes step in
     rw (let one : n + 1 ≡ c.loop-place.place = omega (arith, c.loop-place-test.true) in one) ended
 
 pub returns : goal.returns

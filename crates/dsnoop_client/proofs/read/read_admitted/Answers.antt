@@ -52,7 +52,7 @@ returns-then-is_running g c =
     c.requires.sound runs unstopped c.requires.port c.read_running.ensures.takes in
     record {
       reads = record {
-        takes = admitted-takes P G s t stream call.Transfer _ (after, answer) c.requires.admitted
+        takes = admitted-takes P G s _ t stream call.Transfer (after, answer) c.requires.admitted
             (rw moves (subst (λ (n : ℕ). TakesAtSnoop P G s (reads_on stream n) t (after, answer)) frames c.read_running.ensures.takes));
         refused = λ e found. absurd (never-refused stream call.Transfer e c.requires.admitted found);
         reads = c.read_running.ensures.reads;
@@ -80,7 +80,7 @@ returns-then-frames-stream g c =
     c.if-frames-stream.true in
     record {
       reads = record {
-        takes = admitted-takes P G s s stream call.Transfer _ (stream, c.waits.result) c.requires.admitted
+        takes = admitted-takes P G s _ s stream call.Transfer (stream, c.waits.result) c.requires.admitted
             (subst (λ (n : ℕ). TakesAtSnoop P G s (read_course stream n) s (stream, c.waits.result)) frames
             (read-waits P G s stream count c.waits.result rests c.if-frames-stream.true c.waits.ensures));
         refused = λ e found. absurd (never-refused stream call.Transfer e c.requires.admitted found);
@@ -114,7 +114,7 @@ returns g c =
     c.requires.sound waiting unstopped c.requires.port c.read_starting.ensures.takes in
     record {
       reads = record {
-        takes = admitted-takes P G s t stream call.Transfer _ (after, answer) c.requires.admitted
+        takes = admitted-takes P G s _ t stream call.Transfer (after, answer) c.requires.admitted
             (subst (λ (n : ℕ). TakesAtSnoop P G s (read_course stream n) t (after, answer)) frames
             (read-first P G s t stream c.whole_frames-frames.result (after, answer) rests c.if-frames-stream.false c.read_starting.ensures.takes));
         refused = λ e found. absurd (never-refused stream call.Transfer e c.requires.admitted found);

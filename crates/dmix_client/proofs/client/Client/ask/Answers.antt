@@ -1,38 +1,31 @@
 use Rattle.std.proofs.Common.{ℕ, refl, subst, sym, ◌≡◌, ◌∙◌}
-use Rattle.std.specs.Prelude.{Ok, Result, false, true}
-use Rattle.snd_base.specs.declared.errors.PcmError.{PcmError}
+use Rattle.std.specs.Prelude.{false, true}
 use Rattle.pcm_states.specs.declared.calls.Call.TheVariants as call
 use Rattle.pcm_stream.specs.Status.{is_moving}
 use Rattle.dmix_client.specs.Asked.{asked_number}
-use Rattle.dmix_client.specs.Calls.{Answered, after_sync}
+use Rattle.dmix_client.specs.Calls.{Answered, with_number}
 use Rattle.dmix_client.specs.Growth.{AnySamples, Keeps}
-use Rattle.dmix_client.proofs.CallLaws.{admitted-by, admitted-call, both, refused-by, refused-keeping, resting-call, sound-seen, usable-inside}
+use Rattle.dmix_client.proofs.Caused.{caused-number}
+use Rattle.dmix_client.proofs.CallLaws.{admitted-by, admitted-call, both, refused-by, refused-keeping, resting-call, usable-inside}
 use Rattle.dmix_client.proofs.Going.{IsFrameStep-moving, OnOk-of, not-resting}
-use Rattle.dmix_client.proofs.Keeping.{Explains-number, Keeps-numbered, client}
+use Rattle.dmix_client.proofs.Keeping.{Explains-by, Keeps-numbered, client}
 use Rattle.dmix_client.proofs.Looking.{number-moving, number-resting}
 use Rattle.dmix_client.proofs.Readiness.{IsReady-going, written-fits-going}
 use Rattle.dmix_client.proofs.client.Client.ask.Goals as goal
 
 pub returns-in_err-admit : goal.returns-in_err-admit
 returns-in_err-admit g c =
-    let inside = client c.self.inside.stream c.self.inside.ring.items in
-    refused-keeping g.P.MixPort g.G.Gate g.met.P.MixPort.laid_composes g.met.P.MixPort.loaded_composes (both c.args.port.now c.args.gate.now) c.args.self.now
-    call.Sync _ _ c.from_residual.result
-    (refused-by inside c.args.self.now call.Sync c.admit.result c.in_err-admit.field-0.0 c.from_residual.result c.self.view_is c.admit.ensures.answer
-    c.in_err-admit.was c.from_residual.ensures.1)
-    (sound-seen inside c.args.self.now c.self.view_is c.self.invariant) c.requires
+    refused-keeping g.met.P.MixPort.laid_composes g.met.P.MixPort.loaded_composes c.self.view_is c.self.invariant c.requires
+    (refused-by c.self.view_is c.admit.ensures.answer c.in_err-admit.was c.from_residual.ensures.1)
 
 pub returns-then-not-is_moving : goal.returns-then-not-is_moving
 returns-then-not-is_moving g c =
     let stream = c.self.inside.stream in
-    let inside = client stream c.self.inside.ring.items in
-    let s = both c.args.port.now c.args.gate.now in
     let rests : is_moving stream.status.state ≡ false = sym c.is_moving.ensures ∙ c.if-not-is_moving.true in
-    let admitted = admitted-by stream call.Sync c.admit.result c.admit.ensures.answer c.in_ok-admit.was in
-    rw (← c.self.view_is) (resting-call g.P.MixPort g.G.Gate g.met.P.MixPort.laid_composes g.met.P.MixPort.loaded_composes s inside call.Sync _ _
-    (let r : Result ℕ PcmError = Ok c.number.result in r) admitted
-    (number-resting g.P.MixPort g.G.Gate s (asked_number c.args.asked) stream _ c.number.result rests c.number.ensures) c.self.invariant
-    (usable-inside inside c.args.self.now _ c.self.view_is c.requires) refl
+    let admitted = admitted-by stream call.Sync c.admit.ensures.answer c.in_ok-admit.was in
+    rw (← c.self.view_is) (resting-call g.met.P.MixPort.laid_composes g.met.P.MixPort.loaded_composes admitted
+    (number-resting g.P.MixPort g.G.Gate _ (asked_number c.args.asked) stream _ c.number.result rests c.number.ensures) c.self.invariant
+    (usable-inside c.self.view_is c.requires) refl
     (λ moves. absurd (not-resting stream.status.state moves rests)))
 
 pub returns : goal.returns
@@ -46,17 +39,14 @@ returns g c =
     let t = both c.sync_call-answer.new.port c.sync_call-answer.new.gate in
     let number = asked_number c.args.asked in
     let moves : is_moving stream.status.state ≡ true = sym c.is_moving.ensures ∙ c.if-not-is_moving.false in
-    let admitted = admitted-by stream call.Sync c.admit.result c.admit.ensures.answer c.in_ok-admit.was in
-    rw (← c.self.view_is, ← c.as_slice-ring.ensures.value) (admitted-call P G s t (client stream ring) (client after ring) call.Sync _ _ _
-    c.with_number.result admitted
+    let admitted = admitted-by stream call.Sync c.admit.ensures.answer c.in_ok-admit.was in
+    rw (← c.self.view_is, ← c.as_slice-ring.ensures.value) (admitted-call admitted
     (number-moving P G s t number stream ring (after, c.sync_call-answer.result) (after, c.with_number.result) moves c.sync_call-answer.ensures.takes
     c.with_number.ensures) refl
     (subst (λ (b : Answered ℕ). Keeps P G s t (client stream ring) (client b.0 ring) b.1 AnySamples) c.with_number.ensures
-    (Keeps-numbered P G g.met.P.MixPort.laid_composes g.met.P.MixPort.loaded_composes s t (client stream ring) number (after, c.sync_call-answer.result) ring
-    c.sync_call-answer.ensures.keeps))
-    (λ moving. Explains-number P G g.met.P.MixPort.laid_composes g.met.P.MixPort.loaded_composes s t (client stream ring) (λ position. stream) _
-    (after_sync stream call.Sync) number (after, c.sync_call-answer.result) (after, c.with_number.result)
-    c.with_number.ensures c.sync_call-answer.ensures.explains))
+    (Keeps-numbered P G g.met.P.MixPort.laid_composes g.met.P.MixPort.loaded_composes s t (client stream ring) number (after, c.sync_call-answer.result) ring c.sync_call-answer.ensures.keeps))
+    (λ moving. Explains-by P G g.met.P.MixPort.laid_composes g.met.P.MixPort.loaded_composes (with_number number)
+    (λ load why. caused-number number (after, c.sync_call-answer.result) why) c.with_number.ensures c.sync_call-answer.ensures.explains))
 
 pub sync_call-answer-requires : goal.sync_call-answer-requires
 sync_call-answer-requires g c =
@@ -67,7 +57,7 @@ sync_call-answer-requires g c =
       moving = moves;
       unstopped = OnOk-of c.admit.result _ c.in_ok-admit.was c.admit.ensures.unstopped;
       step = IsFrameStep-moving stream.status.state moves;
-      port = usable-inside (client stream c.self.inside.ring.items) c.args.self.now _ c.self.view_is c.requires;
+      port = usable-inside c.self.view_is c.requires;
     }
 
 pub with_number-requires : goal.with_number-requires

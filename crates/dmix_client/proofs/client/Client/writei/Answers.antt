@@ -4,31 +4,24 @@ use Rattle.std.proofs.Common.{rules, ◌≡◌, ℕ, ap, arith, refl, subst, sym
 use Rattle.std.specs.Prelude.{true}
 use Rattle.pcm_states.specs.declared.states.State.TheVariants.{Prepared, Running}
 use Rattle.pcm_states.specs.declared.calls.Call.TheVariants as call
-use Rattle.dmix_client.specs.Calls.{is_running}
+use Rattle.dmix_client.specs.Calls.{Answered, is_running}
 use Rattle.dmix_client.specs.Writes.{starts_with}
-use Rattle.dmix_client.proofs.CallLaws.{admitted-by, admitted-takes, both, never-admitted, never-refused, refused-answer, refused-by, refused-keeps, refused-takes, sound-seen, usable-inside}
+use Rattle.dmix_client.proofs.CallLaws.{Refusal, admitted-by, admitted-takes, both, never-admitted, never-refused, refused-answer, refused-by, refused-keeps, refused-takes, sound-seen, usable-inside}
 use Rattle.dmix_client.proofs.Going.{OnOk-of, not-both}
-use Rattle.dmix_client.proofs.Keeping.{client}
 use Rattle.dmix_client.proofs.Looking.{write-prepared, write-running}
 use Rattle.dmix_client.proofs.Storing.{take-written}
 use Rattle.dmix_client.proofs.client.Client.writei.Goals as goal
 
 pub returns-in_err-admit : goal.returns-in_err-admit
 returns-in_err-admit g c =
-    let v = c.args.self.now in
-    let inside = client c.self.inside.stream c.self.inside.ring.items in
-    let s = both c.args.port.now c.args.gate.now in
-    let answer = c.from_residual.result in
-    let r = refused-by inside v call.Transfer c.admit.result c.in_err-admit.field-0.0 answer c.self.view_is c.admit.ensures.answer c.in_err-admit.was
-    c.from_residual.ensures.1 in
+    let r : Refusal c.args.self.now call.Transfer c.from_residual.result = refused-by c.self.view_is c.admit.ensures.answer c.in_err-admit.was c.from_residual.ensures.1 in
     record {
-      takes = refused-takes g.P.MixPort g.G.Gate s v call.Transfer _ answer r;
-      refused = λ e found. (refused-answer v call.Transfer answer e r found, refl, refl, refl);
-      keeps = refused-keeps g.P.MixPort g.G.Gate g.met.P.MixPort.laid_composes g.met.P.MixPort.loaded_composes s v call.Transfer answer _ r
-          (sound-seen inside v c.self.view_is c.self.invariant) c.requires.port;
-      stores = λ admitted waits. absurd (never-admitted v call.Transfer answer r admitted);
-      starts = λ admitted waits begins. absurd (never-admitted v call.Transfer answer r admitted);
-      again = λ admitted running. absurd (never-admitted v call.Transfer answer r admitted);
+      takes = refused-takes g.P.MixPort g.G.Gate (both c.args.port.now c.args.gate.now) _ r;
+      refused = λ e found. (refused-answer r e found, refl, refl, refl);
+      keeps = refused-keeps g.met.P.MixPort.laid_composes g.met.P.MixPort.loaded_composes r (sound-seen c.self.view_is c.self.invariant) c.requires.port;
+      stores = λ admitted waits. absurd (never-admitted r admitted);
+      starts = λ admitted waits begins. absurd (never-admitted r admitted);
+      again = λ admitted running. absurd (never-admitted r admitted);
     }
 
 pub returns-then-eq : goal.returns-then-eq
@@ -36,15 +29,14 @@ returns-then-eq g c =
     let stream = c.self.inside.stream in
     let s = both c.args.port.now c.args.gate.now in
     let t = both c.write_running-answer.new.port c.write_running-answer.new.gate in
+    let after : Answered ℕ = (c.write_running-answer.new.stream, c.write_running-answer.result) in
     let runs : stream.status.state ≡ Running = same_true the_type (search rules) _ _ (sym c.if-eq.ensures) in
-    let admitted = admitted-by stream call.Transfer c.admit.result c.admit.ensures.answer c.in_ok-admit.was in
+    let admitted = admitted-by stream call.Transfer c.admit.ensures.answer c.in_ok-admit.was in
     let back = take-written c.self.inside.ring.len c.write_running-answer.new.ring c.self.inside.ring.items (omega (arith, c.as_mut_slice-ring.ensures.len)) in
     rw (← c.self.view_is, back, c.frames_answer.ensures) (record {
-      takes = rw (← c.as_mut_slice-ring.ensures.value) (admitted-takes g.P.MixPort g.G.Gate s t stream call.Transfer _
-          (c.write_running-answer.new.stream, c.write_running-answer.result) admitted
-          (write-running g.P.MixPort g.G.Gate s t stream _ c.args.samples.now _ c.whole_frames-frames.result
-          (c.write_running-answer.new.stream, c.write_running-answer.result) (ap is_running runs) c.whole_frames-frames.ensures.value
-          c.write_running-answer.ensures.takes));
+      takes = rw (← c.as_mut_slice-ring.ensures.value) (admitted-takes g.P.MixPort g.G.Gate s _ t stream call.Transfer after admitted
+          (write-running g.P.MixPort g.G.Gate s t stream _ c.args.samples.now _ c.whole_frames-frames.result after (ap is_running runs)
+          c.whole_frames-frames.ensures.value c.write_running-answer.ensures.takes));
       refused = λ e found. absurd (never-refused stream call.Transfer e admitted found);
       keeps = rw (← c.whole_frames-frames.ensures.value, ← c.as_mut_slice-ring.ensures.value) c.write_running-answer.ensures.keeps;
       stores = λ found waits. absurd (not-both stream.status.state runs waits);
@@ -57,15 +49,14 @@ returns g c =
     let stream = c.self.inside.stream in
     let s = both c.args.port.now c.args.gate.now in
     let t = both c.write_prepared-answer.new.port c.write_prepared-answer.new.gate in
+    let after : Answered ℕ = (c.write_prepared-answer.new.stream, c.write_prepared-answer.result) in
     let waits : stream.status.state ≡ Prepared = search rules in
-    let admitted = admitted-by stream call.Transfer c.admit.result c.admit.ensures.answer c.in_ok-admit.was in
+    let admitted = admitted-by stream call.Transfer c.admit.ensures.answer c.in_ok-admit.was in
     let back = take-written c.self.inside.ring.len c.write_prepared-answer.new.ring c.self.inside.ring.items (omega (arith, c.as_mut_slice-ring.ensures.len)) in
     rw (← c.self.view_is, back, c.frames_answer-2.ensures) (record {
-      takes = rw (← c.as_mut_slice-ring.ensures.value) (admitted-takes g.P.MixPort g.G.Gate s t stream call.Transfer _
-          (c.write_prepared-answer.new.stream, c.write_prepared-answer.result) admitted
-          (write-prepared g.P.MixPort g.G.Gate s t stream _ c.args.samples.now _ c.whole_frames-frames.result
-          (c.write_prepared-answer.new.stream, c.write_prepared-answer.result) (ap is_running waits) c.whole_frames-frames.ensures.value
-          c.write_prepared-answer.ensures.takes));
+      takes = rw (← c.as_mut_slice-ring.ensures.value) (admitted-takes g.P.MixPort g.G.Gate s _ t stream call.Transfer after admitted
+          (write-prepared g.P.MixPort g.G.Gate s t stream _ c.args.samples.now _ c.whole_frames-frames.result after (ap is_running waits)
+          c.whole_frames-frames.ensures.value c.write_prepared-answer.ensures.takes));
       refused = λ e found. absurd (never-refused stream call.Transfer e admitted found);
       keeps = rw (← c.whole_frames-frames.ensures.value, ← c.as_mut_slice-ring.ensures.value) c.write_prepared-answer.ensures.keeps;
       stores = λ found prepared. rw (← c.whole_frames-frames.ensures.value, ← c.as_mut_slice-ring.ensures.value) c.write_prepared-answer.ensures.ring;
@@ -86,7 +77,7 @@ write_running-answer-requires-clause-held g c = c.whole_frames-frames.ensures.he
 
 pub write_running-answer-requires-clause-port : goal.write_running-answer-requires-clause-port
 write_running-answer-requires-clause-port g c =
-    usable-inside (client c.self.inside.stream c.self.inside.ring.items) c.args.self.now _ c.self.view_is c.requires.port
+    usable-inside c.self.view_is c.requires.port
 
 pub write_prepared-answer-requires-clause-sound : goal.write_prepared-answer-requires-clause-sound
 write_prepared-answer-requires-clause-sound g c = rw c.as_mut_slice-ring.ensures.value c.self.invariant
@@ -96,7 +87,7 @@ write_prepared-answer-requires-clause-held g c = c.whole_frames-frames.ensures.h
 
 pub write_prepared-answer-requires-clause-port : goal.write_prepared-answer-requires-clause-port
 write_prepared-answer-requires-clause-port g c =
-    usable-inside (client c.self.inside.stream c.self.inside.ring.items) c.args.self.now _ c.self.view_is c.requires.port
+    usable-inside c.self.view_is c.requires.port
 
 pub frames_answer-requires : goal.frames_answer-requires
 frames_answer-requires g c = c.write_running-answer.ensures.count

@@ -5,12 +5,11 @@ use Rattle.mix_core.specs.declared.gate.Gate as gates
 use Rattle.pcm_states.specs.declared.calls.Call.TheVariants as call
 use Rattle.snoop_core.specs.declared.port.SnoopPort as snoopport
 use Rattle.dsnoop_client.specs.declared.stream.CaptureStream.{CaptureStream}
-use Rattle.dsnoop_client.specs.CallRelations.{AnswersAvail}
 use Rattle.dsnoop_client.specs.Calls.{Answered, with_avail}
 use Rattle.dsnoop_client.specs.Course.{syncs}
 use Rattle.dsnoop_client.specs.Port.{Keeps}
 use Rattle.dsnoop_client.specs.View.{is_running}
-use Rattle.dsnoop_client.proofs.CallLaws.{admitted-by, admitted-call, both, refused-by, refused-call, resting-call, sound-seen, usable-inside}
+use Rattle.dsnoop_client.proofs.CallLaws.{admitted-by, admitted-call, both, refused-by, refused-call, resting-call, usable-inside}
 use Rattle.dsnoop_client.proofs.Explaining.{why-avail}
 use Rattle.dsnoop_client.proofs.Loading.{counts-by}
 use Rattle.dsnoop_client.proofs.Refusing.{OnOk-of, not-both, running-by}
@@ -38,19 +37,16 @@ module _ {S T : Type 0} (P : snoopport.Ghosts S) (G : gates.Ghosts T) where
 
 pub returns-in_err-admit : goal.returns-in_err-admit
 returns-in_err-admit g c =
-    let inside = c.self.inside.stream in
-    refused-call g.P.SnoopPort g.G.Gate (both c.args.port.now c.args.gate.now) c.args.self.now call.Sync _ _ c.from_residual.result
-    (refused-by inside c.args.self.now call.Sync c.admit.result c.in_err-admit.field-0.0 c.from_residual.result c.self.view_is c.admit.ensures.answer
-    c.in_err-admit.was c.from_residual.ensures.1)
-    (sound-seen inside c.args.self.now c.self.view_is c.self.invariant.0) c.requires
+    refused-call c.self.view_is c.self.invariant.0 c.requires
+    (refused-by c.self.view_is c.admit.ensures.answer c.in_err-admit.was c.from_residual.ensures.1)
 
 pub returns-then-not-is_running : goal.returns-then-not-is_running
 returns-then-not-is_running g c =
     let stream = c.self.inside.stream in
     let rests : is_running stream.status.state ≡ false = sym c.is_running.ensures ∙ c.if-not-is_running.true in
-    let admitted = admitted-by stream call.Sync c.admit.result c.admit.ensures.answer c.in_ok-admit.was in
-    rw (← c.self.view_is) (resting-call g.P.SnoopPort g.G.Gate (both c.args.port.now c.args.gate.now) stream call.Sync _ _ 0 admitted
-    (rw rests (record { there = refl; result = refl })) c.self.invariant.0 (usable-inside stream c.args.self.now _ c.self.view_is c.requires)
+    let admitted = admitted-by stream call.Sync c.admit.ensures.answer c.in_ok-admit.was in
+    rw (← c.self.view_is) (resting-call 0 admitted
+    (rw rests (record { there = refl; result = refl })) c.self.invariant.0 (usable-inside c.self.view_is c.requires)
     (OnOk-of c.admit.result _ c.in_ok-admit.was c.admit.ensures.unstopped)
     (λ runs. absurd (not-both stream.status.state rests runs)))
 
@@ -63,14 +59,12 @@ returns g c =
     let s = both c.args.port.now c.args.gate.now in
     let t = both c.sync_call-answer.new.port c.sync_call-answer.new.gate in
     let runs : is_running stream.status.state ≡ true = sym c.is_running.ensures ∙ c.if-not-is_running.false in
-    let keeps : Keeps P G s t stream after c.with_avail.result =
-    subst (λ (b : Answered ℕ). Keeps P G s t stream b.0 b.1) c.with_avail.ensures (Keeps-avail P G s t stream (after, c.sync_call-answer.result)
-    c.sync_call-answer.ensures.keeps) in
-    let admitted = admitted-by stream call.Sync c.admit.result c.admit.ensures.answer c.in_ok-admit.was in
-    subst (λ (v : CaptureStream). AnswersAvail P G s t v after c.with_avail.result) c.self.view_is
-    (admitted-call P G s t stream after call.Sync _ _ c.with_avail.result admitted
+    let admitted = admitted-by stream call.Sync c.admit.ensures.answer c.in_ok-admit.was in
+    rw (← c.self.view_is) (admitted-call admitted
     (rw runs (counts-by P G s t (syncs stream call.Sync) (after, c.sync_call-answer.result) (after, c.with_avail.result) c.sync_call-answer.ensures.takes
-    c.with_avail.ensures)) keeps
+    c.with_avail.ensures))
+    (subst (λ (b : Answered ℕ). Keeps P G s t stream b.0 b.1) c.with_avail.ensures (Keeps-avail P G s t stream (after, c.sync_call-answer.result)
+    c.sync_call-answer.ensures.keeps))
     (λ running. why-avail P c.args.port.now c.sync_call-answer.new.port stream after c.sync_call-answer.result c.with_avail.result c.with_avail.ensures
     c.sync_call-answer.ensures.causes))
 
@@ -84,4 +78,4 @@ pub sync_call-answer-requires-clause-unstopped : goal.sync_call-answer-requires-
 sync_call-answer-requires-clause-unstopped g c = OnOk-of c.admit.result _ c.in_ok-admit.was c.admit.ensures.unstopped
 
 pub sync_call-answer-requires-clause-port : goal.sync_call-answer-requires-clause-port
-sync_call-answer-requires-clause-port g c = usable-inside c.self.inside.stream c.args.self.now _ c.self.view_is c.requires
+sync_call-answer-requires-clause-port g c = usable-inside c.self.view_is c.requires

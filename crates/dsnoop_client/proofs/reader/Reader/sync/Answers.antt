@@ -2,25 +2,22 @@ use Rattle.std.proofs.Common.{◌≡◌, ◌∙◌, refl, sym}
 use Rattle.std.specs.Prelude.{false, true}
 use Rattle.pcm_states.specs.declared.calls.Call.TheVariants as call
 use Rattle.dsnoop_client.specs.View.{is_running}
-use Rattle.dsnoop_client.proofs.CallLaws.{admitted-by, admitted-call, both, refused-by, refused-call, resting-call, sound-seen, usable-inside}
+use Rattle.dsnoop_client.proofs.CallLaws.{admitted-by, admitted-call, refused-by, refused-call, resting-call, usable-inside}
 use Rattle.dsnoop_client.proofs.Refusing.{OnOk-of, not-both, running-by}
 use Rattle.dsnoop_client.proofs.reader.Reader.sync.Goals as goal
 
 pub returns-in_err-admit : goal.returns-in_err-admit
 returns-in_err-admit g c =
-    let inside = c.self.inside.stream in
-    refused-call g.P.SnoopPort g.G.Gate (both c.args.port.now c.args.gate.now) c.args.self.now call.Sync _ _ c.from_residual.result
-    (refused-by inside c.args.self.now call.Sync c.admit.result c.in_err-admit.field-0.0 c.from_residual.result c.self.view_is c.admit.ensures.answer
-    c.in_err-admit.was c.from_residual.ensures.1)
-    (sound-seen inside c.args.self.now c.self.view_is c.self.invariant.0) c.requires
+    refused-call c.self.view_is c.self.invariant.0 c.requires
+    (refused-by c.self.view_is c.admit.ensures.answer c.in_err-admit.was c.from_residual.ensures.1)
 
 pub returns-then-not-is_running : goal.returns-then-not-is_running
 returns-then-not-is_running g c =
     let stream = c.self.inside.stream in
     let rests : is_running stream.status.state ≡ false = sym c.is_running.ensures ∙ c.if-not-is_running.true in
-    let admitted = admitted-by stream call.Sync c.admit.result c.admit.ensures.answer c.in_ok-admit.was in
-    rw (← c.self.view_is) (resting-call g.P.SnoopPort g.G.Gate (both c.args.port.now c.args.gate.now) stream call.Sync _ _ tt admitted
-    (rw rests (record { there = refl; result = refl })) c.self.invariant.0 (usable-inside stream c.args.self.now _ c.self.view_is c.requires)
+    let admitted = admitted-by stream call.Sync c.admit.ensures.answer c.in_ok-admit.was in
+    rw (← c.self.view_is) (resting-call tt admitted
+    (rw rests (record { there = refl; result = refl })) c.self.invariant.0 (usable-inside c.self.view_is c.requires)
     (OnOk-of c.admit.result _ c.in_ok-admit.was c.admit.ensures.unstopped)
     (λ runs. absurd (not-both stream.status.state rests runs)))
 
@@ -28,9 +25,8 @@ pub returns : goal.returns
 returns g c =
     let stream = c.self.inside.stream in
     let runs : is_running stream.status.state ≡ true = sym c.is_running.ensures ∙ c.if-not-is_running.false in
-    let admitted = admitted-by stream call.Sync c.admit.result c.admit.ensures.answer c.in_ok-admit.was in
-    rw (← c.self.view_is) (admitted-call g.P.SnoopPort g.G.Gate (both c.args.port.now c.args.gate.now) (both c.sync_call.new.port c.sync_call.new.gate) stream
-    c.sync_call.new.stream call.Sync _ _ c.sync_call.result admitted (rw runs c.sync_call.ensures.takes) c.sync_call.ensures.keeps
+    let admitted = admitted-by stream call.Sync c.admit.ensures.answer c.in_ok-admit.was in
+    rw (← c.self.view_is) (admitted-call admitted (rw runs c.sync_call.ensures.takes) c.sync_call.ensures.keeps
     (λ running. c.sync_call.ensures.causes))
 
 pub sync_call-requires-clause-sound : goal.sync_call-requires-clause-sound
@@ -43,4 +39,4 @@ pub sync_call-requires-clause-unstopped : goal.sync_call-requires-clause-unstopp
 sync_call-requires-clause-unstopped g c = OnOk-of c.admit.result _ c.in_ok-admit.was c.admit.ensures.unstopped
 
 pub sync_call-requires-clause-port : goal.sync_call-requires-clause-port
-sync_call-requires-clause-port g c = usable-inside c.self.inside.stream c.args.self.now _ c.self.view_is c.requires
+sync_call-requires-clause-port g c = usable-inside c.self.view_is c.requires
