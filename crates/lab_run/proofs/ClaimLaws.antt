@@ -1,35 +1,23 @@
 -- A claim is granted exactly where its channels have no owner and are silent.
 use Rattle.std.proofs.Common.{◌≡◌, ℕ, ◌<◌, refl, arith, Option, Some, None}
-use Rattle.std.proofs.lemmas.Bool.{false≢true}
+use Rattle.std.proofs.lemmas.Bool.{and_from, and_parts, false≢true}
 use Rattle.std.proofs.lemmas.Bool.Decides.{nat_tests}
-use Rattle.std.specs.Prelude.{Bool, true, false, ◌&&◌, is_none, nat_lt, if◌then◌else◌, List, [], ◌∷◌}
+use Rattle.std.specs.Prelude.{Bool, true, false, is_none, nat_lt, if◌then◌else◌, List, [], ◌∷◌}
 use Rattle.std.specs.List.{AllByRecursion, list_all}
 use Rattle.snd_base.specs.declared.errors.PcmError.{PcmError}
 use Rattle.dshare.specs.Owners.{AreFree, ClaimRow, busy, last_frames, owner_of}
 use Rattle.lab_run.specs.Claims.{ClaimIsOwners, is_free_channel}
 
-both-left : (a b : Bool) → (a && b) ≡ true → a ≡ true
-both-left true b is = refl
-both-left false b is = is
-
-both-right : (a b : Bool) → (a && b) ≡ true → b ≡ true
-both-right true b is = is
-both-right false b is = absurd (false≢true is)
-
-both : (a b : Bool) → a ≡ true → b ≡ true → (a && b) ≡ true
-both true b one two = two
-both false b one two = one
-
 silent : (position : ℕ) (frames : List ℕ) → list_all (λ frame. nat_lt frame position) frames ≡ true → AllByRecursion (λ frame. frame < position) frames
 silent position [] is = tt
-silent position (frame ∷ frames) is = (before (both-left _ _ is), silent position frames (both-right _ _ is))
+silent position (frame ∷ frames) is = (before (and_parts _ _ is).0, silent position frames (and_parts _ _ is).1)
   where
     before : nat_lt frame position ≡ true → frame < position
     before e = grind (arith, nat_tests)
 
 silent-test : (position : ℕ) (frames : List ℕ) → AllByRecursion (λ frame. frame < position) frames → list_all (λ frame. nat_lt frame position) frames ≡ true
 silent-test position [] all = refl
-silent-test position (frame ∷ frames) all = both _ _ (before all.0) (silent-test position frames all.1)
+silent-test position (frame ∷ frames) all = and_from _ _ (before all.0) (silent-test position frames all.1)
   where
     before : frame < position → nat_lt frame position ≡ true
     before e = grind (arith, nat_tests)
@@ -42,15 +30,15 @@ free : (claims : List ClaimRow) (position : ℕ) (channels : List ℕ) → list_
 free claims position [] is = tt
 free claims position (c ∷ channels) is = (
   record {
-    unowned = no-owner (owner_of claims c) (both-left _ _ (both-left _ _ is));
-    silent = silent position (last_frames claims c) (both-right _ _ (both-left _ _ is));
+    unowned = no-owner (owner_of claims c) (and_parts _ _ (and_parts _ _ is).0).0;
+    silent = silent position (last_frames claims c) (and_parts _ _ (and_parts _ _ is).0).1;
   },
-  free claims position channels (both-right _ _ is),
+  free claims position channels (and_parts _ _ is).1,
 )
 
 free-test : (claims : List ClaimRow) (position : ℕ) (channels : List ℕ) → AreFree claims position channels → list_all (is_free_channel claims position) channels ≡ true
 free-test claims position [] all = refl
-free-test claims position (c ∷ channels) all = both _ _ (both _ _ (unowned all.0.unowned) (silent-test position (last_frames claims c) all.0.silent)) (free-test claims position channels all.1)
+free-test claims position (c ∷ channels) all = and_from _ _ (and_from _ _ (unowned all.0.unowned) (silent-test position (last_frames claims c) all.0.silent)) (free-test claims position channels all.1)
   where
     unowned : owner_of claims c ≡ None → is_none (owner_of claims c) ≡ true
     unowned e = rw e refl

@@ -1,12 +1,16 @@
 -- The lines of an actor in a phase, and the lines of all actors of a kind: there is always one way to do them, and where the phase leaves
 -- no choice there is but one.
 use Rattle.std.proofs.Common.{◌≡◌, ℕ, ◌≤◌, ◌+◌, refl, sym, ◌∙◌, ap, subst, arith, inl, inr, ◌⊎◌}
-use Rattle.std.specs.Prelude.{false, List, [], ◌∷◌, ◌++◌, Contains, ⊤}
+use Rattle.std.specs.Prelude.{Bool, true, false, List, [], ◌∷◌, ◌++◌, Contains, ⊤, map}
+use Rattle.snd_base.specs.declared.geometry.Geometry.{Geometry}
 use Rattle.lab_lines.specs.declared.line.Op.{Op}
 use Rattle.lab_lines.specs.declared.row.Answer.{Answer}
 use Rattle.lab_lines.specs.declared.row.Row.{Row}
+use Rattle.lab_run.specs.Client.{Client}
 use Rattle.lab_run.specs.CourseText.{IsStill}
+use Rattle.lab_run.specs.Items.{is_reader_stopped, is_stopped, reaped_client, reaped_client_if, reaped_reader, reaped_reader_if}
 use Rattle.lab_run.specs.Lines.{EachMay, Kind, LineMay, LinesMay, each_text, line_text, lines_text}
+use Rattle.lab_run.specs.Reader.{Reader}
 use Rattle.lab_run.specs.Rules.{AtPort, CardEnd, Rules}
 use Rattle.lab_run.proofs.CourseExists.{May-text}
 use Rattle.lab_run.proofs.CourseUnique.{May-more, May-only}
@@ -171,3 +175,42 @@ pub each-grow : {S : Type 0} (kind : ℕ → Kind S) → ((n : ℕ) → IsKind (
 each-grow kind is rules ops number [] after rows (same, none) = rw same tt
 each-grow kind is rules ops number (actor ∷ actors) after rows (own, others, own_rows, other_rows, may, rest, after_is, rows_are) =
     rw after_is (lines-more (kind number) (is number) rules actor own (ops number) own_rows may, each-grow kind is rules ops (number + 1) actors others other_rows rest)
+
+-- ---- actors that are reaped
+
+-- each actor's port is as it was, or new: it saw no more, and its own gate stopped it as often
+pub record KeepsPorts {S : Type 0} (f : AtPort × S → AtPort × S) : Type 0 where
+  pub seen : (x : AtPort × S) → (f x).0.seen ≤ x.0.seen
+  pub by_gate : (x : AtPort × S) → (f x).0.by_gate ≡ x.0.by_gate
+
+pub reaped_client-keeps : (ring : Geometry) → KeepsPorts (reaped_client ring)
+reaped_client-keeps ring = record { seen = λ x. seen (is_stopped x.1.own) x; by_gate = λ x. by_gate (is_stopped x.1.own) x }
+  where
+    seen : (stopped : Bool) (x : AtPort × Client) → (reaped_client_if stopped ring x).0.seen ≤ x.0.seen
+    seen true x = omega arith
+    seen false x = omega arith
+
+    by_gate : (stopped : Bool) (x : AtPort × Client) → (reaped_client_if stopped ring x).0.by_gate ≡ x.0.by_gate
+    by_gate true x = refl
+    by_gate false x = refl
+
+pub reaped_reader-keeps : (ring : Geometry) → KeepsPorts (reaped_reader ring)
+reaped_reader-keeps ring = record { seen = λ x. seen (is_reader_stopped x.1.own) x; by_gate = λ x. by_gate (is_reader_stopped x.1.own) x }
+  where
+    seen : (stopped : Bool) (x : AtPort × Reader) → (reaped_reader_if stopped ring x).0.seen ≤ x.0.seen
+    seen true x = omega arith
+    seen false x = omega arith
+
+    by_gate : (stopped : Bool) (x : AtPort × Reader) → (reaped_reader_if stopped ring x).0.by_gate ≡ x.0.by_gate
+    by_gate true x = refl
+    by_gate false x = refl
+
+pub behind-map : {S : Type 0} (f : AtPort × S → AtPort × S) → KeepsPorts f → (Q : ℕ → ℕ → Type 0) (p number : ℕ) (actors : List (AtPort × S))
+    → AreBehind Q p number actors → AreBehind Q p number (map f actors)
+behind-map f keeps Q p number [] low = tt
+behind-map f keeps Q p number (x ∷ actors) low =
+    (omega (arith, keeps.seen x, low.0), subst (Q number) (sym (keeps.by_gate x)) low.1, behind-map f keeps Q p (number + 1) actors low.2)
+
+pub grow-map : {S : Type 0} (f : AtPort × S → AtPort × S) → KeepsPorts f → (actors : List (AtPort × S)) → StopsGrow actors (map f actors)
+grow-map f keeps [] = tt
+grow-map f keeps (x ∷ actors) = (omega (arith, keeps.by_gate x), grow-map f keeps actors)

@@ -1,5 +1,6 @@
 pub mod ActorKinds
 pub mod AlikeLaws
+pub mod BorderLaws
 pub mod CallParts
 pub mod CallsAlike
 pub mod ClaimLaws

@@ -1,10 +1,9 @@
 -- A report has no more segments than rows, and no more runs than rows.
-use Rattle.std.proofs.Common.{◌≡◌, ℕ, zero, suc, ◌+◌, ◌-◌, ◌≤◌, refl, sym, ◌∙◌, ap, subst, arith, Option, Some, None, List, [], ◌∷◌, ◌++◌, length, map}
+use Rattle.std.proofs.Common.{◌≡◌, ℕ, zero, suc, ◌+◌, ◌-◌, ◌≤◌, refl, sym, ◌∙◌, ap, subst, arith, Option, List, [], ◌∷◌, ◌++◌, length, map}
 use Rattle.std.proofs.lemmas.Bool.{eq-eqb}
 use Rattle.std.proofs.lemmas.List.{append-nil, length-append, length-map}
-use Rattle.std.specs.Prelude.{Bool, true, false, not, ◌&&◌, nat_eq, if◌then◌else◌, Result, Ok, Err, slice_index_or, slice_set}
+use Rattle.std.specs.Prelude.{Bool, true, false, not, ◌&&◌, nat_eq, if◌then◌else◌, slice_index_or, slice_set}
 use Rattle.std.specs.List.{range_with_len}
-use Rattle.snd_base.specs.declared.errors.PcmError.{PcmError}
 use Rattle.snd_base.specs.declared.errors.PcmError.TheVariants.{BadState, Stopped}
 use Rattle.snd_base.specs.declared.geometry.Geometry.{Geometry}
 use Rattle.snd_base.specs.declared.places.Segment.{Segment}
@@ -13,31 +12,27 @@ use Rattle.course.specs.Gives.{Gives-any}
 use Rattle.dmix_client.specs.declared.stream.PlaybackStream.{PlaybackStream}
 use Rattle.dmix_client.specs.Calls.{is_paused}
 use Rattle.dsnoop_client.specs.declared.stream.CaptureStream.{CaptureStream}
-use Rattle.lab_lines.specs.declared.line.Actor.{Actor}
-use Rattle.lab_lines.specs.declared.line.Actor.TheVariants as actor
 use Rattle.lab_lines.specs.declared.line.Item.{Item}
-use Rattle.lab_lines.specs.declared.line.Item.TheVariants as item
+use Rattle.lab_lines.specs.declared.line.Line.{Line}
 use Rattle.lab_lines.specs.declared.line.Op.{Op}
 use Rattle.lab_lines.specs.declared.line.Op.TheVariants as op
 use Rattle.lab_lines.specs.Script.{is_of_card}
 use Rattle.lab_lines.specs.declared.row.Answer.{Answer}
 use Rattle.lab_lines.specs.declared.row.Answer.TheVariants.{Count, Done, Failed}
 use Rattle.lab_lines.specs.declared.row.Row.{Row}
-use Rattle.lab_run.specs.Claims.{claim_refusal}
 use Rattle.lab_run.specs.Client.{Client, ended_by, present_of, segments_of, stretch_of}
 use Rattle.lab_run.specs.Client as clients
-use Rattle.lab_run.specs.Items.{ItemMay, ItemsMay, client_kinds, is_reader_stopped, is_stopped, no_sound, reader_kinds, reaped_client, reaped_client_if, reaped_reader, reaped_reader_if, rules_of}
+use Rattle.lab_run.specs.Items.{PhaseMay, ItemsMay, client_kinds, is_reader_stopped, is_stopped, no_sound, reader_kinds, reaped_client, reaped_client_if, reaped_reader, reaped_reader_if, rules_of}
 use Rattle.lab_run.specs.LabRun.{joined_runs, runs_of, with_numbers}
 use Rattle.lab_run.specs.Lines.{EachMay, Kind, LineMay, LinesMay}
 use Rattle.lab_run.specs.Phases.{card_rows, is_client, is_reader, ops_by}
-use Rattle.lab_run.specs.Places.{Lobby, after_attach}
 use Rattle.lab_run.specs.Reader.{Reader, frames_by}
 use Rattle.lab_run.specs.Reader as readers
 use Rattle.lab_run.specs.ReportSize.{IsWithinRows}
 use Rattle.lab_run.specs.Rules.{AtPort, Rules}
-use Rattle.lab_run.specs.Stage.{Session, Setup, Stage, after_close, after_open, attached_client, claimed_client, client_at, close_client, close_reader, first_stage, no_client, no_reader, open_client, open_client_with, open_reader, open_reader_with, reader_at}
+use Rattle.lab_run.specs.Stage.{Session, Stage, first_stage, no_client, no_reader}
 use Rattle.lab_run.proofs.EachLine.{client-line, reader-line}
-use Rattle.lab_run.proofs.RowsGrow.{HasMore, close-more, open-more}
+use Rattle.lab_run.proofs.BorderLaws.{OverItems, items-over}
 
 -- ---- a part of a report that each actor has a list of
 
@@ -261,100 +256,19 @@ segment-count stage = all-of segments-at stage.clients
 abbrev run-count : Stage → ℕ
 run-count stage = all-of runs-at stage.readers
 
--- no segment and no run more
-record AddsNone (stage after : Stage) : Type 0 where
-  segments : segment-count after ≤ segment-count stage
-  runs : run-count after ≤ run-count stage
-
-none : (stage after : Stage) → after.clients ≡ stage.clients → after.readers ≡ stage.readers → AddsNone stage after
-none stage after own others = record {
-  segments = rw own (omega arith);
-  runs = rw others (omega arith);
-}
-
-one-client : (stage after : Stage) (number : ℕ) (d x : AtPort × Client) → after.clients ≡ slice_set stage.clients number x → after.readers ≡ stage.readers
-    → length (segments-at x) ≤ length (segments-at (slice_index_or stage.clients number d)) → AddsNone stage after
-one-client stage after number d x own others few = record {
-  segments = rw own (all-set segments-at stage.clients number d x few);
-  runs = rw others (omega arith);
-}
-
-one-reader : (stage after : Stage) (number : ℕ) (d x : AtPort × Reader) → after.clients ≡ stage.clients → after.readers ≡ slice_set stage.readers number x
-    → length (runs-at x) ≤ length (runs-at (slice_index_or stage.readers number d)) → AddsNone stage after
-one-reader stage after number d x own others few = record {
-  segments = rw own (omega arith);
-  runs = rw others (all-set runs-at stage.readers number d x few);
-}
-
-open_client-none : (session : Session) (stage : Stage) (n : ℕ) (x : AtPort × Client) (own : Option PlaybackStream) → client_at session stage n ≡ x → AddsNone stage (open_client session stage n x own)
-open_client-none session stage n x (Some c) is = none stage _ refl refl
-open_client-none session stage n (a, client) None is = by_setup (slice_index_or session.clients n None)
-  where
-    -- a client that was opened has no sample of a stretch
-    few : length (client.ended ++ []) ≤ length (segments-at (client_at session stage n))
-    few =
-        let all = length-append client.ended [] in
-        let before = length-append client.ended (present_of client.own) in
-        let same = ap (λ (x : AtPort × Client). length (segments-at x)) is in
-        omega (arith, all, before, same)
-
-    by_answer : (setup : Setup) (at : Lobby × Result (Unit {0}) PcmError) → AddsNone stage (attached_client session stage n setup (a, client) at)
-    by_answer setup (lobby, Ok done) = one-client stage _ n (no_client session.ring) _ refl refl few
-    by_answer setup (lobby, Err e) = none stage _ refl refl
-
-    by_claim : (setup : Setup) (refusal : Option PcmError) → AddsNone stage (claimed_client session stage n setup (a, client) refusal)
-    by_claim setup (Some e) = none stage _ refl refl
-    by_claim setup None = by_answer setup (after_attach n stage.position stage.lobby)
-
-    by_setup : (setup : Option Setup) → AddsNone stage (open_client_with session stage n setup (a, client))
-    by_setup None = none stage _ refl refl
-    by_setup (Some setup) = by_claim setup (claim_refusal session.card.share stage.claims setup.bindings stage.position)
-
-open_reader-none : (session : Session) (stage : Stage) (n : ℕ) (x : AtPort × Reader) (own : Option CaptureStream) → reader_at session stage n ≡ x → AddsNone stage (open_reader session stage n x own)
-open_reader-none session stage n x (Some r) is = none stage _ refl refl
-open_reader-none session stage n (a, reader) None is = by_setup (slice_index_or session.readers n None)
-  where
-    by_setup : (setup : Option Setup) → AddsNone stage (open_reader_with session stage n setup (a, reader))
-    by_setup None = none stage _ refl refl
-    by_setup (Some setup) = one-reader stage _ n (no_reader session.ring) _ refl refl
-        (let same = ap (λ (x : AtPort × Reader). length (runs-at x)) is in omega (arith, same))
-
-close_client-none : (session : Session) (stage : Stage) (n : ℕ) (x : AtPort × Client) (own : Option PlaybackStream) → client_at session stage n ≡ x → AddsNone stage (close_client session stage n x own)
-close_client-none session stage n x None is = none stage _ refl refl
-close_client-none session stage n (a, client) (Some c) is = one-client stage _ n (no_client session.ring) _ refl refl
-    (let few = ended-segments client in let same = ap (λ (x : AtPort × Client). length (segments-at x)) is in omega (arith, few, same))
-
-close_reader-none : (session : Session) (stage : Stage) (n : ℕ) (x : AtPort × Reader) (own : Option CaptureStream) → reader_at session stage n ≡ x → AddsNone stage (close_reader session stage n x own)
-close_reader-none session stage n x None is = none stage _ refl refl
-close_reader-none session stage n (a, reader) (Some r) is = one-reader stage _ n (no_reader session.ring) _ refl refl
-    (let same = ap (λ (x : AtPort × Reader). length (runs-at x)) is in omega (arith, same))
-
-open-none : (session : Session) (stage : Stage) (who : Actor) → AddsNone stage (after_open session stage who)
-open-none session stage actor.Card = none stage stage refl refl
-open-none session stage (actor.Client n) = open_client-none session stage n (client_at session stage n) (client_at session stage n).1.own refl
-open-none session stage (actor.Reader n) = open_reader-none session stage n (reader_at session stage n) (reader_at session stage n).1.own refl
-
-close-none : (session : Session) (stage : Stage) (who : Actor) → AddsNone stage (after_close session stage who)
-close-none session stage actor.Card = none stage stage refl refl
-close-none session stage (actor.Client n) = close_client-none session stage n (client_at session stage n) (client_at session stage n).1.own refl
-close-none session stage (actor.Reader n) = close_reader-none session stage n (reader_at session stage n) (reader_at session stage n).1.own refl
-
 -- no more segments and no more runs than rows more
 record AddsFew (stage after : Stage) : Type 0 where
   segments : segment-count after + length stage.rows ≤ segment-count stage + length after.rows
   runs : run-count after + length stage.rows ≤ run-count stage + length after.rows
 
-few-none : (stage after : Stage) → HasMore stage after → AddsNone stage after → AddsFew stage after
-few-none stage after more adds =
-    let segments = adds.segments in
-    let runs = adds.runs in
-    let rows = ap length more.rows ∙ length-append stage.rows more.more in
+-- with a row more, and no segment and no run more
+few-none : (stage after : Stage) (row : Row) → after.rows ≡ stage.rows ++ row ∷ [] → segment-count after ≤ segment-count stage → run-count after ≤ run-count stage → AddsFew stage after
+few-none stage after row is segments runs =
+    let rows = ap length is ∙ length-append stage.rows (row ∷ []) in
     record { segments = omega (arith, segments, rows); runs = omega (arith, runs, rows) }
 
-item-few : (session : Session) (stage after : Stage) (any : Item) → ItemMay session stage any after → AddsFew stage after
-item-few session stage after (item.Opens number who) is = rw is (few-none stage _ (open-more session stage who) (open-none session stage who))
-item-few session stage after (item.Closes number who) is = rw is (few-none stage _ (close-more session stage who) (close-none session stage who))
-item-few session stage after (item.Phase lines) may =
+phase-few : (session : Session) (stage after : Stage) (lines : List Line) → PhaseMay session stage lines after → AddsFew stage after
+phase-few session stage after lines may =
     let rules : Rules = rules_of session stage lines in
     let cards : List Row = card_rows (stage.phases + 1) stage.position (ops_by is_of_card lines) in
     let rows = ap (λ (s : Stage). length s.rows) may.is
@@ -372,20 +286,24 @@ item-few session stage after (item.Phase lines) may =
       runs = omega (arith, rows, others, others_reaped, runs);
     }
 
-items-few : (session : Session) (stage after : Stage) (items : List Item) → ItemsMay session stage items after → AddsFew stage after
-items-few session stage after [] is = rw is (record { segments = omega arith; runs = omega arith })
-items-few session stage after (first ∷ items) (between, may, rest) =
-    let here = item-few session stage between first may in
-    let there = items-few session between after items rest in
-    let segments = here.segments in
-    let more_segments = there.segments in
-    let runs = here.runs in
-    let more_runs = there.runs in
-    record { segments = omega (arith, segments, more_segments); runs = omega (arith, runs, more_runs) }
+over-few : (session : Session) → OverItems session AddsFew
+over-few session = record {
+  same = λ stage. record { segments = omega arith; runs = omega arith };
+  border = λ stage who. record {
+    none = λ card. record { segments = omega arith; runs = omega arith };
+    refused = λ lobby row of. few-none stage _ row refl (omega arith) (omega arith);
+    client = λ n client lobby claims row who_is of same. few-none stage _ row refl
+        (all-set segments-at stage.clients n (no_client session.ring) _ (let few = ap length same in omega (arith, few))) (omega arith);
+    reader = λ n own anew row who_is of. few-none stage _ row refl (omega arith) (all-set runs-at stage.readers n (no_reader session.ring) _ (omega arith));
+  };
+  phase = λ stage after lines may. phase-few session stage after lines may;
+  then = λ x y z here there. let segments = here.segments in let more_segments = there.segments in let runs = here.runs in let more_runs = there.runs in
+      record { segments = omega (arith, segments, more_segments); runs = omega (arith, runs, more_runs) };
+}
 
 pub stages-within : (session : Session) (done : List Item) (stage : Stage) → ItemsMay session (first_stage session) done stage → IsWithinRows stage
 stages-within session done stage may =
-    let few = items-few session (first_stage session) stage done may in
+    let few = items-over session AddsFew (over-few session) (first_stage session) stage done may in
     let segments = few.segments in
     let runs = few.runs in
     let no_segments = all-none segments-at (no_client session.ring) session.clients refl in

@@ -1,30 +1,25 @@
 -- Each script has a run: the one in which no phase is left a choice.
-use Rattle.std.proofs.Common.{◌≡◌, ℕ, ◌≤◌, ◌+◌, refl, sym, arith, inl, inr, Option, Some, None}
-use Rattle.std.specs.Prelude.{Bool, true, false, List, [], ◌∷◌, Contains, map, slice_set, zero, suc, Result, Ok, Err, slice_index_or}
-use Rattle.snd_base.specs.declared.errors.PcmError.{PcmError}
+use Rattle.std.proofs.Common.{◌≡◌, ℕ, ◌≤◌, ◌+◌, refl, sym, arith, inl, inr, Option}
+use Rattle.std.specs.Prelude.{List, [], ◌∷◌, Contains, map, slice_set, zero, suc, slice_index_or}
 use Rattle.snd_base.specs.declared.geometry.Geometry.{Geometry}
 use Rattle.std.proofs.lemmas.List.Sums.{sum_by-cons}
 use Rattle.std.proofs.lemmas.List.Elements.{Contains-append_left, Contains-append_right, Contains-append_cases}
 use Rattle.wav_io.specs.Sound.{Sound}
-use Rattle.dmix_client.specs.declared.stream.PlaybackStream.{PlaybackStream}
-use Rattle.dsnoop_client.specs.declared.stream.CaptureStream as reading
 use Rattle.lab_lines.specs.declared.line.Actor.{Actor}
-use Rattle.lab_lines.specs.declared.line.Actor.TheVariants as actor
 use Rattle.lab_lines.specs.declared.line.Item.{Item}
 use Rattle.lab_lines.specs.declared.line.Item.TheVariants as item
 use Rattle.lab_lines.specs.declared.line.Line.{Line}
 use Rattle.lab_lines.specs.Script.{first_frame}
 use Rattle.lab_run.specs.Client.{Client}
-use Rattle.lab_run.specs.Items.{ItemsMay, PhaseMay, client_kinds, clients_text, is_reader_stopped, is_stopped, items_text, phase_text, reader_kinds, readers_text, reaped_client, reaped_client_if, reaped_reader, reaped_reader_if, rules_of}
+use Rattle.lab_run.specs.Items.{ItemsMay, PhaseMay, client_kinds, clients_text, items_text, phase_text, reader_kinds, readers_text, reaped_client, reaped_reader, rules_of}
 use Rattle.lab_run.specs.LabRun.{AreWithin, LabRun, lab_text}
 use Rattle.lab_run.specs.Phases.{is_client, is_reader, on_the_way, ops_by, played_at, played_in, phase_positions}
-use Rattle.lab_run.specs.Places.{Lobby, after_attach}
-use Rattle.lab_run.specs.Claims.{claim_refusal}
 use Rattle.lab_run.specs.Reader.{Reader}
 use Rattle.lab_run.specs.Rules.{AtPort, Rules}
-use Rattle.lab_run.specs.Stage.{Session, Setup, Stage, after_close, after_open, attached_client, claimed_client, client_at, close_client, close_reader, ended_client, ended_reader, first_stage, no_client, no_reader, open_client, open_client_with, open_reader, open_reader_with, opened_client, opened_reader, reader_at, renewed_port}
-use Rattle.lab_run.proofs.EachLaws.{AreBehind, EachExist, IsPublished, each-exist}
+use Rattle.lab_run.specs.Stage.{Session, Setup, Stage, after_close, after_open, first_stage, no_client, no_reader}
+use Rattle.lab_run.proofs.EachLaws.{AreBehind, EachExist, IsPublished, behind-map, each-exist, reaped_client-keeps, reaped_reader-keeps}
 use Rattle.lab_run.proofs.ActorKinds.{client-IsKind, reader-IsKind}
+use Rattle.lab_run.proofs.BorderLaws.{Border, close-by, open-by}
 
 -- an actor saw no position past one, and of the stops by its own gate a fact holds
 record IsActorBehind (Q : ℕ → Type 0) (p : ℕ) (a : AtPort) : Type 0 where
@@ -61,101 +56,36 @@ pub record IsBehind (Q R : ℕ → ℕ → Type 0) (stage : Stage) : Type 0 wher
   pub clients : AreBehind Q stage.position 0 stage.clients
   pub readers : AreBehind R stage.position 0 stage.readers
 
--- with the same position, clients and readers
-same-actors : (Q R : ℕ → ℕ → Type 0) (stage after : Stage) → after.position ≡ stage.position → after.clients ≡ stage.clients → after.readers ≡ stage.readers
-    → IsBehind Q R stage → IsBehind Q R after
-same-actors Q R stage after position clients readers behind =
-    record { clients = rw (position, clients) behind.clients; readers = rw (position, readers) behind.readers }
-
--- with a client, or a reader, whose port is new
-new-client : (Q R : ℕ → ℕ → Type 0) (ring : Geometry) (stage after : Stage) (n : ℕ) (a : AtPort) (client : Client) → Q n a.by_gate
-    → after.position ≡ stage.position → after.clients ≡ slice_set stage.clients n (renewed_port ring a, client) → after.readers ≡ stage.readers
-    → IsBehind Q R stage → IsBehind Q R after
-new-client Q R ring stage after n a client none position clients readers behind = record {
-  clients = rw (position, clients) (behind-set Q stage.position 0 stage.clients n n (renewed_port ring a, client) (omega arith) (record { seen = least stage.position; by_gate = none }) behind.clients);
-  readers = rw (position, readers) behind.readers;
+-- an opening or closing makes a port anew, which its own gate stopped as often
+behind-border : (Q R : ℕ → ℕ → Type 0) → ((n : ℕ) → Q n 0) → ((n : ℕ) → R n 0) → (session : Session) (stage : Stage) (who : Actor) → IsBehind Q R stage
+    → Border session stage who (IsBehind Q R)
+behind-border Q R none reader_none session stage who behind = record {
+  none = λ card. behind;
+  refused = λ lobby row of. record { clients = behind.clients; readers = behind.readers };
+  client = λ n client lobby claims row who_is of same. record {
+    clients = behind-set Q stage.position 0 stage.clients n n _ (omega arith)
+        (record { seen = least stage.position; by_gate = behind-at Q stage.position 0 stage.clients n n _ (omega arith) (none n) behind.clients }) behind.clients;
+    readers = behind.readers;
+  };
+  reader = λ n own anew row who_is of. record {
+    clients = behind.clients;
+    readers = behind-set R stage.position 0 stage.readers n n _ (omega arith)
+        (record { seen = least stage.position; by_gate = behind-at R stage.position 0 stage.readers n n _ (omega arith) (reader_none n) behind.readers }) behind.readers;
+  };
 }
-
-new-reader : (Q R : ℕ → ℕ → Type 0) (ring : Geometry) (stage after : Stage) (n : ℕ) (a : AtPort) (reader : Reader) → R n a.by_gate
-    → after.position ≡ stage.position → after.clients ≡ stage.clients → after.readers ≡ slice_set stage.readers n (renewed_port ring a, reader)
-    → IsBehind Q R stage → IsBehind Q R after
-new-reader Q R ring stage after n a reader none position clients readers behind = record {
-  clients = rw (position, clients) behind.clients;
-  readers = rw (position, readers) (behind-set R stage.position 0 stage.readers n n (renewed_port ring a, reader) (omega arith) (record { seen = least stage.position; by_gate = none }) behind.readers);
-}
-
-attached-behind : (Q R : ℕ → ℕ → Type 0) (session : Session) (stage : Stage) (n : ℕ) (setup : Setup) (x : AtPort × Client) (at : Lobby × Result (Unit {0}) PcmError)
-    → Q n x.0.by_gate → IsBehind Q R stage → IsBehind Q R (attached_client session stage n setup x at)
-attached-behind Q R session stage n setup (a, client) (lobby, Ok done) none behind =
-    new-client Q R session.ring stage _ n a (record client { own = Some (opened_client session.ring n setup) }) none refl refl refl behind
-attached-behind Q R session stage n setup x (lobby, Err e) none behind = same-actors Q R stage _ refl refl refl behind
-
-open_client-behind : (Q R : ℕ → ℕ → Type 0) (session : Session) (stage : Stage) (n : ℕ) (x : AtPort × Client) (own : Option PlaybackStream)
-    → Q n x.0.by_gate → IsBehind Q R stage → IsBehind Q R (open_client session stage n x own)
-open_client-behind Q R session stage n x (Some c) none behind = same-actors Q R stage _ refl refl refl behind
-open_client-behind Q R session stage n x None none behind = by_setup (slice_index_or session.clients n None)
-  where
-    by_claim : (setup : Setup) (refusal : Option PcmError) → IsBehind Q R (claimed_client session stage n setup x refusal)
-    by_claim setup (Some e) = same-actors Q R stage _ refl refl refl behind
-    by_claim setup None = attached-behind Q R session stage n setup x (after_attach n stage.position stage.lobby) none behind
-
-    by_setup : (setup : Option Setup) → IsBehind Q R (open_client_with session stage n setup x)
-    by_setup None = same-actors Q R stage _ refl refl refl behind
-    by_setup (Some setup) = by_claim setup (claim_refusal session.card.share stage.claims setup.bindings stage.position)
-
-open_reader-behind : (Q R : ℕ → ℕ → Type 0) (session : Session) (stage : Stage) (n : ℕ) (x : AtPort × Reader) (own : Option reading.CaptureStream)
-    → R n x.0.by_gate → IsBehind Q R stage → IsBehind Q R (open_reader session stage n x own)
-open_reader-behind Q R session stage n x (Some r) none behind = same-actors Q R stage _ refl refl refl behind
-open_reader-behind Q R session stage n (a, reader) None none behind = by_setup (slice_index_or session.readers n None)
-  where
-    by_setup : (setup : Option Setup) → IsBehind Q R (open_reader_with session stage n setup (a, reader))
-    by_setup None = same-actors Q R stage _ refl refl refl behind
-    by_setup (Some setup) = new-reader Q R session.ring stage _ n a (record reader { own = Some (opened_reader session.ring setup) }) none refl refl refl behind
 
 pub open-behind : (Q R : ℕ → ℕ → Type 0) → ((n : ℕ) → Q n 0) → ((n : ℕ) → R n 0) → (session : Session) (stage : Stage) (who : Actor) → IsBehind Q R stage → IsBehind Q R (after_open session stage who)
-open-behind Q R none reader_none session stage actor.Card behind = behind
-open-behind Q R none reader_none session stage (actor.Client n) behind =
-    open_client-behind Q R session stage n (client_at session stage n) (client_at session stage n).1.own (behind-at Q stage.position 0 stage.clients n n _ (omega arith) (none n) behind.clients) behind
-open-behind Q R none reader_none session stage (actor.Reader n) behind =
-    open_reader-behind Q R session stage n (reader_at session stage n) (reader_at session stage n).1.own (behind-at R stage.position 0 stage.readers n n _ (omega arith) (reader_none n) behind.readers) behind
-
-close_client-behind : (Q R : ℕ → ℕ → Type 0) (session : Session) (stage : Stage) (n : ℕ) (x : AtPort × Client) (own : Option PlaybackStream) → Q n x.0.by_gate → IsBehind Q R stage
-    → IsBehind Q R (close_client session stage n x own)
-close_client-behind Q R session stage n x None none behind = same-actors Q R stage _ refl refl refl behind
-close_client-behind Q R session stage n (a, client) (Some c) none behind =
-    new-client Q R session.ring stage _ n a (ended_client session.ring (a, client)).1 none refl refl refl behind
-
-close_reader-behind : (Q R : ℕ → ℕ → Type 0) (session : Session) (stage : Stage) (n : ℕ) (x : AtPort × Reader) (own : Option reading.CaptureStream) → R n x.0.by_gate → IsBehind Q R stage
-    → IsBehind Q R (close_reader session stage n x own)
-close_reader-behind Q R session stage n x None none behind = same-actors Q R stage _ refl refl refl behind
-close_reader-behind Q R session stage n (a, reader) (Some r) none behind =
-    new-reader Q R session.ring stage _ n a (ended_reader session.ring (a, reader)).1 none refl refl refl behind
+open-behind Q R none reader_none session stage who behind = open-by session stage (IsBehind Q R) who (behind-border Q R none reader_none session stage who behind)
 
 pub close-behind : (Q R : ℕ → ℕ → Type 0) → ((n : ℕ) → Q n 0) → ((n : ℕ) → R n 0) → (session : Session) (stage : Stage) (who : Actor) → IsBehind Q R stage → IsBehind Q R (after_close session stage who)
-close-behind Q R none reader_none session stage actor.Card behind = behind
-close-behind Q R none reader_none session stage (actor.Client n) behind =
-    close_client-behind Q R session stage n (client_at session stage n) (client_at session stage n).1.own (behind-at Q stage.position 0 stage.clients n n _ (omega arith) (none n) behind.clients) behind
-close-behind Q R none reader_none session stage (actor.Reader n) behind =
-    close_reader-behind Q R session stage n (reader_at session stage n) (reader_at session stage n).1.own (behind-at R stage.position 0 stage.readers n n _ (omega arith) (reader_none n) behind.readers) behind
+close-behind Q R none reader_none session stage who behind = close-by session stage (IsBehind Q R) who (behind-border Q R none reader_none session stage who behind)
 
 -- an actor that was reaped saw nothing any more
 pub reaped-clients : (Q : ℕ → ℕ → Type 0) (ring : Geometry) (p number : ℕ) (actors : List (AtPort × Client)) → AreBehind Q p number actors → AreBehind Q p number (map (reaped_client ring) actors)
-reaped-clients Q ring p number [] low = tt
-reaped-clients Q ring p number (x ∷ actors) low =
-    let one = by_test (is_stopped x.1.own) x low.0 low.1 in (one.seen, one.by_gate, reaped-clients Q ring p (number + 1) actors low.2)
-  where
-    by_test : (stopped : Bool) (x : AtPort × Client) → x.0.seen ≤ p → Q number x.0.by_gate → IsActorBehind (Q number) p (reaped_client_if stopped ring x).0
-    by_test true (a, client) small none = record { seen = least p; by_gate = none }
-    by_test false (a, client) small none = record { seen = small; by_gate = none }
+reaped-clients Q ring p number actors low = behind-map (reaped_client ring) (reaped_client-keeps ring) Q p number actors low
 
 pub reaped-readers : (Q : ℕ → ℕ → Type 0) (ring : Geometry) (p number : ℕ) (actors : List (AtPort × Reader)) → AreBehind Q p number actors → AreBehind Q p number (map (reaped_reader ring) actors)
-reaped-readers Q ring p number [] low = tt
-reaped-readers Q ring p number (x ∷ actors) low =
-    let one = by_test (is_reader_stopped x.1.own) x low.0 low.1 in (one.seen, one.by_gate, reaped-readers Q ring p (number + 1) actors low.2)
-  where
-    by_test : (stopped : Bool) (x : AtPort × Reader) → x.0.seen ≤ p → Q number x.0.by_gate → IsActorBehind (Q number) p (reaped_reader_if stopped ring x).0
-    by_test true (a, reader) small none = record { seen = least p; by_gate = none }
-    by_test false (a, reader) small none = record { seen = small; by_gate = none }
+reaped-readers Q ring p number actors low = behind-map (reaped_reader ring) (reaped_reader-keeps ring) Q p number actors low
 
 -- the card publishes the position at the end of each phase
 last-published : (period from : ℕ) (lines : List Line) → Contains (phase_positions period from lines) (from + played_in lines)

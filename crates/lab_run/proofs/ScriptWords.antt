@@ -1,35 +1,29 @@
 -- A stage of a run is where its script has it, and what a phase allows is what the script has of that phase.
-use Rattle.std.proofs.Common.{◌≡◌, ℕ, ◌+◌, ◌-◌, ◌*◌, ◌<◌, ◌≤◌, refl, sym, ◌∙◌, ap, subst, arith, inl, inr, ◌⊎◌, Option, Some, None, List, [], ◌∷◌, ◌++◌, length, take}
+use Rattle.std.proofs.Common.{◌≡◌, ℕ, ◌+◌, ◌-◌, ◌*◌, ◌<◌, ◌≤◌, refl, sym, ◌∙◌, ap, subst, arith, inl, inr, ◌⊎◌, List, [], ◌∷◌, ◌++◌, length, take}
 use Rattle.std.proofs.Math.Nat.{mul-mod_left}
+use Rattle.std.proofs.Math.Seq.{get_or-append_seam, take-append-add, take-append_seam, take-length}
 use Rattle.std.proofs.lemmas.Bool.{cases_eq, cases_lt, eq-eqb, eqb-true}
 use Rattle.std.proofs.lemmas.Nat.{div-add-mod'}
+use Rattle.std.proofs.lemmas.List.{length-append}
 use Rattle.std.proofs.lemmas.List.Elements.{All-head, All-tail, All-take, Contains-append_right}
 use Rattle.std.proofs.lemmas.List.Sums.{sum_by-cons, sum_by-append}
-use Rattle.std.specs.Prelude.{Bool, true, false, ◌||◌, ◌/◌, ◌%◌, ◌==◌, if◌then◌else◌, zero, suc, All, Contains, filter, slice_index_or, Result, Ok, Err}
+use Rattle.std.specs.Prelude.{Bool, true, false, ◌||◌, ◌/◌, ◌%◌, ◌==◌, if◌then◌else◌, zero, suc, All, Contains, filter, slice_index_or}
 use Rattle.std.specs.List.{list_any, range_with_len}
 use Rattle.wav_io.specs.Sound.{Sound}
-use Rattle.snd_base.specs.declared.errors.PcmError.{PcmError}
-use Rattle.dmix_client.specs.declared.stream.PlaybackStream.{PlaybackStream}
-use Rattle.dsnoop_client.specs.declared.stream.CaptureStream as reading
 use Rattle.lab_lines.specs.declared.line.Actor.{Actor}
-use Rattle.lab_lines.specs.declared.line.Actor.TheVariants as actor
 use Rattle.lab_lines.specs.declared.line.Item.{Item}
 use Rattle.lab_lines.specs.declared.line.Item.TheVariants as item
 use Rattle.lab_lines.specs.declared.line.Line.{Line}
 use Rattle.lab_lines.specs.declared.script.Script.{Script}
 use Rattle.lab_lines.specs.Limits.{IsItem, IsLine}
-use Rattle.lab_lines.specs.Script.{IsCardPosition, first_frame, frames_played, is_gone, phase_at, phases_of, position_after_phases, unplugs}
+use Rattle.lab_lines.specs.Script.{IsCardPosition, first_frame, frames_played, phase_at, phases_of, position_after_phases, unplugs}
 use Rattle.lab_lines.specs.Script as script_words
-use Rattle.lab_run.specs.Claims.{claim_refusal}
-use Rattle.lab_run.specs.Client.{Client}
 use Rattle.lab_run.specs.Items.{ItemsMay}
 use Rattle.lab_run.specs.Phases.{on_the_way, played_at, played_in, phase_positions, published_by}
-use Rattle.lab_run.specs.Places.{Lobby, after_attach}
-use Rattle.lab_run.specs.Reader.{Reader}
-use Rattle.lab_run.specs.Rules.{AtPort}
 use Rattle.lab_run.specs.ScriptWords.{IsReached, PhasesAreOfScripts, StagesAreOfScripts}
-use Rattle.lab_run.specs.Stage.{Session, Setup, Stage, after_close, after_open, attached_client, claimed_client, client_at, close_client, close_reader, first_stage, open_client, open_client_with, open_reader, open_reader_with, reader_at}
+use Rattle.lab_run.specs.Stage.{Session, Stage, first_stage}
 use Rattle.lab_run.proofs.ScriptLines.{played_in-lines}
+use Rattle.lab_run.proofs.BorderLaws.{Border, close-by, open-by}
 
 -- a stage with the card of another, and as many phases
 record HasCardOf (stage after : Stage) : Type 0 where
@@ -40,47 +34,13 @@ record HasCardOf (stage after : Stage) : Type 0 where
 same : (stage after : Stage) → after.phases ≡ stage.phases → after.position ≡ stage.position → after.gone ≡ stage.gone → HasCardOf stage after
 same stage after phases position gone = record { phases = phases; position = position; gone = gone }
 
-open_client-card : (session : Session) (stage : Stage) (n : ℕ) (x : AtPort × Client) (own : Option PlaybackStream) → HasCardOf stage (open_client session stage n x own)
-open_client-card session stage n x (Some c) = same stage _ refl refl refl
-open_client-card session stage n x None = by_setup (slice_index_or session.clients n None)
-  where
-    by_answer : (setup : Setup) (at : Lobby × Result (Unit {0}) PcmError) → HasCardOf stage (attached_client session stage n setup x at)
-    by_answer setup (lobby, Ok done) = same stage _ refl refl refl
-    by_answer setup (lobby, Err e) = same stage _ refl refl refl
-
-    by_claim : (setup : Setup) (refusal : Option PcmError) → HasCardOf stage (claimed_client session stage n setup x refusal)
-    by_claim setup (Some e) = same stage _ refl refl refl
-    by_claim setup None = by_answer setup (after_attach n stage.position stage.lobby)
-
-    by_setup : (setup : Option Setup) → HasCardOf stage (open_client_with session stage n setup x)
-    by_setup None = same stage _ refl refl refl
-    by_setup (Some setup) = by_claim setup (claim_refusal session.card.share stage.claims setup.bindings stage.position)
-
-open_reader-card : (session : Session) (stage : Stage) (n : ℕ) (x : AtPort × Reader) (own : Option reading.CaptureStream) → HasCardOf stage (open_reader session stage n x own)
-open_reader-card session stage n x (Some r) = same stage _ refl refl refl
-open_reader-card session stage n (a, reader) None = by_setup (slice_index_or session.readers n None)
-  where
-    by_setup : (setup : Option Setup) → HasCardOf stage (open_reader_with session stage n setup (a, reader))
-    by_setup None = same stage _ refl refl refl
-    by_setup (Some setup) = same stage _ refl refl refl
-
-close_client-card : (session : Session) (stage : Stage) (n : ℕ) (x : AtPort × Client) (own : Option PlaybackStream) → HasCardOf stage (close_client session stage n x own)
-close_client-card session stage n x None = same stage _ refl refl refl
-close_client-card session stage n x (Some c) = same stage _ refl refl refl
-
-close_reader-card : (session : Session) (stage : Stage) (n : ℕ) (x : AtPort × Reader) (own : Option reading.CaptureStream) → HasCardOf stage (close_reader session stage n x own)
-close_reader-card session stage n x None = same stage _ refl refl refl
-close_reader-card session stage n x (Some r) = same stage _ refl refl refl
-
-open-card : (session : Session) (stage : Stage) (who : Actor) → HasCardOf stage (after_open session stage who)
-open-card session stage actor.Card = same stage stage refl refl refl
-open-card session stage (actor.Client n) = open_client-card session stage n (client_at session stage n) (client_at session stage n).1.own
-open-card session stage (actor.Reader n) = open_reader-card session stage n (reader_at session stage n) (reader_at session stage n).1.own
-
-close-card : (session : Session) (stage : Stage) (who : Actor) → HasCardOf stage (after_close session stage who)
-close-card session stage actor.Card = same stage stage refl refl refl
-close-card session stage (actor.Client n) = close_client-card session stage n (client_at session stage n) (client_at session stage n).1.own
-close-card session stage (actor.Reader n) = close_reader-card session stage n (reader_at session stage n) (reader_at session stage n).1.own
+card-border : (session : Session) (stage : Stage) (who : Actor) → Border session stage who (HasCardOf stage)
+card-border session stage who = record {
+  none = λ card. same stage _ refl refl refl;
+  refused = λ lobby row of. same stage _ refl refl refl;
+  client = λ n client lobby claims row who_is of segments. same stage _ refl refl refl;
+  reader = λ n own anew row who_is of. same stage _ refl refl refl;
+}
 
 -- what the phases of items make of the card
 record IsCardAfter (stage : Stage) (phases : List (List Line)) (after : Stage) : Type 0 where
@@ -108,10 +68,10 @@ items-card : (clients readers : ℕ) (session : Session) (stage after : Stage) (
 items-card clients readers session stage after [] all is =
     rw is (record { count = omega arith; position = omega arith; gone = sym (or-false stage.gone) })
 items-card clients readers session stage after (item.Opens number who ∷ items) all (between, is, rest) =
-    stays-card stage between after (phases_of items) (rw is (open-card session stage who))
+    stays-card stage between after (phases_of items) (rw is (open-by session stage (HasCardOf stage) who (card-border session stage who)))
     (items-card clients readers session between after items (All-tail (IsItem clients readers) (item.Opens number who) items all) rest)
 items-card clients readers session stage after (item.Closes number who ∷ items) all (between, is, rest) =
-    stays-card stage between after (phases_of items) (rw is (close-card session stage who))
+    stays-card stage between after (phases_of items) (rw is (close-by session stage (HasCardOf stage) who (card-border session stage who)))
     (items-card clients readers session between after items (All-tail (IsItem clients readers) (item.Closes number who) items all) rest)
 items-card clients readers session stage after (item.Phase lines ∷ items) all (between, may, rest) =
     let others = items-card clients readers session between after items (All-tail (IsItem clients readers) (item.Phase lines) items all) rest in
@@ -133,40 +93,6 @@ phases_of-append (item.Phase lines ∷ items) others = ap (λ (ps : List (List L
 phases_of-append (item.Opens number who ∷ items) others = phases_of-append items others
 phases_of-append (item.Closes number who ∷ items) others = phases_of-append items others
 
-take-first : {X : Type 0} (xs ys : List X) (n : ℕ) → n ≡ length xs → take n (xs ++ ys) ≡ xs
-take-first [] ys zero is = refl
-take-first [] ys (suc n) is = absurd (omega (arith, is))
-take-first (x ∷ xs) ys zero is = absurd (omega (arith, is))
-take-first {X = X} (x ∷ xs) ys (suc n) is = ap (λ (zs : List X). x ∷ zs) (take-first xs ys n (omega (arith, is)))
-
-first-of : {X : Type 0} (xs ys : List X) (n : ℕ) (y d : X) → n ≡ length xs → slice_index_or (xs ++ y ∷ ys) n d ≡ y
-first-of [] ys zero y d is = refl
-first-of [] ys (suc n) y d is = absurd (omega (arith, is))
-first-of (x ∷ xs) ys zero y d is = absurd (omega (arith, is))
-first-of (x ∷ xs) ys (suc n) y d is = first-of xs ys n y d (omega (arith, is))
-
-All-first : (clients readers : ℕ) (items others : List Item) → All (IsItem clients readers) (items ++ others) → All (IsItem clients readers) items
-All-first clients readers [] others all = λ k d low. absurd (omega (arith, low))
-All-first clients readers (x ∷ items) others all = All-both x items (All-head (IsItem clients readers) x (items ++ others) all) (All-first clients readers items others (All-tail (IsItem clients readers) x (items ++ others) all))
-  where
-    All-both : (x : Item) (items : List Item) → IsItem clients readers x → All (IsItem clients readers) items → All (IsItem clients readers) (x ∷ items)
-    All-both x items one rest zero d low = one
-    All-both x items one rest (suc k) d low = rest k d (omega (arith, low))
-
-All-last : (clients readers : ℕ) (items others : List Item) → All (IsItem clients readers) (items ++ others) → All (IsItem clients readers) others
-All-last clients readers [] others all = all
-All-last clients readers (x ∷ items) others all = All-last clients readers items others (All-tail (IsItem clients readers) x (items ++ others) all)
-
-take-one : {X : Type 0} (xs ys : List X) (y : X) (n : ℕ) → n ≡ length xs + 1 → take n (xs ++ y ∷ ys) ≡ xs ++ y ∷ []
-take-one [] ys y zero is = absurd (omega (arith, is))
-take-one {X = X} [] ys y (suc n) is = ap (λ (zs : List X). y ∷ zs) (take-none ys n (omega (arith, is)))
-  where
-    take-none : (xs : List X) (n : ℕ) → n ≡ 0 → take n xs ≡ []
-    take-none xs zero is = refl
-    take-none xs (suc n) is = absurd (omega (arith, is))
-take-one (x ∷ xs) ys y zero is = absurd (omega (arith, is))
-take-one {X = X} (x ∷ xs) ys y (suc n) is = ap (λ (zs : List X). x ∷ zs) (take-one xs ys y n (omega (arith, is)))
-
 record IsCardOf (script : Script) (done others : List Item) (stage : Stage) : Type 0 where
   pub phases : stage.phases ≡ length (phases_of done)
   pub first : take stage.phases (phases_of script.body) ≡ phases_of done
@@ -177,8 +103,9 @@ record IsCardOf (script : Script) (done others : List Item) (stage : Stage) : Ty
 reached-card : (script : Script) (wavs : List Sound) (session : Session) (done others : List Item) (stage : Stage) → IsReached script wavs session done others stage
     → IsCardOf script done others stage
 reached-card script wavs session done others stage is = record {
-  phases = omega (arith, card.count);
-  first = ap (λ (ps : List (List Line)). take stage.phases ps) split ∙ take-first (phases_of done) (phases_of others) stage.phases (omega (arith, card.count));
+  phases = count;
+  first = ap (λ (ps : List (List Line)). take stage.phases ps) split ∙ ap (λ (n : ℕ). take n (phases_of done ++ phases_of others)) count
+      ∙ take-append_seam (phases_of done) (phases_of others);
   position = card.position ∙ ap (λ c. first_frame c + frames_played (phases_of done)) is.session_is.card;
   gone = card.gone;
   body = split;
@@ -186,7 +113,12 @@ reached-card script wavs session done others stage is = record {
   where
     card : IsCardAfter (first_stage session) (phases_of done) stage
     card = items-card (length script.clients) (length script.readers) session (first_stage session) stage done
-        (All-first (length script.clients) (length script.readers) done others (subst (All (IsItem (length script.clients) (length script.readers))) is.body is.script_is.body)) is.may
+        (subst (All (IsItem (length script.clients) (length script.readers))) (take-append_seam done others)
+        (All-take (IsItem (length script.clients) (length script.readers)) (length done) (done ++ others)
+        (subst (All (IsItem (length script.clients) (length script.readers))) is.body is.script_is.body))) is.may
+
+    count : stage.phases ≡ length (phases_of done)
+    count = omega (arith, card.count)
 
     split : phases_of script.body ≡ phases_of done ++ phases_of others
     split = ap phases_of is.body ∙ phases_of-append done others
@@ -292,13 +224,9 @@ on-the_way-more period from line lines q (behind n few is) =
 -- where a multiple of the period isn't past the lines, it is on their way
 on-the_way-upto : (period from : ℕ) (lines : List Line) (q k : ℕ) → q ≡ k * period → from ≤ q → q ≤ from + played_in lines → IsOnTheWay period from lines q
 on-the_way-upto period from lines q k is low high = elim (cases_eq q (from + played_in lines)) [
-  | inl at_end ↦ behind (length lines) (omega arith) (at_end ∙ ap (λ (ls : List Line). from + played_in ls) (sym (take-all lines)))
+  | inl at_end ↦ behind (length lines) (omega arith) (at_end ∙ ap (λ (ls : List Line). from + played_in ls) (sym (take-length lines)))
   | inr before ↦ multiple k is low (omega (arith, high, before))
 ]
-  where
-    take-all : (lines : List Line) → take (length lines) lines ≡ lines
-    take-all [] = refl
-    take-all (line ∷ lines) = ap (λ (ls : List Line). line ∷ ls) (take-all lines)
 
 published-on_the_way : (period from : ℕ) (lines : List Line) (q : ℕ) → In q (published_by period from lines) → IsOnTheWay period from lines q
 published-on_the_way period from [] q there = absurd there
@@ -366,12 +294,17 @@ phases-of_scripts script wavs session done others lines stage is = record {
     card = reached-card script wavs session done (item.Phase lines ∷ others) stage is
 
     each : All (IsLine (length script.clients) (length script.readers)) lines
-    each = (All-head (IsItem (length script.clients) (length script.readers)) (item.Phase lines) others
-        (All-last (length script.clients) (length script.readers) done (item.Phase lines ∷ others) (subst (All (IsItem (length script.clients) (length script.readers))) is.body is.script_is.body))).each
+    each = (subst (IsItem (length script.clients) (length script.readers)) (get_or-append_seam done (item.Phase lines) others (item.Phase lines))
+        (subst (All (IsItem (length script.clients) (length script.readers))) is.body is.script_is.body (length done) (item.Phase lines)
+        (omega (arith, length-append done (item.Phase lines ∷ others))))).each
+
+    at : stage.phases + 1 - 1 ≡ length (phases_of done)
+    at = omega (arith, card.phases)
 
     next : phase_at script (stage.phases + 1) ≡ lines
     next = ap (λ ps. slice_index_or ps (stage.phases + 1 - 1) []) card.body
-        ∙ first-of (phases_of done) (phases_of others) (stage.phases + 1 - 1) lines [] (omega (arith, card.phases))
+        ∙ ap (λ (n : ℕ). slice_index_or (phases_of done ++ lines ∷ phases_of others) n []) at
+        ∙ get_or-append_seam (phases_of done) lines (phases_of others) []
 
     begins : stage.position ≡ position_after_phases script (stage.phases + 1 - 1)
     begins = (stages-of_scripts script wavs session done (item.Phase lines ∷ others) stage is).position ∙ ap (position_after_phases script) (omega arith)
@@ -381,7 +314,8 @@ phases-of_scripts script wavs session done others lines stage is = record {
 
     frames : frames_played (take (stage.phases + 1) (phases_of script.body)) ≡ frames_played (phases_of done) + script_words.played_in lines
     frames = ap (λ ps. frames_played (take (stage.phases + 1) ps)) card.body
-        ∙ ap frames_played (take-one (phases_of done) (phases_of others) lines (stage.phases + 1) (omega (arith, card.phases)))
+        ∙ ap (λ (n : ℕ). frames_played (take (n + 1) (phases_of done ++ lines ∷ phases_of others))) card.phases
+        ∙ ap frames_played (take-append-add (phases_of done) (lines ∷ phases_of others) 1)
         ∙ sum_by-append script_words.played_in (phases_of done) (lines ∷ []) ∙ omega (arith, sum_by-cons script_words.played_in lines [])
 
     position : stage.position + played_in lines ≡ position_after_phases script (stage.phases + 1)

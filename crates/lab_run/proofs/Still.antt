@@ -1,8 +1,9 @@
 -- Where no phase is mixed none leaves a choice: the other actors have no lines in a phase in which the card has, and the card publishes
 -- nothing new in any other.
-use Rattle.std.proofs.Common.{◌≡◌, ℕ, ◌<◌, ◌+◌, refl, sym, ◌∙◌, arith, inl, inr, ◌⊎◌, length}
-use Rattle.std.specs.Prelude.{Bool, true, false, not, ◌&&◌, ◌||◌, if◌then◌else◌, List, [], ◌∷◌, ◌++◌, Contains, ⊤, slice_index_or, zero, suc}
+use Rattle.std.proofs.Common.{◌≡◌, ℕ, ◌<◌, ◌+◌, refl, sym, ◌∙◌, arith, inl, inr, length}
+use Rattle.std.specs.Prelude.{Bool, false, not, if◌then◌else◌, List, [], ◌∷◌, ◌++◌, Contains, ⊤, slice_index_or, zero, suc}
 use Rattle.std.specs.List.{list_any}
+use Rattle.std.proofs.lemmas.Bool.{and_cases, or_parts}
 use Rattle.std.proofs.lemmas.List.Sums.{sum_by-cons}
 use Rattle.lab_lines.specs.declared.line.Actor.{Actor}
 use Rattle.lab_lines.specs.declared.line.Actor.TheVariants.{Card, Client, Reader}
@@ -31,14 +32,6 @@ is_other_line line = not (is_card_line line)
 idle-line : (line : Line) → is_card_line line ≡ false → played_at line ≡ 0
 idle-line line is = rw is refl
 
-or-left : (a b : Bool) → (a || b) ≡ false → a ≡ false
-or-left false b is = refl
-or-left true b is = is
-
-or-right : (a b : Bool) → (a || b) ≡ false → b ≡ false
-or-right false b is = is
-or-right true b is = absurd (cc)
-
 still-behind : (period from played : ℕ) (lines : List Line) → played ≡ 0 → AreAll from (published_by period from lines)
     → AreAll from (on_the_way period from played ++ published_by period (from + played) lines)
 still-behind period from played lines none rest = rw none (same_position, rw same_position rest)
@@ -49,14 +42,14 @@ still-behind period from played lines none rest = rw none (same_position, rw sam
 still-lines : (period from : ℕ) (lines : List Line) → list_any is_card_line lines ≡ false → AreAll from (published_by period from lines)
 still-lines period from [] none = tt
 still-lines period from (line ∷ lines) none =
-    let first : played_at line ≡ 0 = idle-line line (or-left (is_card_line line) _ none) in
-    let rest = still-lines period from lines (or-right (is_card_line line) _ none) in
+    let first : played_at line ≡ 0 = idle-line line (or_parts (is_card_line line) _ none).0 in
+    let rest = still-lines period from lines (or_parts (is_card_line line) _ none).1 in
     still-behind period from (played_at line) lines first rest
 
 idle-lines : (lines : List Line) → list_any is_card_line lines ≡ false → played_in lines ≡ 0
 idle-lines [] none = refl
 idle-lines (line ∷ lines) none =
-    omega (arith, sum_by-cons played_at line lines, idle-line line (or-left (is_card_line line) _ none), idle-lines lines (or-right (is_card_line line) _ none))
+    omega (arith, sum_by-cons played_at line lines, idle-line line (or_parts (is_card_line line) _ none).0, idle-lines lines (or_parts (is_card_line line) _ none).1)
 
 -- in a phase without the card no position is published but the one that the card has
 still-published : (period from : ℕ) (lines : List Line) → list_any is_card_line lines ≡ false
@@ -74,11 +67,7 @@ no-other is_theirs not_card (Reader n) asked none = absurd (cc)
 alone : (is_theirs : Actor → Bool) → is_theirs Card ≡ false → (lines : List Line) → list_any is_other_line lines ≡ false → ops_by is_theirs lines ≡ []
 alone is_theirs not_card [] none = refl
 alone is_theirs not_card (line ∷ lines) none =
-    rw (no-other is_theirs not_card line.actor line.op (or-left (is_other_line line) _ none)) (alone is_theirs not_card lines (or-right (is_other_line line) _ none))
-
-both : (a b : Bool) → (a && b) ≡ false → (a ≡ false) ⊎ (b ≡ false)
-both true b is = inr is
-both false b is = inl refl
+    rw (no-other is_theirs not_card line.actor line.op (or_parts (is_other_line line) _ none).0) (alone is_theirs not_card lines (or_parts (is_other_line line) _ none).1)
 
 -- a phase that isn't mixed: nothing is published in it but one position, or no client and no reader has a line in it
 pub data Unmixed (period from : ℕ) (lines : List Line) : Type 0 where
@@ -86,7 +75,7 @@ pub data Unmixed (period from : ℕ) (lines : List Line) : Type 0 where
   idle_phase : ((n : ℕ) → ops_by (is_client n) lines ≡ []) → ((n : ℕ) → ops_by (is_reader n) lines ≡ []) → Unmixed period from lines
 
 pub unmixed : (period from : ℕ) (lines : List Line) → is_mixed lines ≡ false → Unmixed period from lines
-unmixed period from lines is = elim (both (list_any is_card_line lines) (list_any is_other_line lines) is) [
+unmixed period from lines is = elim (and_cases (list_any is_card_line lines) (list_any is_other_line lines) is) [
   | inl none ↦ still_phase (still-published period from lines none)
   | inr none ↦ idle_phase (λ n. alone (is_client n) refl lines none) (λ n. alone (is_reader n) refl lines none)
 ]

@@ -101,21 +101,28 @@ held script stage lobby claims reportable = record {
 
 -- ---- refusals
 
-attached-reportable : (n at : ℕ) (lobby : Lobby) → IfErr (after_attach n at lobby).1 HasErrorText
-attached-reportable n at lobby = by_test (list_any is_free lobby.places) (position (is_silent at) lobby.places)
-  where
-    by_test : (free : Bool) (place : Option ℕ) → IfErr (if free then attached_by place n at lobby else (lobby, Err (error.Busy None lobby.seen))).1 HasErrorText
-    by_test true (Some place) = tt
-    by_test true None = tt
-    by_test false place = tt
+-- an opening is refused since something is busy, whose error has a text
+abbrev pub IsBusy : PcmError → Type 0
+IsBusy e = (until : Option ℕ) × (seen : ℕ) × (e ≡ error.Busy until seen)
 
-claim-reportable : (shared : Share) (claims : List owners.ClaimRow) (channels : List ℕ) (at : ℕ) → IfSome (claim_refusal shared claims channels at) HasErrorText
-claim-reportable share.Dmix claims channels at = tt
-claim-reportable share.Dshare claims channels at = by_test (list_all (is_free_channel claims at) channels)
+busy-text : (e : PcmError) → IsBusy e → HasErrorText e
+busy-text e (until, seen, is) = subst HasErrorText (sym is) tt
+
+pub attached-busy : (n at : ℕ) (lobby : Lobby) → IfErr (after_attach n at lobby).1 IsBusy
+attached-busy n at lobby = by_test (list_any is_free lobby.places) (position (is_silent at) lobby.places)
   where
-    by_test : (free : Bool) → IfSome (if free then None else Some (owners.busy claims channels at)) HasErrorText
+    by_test : (free : Bool) (place : Option ℕ) → IfErr (if free then attached_by place n at lobby else (lobby, Err (error.Busy None lobby.seen))).1 IsBusy
+    by_test true (Some place) = tt
+    by_test true None = (_, _, refl)
+    by_test false place = (None, lobby.seen, refl)
+
+pub claim-busy : (shared : Share) (claims : List owners.ClaimRow) (channels : List ℕ) (at : ℕ) → IfSome (claim_refusal shared claims channels at) IsBusy
+claim-busy share.Dmix claims channels at = tt
+claim-busy share.Dshare claims channels at = by_test (list_all (is_free_channel claims at) channels)
+  where
+    by_test : (free : Bool) → IfSome (if free then None else Some (owners.busy claims channels at)) IsBusy
     by_test true = tt
-    by_test false = tt
+    by_test false = (_, _, refl)
 
 -- ---- openings
 
@@ -128,21 +135,21 @@ open_client-adds script session stage n x None within reportable is = by_setup (
     request : Request
     request = asks stage.phases (actor.Client n) op.Opens
 
-    by_answer : (setup : Setup) (at : Lobby × Result (Unit {0}) PcmError) → IfErr at.1 HasErrorText → AddsRow script stage request (attached_client session stage n setup x at)
-    by_answer setup (lobby, Ok done) text =
+    by_answer : (setup : Setup) (at : Lobby × Result (Unit {0}) PcmError) → IfErr at.1 IsBusy → AddsRow script stage request (attached_client session stage n setup x at)
+    by_answer setup (lobby, Ok done) busy =
         adds script stage _ _ request (with-client script (record stage { lobby = lobby; claims = _ }) n _ (held script stage lobby _ reportable) tt) refl refl
         (record { actor = within; answer = tt; state = tt }) refl
-    by_answer setup (lobby, Err e) text =
-        adds script stage _ _ request (held script stage lobby stage.claims reportable) refl refl (record { actor = within; answer = text; state = tt }) refl
+    by_answer setup (lobby, Err e) busy =
+        adds script stage _ _ request (held script stage lobby stage.claims reportable) refl refl (record { actor = within; answer = busy-text e busy; state = tt }) refl
 
-    by_claim : (setup : Setup) (refusal : Option PcmError) → IfSome refusal HasErrorText → AddsRow script stage request (claimed_client session stage n setup x refusal)
-    by_claim setup (Some e) text = adds script stage stage _ request reportable refl refl (record { actor = within; answer = text; state = tt }) refl
-    by_claim setup None text = by_answer setup (after_attach n stage.position stage.lobby) (attached-reportable n stage.position stage.lobby)
+    by_claim : (setup : Setup) (refusal : Option PcmError) → IfSome refusal IsBusy → AddsRow script stage request (claimed_client session stage n setup x refusal)
+    by_claim setup (Some e) busy = adds script stage stage _ request reportable refl refl (record { actor = within; answer = busy-text e busy; state = tt }) refl
+    by_claim setup None busy = by_answer setup (after_attach n stage.position stage.lobby) (attached-busy n stage.position stage.lobby)
 
     by_setup : (setup : Option Setup) → AddsRow script stage request (open_client_with session stage n setup x)
     by_setup None = adds script stage stage _ request reportable refl refl (record { actor = within; answer = refl; state = tt }) refl
     by_setup (Some setup) = by_claim setup (claim_refusal session.card.share stage.claims setup.bindings stage.position)
-        (claim-reportable session.card.share stage.claims setup.bindings stage.position)
+        (claim-busy session.card.share stage.claims setup.bindings stage.position)
 
 open_reader-adds : (script : Script) (session : Session) (stage : Stage) (n : ℕ) (x : AtPort × Reader) (own : Option reading.CaptureStream) → n < length script.readers
     → CanBeReported script stage → reader_calls.IsReportable own → AddsRow script stage (asks stage.phases (actor.Reader n) op.Opens) (open_reader session stage n x own)

@@ -34,41 +34,29 @@ upper-most a b (inr is) = let same : a.max ≡ b.max = is.0 in omega (arith, sam
 
 -- a space in which the channels are one number leaves the card's channels at most
 left-channels : (channels rate ring n : ℕ) (left : ParamBox) → IsLeft (with_value (widest channels rate ring) Channels n) left → (1 ≤ n) × (n ≤ channels)
-left-channels channels rate ring n left is = (least, most)
+left-channels channels rate ring n left is = (
+  between 1 n (lower-least part (whole_from_to 1 channels) whole.lower) (upper-most part (point n) one.upper),
+  between n channels (lower-least part (point n) one.lower) (upper-most part (whole_from_to 1 channels) whole.upper),
+)
   where
-    whole : Interval
-    whole = whole_from_to 1 channels
-
     part : Interval
     part = refinement (whole_from_to 1 channels) (point n)
 
-    within : IsIntervalWithin left.channels (refinement (whole_from_to 1 channels) (point n))
+    whole : IsIntervalWithin part (whole_from_to 1 channels)
+    whole = refined-IsWithin_left (whole_from_to 1 channels) (point n)
+
+    one : IsIntervalWithin part (point n)
+    one = refined-IsWithin_right (whole_from_to 1 channels) (point n)
+
+    within : IsIntervalWithin left.channels part
     within = is.greatest.within.parts quantity.Channels
 
-    ends : left.channels.min ≤ left.channels.max
-    ends = IsNonEmpty-le left.channels (is.greatest.settled.parts quantity.Channels)
-
-    least : 1 ≤ n
-    least =
-        let a = lower-least left.channels (refinement (whole_from_to 1 channels) (point n)) within.lower in
-        let b = upper-most left.channels (refinement (whole_from_to 1 channels) (point n)) within.upper in
-        let c : 1 ≤ (refinement (whole_from_to 1 channels) (point n)).min = lower-least (refinement (whole_from_to 1 channels) (point n)) (whole_from_to 1 channels) (refined-IsWithin_left (whole_from_to 1 channels) (point n)).lower in
-        let d : (refinement (whole_from_to 1 channels) (point n)).max ≤ n = upper-most (refinement (whole_from_to 1 channels) (point n)) (point n) (refined-IsWithin_right (whole_from_to 1 channels) (point n)).upper in
-        chain 1 _ left.channels.min left.channels.max _ n c a ends b d
+    between : (u v : ℕ) → u ≤ part.min → part.max ≤ v → u ≤ v
+    between u v low high = chain part.min left.channels.min left.channels.max part.max low (lower-least left.channels part within.lower)
+        (IsNonEmpty-le left.channels (is.greatest.settled.parts quantity.Channels)) (upper-most left.channels part within.upper) high
       where
-        chain : (u v w x y z : ℕ) → u ≤ v → v ≤ w → w ≤ x → x ≤ y → y ≤ z → u ≤ z
-        chain u v w x y z one two three four five = omega (arith, one, two, three, four, five)
-
-    most : n ≤ channels
-    most =
-        let a = lower-least left.channels (refinement (whole_from_to 1 channels) (point n)) within.lower in
-        let b = upper-most left.channels (refinement (whole_from_to 1 channels) (point n)) within.upper in
-        let c : n ≤ (refinement (whole_from_to 1 channels) (point n)).min = lower-least (refinement (whole_from_to 1 channels) (point n)) (point n) (refined-IsWithin_right (whole_from_to 1 channels) (point n)).lower in
-        let d : (refinement (whole_from_to 1 channels) (point n)).max ≤ channels = upper-most (refinement (whole_from_to 1 channels) (point n)) (whole_from_to 1 channels) (refined-IsWithin_left (whole_from_to 1 channels) (point n)).upper in
-        chain n _ left.channels.min left.channels.max _ channels c a ends b d
-      where
-        chain : (u v w x y z : ℕ) → u ≤ v → v ≤ w → w ≤ x → x ≤ y → y ≤ z → u ≤ z
-        chain u v w x y z one two three four five = omega (arith, one, two, three, four, five)
+        chain : (w x y z : ℕ) → u ≤ w → w ≤ x → x ≤ y → y ≤ z → z ≤ v → u ≤ v
+        chain w x y z one two three four five = omega (arith, one, two, three, four, five)
 
 -- ---- the clients of a script
 

@@ -3,32 +3,27 @@ use Rattle.std.proofs.Common.{◌≡◌, ℕ, ◌+◌, ◌<◌, ◌≤◌, refl,
 use Rattle.std.proofs.lemmas.List.Elements.{All-append, All-cons, All-filter, All-head, All-map, All-nil, All-set, All-tail}
 use Rattle.std.proofs.lemmas.List.FromFn.{get_or-range_with_len, length-range_with_len}
 use Rattle.std.proofs.lemmas.List.Sums.{sum_by-cons}
-use Rattle.std.specs.Prelude.{All, Bool, true, false, ◌%◌, ◌==◌, max, slice_index_or, Result, Ok, Err}
+use Rattle.std.specs.Prelude.{All, Bool, true, false, ◌%◌, ◌==◌, max, slice_index_or}
 use Rattle.std.specs.List.{range_with_len}
-use Rattle.snd_base.specs.declared.errors.PcmError.{PcmError}
 use Rattle.snd_base.specs.declared.geometry.Geometry.{Geometry}
-use Rattle.dmix_client.specs.declared.stream.PlaybackStream as playing
 use Rattle.dsnoop_client.specs.declared.stream.CaptureStream.{CaptureStream}
 use Rattle.lab_lines.specs.declared.line.Actor.{Actor}
-use Rattle.lab_lines.specs.declared.line.Actor.TheVariants as actor
+use Rattle.lab_lines.specs.declared.line.Actor.{Actor}
 use Rattle.lab_lines.specs.declared.line.Item.{Item}
-use Rattle.lab_lines.specs.declared.line.Item.TheVariants as item
 use Rattle.lab_lines.specs.declared.line.Line.{Line}
 use Rattle.lab_lines.specs.declared.line.Op.{Op}
 use Rattle.lab_lines.specs.Script.{first_frame}
 use Rattle.lab_lines.specs.declared.row.Row.{Row}
-use Rattle.lab_run.specs.Claims.{claim_refusal}
-use Rattle.lab_run.specs.Client.{Client}
 use Rattle.lab_run.specs.Items.{ItemsMay, PhaseMay, is_reader_stopped, reader_kinds, reaped_reader, reaped_reader_if, rules_of}
 use Rattle.lab_run.specs.Lines.{EachMay, LinesMay}
 use Rattle.lab_run.specs.Phases.{is_reader, on_the_way, ops_by, played_at, played_in, phase_positions, published_by}
-use Rattle.lab_run.specs.Places.{Lobby, after_attach}
 use Rattle.lab_run.specs.Reader.{Reader, line_by, reader_kind}
 use Rattle.lab_run.specs.Rules.{AtPort, Rules}
-use Rattle.lab_run.specs.Stage.{Session, Setup, Stage, after_close, after_open, attached_client, claimed_client, client_at, close_client, close_reader, first_stage, no_reader, open_client, open_client_with, open_reader, open_reader_with, reader_at}
+use Rattle.lab_run.specs.Stage.{Session, Stage, first_stage, no_reader, reader_at}
+use Rattle.lab_run.proofs.BorderLaws.{Border, IsAnew, OverItems, items-over}
 use Rattle.lab_run.proofs.ActorKinds.{reader-IsKind}
 use Rattle.run_laws.proofs.Known.{May-known, known_at}
-use Rattle.run_laws.proofs.ReaderFrames.{HasFrames, LineHas, line-has}
+use Rattle.run_laws.proofs.ReaderFrames.{IsOwnPast, HasFrames, LineHas, line-has}
 
 -- ---- the positions of a phase
 
@@ -133,48 +128,6 @@ phase-within first session stage after lines may are = subst (AreWithin first) (
     end : ℕ
     end = stage.position + played_in lines
 
--- openings and closings of clients
-open_client-within : (first : ℕ) (session : Session) (stage : Stage) (n : ℕ) (x : AtPort × Client) (own : Option playing.PlaybackStream)
-    → AreWithin first stage → AreWithin first (open_client session stage n x own)
-open_client-within first session stage n x (Some c) are = record { low = are.low; each = are.each }
-open_client-within first session stage n x None are = by_setup (slice_index_or session.clients n None)
-  where
-    by_answer : (setup : Setup) (at : Lobby × Result (Unit {0}) PcmError) → AreWithin first (attached_client session stage n setup x at)
-    by_answer setup (lobby, Ok done) = record { low = are.low; each = are.each }
-    by_answer setup (lobby, Err e) = record { low = are.low; each = are.each }
-
-    by_claim : (setup : Setup) (refusal : Option PcmError) → AreWithin first (claimed_client session stage n setup x refusal)
-    by_claim setup (Some e) = record { low = are.low; each = are.each }
-    by_claim setup None = by_answer setup (after_attach n stage.position stage.lobby)
-
-    by_setup : (setup : Option Setup) → AreWithin first (open_client_with session stage n setup x)
-    by_setup None = record { low = are.low; each = are.each }
-    by_setup (Some setup) = by_claim setup (claim_refusal session.card.share stage.claims setup.bindings stage.position)
-
-close_client-within : (first : ℕ) (session : Session) (stage : Stage) (n : ℕ) (x : AtPort × Client) (own : Option playing.PlaybackStream)
-    → AreWithin first stage → AreWithin first (close_client session stage n x own)
-close_client-within first session stage n x None are = record { low = are.low; each = are.each }
-close_client-within first session stage n x (Some c) are = record { low = are.low; each = are.each }
-
--- openings and closings of readers
-open_reader-within : (first : ℕ) (session : Session) (stage : Stage) (n : ℕ) (x : AtPort × Reader) (own : Option CaptureStream) → IsWithin first stage.position x
-    → AreWithin first stage → AreWithin first (open_reader session stage n x own)
-open_reader-within first session stage n x (Some r) is are = record { low = are.low; each = are.each }
-open_reader-within first session stage n (a, reader) None is are = by_setup (slice_index_or session.readers n None)
-  where
-    by_setup : (setup : Option Setup) → AreWithin first (open_reader_with session stage n setup (a, reader))
-    by_setup None = record { low = are.low; each = are.each }
-    by_setup (Some setup) = record {
-      low = are.low;
-      each = All-set (IsWithin first stage.position) stage.readers n _ (omega arith, (is.1.0, is.1.1, is.1.2, λ runs. absurd (cc))) are.each;
-    }
-
-close_reader-within : (first : ℕ) (session : Session) (stage : Stage) (n : ℕ) (x : AtPort × Reader) (own : Option CaptureStream) → IsWithin first stage.position x
-    → AreWithin first stage → AreWithin first (close_reader session stage n x own)
-close_reader-within first session stage n x None is are = record { low = are.low; each = are.each }
-close_reader-within first session stage n (a, reader) (Some r) is are =
-    record { low = are.low; each = All-set (IsWithin first stage.position) stage.readers n _ (omega arith, (is.1.0, is.1.1, is.1.2, tt)) are.each }
-
 -- the reader of a number, or one that was never open
 All-at : {X : Type 0} (P : X → Type 0) (xs : List X) (n : ℕ) (d : X) → P d → All P xs → P (slice_index_or xs n d)
 All-at P [] n d is all = is
@@ -185,30 +138,34 @@ pub reader_at-within : (first : ℕ) (session : Session) (stage : Stage) (n : �
 reader_at-within first session stage n are =
     All-at (IsWithin first stage.position) stage.readers n (no_reader session.ring) (omega arith, (first, omega arith, are.low, tt)) are.each
 
-open-within : (first : ℕ) (session : Session) (stage : Stage) (who : Actor) → AreWithin first stage → AreWithin first (after_open session stage who)
-open-within first session stage actor.Card are = are
-open-within first session stage (actor.Client n) are = open_client-within first session stage n (client_at session stage n) (client_at session stage n).1.own are
-open-within first session stage (actor.Reader n) are =
-    open_reader-within first session stage n (reader_at session stage n) (reader_at session stage n).1.own (reader_at-within first session stage n are) are
+-- a reader that was opened doesn't run
+past-anew : (ring : Geometry) (end : ℕ) (own : Option CaptureStream) → IsAnew ring own → IsOwnPast end own
+past-anew ring end None anew = tt
+past-anew ring end (Some r) (setup, is) = rw is (λ runs. absurd (cc))
 
-close-within : (first : ℕ) (session : Session) (stage : Stage) (who : Actor) → AreWithin first stage → AreWithin first (after_close session stage who)
-close-within first session stage actor.Card are = are
-close-within first session stage (actor.Client n) are = close_client-within first session stage n (client_at session stage n) (client_at session stage n).1.own are
-close-within first session stage (actor.Reader n) are =
-    close_reader-within first session stage n (reader_at session stage n) (reader_at session stage n).1.own (reader_at-within first session stage n are) are
+-- openings and closings
+border-within : (first : ℕ) (session : Session) (stage : Stage) (who : Actor) → Border session stage who (λ after. AreWithin first stage → AreWithin first after)
+border-within first session stage who = record {
+  none = λ card are. are;
+  refused = λ lobby row of are. record { low = are.low; each = are.each };
+  client = λ n client lobby claims row who_is of segments are. record { low = are.low; each = are.each };
+  reader = λ n own anew row who_is of are. let within = reader_at-within first session stage n are in record {
+    low = are.low;
+    each = All-set (IsWithin first stage.position) stage.readers n _ (omega arith, (within.1.0, within.1.1, within.1.2, past-anew session.ring within.1.0 own anew)) are.each;
+  };
+}
 
--- a body
-items-within : (first : ℕ) (session : Session) (stage after : Stage) (items : List Item) → ItemsMay session stage items after → AreWithin first stage → AreWithin first after
-items-within first session stage after [] may are = subst (AreWithin first) (sym may) are
-items-within first session stage after (item.Opens number who ∷ items) (between, is, rest) are =
-    items-within first session between after items rest (subst (AreWithin first) (sym is) (open-within first session stage who are))
-items-within first session stage after (item.Closes number who ∷ items) (between, is, rest) are =
-    items-within first session between after items rest (subst (AreWithin first) (sym is) (close-within first session stage who are))
-items-within first session stage after (item.Phase lines ∷ items) (between, may, rest) are =
-    items-within first session between after items rest (phase-within first session stage between lines may are)
+over-within : (first : ℕ) (session : Session) → OverItems session (λ stage after. AreWithin first stage → AreWithin first after)
+over-within first session = record {
+  same = λ stage are. are;
+  border = border-within first session;
+  phase = λ stage after lines may. phase-within first session stage after lines may;
+  then = λ x y z one two are. two (one are);
+}
 
 pub run-within : (session : Session) (stage : Stage) (items : List Item) → ItemsMay session (first_stage session) items stage → AreWithin (first_frame session.card) stage
-run-within session stage items may = items-within (first_frame session.card) session (first_stage session) stage items may (record {
-  low = omega arith;
-  each = All-map (IsWithin (first_frame session.card) (first_frame session.card)) (λ setup. no_reader session.ring) session.readers (λ k d within. (omega arith, (first_frame session.card, omega arith, omega arith, tt)));
-})
+run-within session stage items may =
+    items-over session (λ stage after. AreWithin (first_frame session.card) stage → AreWithin (first_frame session.card) after) (over-within (first_frame session.card) session) (first_stage session) stage items may (record {
+      low = omega arith;
+      each = All-map (IsWithin (first_frame session.card) (first_frame session.card)) (λ setup. no_reader session.ring) session.readers (λ k d within. (omega arith, (first_frame session.card, omega arith, omega arith, tt)));
+    })

@@ -1,9 +1,9 @@
 -- Right after a segment there is no sample of it.
-use Rattle.std.proofs.Common.{◌≡◌, ℕ, ◌+◌, ◌<◌, ◌≤◌, refl, ◌∙◌, ap, arith, List, [], ◌∷◌, ◌++◌, length}
+use Rattle.std.proofs.Common.{◌≡◌, ℕ, ◌+◌, ◌<◌, ◌≤◌, refl, ◌∙◌, ap, arith, List, [], ◌∷◌, ◌++◌, length, Option, Some, None}
 use Rattle.std.proofs.lemmas.Bool.{eq-eqb}
 use Rattle.std.proofs.lemmas.Bool.Decides.{nat_tests}
 use Rattle.std.specs.List.{flat_map, range_with_len}
-use Rattle.std.specs.Prelude.{ℤ, ◌==◌, false, true, zero, suc, map, slice_index, take, ⊤}
+use Rattle.std.specs.Prelude.{ℤ, ◌==◌, false, true, zero, suc, map, slice_index, take, ⊤, slice_get, slice_index_or}
 use Rattle.snd_base.specs.declared.places.Segment.{Segment}
 use Rattle.bindings.specs.Bound.{rising}
 use Rattle.bindings.specs.RisingLaws.{rising_from-rises}
@@ -12,6 +12,9 @@ use Rattle.mix_core.specs.declared.port.Kind.TheVariants.{Added}
 use Rattle.mix_core.specs.HistoryLaws.{at-append}
 use Rattle.mix_core.specs.Laid.{at}
 use Rattle.dmix_client.specs.Expansion.{expand, frame_entries, sample_at}
+use Rattle.wav_io.specs.Sound.{Sound}
+use Rattle.lab_run.specs.LabRun.{entries_by}
+use Rattle.lab_run.specs.Stage.{Session, Setup}
 
 -- the sample of a client channel at a frame
 abbrev pub entry_of : ℕ → List ℕ → (ℕ → ℤ) → ℕ → ℕ → Entry
@@ -49,35 +52,53 @@ rising-before : (bindings : List ℕ) (part : ℕ) → part < length (rising bin
 unfolding rising
 rising-before bindings part low = before-next bindings (rising bindings) part low (rising_from-rises bindings 0 256)
 
--- whole frames before a frame
-pub whole-before : (member : ℕ) (bindings : List ℕ) (sample_of : ℕ → ℕ → ℤ) (card first whole frame channel : ℕ) → card + (first + whole) ≤ frame
-    → at (flat_map (λ j. frame_entries member bindings (sample_of j) (length bindings) (card + j)) (range_with_len first whole)) frame channel ≡ []
-whole-before member bindings sample_of card first zero frame channel low = refl
-whole-before member bindings sample_of card first (suc whole) frame channel low =
-    at-append (frame_entries member bindings (sample_of first) (length bindings) (card + first)) _ frame channel
-    ∙ ap (λ l. l ++ at others frame channel)
-    (other-frame member bindings (sample_of first) (card + first) frame channel (take (length bindings) (rising bindings)) (grind (arith, nat_tests, before)))
-    ∙ whole-before member bindings sample_of card (first + 1) whole frame channel (omega (arith, low))
+-- ---- lists of entries, one after the other
+
+pub at-flat : {X : Type 0} (f : X → List Entry) (frame channel : ℕ) (xs : List X) → at (flat_map f xs) frame channel ≡ flat_map (λ x. at (f x) frame channel) xs
+at-flat f frame channel [] = refl
+at-flat f frame channel (x ∷ xs) = at-append (f x) (flat_map f xs) frame channel ∙ ap (λ l. at (f x) frame channel ++ l) (at-flat f frame channel xs)
+
+pub flat-none : (f : ℕ → List Entry) (frame channel first n : ℕ) → ((j : ℕ) → first ≤ j → j < first + n → at (f j) frame channel ≡ []) → at (flat_map f (range_with_len first n)) frame channel ≡ []
+flat-none f frame channel first zero none = refl
+flat-none f frame channel first (suc n) none =
+    at-append (f first) (flat_map f (range_with_len (first + 1) n)) frame channel
+    ∙ ap (λ l. l ++ at (flat_map f (range_with_len (first + 1) n)) frame channel) (none first (omega arith) (omega arith))
+    ∙ flat-none f frame channel (first + 1) n (λ j low high. none j (omega (arith, low)) (omega (arith, high)))
+
+-- ---- the entries of a segment
+
+module _ (member : ℕ) (segment : Segment) (samples : List ℤ) (bindings : List ℕ) where
+  -- those of a whole frame, and those of the frame that is begun
+  abbrev pub whole_at : ℕ → List Entry
+  whole_at j = frame_entries member bindings (sample_at samples (length bindings) (segment.source + j)) (length bindings) (segment.card + j)
+
+  abbrev pub part_at : List Entry
+  part_at = frame_entries member bindings (sample_at samples (length bindings) (segment.source + (0 + segment.whole))) segment.part (segment.card + (0 + segment.whole))
+
+  -- where none of these is
+  pub expand-none : (frame channel : ℕ) → ((j : ℕ) → j < segment.whole → at (whole_at j) frame channel ≡ []) → at part_at frame channel ≡ []
+      → at (expand member segment samples bindings) frame channel ≡ []
+  expand-none frame channel each last = at-append (flat_map whole_at (range_with_len 0 segment.whole)) part_at frame channel
+      ∙ ap (λ l. l ++ at part_at frame channel) (flat-none whole_at frame channel 0 segment.whole (λ j low high. each j (omega (arith, high)))) ∙ last
+
+  -- at the frame and channel right after a segment
+  pub next-free : (frame channel : ℕ) → segment.part < length (rising bindings)
+      → frame ≡ segment.card + segment.whole → channel ≡ slice_index bindings (slice_index (rising bindings) segment.part)
+      → at (expand member segment samples bindings) frame channel ≡ []
+  next-free frame channel low frame_is channel_is = expand-none frame channel
+      (λ j before. other-frame member bindings _ (segment.card + j) frame channel (take (length bindings) (rising bindings)) (grind (arith, nat_tests, before, frame_is)))
+      (other-channels member bindings _ (segment.card + (0 + segment.whole)) frame channel (take segment.part (rising bindings))
+      (eq-eqb (segment.card + (0 + segment.whole)) frame (omega (arith, frame_is))) (rw channel_is (rising-before bindings segment.part low)))
+
+-- ---- the entries of a client's segment
+
+-- a fact of no entries, and of those of each segment of a client with a file and a setup, is one of a client's segment
+pub entries-so : (session : Session) (n : ℕ) (s : Segment) (P : List Entry → Type 0) → P []
+    → ((wav : Sound) (setup : Setup) → slice_get session.sounds n ≡ Some wav → slice_index_or session.clients n None ≡ Some setup → P (expand n s wav.samples setup.bindings))
+    → P (entries_by session (n, s))
+entries-so session n s P none some = by_file (slice_get session.sounds n) (slice_index_or session.clients n None) refl refl
   where
-    before : card + first < frame
-    before = omega (arith, low)
-
-    others : List Entry
-    others = flat_map (λ j. frame_entries member bindings (sample_of j) (length bindings) (card + j)) (range_with_len (first + 1) whole)
-
--- at the frame and channel right after a segment
-pub next-free : (member : ℕ) (segment : Segment) (samples : List ℤ) (bindings : List ℕ) (frame channel : ℕ) → segment.part < length (rising bindings)
-    → frame ≡ segment.card + segment.whole → channel ≡ slice_index bindings (slice_index (rising bindings) segment.part)
-    → at (expand member segment samples bindings) frame channel ≡ []
-next-free member segment samples bindings frame channel low frame_is channel_is =
-    at-append (flat_map (λ j. frame_entries member bindings (sample_of j) (length bindings) (segment.card + j)) (range_with_len 0 segment.whole)) part frame channel
-    ∙ ap (λ l. l ++ at part frame channel) (whole-before member bindings sample_of segment.card 0 segment.whole frame channel (omega (arith, frame_is)))
-    ∙ other-channels member bindings (sample_of (0 + segment.whole)) (segment.card + (0 + segment.whole)) frame channel (take segment.part (rising bindings))
-    (eq-eqb (segment.card + (0 + segment.whole)) frame (omega (arith, frame_is)))
-    (rw channel_is (rising-before bindings segment.part low))
-  where
-    sample_of : ℕ → ℕ → ℤ
-    sample_of = λ j. sample_at samples (length bindings) (segment.source + j)
-
-    part : List Entry
-    part = frame_entries member bindings (sample_of (0 + segment.whole)) segment.part (segment.card + (0 + segment.whole))
+    by_file : (wav : Option Sound) (setup : Option Setup) → slice_get session.sounds n ≡ wav → slice_index_or session.clients n None ≡ setup → P (entries_by session (n, s))
+    by_file (Some wav) (Some setup) wav_is setup_is = rw wav_is (rw setup_is (some wav setup wav_is setup_is))
+    by_file None setup wav_is setup_is = rw wav_is none
+    by_file (Some wav) None wav_is setup_is = rw wav_is (rw setup_is none)

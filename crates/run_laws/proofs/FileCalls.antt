@@ -28,7 +28,7 @@ use Rattle.dmix_client.specs.declared.commit.Commit.{Commit}
 use Rattle.dmix_client.specs.declared.stream.PlaybackStream.{PlaybackStream}
 use Rattle.dmix_client.specs.declared.stream.Stretch.{Stretch}
 use Rattle.dmix_client.specs.Calls.{Answered, accepted_if, after_prepare, after_resume, after_start, after_sync, committed_by, end_channel, end_of_commit, facts_of, found_at, going_on, in_draining, is_prepared, is_running, is_stop, late_at, over_of, pending_of, seen_at, start_count, start_frame, started_in, stopped_in, sync_count, taken_of, window_end, with_accepted, with_new_base, with_number, with_outcome, written_after}
-use Rattle.dmix_client.specs.Course.{commits, drain_on, if_admitted, looks, nothing, pause_course, resumes, starts, syncs, takes_more, write_on}
+use Rattle.dmix_client.specs.Course.{commits, drain_on, if_admitted, nothing, pause_course, resumes, starts, syncs, takes_more, write_on}
 use Rattle.dmix_client.specs.Port.{IsFrameStep}
 use Rattle.dmix_client.specs.Rewind.{after_rewind, back_of, checks, last_channel, last_laid, rewind_on, rewindable_of, take_frames, taken_back, takes_back, without_frames}
 use Rattle.dmix_client.specs.View.{avail_of, queued_of, ring_sample}
@@ -41,7 +41,7 @@ use Rattle.lab_run.proofs.CallParts.{Parts, call_of-says, done_answer-says, empt
 use Rattle.run_laws.proofs.CommitCounts.{From-all, IsCommitOf, commits-few, frames-left, nothing-of}
 use Rattle.run_laws.proofs.Onward.{Channels, begun, stepped-unprepared}
 use Rattle.run_laws.proofs.PlayedCalls.{IfOk-any, IfOk-none, IsOver, step-over, step-unprepared}
-use Rattle.run_laws.proofs.PlayedCourses.{From, FromSo, From-map, From-then, from-so, looks-from}
+use Rattle.run_laws.proofs.PlayedCourses.{From, FromSo, From-map, From-then, found-from, from-so}
 
 -- ---- a client
 
@@ -140,6 +140,12 @@ module _ (p limit : ℕ) where
       → source + committed + count ≤ limit
   accepted-within source committed count written more accepted sum most all = omega (arith, sum, most, all)
 
+  -- a fact of each commit that counts no more
+  commits-so : (Q : Commit → Type 0) (c : PlaybackStream) (ring : List ℤ) (count s : ℕ) → Channels c.setup.bindings
+      → ((commit : Commit) → IsCommitOf count (length c.setup.bindings) commit → Q commit) → From p (λ t commit. Q commit) s (commits c ring count)
+  commits-so Q c ring count s bound each = From-map p (λ t commit. IsCommitOf count (length c.setup.bindings) commit) (λ t commit. Q commit) s (commits c ring count)
+      (From-all p s (IsCommitOf count (length c.setup.bindings)) (commits c ring count) (commits-few c ring count bound)) (λ t commit of. each commit of)
+
   -- ---- the sync of a client that moves frames
 
   sync-few : (c : PlaybackStream) (position : Position) → c.stretch.committed ≤ c.stretch.written + 0 → c.stretch.committed + sync_count c position ≤ c.stretch.written + 0
@@ -214,17 +220,9 @@ module _ (p limit : ℕ) where
       → From p (λ t done. StepsOn c done) s (syncs c asked ring)
   unfolding syncs
   syncs-on s c asked ring is step moves =
-      From-then p found-so (λ t done. StepsOn c done) s (looks (λ position. c) (sync_count c) ring) (λ found. ends (after_sync c asked found.0 found.1))
-      (looks-from p s found-so (λ position. c) (sync_count c) ring (unloaded c asked is step) some) (λ t found is_so. is_so)
-    where
-      found-so : ℕ → Option Position × Commit → Type 0
-      found-so t found = StepsOn c (after_sync c asked found.0 found.1)
-
-      some : (position : Position) → p ≤ position.frame → From p (λ t commit. StepsOn c (after_sync c asked (Some position) commit)) p (commits c ring (sync_count c position))
-      some position least = From-map p (λ t commit. IsCommitOf (sync_count c position) (length c.setup.bindings) commit)
-          (λ t commit. StepsOn c (after_sync c asked (Some position) commit)) p (commits c ring (sync_count c position))
-          (From-all p p (IsCommitOf (sync_count c position) (length c.setup.bindings)) (commits c ring (sync_count c position)) (commits-few c ring (sync_count c position) is.0.bound))
-          (λ t commit of. after_sync-on c asked position commit is step moves of)
+      found-from p s (λ t done. StepsOn c done) (λ position. c) (sync_count c) ring (after_sync c asked) (unloaded c asked is step)
+      (λ position least. commits-so (λ commit. StepsOn c (after_sync c asked (Some position) commit)) c ring (sync_count c position) p is.0.bound
+      (λ commit of. after_sync-on c asked position commit is step moves of))
 
   step-after : (c : PlaybackStream) (done : Answered (Unit {0})) → StepsOn c done → FileAfter p limit done
   step-after c (d, r) steps = steps.0
@@ -291,27 +289,13 @@ module _ (p limit : ℕ) where
       → upto ≤ c.stretch.written + more → From p (λ t done. Begins c state more done) s (starts c state cursor upto ring)
   unfolding starts
   starts-begin s c state cursor upto more ring can room few =
-      From-then p found-so (λ t done. Begins c state more done) s
-      (looks (λ position. started_in c Running position cursor) (λ position. start_count c cursor position upto) ring)
-      (λ found. ends (after_start c state cursor found.0 found.1))
-      (looks-from p s found-so (λ position. started_in c Running position cursor) (λ position. start_count c cursor position upto) ring waiting some)
-      (λ t found is. is)
+      found-from p s (λ t done. Begins c state more done) (λ position. started_in c Running position cursor) (λ position. start_count c cursor position upto) ring
+      (after_start c state cursor) waiting
+      (λ position least. commits-so (λ commit. Begins c state more (after_start c state cursor (Some position) commit)) (started_in c Running position cursor) ring
+      (start_count c cursor position upto) p can.has.bound (λ commit of. after_start-begins c state cursor upto more position.frame position.gone commit can room few least of))
     where
-      found-so : ℕ → Option Position × Commit → Type 0
-      found-so t found = Begins c state more (after_start c state cursor found.0 found.1)
-
       waiting : IsOfFile p limit (stopped_in {T = Unit {0}} c).0
       waiting = (can.has, record { waits = λ is. (can.none, can.no_part); goes = λ is run. absurd (false≢true (sym run)) })
-
-      some : (position : Position) → p ≤ position.frame
-          → From p (λ t commit. Begins c state more (after_start c state cursor (Some position) commit)) p (commits (started_in c Running position cursor) ring (start_count c cursor position upto))
-      some position least = From-map p (λ t commit. IsCommitOf (start_count c cursor position upto) (length c.setup.bindings) commit)
-          (λ t commit. Begins c state more (after_start c state cursor (Some position) commit)) p
-          (commits (started_in c Running position cursor) ring (start_count c cursor position upto))
-          (From-all p p (IsCommitOf (start_count c cursor position upto) (length c.setup.bindings))
-          (commits (started_in c Running position cursor) ring (start_count c cursor position upto))
-          (commits-few (started_in c Running position cursor) ring (start_count c cursor position upto) can.has.bound))
-          (λ t commit of. after_start-begins c state cursor upto more position.frame position.gone commit can room few least of)
 
   -- where nothing more is accepted
   begun-after : (c : PlaybackStream) (state : State) (done : Answered (Unit {0})) → is_prepared state ≡ false → Begins c state 0 done → FileAfter p limit done
@@ -397,12 +381,10 @@ module _ (p limit : ℕ) where
 
       takes_more-after : (t : ℕ) → From p (λ u done. FileAfter p limit done) t (takes_more d [] [] n)
       unfolding takes_more
-      takes_more-after t =
-          From-then p (λ u commit. IsCommitOf (count_with d (taken_of d n)) (length d.setup.bindings) commit) (λ u done. FileAfter p limit done) t
+      takes_more-after t = From-then p (λ u commit. FileAfter p limit (written_after d n commit)) (λ u done. FileAfter p limit done) t
           (commits d (ring_with d [] [] (taken_of d n)) (count_with d (taken_of d n))) (λ last. ends (written_after d n last))
-          (From-all p t (IsCommitOf (count_with d (taken_of d n)) (length d.setup.bindings)) (commits d (ring_with d [] [] (taken_of d n)) (count_with d (taken_of d n)))
-          (commits-few d (ring_with d [] [] (taken_of d n)) (count_with d (taken_of d n)) there.0.bound))
-          (λ u commit of. written-after commit of)
+          (commits-so (λ commit. FileAfter p limit (written_after d n commit)) d (ring_with d [] [] (taken_of d n)) (count_with d (taken_of d n)) t there.0.bound written-after)
+          (λ u commit is. is)
 
     write_on-after : (n t : ℕ) (done : Answered (Unit {0})) → c.fed + n ≤ limit → StepsOn c done → From p (λ u x. FileAfter p limit x) t (write_on [] [] n done)
     write_on-after n t (d, Err e) room (there, same_fed, unprepared, moves) = there
@@ -449,32 +431,18 @@ module _ (p limit : ℕ) where
     resumes-after : (cursor : Cursor) → From p (λ t done. FileAfter p limit done) 0 (resumes c cursor [])
     unfolding resumes
     resumes-after cursor =
-        From-then p found-so (λ t done. FileAfter p limit done) 0
-        (looks (λ position. started_in (with_new_base c) Running position cursor) (λ position. start_count (with_new_base c) cursor position (pending_of c)) [])
-        (λ found. ends (after_resume c cursor found.0 found.1))
-        (looks-from p 0 found-so (λ position. started_in (with_new_base c) Running position cursor)
-        (λ position. start_count (with_new_base c) cursor position (pending_of c)) [] stopped some) (λ t found there. there)
+        found-from p 0 (λ t done. FileAfter p limit done) (λ position. started_in (with_new_base c) Running position cursor)
+        (λ position. start_count (with_new_base c) cursor position (pending_of c)) [] (after_resume c cursor) stopped
+        (λ position least. commits-so (λ commit. FileAfter p limit (after_start (with_new_base c) Running cursor (Some position) commit)) (started_in (with_new_base c) Running position cursor) []
+        (start_count (with_new_base c) cursor position (pending_of c)) p is.0.bound
+        (λ commit of. begun-after (with_new_base c) Running (after_start (with_new_base c) Running cursor (Some position) commit) refl
+        (after_start-begins (with_new_base c) Running cursor (pending_of c) 0 position.frame position.gone commit begins-anew room (omega arith) least of)))
       where
-        found-so : ℕ → Option Position × Commit → Type 0
-        found-so t found = FileAfter p limit (after_resume c cursor found.0 found.1)
-
         stopped : IsOfFile p limit (stopped_in {T = Unit {0}} c).0
         stopped = (is.0, stop-goes p c.status.state c.status.stopped c.stretch is.1)
 
         room : c.fed + 0 ≤ limit
         room = let most = is.0.most in omega (arith, most)
-
-        some : (position : Position) → p ≤ position.frame → From p (λ t commit. FileAfter p limit (after_start (with_new_base c) Running cursor (Some position) commit)) p
-            (commits (started_in (with_new_base c) Running position cursor) [] (start_count (with_new_base c) cursor position (pending_of c)))
-        some position least = From-map p
-            (λ t commit. IsCommitOf (start_count (with_new_base c) cursor position (pending_of c)) (length c.setup.bindings) commit)
-            (λ t commit. FileAfter p limit (after_start (with_new_base c) Running cursor (Some position) commit)) p
-            (commits (started_in (with_new_base c) Running position cursor) [] (start_count (with_new_base c) cursor position (pending_of c)))
-            (From-all p p (IsCommitOf (start_count (with_new_base c) cursor position (pending_of c)) (length c.setup.bindings))
-            (commits (started_in (with_new_base c) Running position cursor) [] (start_count (with_new_base c) cursor position (pending_of c)))
-            (commits-few (started_in (with_new_base c) Running position cursor) [] (start_count (with_new_base c) cursor position (pending_of c)) is.0.bound))
-            (λ t commit of. begun-after (with_new_base c) Running (after_start (with_new_base c) Running cursor (Some position) commit) refl
-            (after_start-begins (with_new_base c) Running cursor (pending_of c) 0 position.frame position.gone commit begins-anew room (omega arith) least of))
 
     pub resume-after : (cursor : Cursor) → From p (λ t done. FileAfter p limit done) 0 (pause_course false c [] cursor)
     resume-after cursor = by_test (nat_eq (pending_of c) 0)

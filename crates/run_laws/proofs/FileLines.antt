@@ -3,7 +3,7 @@ use Rattle.std.proofs.Common.{◌≡◌, ℕ, ◌+◌, ◌-◌, ◌<◌, ◌≤�
 use Rattle.std.proofs.lemmas.Bool.Decides.{nat_tests}
 use Rattle.std.proofs.lemmas.List.{append-nil}
 use Rattle.std.specs.List.{AllByRecursion}
-use Rattle.std.specs.Prelude.{Bool, true, false, not, ◌&&◌, nat_eq, if◌then◌else◌, min, IfSome, Contains, slice_index_or}
+use Rattle.std.specs.Prelude.{Bool, true, false, not, ◌&&◌, nat_eq, if◌then◌else◌, min, IfSome, Contains, slice_index_or, map, slice_get}
 use Rattle.mix_core.specs.declared.marks.Marks.{Marks}
 use Rattle.pcm_states.specs.declared.states.State.TheVariants.{Prepared}
 use Rattle.course.specs.Course.{◌>>=◌, ends}
@@ -15,20 +15,33 @@ use Rattle.lab_lines.specs.declared.line.Op.TheVariants as op
 use Rattle.lab_lines.specs.declared.row.Answer.{Answer}
 use Rattle.lab_lines.specs.declared.row.Answer.TheVariants.{Done}
 use Rattle.lab_lines.specs.Script.{first_frame}
-use Rattle.lab_run.specs.Client.{Client, after_call, begins, call_of, client_kind, ended_by, frames_of, line_by, line_if, present_of, segments_of, stretch_of}
+use Rattle.lab_run.specs.Client.{Client, after_call, call_of, client_kind, ended_by, frames_of, present_of, segments_of, stretch_of}
 use Rattle.lab_run.specs.Items.{no_sound}
 use Rattle.lab_run.specs.Lines.{LineMay}
 use Rattle.lab_run.specs.Rules.{AtPort, Rules}
 use Rattle.lab_run.specs.Stage.{Session, Setup, opened_client}
-use Rattle.run_laws.specs.Segments.{IsOfFrames}
+use Rattle.run_laws.specs.Segments.{IsOfFrames, AreOfClients, IsOfClient}
 use Rattle.run_laws.proofs.Bound.{HasBindings, line-bound}
 use Rattle.run_laws.proofs.FileCalls.{FileAfter, IsOfFile, call-after, idle-goes}
 use Rattle.run_laws.proofs.Going.{still-client, in-open}
-use Rattle.run_laws.proofs.NumberedStages.{IsKeptBy}
+use Rattle.run_laws.proofs.NumberedStages.{IsKeptBy, AreSoBy, numbered-so}
 use Rattle.run_laws.proofs.Onward.{Channels, begun}
 use Rattle.run_laws.proofs.OnwardLines.{InOpen}
-use Rattle.run_laws.proofs.PlayedCourses.{From, From-then, Takes-from}
+use Rattle.run_laws.proofs.PlayedCourses.{From, From-then, line-from}
 use Rattle.run_laws.proofs.Lists.{each-append}
+use Rattle.std.proofs.lemmas.List.Elements.{All-from_recursion}
+use Rattle.std.proofs.lemmas.Option.{get_or_from_slice_get}
+use Rattle.snd_base.specs.declared.places.Segment.{Segment}
+use Rattle.lab_lines.specs.declared.script.CardLine.{CardLine}
+use Rattle.lab_lines.specs.declared.script.Script.{Script}
+use Rattle.lab_lines.specs.Limits.{IsScript}
+use Rattle.lab_run.specs.LabRun.{LabRun, Outcome, all_segments, with_numbers}
+use Rattle.lab_run.specs.Openings.{IsSessionOf}
+use Rattle.run_laws.specs.OneSample.{AreBound}
+use Rattle.run_laws.proofs.BoundChannels.{script-bound, setup-channels}
+use Rattle.run_laws.proofs.FromFiles.{IsUsed, clients-used, idle-segments, opened-at}
+use Rattle.run_laws.proofs.PlayedStages.{channels-of}
+use Rattle.run_laws.proofs.Stages.{AreSo, reached-so}
 
 -- ---- a line of an open client
 
@@ -64,30 +77,13 @@ module _ (p : ℕ) (wav : Sound) (client : Client) (c : PlaybackStream) (own_is 
   call-leaves asked m from = From-then p (λ t done. FileAfter p (frames_of wav) done) FileDone 0 (call_of wav m c asked) (λ done. ends (after_call client c asked done)) from
       (λ t done there. (there, ended-so asked done.1 done.0))
 
-  op-leaves : (m : Marks) (asked : Op) → From p FileDone 0 (line_if false wav m client c asked)
-  op-leaves m (op.Die k) = stays
-  op-leaves m asked = call-leaves asked m (call-after p (frames_of wav) c is wav m (λ n. write-room n c.fed (frames_of wav) is.0.most) asked)
-
-  pub line-leaves : (m : Marks) (asked : Op) → From p FileDone 0 (line_if c.status.stopped wav m client c asked)
-  line-leaves m asked = by_stop c.status.stopped
-    where
-      by_stop : (stopped : Bool) → From p FileDone 0 (line_if stopped wav m client c asked)
-      by_stop true = stays
-      by_stop false = op-leaves m asked
-
 -- a line that is done
 pub done-leaves : (rules : Rules) (p : ℕ) → ((q : ℕ) → Contains rules.published q → p ≤ q) → (phase : ℕ) (wav : Sound) (number : ℕ) (a b : AtPort) (client after : Client)
     (asked : Op) (answer : Answer) (c : PlaybackStream) (own_is : client.own ≡ Some c) (is : IsOfFile p (frames_of wav) c)
     → LineMay (client_kind phase wav number) rules (a, client) asked (b, after) answer → LeavesFile p wav client c own_is is after
 done-leaves rules p least phase wav number a b client after asked answer c own_is is may =
-    Takes-from rules p least (λ (done : Client × Answer). LeavesFile p wav client c own_is is done.0) 0 (begins client.own asked a) b
-    (line_by wav m client client.own asked) (after, answer)
-    (subst (λ own. From p (λ t (done : Client × Answer). LeavesFile p wav client c own_is is done.0) 0 (line_by wav m client own asked)) (sym own_is)
-    (line-leaves p wav client c own_is is m asked))
-    (omega arith) may
-  where
-    m : Marks
-    m = (begins client.own asked a).marks
+    line-from rules p least phase wav number a b client after asked answer c own_is (LeavesFile p wav client c own_is is) (stays p wav client c own_is is)
+    (λ m o. call-leaves p wav client c own_is is o m (call-after p (frames_of wav) c is wav m (λ n. write-room n c.fed (frames_of wav) is.0.most) o)) may
 
 -- ---- the segments of a client
 
@@ -231,3 +227,62 @@ module _ (session : Session) where
     opens = open-holds;
     ends = end-holds;
   }
+
+-- ---- the segments of a run are of its clients' files
+
+module _ (script : Script) (wavs : List Sound) (session : Session) (is : IsSessionOf script wavs session) where
+  abbrev Holds : ℕ × Segment → Type 0
+  Holds pair = IsOfClient script wavs pair.0 pair.1
+
+  -- a segment of a client that could be opened
+  segment-of : (n : ℕ) (s : Setup) (segment : Segment) → slice_index_or session.clients n None ≡ Some s
+      → IsOfFrames (first_frame session.card) (length s.bindings) (frames_of (slice_index_or session.sounds n no_sound)) segment → IsOfClient script wavs n segment
+  segment-of n s segment setup_is of =
+      let opened = opened-at script.card script.clients wavs session.clients n s is.clients setup_is in
+      let wav_is : slice_get session.sounds n ≡ Some opened.wav = ap (λ (l : List Sound). slice_get l n) is.sounds ∙ opened.wav_is in
+      let file : slice_index_or session.sounds n no_sound ≡ opened.wav = get_or_from_slice_get session.sounds n opened.wav no_sound wav_is in
+      record {
+        line = opened.line;
+        wav = opened.wav;
+        line_is = opened.line_is;
+        wav_is = opened.wav_is;
+        bound = ap length (sym opened.opening.bindings) ∙ opened.opening.channels;
+        channels = (setup-channels script.card opened.line opened.wav s opened.opening).1;
+        frames =
+            subst (λ (c : CardLine). IsOfFrames (first_frame c) opened.wav.channels (frames_of opened.wav) segment) is.card
+            (subst (λ (k : ℕ). IsOfFrames (first_frame session.card) k (frames_of opened.wav) segment) opened.opening.channels
+            (subst (λ (wav : Sound). IsOfFrames (first_frame session.card) (length s.bindings) (frames_of wav) segment) file of));
+      }
+
+  segments-of : (n : ℕ) (s : Setup) (segments : List Segment) → slice_index_or session.clients n None ≡ Some s
+      → AllByRecursion (IsOfFrames (first_frame session.card) (length s.bindings) (frames_of (slice_index_or session.sounds n no_sound))) segments
+      → AllByRecursion Holds (map (λ segment. (n, segment)) segments)
+  segments-of n s [] setup_is are = tt
+  segments-of n s (segment ∷ segments) setup_is are = (segment-of n s segment setup_is are.0, segments-of n s segments setup_is are.1)
+
+  -- those of one client
+  client-of : (n : ℕ) (client : Client) (setup : Option Setup) → slice_index_or session.clients n None ≡ setup → IfSome setup (λ (s : Setup). Channels s.bindings)
+      → IsUsed setup client → IsFileClient session n client → AllByRecursion Holds (map (λ segment. (n, segment)) (segments_of client))
+  client-of n client None setup_is bound idle holds =
+      subst (λ (l : List Segment). AllByRecursion Holds (map (λ segment. (n, segment)) l)) (sym (idle-segments client idle)) tt
+  client-of n client (Some s) setup_is bound used holds = segments-of n s (segments_of client) setup_is
+      (segments-right (first_frame session.card) (frames_of (slice_index_or session.sounds n no_sound)) s.bindings client (holds s setup_is bound))
+
+  clients-of : AreBound session → (n : ℕ) (clients : List (AtPort × Client)) → AreSo IsUsed clients-used session n clients
+      → AreSoBy session (IsFileClient session) (clients-hold session) n clients
+      → AllByRecursion Holds (with_numbers (λ (client : AtPort × Client). segments_of client.1) n clients)
+  clients-of bound n [] used hold = tt
+  clients-of bound n (client ∷ clients) used hold =
+      each-append Holds (map (λ segment. (n, segment)) (segments_of client.1)) (with_numbers (λ (x : AtPort × Client). segments_of x.1) (n + 1) clients)
+      (client-of n client.1 (slice_index_or session.clients n None) refl (channels-of session n bound) used.0 hold.0)
+      (clients-of bound (n + 1) clients used.1 hold.1)
+
+pub LabRun-segments : (script : Script) (wavs : List Sound) (session : Session) (capture : Option Sound) (client_stops reader_stops : ℕ → ℕ) (outcome : Outcome)
+    → IsScript script → IsSessionOf script wavs session → LabRun session capture script.body client_stops reader_stops outcome
+    → AreOfClients script wavs outcome.report
+LabRun-segments script wavs session capture client_stops reader_stops outcome script_is is run =
+    subst (λ (o : Outcome). AreOfClients script wavs o.report) (sym run.is)
+    (All-from_recursion (λ (pair : ℕ × Segment). IsOfClient script wavs pair.0 pair.1) (all_segments run.end.clients)
+    (clients-of script wavs session is (script-bound script wavs session script_is is) 0 run.end.clients
+    (reached-so IsUsed clients-used session script.body run.end run.may)
+    (numbered-so session (IsFileClient session) (clients-hold session) script.body run.end run.may)))

@@ -7,7 +7,6 @@ use Rattle.snd_base.specs.declared.places.Segment.{Segment}
 use Rattle.lap_word.specs.Clamp.{clamp_of}
 use Rattle.mix_core.specs.declared.port.Entry.{Entry}
 use Rattle.mix_core.specs.Laid.{total}
-use Rattle.course.specs.Gives.{Gives, Gives-taken}
 use Rattle.wav_io.specs.Sound.{Sound}
 use Rattle.dmix_client.specs.Expansion.{expand}
 use Rattle.lab_lines.specs.declared.line.Op.{Op}
@@ -17,14 +16,15 @@ use Rattle.lab_lines.specs.declared.script.Script.{Script}
 use Rattle.lab_lines.specs.Script.{first_frame}
 use Rattle.lab_lines.specs.declared.report.Report.{Report}
 use Rattle.lab_lines.specs.declared.row.Answer.{Answer}
-use Rattle.lab_run.specs.Client.{Client, begins, client_kind, line_by, segments_of}
+use Rattle.lab_run.specs.Client.{Client, client_kind, segments_of}
 use Rattle.lab_run.specs.LabRun.{LabRun, Outcome, entries_by, with_numbers}
 use Rattle.lab_run.specs.Lines.{LineMay}
 use Rattle.lab_run.specs.Openings.{AreClientOpenings, IsClientSetup, IsSessionOf}
-use Rattle.lab_run.specs.Rules.{AtPort, MayGet, MayLay, MayLoad, Rules}
+use Rattle.lab_run.specs.Rules.{AtPort, Rules}
 use Rattle.lab_run.specs.Stage.{Session, Setup}
 use Rattle.run_laws.specs.Files.{IsMixOfFiles, IsPlacedFrom, file_samples}
 use Rattle.run_laws.specs.Mix.{IsMixOf}
+use Rattle.run_laws.proofs.Going.{still-client}
 use Rattle.run_laws.proofs.Stages.{AreSo, IsKept, reached-so}
 
 -- ---- a client without a setup has no segments
@@ -51,9 +51,7 @@ line-used : (rules : Rules) (phase : ℕ) (wav : Sound) (number : ℕ) (setup : 
     → IsUsed setup client → LineMay (client_kind phase wav number) rules (a, client) asked (b, after) answer → IsUsed setup after
 line-used rules phase wav number (Some s) a b client after asked answer used may = tt
 line-used rules phase wav number None a b client after asked answer idle may =
-    Gives-taken (MayLoad rules) (MayLay rules) (MayGet rules) (λ (x : Client × Answer). IsIdle x.0) (begins client.own asked a) b
-    (line_by wav (begins client.own asked a).marks client client.own asked) (after, answer)
-    (subst (λ own. Gives (λ (x : Client × Answer). IsIdle x.0) (line_by wav (begins client.own asked a).marks client own asked)) (sym idle.0) idle) may
+    subst IsIdle (sym (still-client rules phase wav number a b client after asked answer idle.0 may)) idle
 
 pub clients-used : IsKept IsUsed
 clients-used = record {

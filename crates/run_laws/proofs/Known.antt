@@ -1,17 +1,14 @@
 -- What all results of a course have, by the last position that is known when it ends.
-use Rattle.std.proofs.Common.{◌≡◌, ℕ, ◌≤◌, refl, sym, ◌∙◌, ap, subst, arith, inl, inr, Some, None}
+use Rattle.std.proofs.Common.{◌≡◌, ℕ, ◌≤◌, sym, ◌∙◌, ap, subst, arith, Some, None}
 use Rattle.std.specs.Prelude.{max, All}
 use Rattle.std.proofs.lemmas.List.Elements.{All-contains}
 use Rattle.mix_core.specs.declared.port.Ended.{Ended}
-use Rattle.mix_core.specs.declared.port.Ended.TheVariants as ended
-use Rattle.mix_core.specs.declared.port.Entry.{Entry}
 use Rattle.mix_core.specs.declared.port.Position.{Position}
 use Rattle.snoop_core.specs.declared.port.Got.{Got}
-use Rattle.snoop_core.specs.declared.port.Got.TheVariants as got
 use Rattle.course.specs.Course.{◌>>=◌, Course, ends, gets, lays, loads}
-use Rattle.lab_run.specs.Rules.{AtPort, May, MayGet, MayLay, Rules, with_asks}
+use Rattle.lab_run.specs.Rules.{AtPort, May, Rules}
 use Rattle.lab_run.proofs.CallParts.{IsSaying}
-use Rattle.run_laws.proofs.RunGoesOn.{stop-seen}
+use Rattle.run_laws.proofs.RunGoesOn.{get-seen, lay-seen, stop-seen}
 
 -- a load gives a position that isn't below the one that is known, and that one is known from then on
 abbrev pub AllKnown : {X : Type 0} → (ℕ → X → Type 0) → ℕ → Course X → Type 0
@@ -51,19 +48,6 @@ known-so = record {
 -- what is known at a port in a phase: the position at which the phase begins, and the one that was seen last
 abbrev pub known_at : ℕ → AtPort → ℕ
 known_at begin a = max begin a.seen
-
-lay-seen : (rules : Rules) (a b : AtPort) (e : Entry) (how : Ended) → MayLay rules a e how b → b.seen ≡ a.seen
-lay-seen rules a b e ended.Whole (after, passes, is) = rw is refl
-lay-seen rules a b e (ended.Late word) (asks, zero, late, ask, passes, is) = rw is refl
-lay-seen rules a b e ended.Stopped may = elim may [
-  | inl (asks, ask, passes, is) ↦ rw is (stop-seen (with_asks asks a))
-  | inr (after, passes, is) ↦ rw is refl
-]
-
-get-seen : (rules : Rules) (a b : AtPort) (frame : ℕ) (how : Got) → MayGet rules a frame how b → b.seen ≡ a.seen
-get-seen rules a b frame got.Whole (after, passes, is) = rw is refl
-get-seen rules a b frame (got.Overtaken channel word) (zero, stored, within, first, passes, is) = rw is refl
-get-seen rules a b frame got.Stopped (asks, few, first, passes, is) = rw is (stop-seen (with_asks asks a))
 
 -- what was taken in a phase has it, where the card publishes no position before the phase's first one or past its end
 pub May-known : {X : Type 0} (Q : ℕ → X → Type 0) (rules : Rules) (begin end : ℕ) → All (λ (q : ℕ). (begin ≤ q) × (q ≤ end)) rules.published

@@ -13,16 +13,15 @@ mod Exactly
 mod Expanded
 mod FileCalls
 mod FileLines
-mod FileSegments
 mod FromFiles
 mod Going
 mod GrowthLaws
+mod HeldReaders
 mod IdleReaders
 mod Known
 mod LateLaws
 mod LateParts
-mod LateRewinds
-mod LateStates
+mod LateRows
 mod Lines
 mod Listed
 mod Lists
@@ -36,8 +35,8 @@ mod Onward
 mod OnwardCalls
 mod OnwardLines
 mod Openings
+mod OwnActors
 mod OwnClients
-mod OwnItems
 mod OwnLines
 mod OwnReaders
 mod PlayedCalls
@@ -45,6 +44,7 @@ mod PlayedCourses
 mod PlayedLines
 mod PlayedSegments
 mod PlayedStages
+mod Published
 mod ReaderCalls
 mod ReaderFrames
 mod Recorded
@@ -57,7 +57,6 @@ mod SampleSizes
 mod Sealed
 mod Sizes
 mod SliceItems
-mod SliceLaws
 mod SliceLines
 mod Sole
 mod Stages

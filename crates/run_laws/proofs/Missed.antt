@@ -2,10 +2,9 @@
 use Rattle.std.proofs.Common.{◌≡◌, ℕ, ◌+◌, ◌<◌, refl, sym, ◌∙◌, ap, subst, List, [], ◌∷◌, length, Option, Some, None}
 use Rattle.std.proofs.lemmas.List.{append-nil}
 use Rattle.std.specs.List.{flat_map}
-use Rattle.std.specs.Prelude.{Bool, true, false, ◌&&◌, nat_eq, if◌then◌else◌, IfSome, slice_get, slice_index, slice_index_or}
+use Rattle.std.specs.Prelude.{Bool, true, false, ◌&&◌, nat_eq, if◌then◌else◌, IfSome, slice_index, slice_index_or}
 use Rattle.bindings.specs.Bound.{rising}
 use Rattle.mix_core.specs.Laid.{at}
-use Rattle.course.specs.Gives.{Gives, Gives-taken}
 use Rattle.wav_io.specs.Sound.{Sound}
 use Rattle.dmix_client.specs.Calls.{segment_of}
 use Rattle.dmix_client.specs.declared.stream.PlaybackStream.{PlaybackStream}
@@ -13,16 +12,17 @@ use Rattle.lab_lines.specs.declared.line.Item.{Item}
 use Rattle.lab_lines.specs.declared.line.Op.{Op}
 use Rattle.lab_lines.specs.declared.line.Op.TheVariants as op
 use Rattle.lab_lines.specs.declared.row.Answer.{Answer}
-use Rattle.lab_run.specs.Client.{Client, begins, client_kind, line_by, stretch_of}
+use Rattle.lab_run.specs.Client.{Client, client_kind, stretch_of}
 use Rattle.lab_run.specs.Items.{no_sound, rules_of}
 use Rattle.lab_run.specs.LabRun.{entries_by}
 use Rattle.run_laws.specs.LateRows.{IsNextSample, LateRewindsNameLast, LateRowsNameNext, NamesLast, NamesNext, is_rewind}
 use Rattle.lab_run.specs.Lines.{LineMay}
-use Rattle.lab_run.specs.Rules.{AtPort, MayGet, MayLay, MayLoad, Rules}
+use Rattle.lab_run.specs.Rules.{AtPort, Rules}
 use Rattle.lab_run.specs.Stage.{Session, Setup, client_at}
 use Rattle.run_laws.specs.Late.{HasLast, IsLate, LateLinesMiss, placed_now}
 use Rattle.run_laws.proofs.Bound.{IsBound, IsClientBound, clients-bound, line-named}
-use Rattle.run_laws.proofs.Expanded.{next-free}
+use Rattle.run_laws.proofs.Expanded.{entries-so, next-free}
+use Rattle.run_laws.proofs.Going.{closed-line, still-client}
 use Rattle.run_laws.proofs.LateLaws.{LateAnswer}
 use Rattle.run_laws.proofs.LateParts.{Named}
 use Rattle.run_laws.proofs.Stages.{lines-kept, reached-client}
@@ -40,21 +40,11 @@ of-stretch session number c frame channel none = by_test (nat_eq c.stretch.commi
 of-segment : (session : Session) (number : ℕ) (c : PlaybackStream) (frame channel : ℕ) → IsNextSample c frame channel
     → IfSome (slice_index_or session.clients number None) (λ (s : Setup). (c.setup.bindings ≡ s.bindings) × (c.stretch.part < length (rising s.bindings)))
     → at (entries_by session (number, segment_of c)) frame channel ≡ []
-of-segment session number c frame channel next = by_file (slice_get session.sounds number) refl (slice_index_or session.clients number None) refl
-  where
-    by_file : (file : Option Sound) → slice_get session.sounds number ≡ file → (setup : Option Setup) → slice_index_or session.clients number None ≡ setup
-        → IfSome (slice_index_or session.clients number None) (λ (s : Setup). (c.setup.bindings ≡ s.bindings) × (c.stretch.part < length (rising s.bindings)))
-        → at (entries_by session (number, segment_of c)) frame channel ≡ []
-    by_file None is setup setup_is bound = rw is refl
-    by_file (Some wav) is None setup_is bound = rw is (rw setup_is refl)
-    by_file (Some wav) is (Some s) setup_is bound =
-        let has : (c.setup.bindings ≡ s.bindings) × (c.stretch.part < length (rising s.bindings)) =
-        subst (λ (o : Option Setup). IfSome o (λ (t : Setup). (c.setup.bindings ≡ t.bindings) × (c.stretch.part < length (rising t.bindings)))) setup_is bound in
-        rw is (rw setup_is (next-free number (segment_of c) wav.samples s.bindings frame channel has.1 next.0
-        (subst (λ (b : List ℕ). IsNextSample-channel b) has.0 next.1)))
-      where
-        IsNextSample-channel : List ℕ → Type 0
-        IsNextSample-channel b = channel ≡ slice_index b (slice_index (rising b) c.stretch.part)
+of-segment session number c frame channel next bound = entries-so session number (segment_of c) (λ es. at es frame channel ≡ []) refl (λ wav s wav_is setup_is.
+    let has : (c.setup.bindings ≡ s.bindings) × (c.stretch.part < length (rising s.bindings)) =
+    subst (λ (o : Option Setup). IfSome o (λ (t : Setup). (c.setup.bindings ≡ t.bindings) × (c.stretch.part < length (rising t.bindings)))) setup_is bound in
+    next-free number (segment_of c) wav.samples s.bindings frame channel has.1 next.0
+    (subst (λ (b : List ℕ). channel ≡ slice_index b (slice_index (rising b) c.stretch.part)) has.0 next.1))
 
 -- a client's line was late, so its setup's part is short
 short-of : (session : Session) (number : ℕ) (setup : Option Setup) (rules : Rules) (phase : ℕ) (wav : Sound) (a b : AtPort) (client after : Client) (asked : Op) (answer : Answer)
@@ -68,21 +58,11 @@ short-of session number (Some s) rules phase wav a b client after asked answer f
     (line-named rules phase wav number s.bindings a b client after asked answer bound not may) in
     (named.0, subst (LateAnswer (λ f k. c.stretch.part < length (rising s.bindings))) late named.1)
 
--- a client that isn't open isn't after the line
-pub still-closed : (rules : Rules) (phase : ℕ) (wav : Sound) (number : ℕ) (a b : AtPort) (client after : Client) (asked : Op) (answer : Answer) → client.own ≡ None
-    → LineMay (client_kind phase wav number) rules (a, client) asked (b, after) answer → after.own ≡ None
-still-closed rules phase wav number a b client after asked answer closed may =
-    Gives-taken (MayLoad rules) (MayLay rules) (MayGet rules) (λ (x : Client × Answer). x.0.own ≡ None) (begins client.own asked a) b
-    (line_by wav (begins client.own asked a).marks client client.own asked) (after, answer)
-    (subst (λ own. Gives (λ (x : Client × Answer). x.0.own ≡ None) (line_by wav (begins client.own asked a).marks client own asked)) (sym closed) closed) may
-
 -- its answer isn't late
 closed-early : (rules : Rules) (phase : ℕ) (wav : Sound) (number : ℕ) (a b : AtPort) (client after : Client) (asked : Op) (answer : Answer) (frame channel : ℕ) → client.own ≡ None
     → IsLate answer frame channel → LineMay (client_kind phase wav number) rules (a, client) asked (b, after) answer → ⊥
 closed-early rules phase wav number a b client after asked answer frame channel closed late may =
-    Gives-taken (MayLoad rules) (MayLay rules) (MayGet rules) (λ (x : Client × Answer). IsLate x.1 frame channel → ⊥) (begins client.own asked a) b
-    (line_by wav (begins client.own asked a).marks client client.own asked) (after, answer)
-    (subst (λ own. Gives (λ (x : Client × Answer). IsLate x.1 frame channel → ⊥) (line_by wav (begins client.own asked a).marks client own asked)) (sym closed) (λ is. absurd (cc))) may late
+    let is = (closed-line rules phase wav number a b client after asked answer closed may).1 in absurd (cc)
 
 -- a line of an open client
 pub late-missed : (session : Session) (body : List Item) → ((rules : Rules) (phase : ℕ) (wav : Sound) (number : ℕ) → LateRowsNameNext rules phase wav number)
@@ -132,7 +112,7 @@ late-missed session body names names_last = record {
       where
         open-before : (own : Option PlaybackStream) → client.own ≡ own → NamesNext after answer
         open-before (Some d) was = name a b client after d asked answer was not may
-        open-before None was = absurd (both (still-closed rules phase wav number a b client after asked answer was may) is)
+        open-before None was = absurd (both (ap (λ (x : Client). x.own) (still-client rules phase wav number a b client after asked answer was may) ∙ was) is)
           where
             both : {own : Option PlaybackStream} → own ≡ None → own ≡ Some c → ⊥
             both x y = absurd (cc)

@@ -1,5 +1,5 @@
 -- In a card that is shared by channels the one sample of a place is played as it is, since a sample of 16 bits isn't saturated.
-use Rattle.std.proofs.Common.{◌≡◌, ℕ, ◌+◌, refl, sym, ◌∙◌, ap, subst, arith, List, [], ◌∷◌, Option, Some, None, length}
+use Rattle.std.proofs.Common.{◌≡◌, ℕ, ◌+◌, sym, ◌∙◌, ap, subst, arith, List, [], ◌∷◌, Option, Some, length}
 use Rattle.std.proofs.lemmas.Int.{int_max_is, int_min_is, ints}
 use Rattle.std.specs.Int.{int_min}
 use Rattle.std.proofs.lemmas.List.Elements.{recursion_from_All}
@@ -19,9 +19,10 @@ use Rattle.lab_lines.specs.declared.script.Script.{Script}
 use Rattle.lab_run.specs.Claims.{ClaimIsOwners}
 use Rattle.lab_run.specs.LabRun.{LabRun, Outcome, entries_by}
 use Rattle.lab_run.specs.Openings.{IsSessionOf}
-use Rattle.lab_run.specs.Stage.{Session, Setup}
+use Rattle.lab_run.specs.Stage.{Session}
 use Rattle.run_laws.specs.Mix.{IsMixOf, placed_entries}
 use Rattle.run_laws.specs.OneSample.{AreBound, AreSamples, PlaysOneSample, only_of}
+use Rattle.run_laws.proofs.Expanded.{entries-so}
 use Rattle.run_laws.proofs.Mixes.{LabRun-mix}
 use Rattle.run_laws.proofs.Lists.{each-append}
 use Rattle.run_laws.proofs.OneSample.{LabRun-once}
@@ -92,14 +93,8 @@ file-of (w ∷ wavs) zero wav each is = let same : w ≡ wav = cc in
 file-of (w ∷ wavs) (suc number) wav each is = file-of wavs number wav each.1 is
 
 entries-samples : (session : Session) (part : ℕ × Segment) → AreSamples session.sounds → AreEntries (entries_by session part)
-entries-samples session (n, s) samples = by_file (slice_get session.sounds n) (slice_index_or session.clients n None) refl refl
-  where
-    by_file : (wav : Option Sound) (setup : Option Setup) → slice_get session.sounds n ≡ wav → slice_index_or session.clients n None ≡ setup → AreEntries (entries_by session (n, s))
-    by_file (Some wav) (Some setup) wav_is setup_is =
-        rw wav_is (rw setup_is (expand-samples n s wav.samples setup.bindings
-        (file-of session.sounds n wav (recursion_from_All (λ (w : Sound). All IsSample w.samples) session.sounds samples) wav_is)))
-    by_file None setup wav_is setup_is = rw wav_is tt
-    by_file (Some wav) None wav_is setup_is = rw wav_is (rw setup_is tt)
+entries-samples session (n, s) samples = entries-so session n s AreEntries tt (λ wav setup wav_is setup_is. expand-samples n s wav.samples setup.bindings
+    (file-of session.sounds n wav (recursion_from_All (λ (w : Sound). All IsSample w.samples) session.sounds samples) wav_is))
 
 -- ---- a run
 

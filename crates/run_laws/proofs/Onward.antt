@@ -133,17 +133,22 @@ Leads-then p g R Q m (lays e next) f leads each = (
 )
 Leads-then p g R Q m (gets frame next) f leads each = λ got. Leads-then p g R Q m (next got) f (leads got) each
 
+-- of two facts, another one
+pub Leads-both : {X : Type 0} (p : ℕ) (g : Geometry) (R S Q : Marks → X → Type 0) (m : Marks) (c : Course X) → Leads p g R m c → Leads p g S m c
+    → ((n : Marks) (x : X) → R n x → S n x → Q n x) → Leads p g Q m c
+Leads-both p g R S Q m (ends x) one two each = each m x one two
+Leads-both p g R S Q m (loads next) one two each =
+    (Leads-both p g R S Q m (next None) one.0 two.0 each, λ position least. Leads-both p g R S Q m (next (Some position)) (one.1 position least) (two.1 position least) each)
+Leads-both p g R S Q m (lays e next) one two each = (
+  Leads-both p g R S Q (marks_after g m e) (next ended.Whole) one.0 two.0 each,
+  λ word. Leads-both p g R S Q m (next (ended.Late word)) (one.1 word) (two.1 word) each,
+  Leads-both p g R S Q m (next ended.Stopped) one.2 two.2 each,
+)
+Leads-both p g R S Q m (gets frame next) one two each = λ got. Leads-both p g R S Q m (next got) (one got) (two got) each
+
 pub Leads-map : {X : Type 0} (p : ℕ) (g : Geometry) (R Q : Marks → X → Type 0) (m : Marks) (c : Course X) → Leads p g R m c
     → ((n : Marks) (x : X) → R n x → Q n x) → Leads p g Q m c
-Leads-map p g R Q m (ends x) leads each = each m x leads
-Leads-map p g R Q m (loads next) leads each =
-    (Leads-map p g R Q m (next None) leads.0 each, λ position least. Leads-map p g R Q m (next (Some position)) (leads.1 position least) each)
-Leads-map p g R Q m (lays e next) leads each = (
-  Leads-map p g R Q (marks_after g m e) (next ended.Whole) leads.0 each,
-  λ word. Leads-map p g R Q m (next (ended.Late word)) (leads.1 word) each,
-  Leads-map p g R Q m (next ended.Stopped) leads.2 each,
-)
-Leads-map p g R Q m (gets frame next) leads each = λ got. Leads-map p g R Q m (next got) (leads got) each
+Leads-map p g R Q m c leads each = Leads-both p g R R Q m c leads leads (λ n x is same. each n x is)
 
 pub Leads-if : {X : Type 0} (p : ℕ) (g : Geometry) (Q : Marks → X → Type 0) (m : Marks) (test : Bool) (a b : Course X) → Leads p g Q m a → Leads p g Q m b
     → Leads p g Q m (if test then a else b)

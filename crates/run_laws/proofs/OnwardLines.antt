@@ -8,7 +8,6 @@ use Rattle.snd_base.specs.declared.errors.PcmError.{PcmError}
 use Rattle.snd_base.specs.declared.geometry.Geometry.{Geometry}
 use Rattle.mix_core.specs.declared.marks.Marks.{Marks}
 use Rattle.mix_core.specs.declared.port.Ended.TheVariants as ended
-use Rattle.mix_core.specs.Laid.{marks_after}
 use Rattle.pcm_states.specs.declared.calls.Call.TheVariants as call
 use Rattle.pcm_stream.specs.declared.direction.Direction.TheVariants.{Playback}
 use Rattle.pcm_stream.specs.Status.{refusal_of}
@@ -25,7 +24,7 @@ use Rattle.lab_run.specs.Client.{Client, after_call, call_answer, begins, call_o
 use Rattle.lab_run.specs.Lines.{LineMay}
 use Rattle.snoop_core.specs.declared.port.Got.TheVariants as got
 use Rattle.lab_run.specs.Rules.{AtPort, May, Rules, lets_pass, with_asks, with_stop, with_stop_by}
-use Rattle.run_laws.proofs.Onward.{Begun, Channels, OnwardAfter, Leads, Leads-then, Onward, Waits, begun, end_of, free_frame, high_end, max-least}
+use Rattle.run_laws.proofs.Onward.{Begun, Channels, OnwardAfter, Leads, Leads-both, Leads-then, Onward, Waits, begun, end_of, free_frame, high_end, max-least}
 use Rattle.run_laws.proofs.OnwardCalls.{based-waits, call-goes, reached, resume-leads}
 
 -- ---- what a line ends
@@ -119,18 +118,6 @@ module _ (p : ℕ) (g : Geometry) (x y : ℕ) where
           (λ not. absurd (false≢true (sym not ∙ paused))) (λ n done goes not. goes)
       by_refusal (Some e) = λ not. absurd (false≢true (sym not ∙ paused))
 
--- two facts at once
-pub Leads-both : {X : Type 0} (p : ℕ) (g : Geometry) (R Q : Marks → X → Type 0) (m : Marks) (c : Course X) → Leads p g R m c → Leads p g Q m c → Leads p g (λ n x. R n x × Q n x) m c
-Leads-both p g R Q m (ends x) one two = (one, two)
-Leads-both p g R Q m (loads next) one two =
-    (Leads-both p g R Q m (next None) one.0 two.0, λ position least. Leads-both p g R Q m (next (Some position)) (one.1 position least) (two.1 position least))
-Leads-both p g R Q m (lays e next) one two = (
-  Leads-both p g R Q (marks_after g m e) (next ended.Whole) one.0 two.0,
-  λ word. Leads-both p g R Q m (next (ended.Late word)) (one.1 word) (two.1 word),
-  Leads-both p g R Q m (next ended.Stopped) one.2 two.2,
-)
-Leads-both p g R Q m (gets frame next) one two = λ got. Leads-both p g R Q m (next got) (one got) (two got)
-
 -- a line ends no stretch in which nothing is placed
 pub none-ends : (asked : Op) (answer : Answer) (c d : PlaybackStream) → stretch_of c ≡ [] → ended_by asked answer c d ≡ []
 none-ends op.Prepare Done c d none = none
@@ -165,9 +152,11 @@ module _ (p : ℕ) (g : Geometry) (x y : ℕ) where
           let end : end_of c ≤ free_frame m = ends-reached p x y m c begun none in
           Leads-then p g (λ n (done : PlaybackStream × Answer). OnwardAfter p x y n done × (is_paused done.0.status.state ≡ false → Onward p (end_of c) (end_of c) n done.0))
           (λ n (done : Client × Answer). After p x y client c n done.0) m (call_of wav m c op.Resume) (λ done. ends (after_call client c op.Resume done))
-          (Leads-both p g (OnwardAfter p x y) (λ n (done : PlaybackStream × Answer). is_paused done.0.status.state ≡ false → Onward p (end_of c) (end_of c) n done.0) m (call_of wav m c op.Resume)
+          (Leads-both p g (OnwardAfter p x y) (λ n (done : PlaybackStream × Answer). is_paused done.0.status.state ≡ false → Onward p (end_of c) (end_of c) n done.0)
+          (λ n (done : PlaybackStream × Answer). OnwardAfter p x y n done × (is_paused done.0.status.state ≡ false → Onward p (end_of c) (end_of c) n done.0)) m (call_of wav m c op.Resume)
           (call-goes p g x y wav c op.Resume m (inl begun))
-          (resume-past p g (end_of c) (end_of c) wav c m begun.bound is (max-least (end_of c) (free_frame m) p end) begun.lies.top (omega (arith, end, begun.lies.top))))
+          (resume-past p g (end_of c) (end_of c) wav c m begun.bound is (max-least (end_of c) (free_frame m) p end) begun.lies.top (omega (arith, end, begun.lies.top)))
+          (λ n done goes past. (goes, past)))
           (λ n done both. by_state n done.0 (is_paused done.0.status.state) refl none is both.0 both.1)
 
 -- ---- a line as it is taken

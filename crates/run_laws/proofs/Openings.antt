@@ -8,6 +8,7 @@ use Rattle.hw_space.specs.declared.param_box.ParamBox.{ParamBox}
 use Rattle.hw_space.specs.ChoiceLaws.{IsChoice-unique, Leaves-unique}
 use Rattle.hw_space.specs.Choices.{IsChoice}
 use Rattle.hw_space.specs.Narrowings.{with_value}
+use Rattle.hw_space.specs.Settled.{Leaves}
 use Rattle.hw_space.specs.Widest.{widest}
 use Rattle.snd_base.specs.declared.geometry.Geometry.{Geometry}
 use Rattle.sw_limits.specs.declared.params.SwParams.{SwParams}
@@ -25,25 +26,22 @@ use Rattle.run_laws.specs.OneSession.{HaveOneSession}
 
 -- ---- configurations
 
+boxes-same : (b d e : ParamBox) → Leaves b (Some d) → Leaves b (Some e) → d ≡ e
+boxes-same b d e one other = let same : Some d ≡ Some e = Leaves-unique b (Some d) (Some e) one other in cc
+
 -- a space narrowed to values leaves one box, or nothing
 IsNarrowed-unique : (b : ParamBox) (values : Values) (o p : Option ParamBox) → IsNarrowed b values o → IsNarrowed b values p → o ≡ p
 IsNarrowed-unique b [] o p one other = one ∙ sym other
-IsNarrowed-unique b ((param, value) ∷ more) (Some x) (Some y) one other =
-    let same : Some one.0 ≡ Some other.0 = Leaves-unique (with_value b param value) (Some one.0) (Some other.0) one.1 other.1 in
-    let boxes : one.0 ≡ other.0 = cc in
-    IsNarrowed-unique other.0 more (Some x) (Some y) (subst (λ (d : ParamBox). IsNarrowed d more (Some x)) boxes one.2) other.2
+IsNarrowed-unique b ((param, value) ∷ more) (Some x) (Some y) one other = IsNarrowed-unique other.0 more (Some x) (Some y)
+    (subst (λ (d : ParamBox). IsNarrowed d more (Some x)) (boxes-same (with_value b param value) one.0 other.0 one.1 other.1) one.2) other.2
 IsNarrowed-unique b ((param, value) ∷ more) (Some x) None one (inl none) =
     let same : Some one.0 ≡ None = Leaves-unique (with_value b param value) (Some one.0) None one.1 none in absurd (cc)
-IsNarrowed-unique b ((param, value) ∷ more) (Some x) None one (inr other) =
-    let same : Some one.0 ≡ Some other.0 = Leaves-unique (with_value b param value) (Some one.0) (Some other.0) one.1 other.1 in
-    let boxes : one.0 ≡ other.0 = cc in
-    IsNarrowed-unique other.0 more (Some x) None (subst (λ (d : ParamBox). IsNarrowed d more (Some x)) boxes one.2) other.2
+IsNarrowed-unique b ((param, value) ∷ more) (Some x) None one (inr other) = IsNarrowed-unique other.0 more (Some x) None
+    (subst (λ (d : ParamBox). IsNarrowed d more (Some x)) (boxes-same (with_value b param value) one.0 other.0 one.1 other.1) one.2) other.2
 IsNarrowed-unique b ((param, value) ∷ more) None (Some y) (inl none) other =
     let same : Some other.0 ≡ None = Leaves-unique (with_value b param value) (Some other.0) None other.1 none in absurd (cc)
-IsNarrowed-unique b ((param, value) ∷ more) None (Some y) (inr one) other =
-    let same : Some one.0 ≡ Some other.0 = Leaves-unique (with_value b param value) (Some one.0) (Some other.0) one.1 other.1 in
-    let boxes : one.0 ≡ other.0 = cc in
-    IsNarrowed-unique other.0 more None (Some y) (subst (λ (d : ParamBox). IsNarrowed d more None) boxes one.2) other.2
+IsNarrowed-unique b ((param, value) ∷ more) None (Some y) (inr one) other = IsNarrowed-unique other.0 more None (Some y)
+    (subst (λ (d : ParamBox). IsNarrowed d more None) (boxes-same (with_value b param value) one.0 other.0 one.1 other.1) one.2) other.2
 IsNarrowed-unique b ((param, value) ∷ more) None None one other = refl
 
 -- how the choice ends on what is left
@@ -95,34 +93,34 @@ AreParams-unique config start stop a b one other =
 setup-same : (a b : Setup) → a.config ≡ b.config → a.bindings ≡ b.bindings → a.params ≡ b.params → a.lead ≡ b.lead → a ≡ b
 setup-same a b config bindings params lead = λ k. record { config = config k; bindings = bindings k; params = params k; lead = lead k }
 
+opened-same : (card : CardLine) (values : Values) (start : ℕ) (stop : Option Stop) (a b : Setup) → IsChosen card values (Ok a.config) → IsChosen card values (Ok b.config)
+    → AreParams a.config start stop a.params → AreParams b.config start stop b.params → a.bindings ≡ b.bindings → a.lead ≡ b.lead → a ≡ b
+opened-same card values start stop a b one other params others bindings lead =
+    let same : Ok a.config ≡ Ok b.config = IsChosen-unique card values (Ok a.config) (Ok b.config) one other in
+    let config : a.config ≡ b.config = cc in
+    setup-same a b config bindings
+    (AreParams-unique b.config start stop a.params b.params (subst (λ (c : Config). AreParams c start stop a.params) config params) others) lead
+
+-- values that leave a configuration don't leave none
+not-both : (card : CardLine) (values : Values) (config : Config) (e : Empty) → IsChosen card values (Ok config) → IsChosen card values (Err e) → ⊥
+not-both card values config e one none = let same : Ok config ≡ Err e = IsChosen-unique card values (Ok config) (Err e) one none in absurd (cc)
+
 -- a client is opened with one setup, or with none
 IsClientOpening-unique : (card : CardLine) (line : ClientLine) (wav : Sound) (a b : Option Setup)
     → IsClientOpening card line wav a → IsClientOpening card line wav b → a ≡ b
-IsClientOpening-unique card line wav (Some a) (Some b) one other =
-    let same : Ok a.config ≡ Ok b.config = IsChosen-unique card (client_values line wav) (Ok a.config) (Ok b.config) one.config other.config in
-    let config : a.config ≡ b.config = cc in
-    let params : a.params ≡ b.params =
-    AreParams-unique b.config line.start line.stop a.params b.params (subst (λ (c : Config). AreParams c line.start line.stop a.params) config one.params) other.params in
-    ap (λ x. Some x) (setup-same a b config (one.bindings ∙ sym other.bindings) params (one.lead ∙ sym other.lead))
-IsClientOpening-unique card line wav (Some a) None one (inl none) =
-    let same : Ok a.config ≡ Err none.0 = IsChosen-unique card (client_values line wav) (Ok a.config) (Err none.0) one.config none.1 in absurd (cc)
+IsClientOpening-unique card line wav (Some a) (Some b) one other = ap (λ x. Some x) (opened-same card (client_values line wav) line.start line.stop a b
+    one.config other.config one.params other.params (one.bindings ∙ sym other.bindings) (one.lead ∙ sym other.lead))
+IsClientOpening-unique card line wav (Some a) None one (inl none) = absurd (not-both card (client_values line wav) a.config none.0 one.config none.1)
 IsClientOpening-unique card line wav (Some a) None one (inr other) = absurd (other (ap length (sym one.bindings) ∙ one.channels))
-IsClientOpening-unique card line wav None (Some b) (inl none) other =
-    let same : Ok b.config ≡ Err none.0 = IsChosen-unique card (client_values line wav) (Ok b.config) (Err none.0) other.config none.1 in absurd (cc)
+IsClientOpening-unique card line wav None (Some b) (inl none) other = absurd (not-both card (client_values line wav) b.config none.0 other.config none.1)
 IsClientOpening-unique card line wav None (Some b) (inr one) other = absurd (one (ap length (sym other.bindings) ∙ other.channels))
 IsClientOpening-unique card line wav None None one other = refl
 
 IsReaderOpening-unique : (card : CardLine) (line : ReaderLine) (a b : Option Setup) → IsReaderOpening card line a → IsReaderOpening card line b → a ≡ b
-IsReaderOpening-unique card line (Some a) (Some b) one other =
-    let same : Ok a.config ≡ Ok b.config = IsChosen-unique card (reader_values card line) (Ok a.config) (Ok b.config) one.config other.config in
-    let config : a.config ≡ b.config = cc in
-    let params : a.params ≡ b.params =
-    AreParams-unique b.config line.start line.stop a.params b.params (subst (λ (c : Config). AreParams c line.start line.stop a.params) config one.params) other.params in
-    ap (λ x. Some x) (setup-same a b config (one.bindings ∙ sym other.bindings) params (one.lead ∙ sym other.lead))
-IsReaderOpening-unique card line (Some a) None one none =
-    let same : Ok a.config ≡ Err none.0 = IsChosen-unique card (reader_values card line) (Ok a.config) (Err none.0) one.config none.1 in absurd (cc)
-IsReaderOpening-unique card line None (Some b) none other =
-    let same : Ok b.config ≡ Err none.0 = IsChosen-unique card (reader_values card line) (Ok b.config) (Err none.0) other.config none.1 in absurd (cc)
+IsReaderOpening-unique card line (Some a) (Some b) one other = ap (λ x. Some x) (opened-same card (reader_values card line) line.start line.stop a b
+    one.config other.config one.params other.params (one.bindings ∙ sym other.bindings) (one.lead ∙ sym other.lead))
+IsReaderOpening-unique card line (Some a) None one none = absurd (not-both card (reader_values card line) a.config none.0 one.config none.1)
+IsReaderOpening-unique card line None (Some b) none other = absurd (not-both card (reader_values card line) b.config none.0 other.config none.1)
 IsReaderOpening-unique card line None None one other = refl
 
 -- the clients of a script, and its readers, are opened with the same setups

@@ -1,10 +1,10 @@
 -- The rows of one actor among those of a phase, where the phase leaves no choice.
-use Rattle.std.proofs.Common.{◌≡◌, ℕ, ◌<◌, ◌+◌, refl, ◌∙◌, ap, arith, length}
+use Rattle.std.proofs.Common.{◌≡◌, ℕ, ◌<◌, ◌≤◌, ◌+◌, refl, sym, ◌∙◌, ap, subst, arith, length}
 use Rattle.std.proofs.lemmas.Bool.{eq-eqb}
 use Rattle.std.proofs.lemmas.Bool.Decides.{nat_tests}
-use Rattle.std.proofs.lemmas.List.{append-nil, map-append}
+use Rattle.std.proofs.lemmas.List.{append_assoc, append-nil, map-append}
 use Rattle.std.proofs.lemmas.List.Elements.{filter-append}
-use Rattle.std.specs.Prelude.{Bool, true, false, nat_eq, List, [], ◌∷◌, ◌++◌, filter, map, slice_index_or, zero, suc}
+use Rattle.std.specs.Prelude.{Bool, true, false, if◌then◌else◌, nat_eq, List, [], ◌∷◌, ◌++◌, filter, map, slice_index_or, zero, suc}
 use Rattle.lab_lines.specs.declared.line.Actor.{Actor}
 use Rattle.lab_lines.specs.declared.line.Actor.TheVariants.{Card}
 use Rattle.lab_lines.specs.declared.line.Op.{Op}
@@ -13,10 +13,10 @@ use Rattle.lab_lines.specs.Script.{played_by}
 use Rattle.lab_lines.specs.declared.row.Answer.{Answer}
 use Rattle.lab_lines.specs.declared.row.Row.{Row}
 use Rattle.lab_run.specs.LabRun.{with_numbers}
-use Rattle.lab_run.specs.Lines.{Kind, each_text, line_text, lines_text}
+use Rattle.lab_run.specs.Lines.{EachMay, Kind, LinesMay, each_text, line_text, lines_text}
 use Rattle.lab_run.specs.OwnRows.{NoneOpen, answers_of, is_opening, rows_by}
 use Rattle.lab_run.specs.Phases.{card_row, card_rows}
-use Rattle.lab_run.specs.Rules.{AtPort, CardEnd}
+use Rattle.lab_run.specs.Rules.{AtPort, CardEnd, Rules}
 
 -- one row more, of another actor and of this one
 pub other-row : (is_theirs : Actor → Bool) (rows : List Row) (row : Row) → is_theirs row.actor ≡ false → rows_by is_theirs (rows ++ row ∷ []) ≡ rows_by is_theirs rows
@@ -32,75 +32,127 @@ own-row is_theirs rows row is = filter-append _ rows (row ∷ []) ∙ ap (λ r. 
     one e = rw e refl
 
 -- the rows of an actor's lines are all this actor's, or none
-lines-own : {S : Type 0} (is_theirs : Actor → Bool) (kind : Kind S) (card : CardEnd) (x : AtPort × S) (ops : List Op)
-    → ((asked : Op) (s : S) (answer : Answer) → is_theirs (kind.row asked s answer).actor ≡ true)
-    → rows_by is_theirs (lines_text kind card x ops).1 ≡ (lines_text kind card x ops).1
-lines-own is_theirs kind card x [] is = refl
-lines-own is_theirs kind card x (asked ∷ more) is =
+text-rows : {S : Type 0} (is_theirs : Actor → Bool) (b : Bool) (kind : Kind S) (card : CardEnd) (x : AtPort × S) (ops : List Op)
+    → ((asked : Op) (s : S) (answer : Answer) → is_theirs (kind.row asked s answer).actor ≡ b)
+    → rows_by is_theirs (lines_text kind card x ops).1 ≡ (if b then (lines_text kind card x ops).1 else [])
+text-rows is_theirs true kind card x [] is = refl
+text-rows is_theirs false kind card x [] is = refl
+text-rows is_theirs true kind card x (asked ∷ more) is =
     let done = line_text kind card x asked in
-    rw (is asked done.0.1 done.1) (ap (λ rows. kind.row asked done.0.1 done.1 ∷ rows) (lines-own is_theirs kind card done.0 more is))
-
-lines-other : {S : Type 0} (is_theirs : Actor → Bool) (kind : Kind S) (card : CardEnd) (x : AtPort × S) (ops : List Op)
-    → ((asked : Op) (s : S) (answer : Answer) → is_theirs (kind.row asked s answer).actor ≡ false)
-    → rows_by is_theirs (lines_text kind card x ops).1 ≡ []
-lines-other is_theirs kind card x [] is = refl
-lines-other is_theirs kind card x (asked ∷ more) is =
+    rw (is asked done.0.1 done.1) (ap (λ rows. kind.row asked done.0.1 done.1 ∷ rows) (text-rows is_theirs true kind card done.0 more is))
+text-rows is_theirs false kind card x (asked ∷ more) is =
     let done = line_text kind card x asked in
-    rw (is asked done.0.1 done.1) (lines-other is_theirs kind card done.0 more is)
+    rw (is asked done.0.1 done.1) (text-rows is_theirs false kind card done.0 more is)
 
--- actors of a kind none of which is this one
-pub each-other : {S : Type 0} (is_theirs : Actor → Bool) (kind : ℕ → Kind S) (card : CardEnd) (ops : ℕ → List Op) (number : ℕ) (actors : List (AtPort × S))
-    → ((m : ℕ) (asked : Op) (s : S) (answer : Answer) → is_theirs ((kind m).row asked s answer).actor ≡ false)
-    → rows_by is_theirs (each_text kind card ops number actors).1 ≡ []
-each-other is_theirs kind card ops number [] is = refl
-each-other is_theirs kind card ops number (x ∷ actors) is =
-    filter-append _ (lines_text (kind number) card x (ops number)).1 (each_text kind card ops (number + 1) actors).1
-    ∙ ap (λ r. r ++ rows_by is_theirs (each_text kind card ops (number + 1) actors).1) (lines-other is_theirs (kind number) card x (ops number) (is number))
-    ∙ ap (λ r. [] ++ r) (each-other is_theirs kind card ops (number + 1) actors is)
+may-rows : {S : Type 0} (is_theirs : Actor → Bool) (b : Bool) (kind : Kind S) (rules : Rules) (x y : AtPort × S) (ops : List Op) (rows : List Row)
+    → ((asked : Op) (s : S) (answer : Answer) → is_theirs (kind.row asked s answer).actor ≡ b) → LinesMay kind rules x ops y rows
+    → rows_by is_theirs rows ≡ (if b then rows else [])
+may-rows is_theirs true kind rules x y [] rows is (same, none) = rw none refl
+may-rows is_theirs false kind rules x y [] rows is (same, none) = rw none refl
+may-rows is_theirs true kind rules x y (asked ∷ ops) rows is (between, answer, others, may, rest, are) =
+    rw are (rw (is asked between.1 answer) (ap (λ r. kind.row asked between.1 answer ∷ r) (may-rows is_theirs true kind rules between y ops others is rest)))
+may-rows is_theirs false kind rules x y (asked ∷ ops) rows is (between, answer, others, may, rest, are) =
+    rw are (rw (is asked between.1 answer) (may-rows is_theirs false kind rules between y ops others is rest))
 
--- a kind's rows of a number are this actor's exactly where the number is its own
-abbrev pub AreNumbered : {S : Type 0} → (Actor → Bool) → (ℕ → Kind S) → ℕ → Type 0
-AreNumbered {S = S} is_theirs kind n = (m : ℕ) (asked : Op) (s : S) (answer : Answer) → is_theirs ((kind m).row asked s answer).actor ≡ nat_eq m n
+-- ---- the actors of a kind, by what the lines of each do
 
--- the actors from a number on that is past this one's
-each-past : {S : Type 0} (is_theirs : Actor → Bool) (n : ℕ) (kind : ℕ → Kind S) (card : CardEnd) (ops : ℕ → List Op) (number : ℕ) (actors : List (AtPort × S))
-    → n < number → AreNumbered is_theirs kind n → rows_by is_theirs (each_text kind card ops number actors).1 ≡ []
-each-past is_theirs n kind card ops number [] low is = refl
-each-past is_theirs n kind card ops number (x ∷ actors) low is =
-    filter-append _ (lines_text (kind number) card x (ops number)).1 (each_text kind card ops (number + 1) actors).1
-    ∙ ap (λ r. r ++ rows_by is_theirs (each_text kind card ops (number + 1) actors).1)
-    (lines-other is_theirs (kind number) card x (ops number) (λ asked s answer. is number asked s answer ∙ other))
-    ∙ ap (λ r. [] ++ r) (each-past is_theirs n kind card ops (number + 1) actors (omega arith) is)
-  where
-    other : nat_eq number n ≡ false
-    other = grind (arith, nat_tests)
+abbrev pub EachBy : {S : Type 0} → (ℕ → AtPort × S → AtPort × S → List Row → Type 0) → ℕ → List (AtPort × S) → List (AtPort × S) → List Row → Type 0
+EachBy R number [] after rows = (after ≡ []) × (rows ≡ [])
+EachBy {S = S} R number (x ∷ actors) after rows =
+    (own : AtPort × S) × (others : List (AtPort × S)) × (own_rows : List Row) × (other_rows : List Row)
+    × R number x own own_rows × EachBy R (number + 1) actors others other_rows × (after ≡ own ∷ others) × (rows ≡ own_rows ++ other_rows)
 
--- the rows of the actor, and the actor after them
-pub record EachAt {S : Type 0} (is_theirs : Actor → Bool) (n : ℕ) (kind : ℕ → Kind S) (card : CardEnd) (ops : ℕ → List Op) (number i : ℕ) (actors : List (AtPort × S)) (d : AtPort × S) : Type 0 where
-  pub rows : rows_by is_theirs (each_text kind card ops number actors).1 ≡ (lines_text (kind n) card (slice_index_or actors i d) (ops n)).1
-  pub actor : slice_index_or (each_text kind card ops number actors).0 i d ≡ (lines_text (kind n) card (slice_index_or actors i d) (ops n)).0
+-- the lines of a phase that leaves no choice, and those of any
+abbrev pub TextOf : {S : Type 0} → (ℕ → Kind S) → CardEnd → (ℕ → List Op) → ℕ → AtPort × S → AtPort × S → List Row → Type 0
+TextOf kind card ops n x y rows = (y ≡ (lines_text (kind n) card x (ops n)).0) × (rows ≡ (lines_text (kind n) card x (ops n)).1)
 
-pub each-at : {S : Type 0} (is_theirs : Actor → Bool) (n : ℕ) (kind : ℕ → Kind S) (card : CardEnd) (ops : ℕ → List Op) (number i : ℕ) (actors : List (AtPort × S)) (d : AtPort × S)
-    → number + i ≡ n → i < length actors → AreNumbered is_theirs kind n → EachAt is_theirs n kind card ops number i actors d
-each-at is_theirs n kind card ops number i [] d at low is = absurd (omega (arith, low))
-each-at is_theirs n kind card ops number zero (x ∷ actors) d at low is = record {
-  rows = filter-append _ (lines_text (kind number) card x (ops number)).1 (each_text kind card ops (number + 1) actors).1
-      ∙ ap (λ r. rows_by is_theirs (lines_text (kind number) card x (ops number)).1 ++ r) (each-past is_theirs n kind card ops (number + 1) actors (omega (arith, at)) is)
-      ∙ append-nil (rows_by is_theirs (lines_text (kind number) card x (ops number)).1)
-      ∙ lines-own is_theirs (kind number) card x (ops number) (λ asked s answer. is number asked s answer ∙ eq-eqb number n here)
-      ∙ ap (λ m. (lines_text (kind m) card x (ops m)).1) here;
-  actor = ap (λ m. (lines_text (kind m) card x (ops m)).0) here;
+abbrev pub MayOf : {S : Type 0} → (ℕ → Kind S) → Rules → (ℕ → List Op) → ℕ → AtPort × S → AtPort × S → List Row → Type 0
+MayOf kind rules ops n x y rows = LinesMay (kind n) rules x (ops n) y rows
+
+pub text-each : {S : Type 0} (kind : ℕ → Kind S) (card : CardEnd) (ops : ℕ → List Op) (number : ℕ) (actors : List (AtPort × S))
+    → EachBy (TextOf kind card ops) number actors (each_text kind card ops number actors).0 (each_text kind card ops number actors).1
+text-each kind card ops number [] = (refl, refl)
+text-each kind card ops number (x ∷ actors) = (
+  (lines_text (kind number) card x (ops number)).0,
+  (each_text kind card ops (number + 1) actors).0,
+  (lines_text (kind number) card x (ops number)).1,
+  (each_text kind card ops (number + 1) actors).1,
+  (refl, refl),
+  text-each kind card ops (number + 1) actors,
+  refl,
+  refl,
+)
+
+pub may-each : {S : Type 0} (kind : ℕ → Kind S) (rules : Rules) (ops : ℕ → List Op) (number : ℕ) (actors after : List (AtPort × S)) (rows : List Row)
+    → EachMay kind rules ops number actors after rows → EachBy (MayOf kind rules ops) number actors after rows
+may-each kind rules ops number [] after rows may = may
+may-each kind rules ops number (x ∷ actors) after rows (own, others, own_rows, other_rows, may, rest, same, are) =
+    (own, others, own_rows, other_rows, may, may-each kind rules ops (number + 1) actors others other_rows rest, same, are)
+
+-- the rows of the lines of a number are all this actor's, or none
+abbrev pub HasRowsOf : {S : Type 0} → (Actor → Bool) → (ℕ → Bool) → (ℕ → AtPort × S → AtPort × S → List Row → Type 0) → Type 0
+HasRowsOf {S = S} is_theirs is_own R = (m : ℕ) (x y : AtPort × S) (rows : List Row) → R m x y rows → rows_by is_theirs rows ≡ (if is_own m then rows else [])
+
+-- a kind's rows of a number are this actor's exactly where a test of the number says so
+abbrev pub AreOf : {S : Type 0} → (Actor → Bool) → (ℕ → Bool) → (ℕ → Kind S) → Type 0
+AreOf {S = S} is_theirs is_own kind = (m : ℕ) (asked : Op) (s : S) (answer : Answer) → is_theirs ((kind m).row asked s answer).actor ≡ is_own m
+
+pub text-of : {S : Type 0} (is_theirs : Actor → Bool) (is_own : ℕ → Bool) (kind : ℕ → Kind S) (card : CardEnd) (ops : ℕ → List Op) → AreOf is_theirs is_own kind
+    → HasRowsOf is_theirs is_own (TextOf kind card ops)
+text-of is_theirs is_own kind card ops are m x y rows (same, is) = rw is (text-rows is_theirs (is_own m) (kind m) card x (ops m) (are m))
+
+pub may-of : {S : Type 0} (is_theirs : Actor → Bool) (is_own : ℕ → Bool) (kind : ℕ → Kind S) (rules : Rules) (ops : ℕ → List Op) → AreOf is_theirs is_own kind
+    → HasRowsOf is_theirs is_own (MayOf kind rules ops)
+may-of is_theirs is_own kind rules ops are m x y rows may = may-rows is_theirs (is_own m) (kind m) rules x y (ops m) rows (are m) may
+
+module _ {S : Type 0} (is_theirs : Actor → Bool) (is_own : ℕ → Bool) (R : ℕ → AtPort × S → AtPort × S → List Row → Type 0) (has : HasRowsOf is_theirs is_own R) where
+  -- the first rows, where they aren't this actor's
+  past-first : (number : ℕ) (x own : AtPort × S) (own_rows other_rows rows : List Row) → is_own number ≡ false → R number x own own_rows → rows ≡ own_rows ++ other_rows
+      → rows_by is_theirs rows ≡ rows_by is_theirs other_rows
+  past-first number x own own_rows other_rows rows other does are =
+      ap (rows_by is_theirs) are ∙ filter-append _ own_rows other_rows
+      ∙ ap (λ r. r ++ rows_by is_theirs other_rows) (has number x own own_rows does ∙ ap (λ (b : Bool). if b then own_rows else []) other)
+
+  -- actors from a number on none of which is this one
+  pub each-other : (number : ℕ) (actors after : List (AtPort × S)) (rows : List Row) → ((m : ℕ) → number ≤ m → is_own m ≡ false) → EachBy R number actors after rows
+      → rows_by is_theirs rows ≡ []
+  each-other number [] after rows other (same, none) = rw none refl
+  each-other number (x ∷ actors) after rows other (own, others, own_rows, other_rows, does, rest, same, are) =
+      past-first number x own own_rows other_rows rows (other number (omega arith)) does are
+      ∙ each-other (number + 1) actors others other_rows (λ m low. other m (omega (arith, low))) rest
+
+pub each-size : {S : Type 0} (R : ℕ → AtPort × S → AtPort × S → List Row → Type 0) (number : ℕ) (actors after : List (AtPort × S)) (rows : List Row)
+    → EachBy R number actors after rows → length after ≡ length actors
+each-size R number [] after rows (same, none) = ap length same
+each-size R number (x ∷ actors) after rows (own, others, own_rows, other_rows, does, rest, same, are) =
+    ap length same ∙ ap suc (each-size R (number + 1) actors others other_rows rest)
+
+-- the rows of the actor of a number, and the actor after them
+pub record EachAt {S : Type 0} (is_theirs : Actor → Bool) (n : ℕ) (R : ℕ → AtPort × S → AtPort × S → List Row → Type 0) (i : ℕ) (actors after : List (AtPort × S)) (rows : List Row) (d : AtPort × S) : Type 0 where
+  pub own : List Row
+  pub does : R n (slice_index_or actors i d) (slice_index_or after i d) own
+  pub rows_are : rows_by is_theirs rows ≡ own
+
+pub each-at : {S : Type 0} (is_theirs : Actor → Bool) (n : ℕ) (R : ℕ → AtPort × S → AtPort × S → List Row → Type 0) → HasRowsOf is_theirs (λ m. nat_eq m n) R
+    → (number i : ℕ) (actors after : List (AtPort × S)) (rows : List Row) (d : AtPort × S) → number + i ≡ n → i < length actors → EachBy R number actors after rows
+    → EachAt is_theirs n R i actors after rows d
+each-at is_theirs n R has number i [] after rows d at low each = absurd (omega (arith, low))
+each-at {S = S} is_theirs n R has number zero (x ∷ actors) after rows d at low (own, others, own_rows, other_rows, does, rest, same, are) = record {
+  own = own_rows;
+  does = subst (λ (a : List (AtPort × S)). R n x (slice_index_or a 0 d) own_rows) (sym same) (subst (λ m. R m x own own_rows) here does);
+  rows_are = ap (rows_by is_theirs) are ∙ filter-append _ own_rows other_rows
+      ∙ ap (λ r. rows_by is_theirs own_rows ++ r) (each-other is_theirs (λ m. nat_eq m n) R has (number + 1) actors others other_rows (λ m past. grind (arith, nat_tests, past, here)) rest)
+      ∙ append-nil (rows_by is_theirs own_rows)
+      ∙ has number x own own_rows does ∙ ap (λ (b : Bool). if b then own_rows else []) (eq-eqb number n here);
 }
   where
     here : number ≡ n
     here = omega (arith, at)
-each-at is_theirs n kind card ops number (suc i) (x ∷ actors) d at low is =
-    let rest = each-at is_theirs n kind card ops (number + 1) i actors d (omega (arith, at)) (omega (arith, low)) is in record {
-      rows = filter-append _ (lines_text (kind number) card x (ops number)).1 (each_text kind card ops (number + 1) actors).1
-          ∙ ap (λ r. r ++ rows_by is_theirs (each_text kind card ops (number + 1) actors).1)
-          (lines-other is_theirs (kind number) card x (ops number) (λ asked s answer. is number asked s answer ∙ other))
-          ∙ rest.rows;
-      actor = rest.actor;
+each-at {S = S} is_theirs n R has number (suc i) (x ∷ actors) after rows d at low (own, others, own_rows, other_rows, does, rest, same, are) =
+    let more = each-at is_theirs n R has (number + 1) i actors others other_rows d (omega (arith, at)) (omega (arith, low)) rest in record {
+      own = more.own;
+      does = subst (λ (a : List (AtPort × S)). R n (slice_index_or actors i d) (slice_index_or a (suc i) d) more.own) (sym same) more.does;
+      rows_are = past-first is_theirs (λ m. nat_eq m n) R has number x own own_rows other_rows rows other does are ∙ more.rows_are;
     }
   where
     other : nat_eq number n ≡ false
@@ -132,16 +184,14 @@ pub map-size : {A B : Type 0} (f : A → B) (xs : List A) → length (map f xs) 
 map-size f [] = refl
 map-size f (x ∷ xs) = ap suc (map-size f xs)
 
-pub each-size : {S : Type 0} (kind : ℕ → Kind S) (card : CardEnd) (ops : ℕ → List Op) (number : ℕ) (actors : List (AtPort × S))
-    → length (each_text kind card ops number actors).0 ≡ length actors
-each-size kind card ops number [] = refl
-each-size kind card ops number (x ∷ actors) = ap suc (each-size kind card ops (number + 1) actors)
-
--- the rows of four lists
-pub four-rows : (is_theirs : Actor → Bool) (a b c d : List Row)
-    → rows_by is_theirs (a ++ b ++ c ++ d) ≡ rows_by is_theirs a ++ rows_by is_theirs b ++ rows_by is_theirs c ++ rows_by is_theirs d
-four-rows is_theirs a b c d =
-    filter-append _ (a ++ b ++ c) d ∙ ap (λ r. r ++ rows_by is_theirs d) (filter-append _ (a ++ b) c ∙ ap (λ r. r ++ rows_by is_theirs c) (filter-append _ a b))
+-- the rows of a phase: none of the card's are this actor's, and of those of clients and readers its own
+pub phase-rows : (is_theirs : Actor → Bool) (a cards c d own : List Row) → rows_by is_theirs cards ≡ [] → rows_by is_theirs c ++ rows_by is_theirs d ≡ own
+    → rows_by is_theirs (a ++ cards ++ c ++ d) ≡ rows_by is_theirs a ++ own
+phase-rows is_theirs a cards c d own none is =
+    filter-append _ (a ++ cards ++ c) d
+    ∙ ap (λ r. r ++ rows_by is_theirs d) (filter-append _ (a ++ cards) c ∙ ap (λ r. r ++ rows_by is_theirs c)
+    (filter-append _ a cards ∙ ap (λ r. rows_by is_theirs a ++ r) none ∙ append-nil (rows_by is_theirs a)))
+    ∙ append_assoc (rows_by is_theirs a) (rows_by is_theirs c) (rows_by is_theirs d) ∙ ap (λ r. rows_by is_theirs a ++ r) is
 
 -- the members of what is numbered that have a number
 abbrev pub members_of : {Y : Type 0} → ℕ → List (ℕ × Y) → List Y

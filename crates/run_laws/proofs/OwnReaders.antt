@@ -1,84 +1,65 @@
 -- What a reader does where no phase leaves a choice is what it does by itself.
-use Rattle.std.proofs.Common.{◌≡◌, ℕ, ◌<◌, ◌+◌, refl, sym, ◌∙◌, ap, subst, arith, Option, Some, None, length}
+use Rattle.std.proofs.Common.{◌≡◌, ℕ, ◌<◌, refl, sym, ◌∙◌, ap, subst, arith, Option, Some, None, length}
 use Rattle.std.proofs.lemmas.Bool.{eq-eqb, eqb-true}
-use Rattle.std.proofs.lemmas.List.{append-nil, get_or-set_same, get_or-set_other, length-set}
-use Rattle.std.specs.Prelude.{Bool, true, false, nat_eq, List, [], ◌∷◌, ◌++◌, map, slice_index_or, Result, Ok, Err}
-use Rattle.snd_base.specs.declared.errors.PcmError.{PcmError}
+use Rattle.std.proofs.lemmas.List.{get_or-set_same, get_or-set_other, length-set}
+use Rattle.std.specs.Prelude.{Bool, true, false, nat_eq, List, [], ◌∷◌, ◌++◌, map, slice_index_or}
 use Rattle.wav_io.specs.Sound.{Sound}
-use Rattle.dmix_client.specs.declared.stream.PlaybackStream as playing
+use Rattle.dmix_client.specs.declared.stream.PlaybackStream.{PlaybackStream}
 use Rattle.dsnoop_client.specs.declared.stream.CaptureStream.{CaptureStream}
+use Rattle.lab_lines.specs.declared.line.Actor.{Actor}
 use Rattle.lab_lines.specs.declared.line.Actor.TheVariants as actor
 use Rattle.lab_lines.specs.declared.line.Item.{Item}
-use Rattle.lab_lines.specs.declared.line.Item.TheVariants as item
 use Rattle.lab_lines.specs.declared.line.Line.{Line}
 use Rattle.lab_lines.specs.declared.line.Op.{Op}
-use Rattle.lab_lines.specs.Script.{first_frame, is_of_card, unplugs}
+use Rattle.lab_lines.specs.Script.{first_frame, is_of_card}
 use Rattle.lab_lines.specs.declared.row.Answer.{Answer}
 use Rattle.lab_lines.specs.declared.row.Row.{Row}
-use Rattle.lab_run.specs.Claims.{claim_refusal}
-use Rattle.lab_run.specs.Client.{Client}
 use Rattle.lab_run.specs.Client as clients
-use Rattle.lab_run.specs.Items.{card_end, client_kinds, clients_text, is_reader_stopped, item_text, items_text, phase_text, reader_kinds, readers_text, reaped_reader, reaped_reader_if}
+use Rattle.lab_run.specs.Items.{is_reader_stopped, card_end, client_kinds, clients_text, items_text, phase_text, reader_kinds, readers_text, reaped_reader, reaped_reader_if}
 use Rattle.lab_run.specs.LabRun.{lab_text, with_numbers, runs_of}
 use Rattle.lab_run.specs.Lines.{lines_text}
-use Rattle.lab_run.specs.OwnRows.{Alone, Given, HasLines, HaveLines, IsReaderAlone, NoneOpen, alone_at, alone_by, answers_of, given_reader, own_item, own_items, own_close, own_open, phase_alone, reaped_by, rows_by, runs_by}
-use Rattle.lab_run.specs.Phases.{is_client, is_reader, ops_by, played_in}
-use Rattle.lab_run.specs.Places.{Lobby, after_attach}
-use Rattle.lab_run.specs.Reader.{Reader, row_by}
+use Rattle.lab_run.specs.OwnRows.{Alone, alone_at, alone_by, answers_of, own_items, rows_by, HaveLines, IsReaderAlone, given_reader, own_close, own_open, reaped_by, runs_by}
+use Rattle.lab_run.specs.Phases.{is_client, is_reader, ops_by}
+use Rattle.lab_run.specs.Reader.{Reader}
+use Rattle.lab_run.specs.Reader as readers
 use Rattle.lab_run.specs.Rules.{AtPort, CardEnd}
-use Rattle.lab_run.specs.Stage.{Session, Setup, Stage, after_close, after_open, attached_client, claimed_client, client_at, close_client, close_reader, first_stage, no_reader, open_client, open_client_with, open_reader, open_reader_with, reader_at}
-use Rattle.run_laws.proofs.OwnItems.{ItemAlone, close-item, items-then, not-own, open-item, other-item, other-view, own-view, view_of}
-use Rattle.run_laws.proofs.OwnLines.{EachAt, cards-other, constant-at, each-at, each-other, each-size, four-rows, map-at, map-size, members_of, none-answers, numbered-at, own-row}
+use Rattle.lab_run.specs.Stage.{Session, Setup, Stage, after_close, after_open, close_reader, first_stage, no_reader, open_reader, open_reader_with, reader_at}
+use Rattle.lab_run.proofs.BorderLaws.{Border}
+use Rattle.run_laws.proofs.OwnActors.{IsOwn, ItemAlone, LeavesOthers, Own, PhaseOf, closes-own, items-size, not-own, opens-own, other-view, own-alone, view, view_of}
+use Rattle.run_laws.proofs.OwnLines.{EachAt, TextOf, cards-other, constant-at, each-at, each-other, each-size, map-at, map-size, members_of, numbered-at, phase-rows, text-each, text-of}
 
+-- a reader of a session
+abbrev pub reader_own : Session → ℕ → Own Reader
+reader_own session n = record {
+  is_theirs = is_reader n;
+  actors = λ stage. stage.readers;
+  number = n;
+  nobody = no_reader session.ring;
+  given = given_reader session.ring n (slice_index_or session.readers n None);
+}
+
+pub reader-border : (session : Session) (n : ℕ) (stage : Stage) (who : Actor) → Border session stage who (LeavesOthers (reader_own session n) who stage)
+reader-border session n stage who = record {
+  none = λ card. record { same = λ other. refl; size = refl };
+  refused = λ lobby row of. record { same = λ other. other-view (is_reader n) _ _ stage row refl (rw of other); size = refl };
+  client = λ m client lobby claims row who_is of segments. record { same = λ other. other-view (is_reader n) _ _ stage row refl (ap (is_reader n) of); size = refl };
+  reader = λ m own anew row who_is of. record {
+    same = λ other. let another : nat_eq m n ≡ false = ap (is_reader n) (sym who_is) ∙ other in
+        other-view (is_reader n) _ _ stage row (get_or-set_other stage.readers m n _ _ (not-own n m another)) (ap (is_reader n) of ∙ another);
+    size = length-set stage.readers m _;
+  };
+}
+
+-- ---- items of the reader's own
+
+-- who has the reader's rows is the reader
 pub is-own : (n : ℕ) → is_reader n (actor.Reader n) ≡ true
 is-own n = eq-eqb n n refl
 
-abbrev pub given_of : Session → ℕ → Given Reader
-given_of session n = given_reader session.ring n (slice_index_or session.readers n None)
-
--- what a stage is to a reader
-abbrev pub reader_view : Session → ℕ → Stage → Alone Reader
-reader_view session n stage = view_of (is_reader n) (reader_at session stage n) stage
-
--- ---- items of other actors
-
-pub open_reader-other : (session : Session) (stage : Stage) (n m : ℕ) (x : AtPort × Reader) (own : Option CaptureStream) → nat_eq m n ≡ false
-    → reader_view session n (open_reader session stage m x own) ≡ reader_view session n stage
-open_reader-other session stage n m x (Some r) is = other-view (is_reader n) _ _ stage _ refl is
-open_reader-other session stage n m (a, reader) None is = by_setup (slice_index_or session.readers m None)
-  where
-    by_setup : (setup : Option Setup) → reader_view session n (open_reader_with session stage m setup (a, reader)) ≡ reader_view session n stage
-    by_setup None = other-view (is_reader n) _ _ stage _ refl is
-    by_setup (Some setup) = other-view (is_reader n) _ _ stage _ (get_or-set_other stage.readers m n _ _ (not-own n m is)) is
-
-pub close_reader-other : (session : Session) (stage : Stage) (n m : ℕ) (x : AtPort × Reader) (own : Option CaptureStream) → nat_eq m n ≡ false
-    → reader_view session n (close_reader session stage m x own) ≡ reader_view session n stage
-close_reader-other session stage n m x None is = other-view (is_reader n) _ _ stage _ refl is
-close_reader-other session stage n m x (Some r) is = other-view (is_reader n) _ _ stage _ (get_or-set_other stage.readers m n _ _ (not-own n m is)) is
-
-pub open_client-other : (session : Session) (stage : Stage) (n m : ℕ) (x : AtPort × Client) (own : Option playing.PlaybackStream)
-    → reader_view session n (open_client session stage m x own) ≡ reader_view session n stage
-open_client-other session stage n m x (Some c) = other-view (is_reader n) _ _ stage _ refl refl
-open_client-other session stage n m x None = by_setup (slice_index_or session.clients m None)
-  where
-    by_answer : (setup : Setup) (at : Lobby × Result (Unit {0}) PcmError) → reader_view session n (attached_client session stage m setup x at) ≡ reader_view session n stage
-    by_answer setup (lobby, Ok done) = other-view (is_reader n) _ _ stage _ refl refl
-    by_answer setup (lobby, Err e) = other-view (is_reader n) _ _ stage _ refl refl
-
-    by_claim : (setup : Setup) (refusal : Option PcmError) → reader_view session n (claimed_client session stage m setup x refusal) ≡ reader_view session n stage
-    by_claim setup (Some e) = other-view (is_reader n) _ _ stage _ refl refl
-    by_claim setup None = by_answer setup (after_attach m stage.position stage.lobby)
-
-    by_setup : (setup : Option Setup) → reader_view session n (open_client_with session stage m setup x) ≡ reader_view session n stage
-    by_setup None = other-view (is_reader n) _ _ stage _ refl refl
-    by_setup (Some setup) = by_claim setup (claim_refusal session.card.share stage.claims setup.bindings stage.position)
-
-pub close_client-other : (session : Session) (stage : Stage) (n m : ℕ) (x : AtPort × Client) (own : Option playing.PlaybackStream)
-    → reader_view session n (close_client session stage m x own) ≡ reader_view session n stage
-close_client-other session stage n m x None = other-view (is_reader n) _ _ stage _ refl refl
-close_client-other session stage n m x (Some c) = other-view (is_reader n) _ _ stage _ refl refl
-
--- ---- items of the reader's own
+pub own-number : (n : ℕ) (who : Actor) → is_reader n who ≡ true → actor.Reader n ≡ who
+own-number n actor.Card is = absurd (cc)
+own-number n (actor.Client m) is = absurd (cc)
+own-number n (actor.Reader m) is = ap actor.Reader (sym (eqb-true m n is))
 
 -- a reader with its parts
 abbrev pub reader_with : AtPort → Option CaptureStream → List ℕ → AtPort × Reader
@@ -86,181 +67,85 @@ reader_with a own frames = (a, record { own = own; frames = frames })
 
 open-own : (session : Session) (n : ℕ) (stage : Stage) (a : AtPort) (own : Option CaptureStream) (frames : List ℕ) → n < length stage.readers
     → reader_at session stage n ≡ reader_with a own frames
-    → ItemAlone (given_of session n) (view_of (is_reader n) (reader_with a own frames) stage) (reader_view session n (open_reader session stage n (reader_with a own frames) own)) (own_open ∷ [])
-open-own session n stage a (Some r) frames there is =
-    open-item (given_of session n) _ _ _ refl (own-row (is_reader n) stage.rows _ (is-own n)) (own-view (is_reader n) _ _ stage _ is (is-own n))
+    → ItemAlone (reader_own session n).given (view_of (is_reader n) (reader_with a own frames) stage)
+    (view (reader_own session n) (open_reader session stage n (reader_with a own frames) own)) (own_open ∷ [])
+open-own session n stage a (Some r) frames there is = opens-own _ (is_reader n) _ _ _ stage _ refl (is-own n) is refl
 open-own session n stage a None frames there is = by_setup (slice_index_or session.readers n None) refl
   where
     by_setup : (setup : Option Setup) → slice_index_or session.readers n None ≡ setup
-        → ItemAlone (given_of session n) (view_of (is_reader n) (reader_with a None frames) stage) (reader_view session n (open_reader_with session stage n setup (reader_with a None frames))) (own_open ∷ [])
-    by_setup None given = open-item (given_of session n) _ _ _ refl (own-row (is_reader n) stage.rows _ (is-own n))
-        (rw given (own-view (is_reader n) _ _ stage _ is (is-own n)))
-    by_setup (Some setup) given = open-item (given_of session n) _ _ _ refl (own-row (is_reader n) stage.rows _ (is-own n))
-        (rw given (own-view (is_reader n) _ _ stage _ (get_or-set_same stage.readers n _ _ there) (is-own n)))
+        → ItemAlone (reader_own session n).given (view_of (is_reader n) (reader_with a None frames) stage)
+        (view (reader_own session n) (open_reader_with session stage n setup (reader_with a None frames))) (own_open ∷ [])
+    by_setup None given = opens-own _ (is_reader n) _ _ _ stage _ refl (is-own n) is (rw given refl)
+    by_setup (Some setup) given = opens-own _ (is_reader n) _ _ _ stage _ refl (is-own n) (get_or-set_same stage.readers n _ _ there) (rw given refl)
 
 close-own : (session : Session) (n : ℕ) (stage : Stage) (a : AtPort) (own : Option CaptureStream) (frames : List ℕ) → n < length stage.readers
     → reader_at session stage n ≡ reader_with a own frames
-    → ItemAlone (given_of session n) (view_of (is_reader n) (reader_with a own frames) stage) (reader_view session n (close_reader session stage n (reader_with a own frames) own)) (own_close ∷ [])
-close-own session n stage a None frames there is =
-    close-item (given_of session n) _ _ _ refl (own-row (is_reader n) stage.rows _ (is-own n)) (own-view (is_reader n) _ _ stage _ is (is-own n))
-close-own session n stage a (Some r) frames there is =
-    close-item (given_of session n) _ _ _ refl (own-row (is_reader n) stage.rows _ (is-own n)) (own-view (is_reader n) _ _ stage _ (get_or-set_same stage.readers n _ _ there) (is-own n))
+    → ItemAlone (reader_own session n).given (view_of (is_reader n) (reader_with a own frames) stage)
+    (view (reader_own session n) (close_reader session stage n (reader_with a own frames) own)) (own_close ∷ [])
+close-own session n stage a None frames there is = closes-own _ (is_reader n) _ _ _ stage _ refl (is-own n) is refl
+close-own session n stage a (Some r) frames there is = closes-own _ (is_reader n) _ _ _ stage _ refl (is-own n) (get_or-set_same stage.readers n _ _ there) refl
 
 -- ---- a phase
 
-reaped-same : (session : Session) (n : ℕ) (stopped : Bool) (x : AtPort × Reader) → reaped_reader_if stopped session.ring x ≡ reaped_by (given_of session n) stopped x
+reaped-same : (session : Session) (n : ℕ) (stopped : Bool) (x : AtPort × Reader) → reaped_reader_if stopped session.ring x ≡ reaped_by (reader_own session n).given stopped x
 reaped-same session n true (a, reader) = refl
 reaped-same session n false (a, reader) = refl
 
-pub row-numbered : (n phase m : ℕ) (asked : Op) (own : Option CaptureStream) (answer : Answer) → is_reader n (row_by phase m asked own answer).actor ≡ nat_eq m n
+pub row-numbered : (n phase m : ℕ) (asked : Op) (own : Option CaptureStream) (answer : Answer) → is_reader n (readers.row_by phase m asked own answer).actor ≡ nat_eq m n
 row-numbered n phase m asked None answer = refl
 row-numbered n phase m asked (Some r) answer = refl
 
-row-op : (phase m : ℕ) (asked : Op) (own : Option CaptureStream) (answer : Answer) → (row_by phase m asked own answer).op ≡ asked
+row-op : (phase m : ℕ) (asked : Op) (own : Option CaptureStream) (answer : Answer) → (readers.row_by phase m asked own answer).op ≡ asked
 row-op phase m asked None answer = refl
 row-op phase m asked (Some r) answer = refl
 
-pub client_row-other : (n phase m : ℕ) (asked : Op) (own : Option playing.PlaybackStream) (answer : Answer) → is_reader n (clients.row_by phase m asked own answer).actor ≡ false
+pub client_row-other : (n phase m : ℕ) (asked : Op) (own : Option PlaybackStream) (answer : Answer) → is_reader n (clients.row_by phase m asked own answer).actor ≡ false
 client_row-other n phase m asked None answer = refl
 client_row-other n phase m asked (Some c) answer = refl
 
-phase-own : (session : Session) (n : ℕ) (stage : Stage) (lines : List Line) → n < length stage.readers → NoneOpen (ops_by (is_reader n) lines)
-    → ItemAlone (given_of session n) (reader_view session n stage) (reader_view session n (phase_text session stage lines)) (own_item (is_reader n) (item.Phase lines))
-phase-own session n stage lines there none = record {
-  more = own.1;
-  rows = rows;
-  alone = λ rest answers. ap (λ xs. alone_by (given_of session n) (phase_alone (given_of session n) (reader_view session n stage) (played_in lines) (unplugs lines) ops) rest (xs ++ answers)) no_answers
-      ∙ ap (λ x. alone_by (given_of session n) x rest answers) (sym same);
+phase-own : (session : Session) (n : ℕ) (stage : Stage) (lines : List Line) → n < length stage.readers
+    → PhaseOf (reader_own session n) stage lines (phase_text session stage lines)
+phase-own session n stage lines there = record {
+  rows = phase-rows (is_reader n) stage.rows _ (clients_text session stage lines).1 (readers_text session stage lines).1 _ (cards-other (is_reader n) refl _ _ (ops_by is_of_card lines))
+      (λ i. none i ++ (at.rows_are ∙ at.does.1) i);
+  actor = map-at (reaped_reader session.ring) (readers_text session stage lines).0 n (no_reader session.ring) (no_reader session.ring)
+      (rw (each-size _ 0 stage.readers _ _ (text-each (reader_kinds stage) card ops 0 stage.readers)) there)
+      ∙ ap (reaped_reader session.ring) at.does.0 ∙ reaped-same session n (is_reader_stopped done.0.1.own) done.0;
 }
   where
-    ops : List Op
-    ops = ops_by (is_reader n) lines
-
     card : CardEnd
     card = card_end session stage lines
 
-    own : (AtPort × Reader) × List Row
-    own = lines_text (reader_kinds stage n) card (reader_at session stage n) ops
+    ops : ℕ → List Op
+    ops m = ops_by (is_reader m) lines
 
-    at : EachAt (is_reader n) n (reader_kinds stage) card (λ m. ops_by (is_reader m) lines) 0 n stage.readers (no_reader session.ring)
-    at = each-at (is_reader n) n (reader_kinds stage) card (λ m. ops_by (is_reader m) lines) 0 n stage.readers _ (omega arith) there
-        (λ m asked reader answer. row-numbered n _ m asked reader.own answer)
+    done : (AtPort × Reader) × List Row
+    done = lines_text (reader_kinds stage n) card (reader_at session stage n) (ops n)
 
-    no_answers : answers_of own.1 ≡ []
-    no_answers = none-answers (reader_kinds stage n) card (reader_at session stage n) ops (λ asked reader answer. row-op _ n asked reader.own answer) none
+    at : EachAt (is_reader n) n (TextOf (reader_kinds stage) card ops) n stage.readers (readers_text session stage lines).0 (readers_text session stage lines).1 (no_reader session.ring)
+    at = each-at (is_reader n) n (TextOf (reader_kinds stage) card ops)
+        (text-of (is_reader n) (λ m. nat_eq m n) (reader_kinds stage) card ops (λ m asked reader answer. row-numbered n _ m asked reader.own answer))
+        0 n stage.readers _ _ (no_reader session.ring) (omega arith) there (text-each (reader_kinds stage) card ops 0 stage.readers)
 
-    rows : rows_by (is_reader n) (phase_text session stage lines).rows ≡ rows_by (is_reader n) stage.rows ++ own.1
-    rows = four-rows (is_reader n) stage.rows _ (clients_text session stage lines).1 _
-        ∙ ap (λ r. rows_by (is_reader n) stage.rows ++ r ++ rows_by (is_reader n) (clients_text session stage lines).1 ++ rows_by (is_reader n) (readers_text session stage lines).1)
-        (cards-other (is_reader n) refl _ _ (ops_by is_of_card lines))
-        ∙ ap (λ r. rows_by (is_reader n) stage.rows ++ [] ++ r ++ rows_by (is_reader n) (readers_text session stage lines).1)
-        (each-other (is_reader n) (client_kinds session stage) card (λ m. ops_by (is_client m) lines) 0 stage.clients (λ m asked client answer. client_row-other n _ m asked client.own answer))
-        ∙ ap (λ r. rows_by (is_reader n) stage.rows ++ [] ++ [] ++ r) at.rows
-        ∙ ap (λ r. r ++ [] ++ own.1) (append-nil (rows_by (is_reader n) stage.rows)) ∙ ap (λ r. r ++ own.1) (append-nil (rows_by (is_reader n) stage.rows))
+    none : rows_by (is_reader n) (clients_text session stage lines).1 ≡ []
+    none = each-other (is_reader n) (λ m. false) (TextOf (client_kinds session stage) card (λ m. ops_by (is_client m) lines))
+        (text-of (is_reader n) (λ m. false) (client_kinds session stage) card (λ m. ops_by (is_client m) lines) (λ m asked client answer. client_row-other n _ m asked client.own answer))
+        0 stage.clients _ _ (λ m low. refl) (text-each (client_kinds session stage) card (λ m. ops_by (is_client m) lines) 0 stage.clients)
 
-    after : reader_at session (phase_text session stage lines) n ≡ reaped_by (given_of session n) (is_reader_stopped own.0.1.own) own.0
-    after = map-at (reaped_reader session.ring) (readers_text session stage lines).0 n (no_reader session.ring) (no_reader session.ring)
-        (rw (each-size (reader_kinds stage) card (λ m. ops_by (is_reader m) lines) 0 stage.readers) there)
-        ∙ ap (reaped_reader session.ring) at.actor ∙ reaped-same session n (is_reader_stopped own.0.1.own) own.0
-
-    same : reader_view session n (phase_text session stage lines) ≡ phase_alone (given_of session n) (reader_view session n stage) (played_in lines) (unplugs lines) ops
-    same = λ i. record {
-      phases = stage.phases + 1;
-      position = stage.position + played_in lines;
-      gone = (phase_text session stage lines).gone;
-      actor = after i;
-      rows = rows i;
-    }
-
--- ---- a body
-
--- there are as many readers after an item as before
-pub open_reader-size : (session : Session) (stage : Stage) (m : ℕ) (x : AtPort × Reader) (own : Option CaptureStream)
-    → length (open_reader session stage m x own).readers ≡ length stage.readers
-open_reader-size session stage m x (Some r) = refl
-open_reader-size session stage m (a, reader) None = by_setup (slice_index_or session.readers m None)
-  where
-    by_setup : (setup : Option Setup) → length (open_reader_with session stage m setup (a, reader)).readers ≡ length stage.readers
-    by_setup None = refl
-    by_setup (Some setup) = length-set stage.readers m _
-
-pub close_reader-size : (session : Session) (stage : Stage) (m : ℕ) (x : AtPort × Reader) (own : Option CaptureStream)
-    → length (close_reader session stage m x own).readers ≡ length stage.readers
-close_reader-size session stage m x None = refl
-close_reader-size session stage m x (Some r) = length-set stage.readers m _
-
-pub open_client-size : (session : Session) (stage : Stage) (m : ℕ) (x : AtPort × Client) (own : Option playing.PlaybackStream)
-    → length (open_client session stage m x own).readers ≡ length stage.readers
-open_client-size session stage m x (Some c) = refl
-open_client-size session stage m x None = by_setup (slice_index_or session.clients m None)
-  where
-    by_answer : (setup : Setup) (at : Lobby × Result (Unit {0}) PcmError) → length (attached_client session stage m setup x at).readers ≡ length stage.readers
-    by_answer setup (lobby, Ok done) = refl
-    by_answer setup (lobby, Err e) = refl
-
-    by_claim : (setup : Setup) (refusal : Option PcmError) → length (claimed_client session stage m setup x refusal).readers ≡ length stage.readers
-    by_claim setup (Some e) = refl
-    by_claim setup None = by_answer setup (after_attach m stage.position stage.lobby)
-
-    by_setup : (setup : Option Setup) → length (open_client_with session stage m setup x).readers ≡ length stage.readers
-    by_setup None = refl
-    by_setup (Some setup) = by_claim setup (claim_refusal session.card.share stage.claims setup.bindings stage.position)
-
-pub close_client-size : (session : Session) (stage : Stage) (m : ℕ) (x : AtPort × Client) (own : Option playing.PlaybackStream)
-    → length (close_client session stage m x own).readers ≡ length stage.readers
-close_client-size session stage m x None = refl
-close_client-size session stage m x (Some c) = refl
-
-item-size : (session : Session) (stage : Stage) (one : Item) → length (item_text session stage one).readers ≡ length stage.readers
-item-size session stage (item.Opens number actor.Card) = refl
-item-size session stage (item.Opens number (actor.Client m)) = open_client-size session stage m (client_at session stage m) (client_at session stage m).1.own
-item-size session stage (item.Opens number (actor.Reader m)) = open_reader-size session stage m (reader_at session stage m) (reader_at session stage m).1.own
-item-size session stage (item.Closes number actor.Card) = refl
-item-size session stage (item.Closes number (actor.Client m)) = close_client-size session stage m (client_at session stage m) (client_at session stage m).1.own
-item-size session stage (item.Closes number (actor.Reader m)) = close_reader-size session stage m (reader_at session stage m) (reader_at session stage m).1.own
-item-size session stage (item.Phase lines) =
-    map-size (reaped_reader session.ring) (readers_text session stage lines).0
-    ∙ each-size (reader_kinds stage) (card_end session stage lines) (λ m. ops_by (is_reader m) lines) 0 stage.readers
-
-items-size : (session : Session) (stage : Stage) (items : List Item) → length (items_text session stage items).readers ≡ length stage.readers
-items-size session stage [] = refl
-items-size session stage (one ∷ items) = items-size session (item_text session stage one) items ∙ item-size session stage one
-
-open-alone : (session : Session) (n m : ℕ) (stage : Stage) (same : Bool) → nat_eq m n ≡ same → n < length stage.readers
-    → ItemAlone (given_of session n) (reader_view session n stage) (reader_view session n (after_open session stage (actor.Reader m))) (own_item (is_reader n) (item.Opens 0 (actor.Reader m)))
-open-alone session n m stage true is there =
-    rw is (subst (λ k. ItemAlone (given_of session n) (reader_view session n stage) (reader_view session n (after_open session stage (actor.Reader k))) (own_open ∷ []))
-    (sym (eqb-true m n is)) (open-own session n stage (reader_at session stage n).0 (reader_at session stage n).1.own (reader_at session stage n).1.frames there refl))
-open-alone session n m stage false is there = other-item (given_of session n) _ _ _ (rw is refl)
-    (open_reader-other session stage n m (reader_at session stage m) (reader_at session stage m).1.own is)
-
-close-alone : (session : Session) (n m : ℕ) (stage : Stage) (same : Bool) → nat_eq m n ≡ same → n < length stage.readers
-    → ItemAlone (given_of session n) (reader_view session n stage) (reader_view session n (after_close session stage (actor.Reader m))) (own_item (is_reader n) (item.Closes 0 (actor.Reader m)))
-close-alone session n m stage true is there =
-    rw is (subst (λ k. ItemAlone (given_of session n) (reader_view session n stage) (reader_view session n (after_close session stage (actor.Reader k))) (own_close ∷ []))
-    (sym (eqb-true m n is)) (close-own session n stage (reader_at session stage n).0 (reader_at session stage n).1.own (reader_at session stage n).1.frames there refl))
-close-alone session n m stage false is there = other-item (given_of session n) _ _ _ (rw is refl)
-    (close_reader-other session stage n m (reader_at session stage m) (reader_at session stage m).1.own is)
-
-item-alone : (session : Session) (n : ℕ) (stage : Stage) (one : Item) → n < length stage.readers → HasLines (is_reader n) one
-    → ItemAlone (given_of session n) (reader_view session n stage) (reader_view session n (item_text session stage one)) (own_item (is_reader n) one)
-item-alone session n stage (item.Opens number actor.Card) there lines = other-item (given_of session n) _ _ _ refl refl
-item-alone session n stage (item.Opens number (actor.Reader m)) there lines = open-alone session n m stage (nat_eq m n) refl there
-item-alone session n stage (item.Opens number (actor.Client m)) there lines = other-item (given_of session n) _ _ _ refl
-    (open_client-other session stage n m (client_at session stage m) (client_at session stage m).1.own)
-item-alone session n stage (item.Closes number actor.Card) there lines = other-item (given_of session n) _ _ _ refl refl
-item-alone session n stage (item.Closes number (actor.Reader m)) there lines = close-alone session n m stage (nat_eq m n) refl there
-item-alone session n stage (item.Closes number (actor.Client m)) there lines = other-item (given_of session n) _ _ _ refl
-    (close_client-other session stage n m (client_at session stage m) (client_at session stage m).1.own)
-item-alone session n stage (item.Phase phase) there lines = phase-own session n stage phase there lines
-
-items-alone : (session : Session) (n : ℕ) (stage : Stage) (items : List Item) → n < length stage.readers → HaveLines (is_reader n) items
-    → ItemAlone (given_of session n) (reader_view session n stage) (reader_view session n (items_text session stage items)) (own_items (is_reader n) items)
-items-alone session n stage [] there lines = other-item (given_of session n) _ _ _ refl refl
-items-alone session n stage (one ∷ items) there lines =
-    items-then (given_of session n) _ (reader_view session n (item_text session stage one)) _ (own_item (is_reader n) one) (own_items (is_reader n) items)
-    (item-alone session n stage one there lines.0)
-    (items-alone session n (item_text session stage one) items (rw (item-size session stage one) there) lines.1)
+reader-IsOwn : (session : Session) (n : ℕ) → IsOwn session (reader_own session n)
+reader-IsOwn session n = record {
+  border = reader-border session n;
+  opens = λ stage who mine there.
+      subst (λ who. ItemAlone (reader_own session n).given (view (reader_own session n) stage) (view (reader_own session n) (after_open session stage who)) (own_open ∷ [])) (own-number n who mine)
+      (open-own session n stage (reader_at session stage n).0 (reader_at session stage n).1.own (reader_at session stage n).1.frames there refl);
+  closes = λ stage who mine there.
+      subst (λ who. ItemAlone (reader_own session n).given (view (reader_own session n) stage) (view (reader_own session n) (after_close session stage who)) (own_close ∷ [])) (own-number n who mine)
+      (close-own session n stage (reader_at session stage n).0 (reader_at session stage n).1.own (reader_at session stage n).1.frames there refl);
+  phase = phase-own session n;
+  size = λ stage lines. map-size (reaped_reader session.ring) (readers_text session stage lines).0
+      ∙ each-size _ 0 stage.readers _ _ (text-each (reader_kinds stage) (card_end session stage lines) (λ m. ops_by (is_reader m) lines) 0 stage.readers);
+  row_op = λ phase asked reader answer. row-op phase n asked reader.own answer;
+}
 
 -- the runs of a number are the members of that number
 pub runs-members : (n : ℕ) (pairs : List (ℕ × (ℕ × ℕ)))
@@ -281,22 +166,16 @@ reader-alone session capture body n there lines = record {
   rows = ap (λ (x : Alone Reader). x.rows) alone;
   runs = runs-members n (with_numbers (λ (reader : AtPort × Reader). runs_of reader.1.frames) 0 end.readers)
       ∙ numbered-at (λ (reader : AtPort × Reader). runs_of reader.1.frames) n 0 n end.readers (no_reader session.ring) (omega arith)
-      (rw (items-size session first body ∙ map-size _ session.readers) there)
+      (rw (items-size session (reader_own session n) (reader-IsOwn session n) (first_stage session) body) within)
       ∙ ap (λ (x : Alone Reader). runs_of x.actor.1.frames) alone;
 }
   where
-    first : Stage
-    first = first_stage session
-
     end : Stage
-    end = items_text session first body
+    end = items_text session (first_stage session) body
 
-    all : ItemAlone (given_of session n) (reader_view session n first) (reader_view session n end) (own_items (is_reader n) body)
-    all = items-alone session n first body (rw (map-size _ session.readers) there) lines
+    within : n < length (first_stage session).readers
+    within = rw (map-size _ session.readers) there
 
-    begins : reader_view session n first ≡ alone_at (first_frame session.card) (no_reader session.ring)
-    begins = ap (λ (x : AtPort × Reader). let a : Alone Reader = alone_at (first_frame session.card) x in a) (constant-at (no_reader session.ring) session.readers n)
-
-    alone : reader_view session n end ≡ alone_by (given_of session n) (alone_at (first_frame session.card) (no_reader session.ring)) (own_items (is_reader n) body) (answers_of (rows_by (is_reader n) end.rows))
-    alone = sym (all.alone [] [])
-        ∙ (λ i. alone_by (given_of session n) (begins i) (append-nil (own_items (is_reader n) body) i) ((append-nil (answers_of all.more) ∙ ap answers_of (sym all.rows)) i))
+    alone : view (reader_own session n) end
+        ≡ alone_by (reader_own session n).given (alone_at (first_frame session.card) (no_reader session.ring)) (own_items (is_reader n) body) (answers_of (rows_by (is_reader n) end.rows))
+    alone = own-alone session (reader_own session n) (reader-IsOwn session n) body within (constant-at (no_reader session.ring) session.readers n) lines

@@ -28,7 +28,7 @@ use Rattle.course.specs.Course.{ends}
 use Rattle.dmix_client.specs.declared.commit.Commit.{Commit}
 use Rattle.dmix_client.specs.declared.stream.PlaybackStream.{PlaybackStream}
 use Rattle.dmix_client.specs.Calls.{Answered, accepted_if, after_start, after_sync, committed_by, end_channel, end_of_commit, facts_of, found_at, in_draining, is_paused, is_prepared, is_running, is_stop, late_at, over_of, pending_of, seen_at, segment_of, start_count, start_frame, started_in, stopped_in, sync_count, taken_of, with_number, with_outcome, written_after, going_on}
-use Rattle.dmix_client.specs.Course.{commits, drain_on, looks, nothing, starts, syncs, takes_more, write_on}
+use Rattle.dmix_client.specs.Course.{commits, drain_on, nothing, starts, syncs, takes_more, write_on}
 use Rattle.dmix_client.specs.EachCall.{IsStart}
 use Rattle.dmix_client.specs.Port.{IsFrameStep}
 use Rattle.dmix_client.specs.Rewind.{after_rewind, back_of, checks, last_channel, last_laid, rewind_on, rewindable_of, take_frames, taken_back, takes_back}
@@ -39,7 +39,7 @@ use Rattle.wav_io.specs.Sound.{Sound}
 use Rattle.lab_run.specs.Client.{call_of}
 use Rattle.lab_run.proofs.CallParts.{Parts, call_of-says, is_new_stretch, running-moves, running-transfers, start-unprepared, step-moves}
 use Rattle.run_laws.proofs.Onward.{Channels, stepped-unprepared}
-use Rattle.run_laws.proofs.PlayedCourses.{CommitEnd, From, FromSo, From-keeps, From-map, From-then, RewindEnd, commits-keep, frames-back, from-so, looks-from}
+use Rattle.run_laws.proofs.PlayedCourses.{CommitEnd, From, FromSo, From-map, From-then, RewindEnd, commits-keep, frames-back, found-from, from-so}
 use Rattle.run_laws.proofs.PlayedSegments.{IsAlike, IsPast, alike-same, alike-then}
 use Rattle.run_laws.proofs.Withdrawn.{below-sum}
 
@@ -143,10 +143,6 @@ prepared-unpaused : (s : State) → is_prepared s ≡ true → is_paused s ≡ f
 prepared-unpaused Paused is = absurd (false≢true is)
 prepared-unpaused other is = refl
 
-moving-unprepared : (s : State) → is_moving s ≡ true → is_prepared s ≡ false
-moving-unprepared Prepared is = absurd (false≢true is)
-moving-unprepared other is = refl
-
 -- ---- a step of a client that moves frames
 
 -- with a commit
@@ -210,20 +206,13 @@ syncs-from : (p s : ℕ) (c : PlaybackStream) (asked : Call) (ring : List ℤ) �
     → From p (SteppedPast p c) s (syncs c asked ring)
 unfolding syncs
 syncs-from p s c asked ring bound step whole =
-    From-then p found-so (SteppedPast p c) s (looks (λ position. c) (sync_count c) ring) (λ found. ends (after_sync c asked found.0 found.1))
-    (looks-from p s found-so (λ position. c) (sync_count c) ring (unloaded p s c asked bound step) some) (λ t found is. is)
-  where
-    found-so : ℕ → Option Position × Commit → Type 0
-    found-so t found = SteppedPast p c t (after_sync c asked found.0 found.1)
-
-    some : (position : Position) → p ≤ position.frame → From p (λ t commit. SteppedPast p c t (after_sync c asked (Some position) commit)) p (commits c ring (sync_count c position))
-    some position least = From-map p (λ t commit. (t ≡ p) × CommitEnd (c.stretch.card + c.stretch.committed) p commit)
-        (λ t commit. SteppedPast p c t (after_sync c asked (Some position) commit)) p (commits c ring (sync_count c position))
-        (From-keeps p p (CommitEnd (c.stretch.card + c.stretch.committed) p) (commits c ring (sync_count c position)) (commits-keep p c ring (sync_count c position) bound))
-        (λ t commit is. (
-          after_sync-steps p c asked position commit bound step whole is.1,
-          IfOk-any (after_sync c asked (Some position) commit).1 (t ≡ p) is.0,
-        ))
+    found-from p s (SteppedPast p c) (λ position. c) (sync_count c) ring (after_sync c asked) (unloaded p s c asked bound step)
+    (λ position least. From-map p (λ t commit. (t ≡ p) × CommitEnd (c.stretch.card + c.stretch.committed) p commit)
+    (λ t commit. SteppedPast p c t (after_sync c asked (Some position) commit)) p (commits c ring (sync_count c position)) (commits-keep p p c ring (sync_count c position) bound)
+    (λ t commit is. (
+      after_sync-steps p c asked position commit bound step whole is.1,
+      IfOk-any (after_sync c asked (Some position) commit).1 (t ≡ p) is.0,
+    )))
 
 -- a call that is such a step
 step-kept : (p t : ℕ) (c : PlaybackStream) (done : Answered (Unit {0})) → SteppedPast p c t done → Kept p c done
@@ -284,7 +273,7 @@ pub start-commits : (p : ℕ) (c : PlaybackStream) (state : State) (cursor : Cur
 start-commits p c state cursor count ring can position least =
     From-map p (λ t commit. (t ≡ p) × CommitEnd (at.stretch.card + at.stretch.committed) p commit)
     (λ t commit. Started p state t (after_start c state cursor (Some position) commit)) p (commits at ring count)
-    (From-keeps p p (CommitEnd (at.stretch.card + at.stretch.committed) p) (commits at ring count) (commits-keep p at ring count can.bound))
+    (commits-keep p p at ring count can.bound)
     (λ t commit is. after_start-starts p c state cursor position.frame position.gone commit t can least is.1.1 is.0)
   where
     at : PlaybackStream
@@ -294,15 +283,10 @@ starts-from : (p s : ℕ) (c : PlaybackStream) (state : State) (cursor : Cursor)
     → From p (Started p state) s (starts c state cursor upto ring)
 unfolding starts
 starts-from p s c state cursor upto ring can =
-    From-then p found-so (Started p state) s (looks (λ position. started_in c Running position cursor) (λ position. start_count c cursor position upto) ring)
-    (λ found. ends (after_start c state cursor found.0 found.1))
-    (looks-from p s found-so (λ position. started_in c Running position cursor) (λ position. start_count c cursor position upto) ring
+    found-from p s (Started p state) (λ position. started_in c Running position cursor) (λ position. start_count c cursor position upto) ring (after_start c state cursor)
     (inl (can.none, can.no_part), waiting, prepared-unpaused c.status.state can.prepared, tt)
-    (λ position least. start-commits p c state cursor (start_count c cursor position upto) ring can position least)) (λ t found is. is)
+    (λ position least. start-commits p c state cursor (start_count c cursor position upto) ring can position least)
   where
-    found-so : ℕ → Option Position × Commit → Type 0
-    found-so t found = Started p state t (after_start c state cursor found.0 found.1)
-
     waiting : FitsAt c.setup.bindings c.status.state true c.stretch.committed c.stretch.part
     waiting = record { bound = can.bound; waits = λ is. (can.none, can.no_part); goes = λ is run. absurd (false≢true (sym run)) }
 
@@ -370,8 +354,7 @@ module _ (p : ℕ) (c : PlaybackStream) (fits : Fits c) where
     takes_more-kept n t past =
         From-then p (λ u commit. (u ≡ t) × CommitEnd (d.stretch.card + d.stretch.committed) t commit) (λ u done. Kept p c done) t
         (commits d (ring_with d [] [] (taken_of d n)) (count_with d (taken_of d n))) (λ last. ends (written_after d n last))
-        (From-keeps p t (CommitEnd (d.stretch.card + d.stretch.committed) t) (commits d (ring_with d [] [] (taken_of d n)) (count_with d (taken_of d n)))
-        (commits-keep t d (ring_with d [] [] (taken_of d n)) (count_with d (taken_of d n)) fits_then.bound))
+        (commits-keep p t d (ring_with d [] [] (taken_of d n)) (count_with d (taken_of d n)) fits_then.bound)
         (λ u commit is. kept-then p c d (written_after d n commit) alike
         (written-kept n commit (subst (λ k. CommitEnd (d.stretch.card + d.stretch.committed) k commit) past is.1)))
 
@@ -433,9 +416,7 @@ module _ (p : ℕ) (c : PlaybackStream) (fits : Fits c) where
     takes_back-kept t past =
         From-then p (λ u left. (u ≡ t) × RewindEnd (d.stretch.card + (d.stretch.committed - back_of d n)) (back_of d n) t left) (λ u done. Kept p d done) t
         (take_frames d.identity.member d.stretch.card d.setup.bindings (ring_sample d []) (d.stretch.committed - back_of d n) (back_of d n)) (λ left. ends (after_rewind d n left))
-        (From-keeps p t (RewindEnd (d.stretch.card + (d.stretch.committed - back_of d n)) (back_of d n) t)
-        (take_frames d.identity.member d.stretch.card d.setup.bindings (ring_sample d []) (d.stretch.committed - back_of d n) (back_of d n))
-        (frames-back t d.identity.member d.stretch.card d.setup.bindings fits_then.bound.some (ring_sample d []) (d.stretch.committed - back_of d n) (back_of d n)))
+        (frames-back p t d.identity.member d.stretch.card d.setup.bindings fits_then.bound.some (ring_sample d []) (d.stretch.committed - back_of d n) (back_of d n))
         (λ u left is. rewound-kept left (subst (λ k. RewindEnd (d.stretch.card + (d.stretch.committed - back_of d n)) (back_of d n) k left) past is.1))
 
   rewind_on-kept : (floor : Cursor) (n t : ℕ) (done : Answered (Unit {0})) → SteppedPast p c t done → From p (λ u x. Kept p c x) t (rewind_on floor [] n done)

@@ -1,10 +1,11 @@
 -- What the steps of a course may change: no sample below a position p, where each position that it loads is at p or past it.
---     From, Keeps      a course's results have a fact, as far as its steps keep to p
+--     From, Keeps      a course's results have a fact, as far as its steps keep to p; of Keeps it loads nothing
 --     CommitEnd, RewindEnd      what a commit, and a rewind, leave: nothing is changed below p
 use Rattle.std.proofs.Common.{◌≡◌, ℕ, ◌+◌, ◌<◌, ◌≤◌, ◌⊎◌, inl, inr, refl, sym, ◌∙◌, ap, subst, arith, Option, Some, None}
 use Rattle.std.proofs.lemmas.Bool.Decides.{nat_tests}
 use Rattle.std.specs.Prelude.{Bool, true, false, nat_eq, if◌then◌else◌, List, [], ◌∷◌, length, ℤ, zero, suc, Contains}
 use Rattle.bindings.specs.Bound.{rising}
+use Rattle.mix_core.specs.declared.marks.Marks.{Marks}
 use Rattle.mix_core.specs.declared.port.Ended.{Ended}
 use Rattle.mix_core.specs.declared.port.Ended.TheVariants as ended
 use Rattle.mix_core.specs.declared.port.Position.{Position}
@@ -12,11 +13,18 @@ use Rattle.mix_core.specs.Port.{OnWhole}
 use Rattle.snoop_core.specs.declared.port.Got.{Got}
 use Rattle.snoop_core.specs.declared.port.Got.TheVariants as got
 use Rattle.course.specs.Course.{◌>>=◌, Course, ends, gets, lays, loads}
+use Rattle.wav_io.specs.Sound.{Sound}
 use Rattle.dmix_client.specs.declared.commit.Commit.{Commit}
 use Rattle.dmix_client.specs.declared.stream.PlaybackStream.{PlaybackStream}
+use Rattle.dmix_client.specs.Calls.{Answered}
 use Rattle.dmix_client.specs.Course.{commits, go_on, lay_each, lay_frame, lay_frames, looks, nothing, one_frame_more, one_more}
 use Rattle.dmix_client.specs.Rewind.{back_on, rewind_left, take_each, take_frames}
 use Rattle.dmix_client.specs.View.{ring_sample}
+use Rattle.lab_lines.specs.declared.line.Op.{Op}
+use Rattle.lab_lines.specs.declared.line.Op.TheVariants as op
+use Rattle.lab_lines.specs.declared.row.Answer.{Answer}
+use Rattle.lab_run.specs.Client.{Client, after_call, begins, call_of, client_kind, line_by, line_if}
+use Rattle.lab_run.specs.Lines.{LineMay}
 use Rattle.lab_run.specs.Rules.{AtPort, May, Rules, with_asks}
 use Rattle.lab_run.proofs.CallParts.{IsSaying}
 use Rattle.run_laws.proofs.RunGoesOn.{stop-seen}
@@ -67,44 +75,17 @@ from-so p = record {
   implied = λ X R Q s course from less. From-map p R Q s course from less;
 }
 
--- a course without a load that places and takes back nothing below s, and whose results have a fact
-abbrev pub Keeps : {X : Type 0} → ℕ → (X → Type 0) → Course X → Type 0
-Keeps s Q (ends x) = Q x
-Keeps s Q (loads next) = ⊥
-Keeps s Q (lays e next) = (s ≤ e.frame → Keeps s Q (next ended.Whole)) × ((word : ℕ) → Keeps s Q (next (ended.Late word))) × Keeps s Q (next ended.Stopped)
-Keeps s Q (gets frame next) = ⊥
+-- of a course without a load, which so ends as it began
+abbrev pub Keeps : {X : Type 0} → ℕ → ℕ → (X → Type 0) → Course X → Type 0
+Keeps p s Q course = From p (λ t x. (t ≡ s) × Q x) s course
 
-pub Keeps-then : {X Y : Type 0} (s : ℕ) (R : X → Type 0) (Q : Y → Type 0) (c : Course X) (f : X → Course Y) → Keeps s R c → ((x : X) → R x → Keeps s Q (f x))
-    → Keeps s Q (c >>= f)
-unfolding ◌>>=◌
-Keeps-then s R Q (ends x) f keeps each = each x keeps
-Keeps-then s R Q (loads next) f keeps each = absurd keeps
-Keeps-then s R Q (lays e next) f keeps each = (
-  λ past. Keeps-then s R Q (next ended.Whole) f (keeps.0 past) each,
-  λ word. Keeps-then s R Q (next (ended.Late word)) f (keeps.1 word) each,
-  Keeps-then s R Q (next ended.Stopped) f keeps.2 each,
-)
-Keeps-then s R Q (gets frame next) f keeps each = absurd keeps
+pub Keeps-then : {X Y : Type 0} (p s : ℕ) (R : X → Type 0) (Q : Y → Type 0) (c : Course X) (f : X → Course Y) → Keeps p s R c → ((x : X) → R x → Keeps p s Q (f x))
+    → Keeps p s Q (c >>= f)
+Keeps-then p s R Q c f keeps each = From-then p (λ t x. (t ≡ s) × R x) (λ t y. (t ≡ s) × Q y) s c f keeps
+    (λ t x is. subst (λ n. From p (λ t y. (t ≡ s) × Q y) n (f x)) (sym is.0) (each x is.1))
 
-pub Keeps-map : {X : Type 0} (s : ℕ) (R Q : X → Type 0) (c : Course X) → Keeps s R c → ((x : X) → R x → Q x) → Keeps s Q c
-Keeps-map s R Q (ends x) keeps each = each x keeps
-Keeps-map s R Q (loads next) keeps each = absurd keeps
-Keeps-map s R Q (lays e next) keeps each = (
-  λ past. Keeps-map s R Q (next ended.Whole) (keeps.0 past) each,
-  λ word. Keeps-map s R Q (next (ended.Late word)) (keeps.1 word) each,
-  Keeps-map s R Q (next ended.Stopped) keeps.2 each,
-)
-Keeps-map s R Q (gets frame next) keeps each = absurd keeps
-
-pub From-keeps : {X : Type 0} (p s : ℕ) (Q : X → Type 0) (c : Course X) → Keeps s Q c → From p (λ t x. (t ≡ s) × Q x) s c
-From-keeps p s Q (ends x) keeps = (refl, keeps)
-From-keeps p s Q (loads next) keeps = absurd keeps
-From-keeps p s Q (lays e next) keeps = (
-  λ past. From-keeps p s Q (next ended.Whole) (keeps.0 past),
-  λ word. From-keeps p s Q (next (ended.Late word)) (keeps.1 word),
-  From-keeps p s Q (next ended.Stopped) keeps.2,
-)
-From-keeps p s Q (gets frame next) keeps = absurd keeps
+pub Keeps-map : {X : Type 0} (p s : ℕ) (R Q : X → Type 0) (c : Course X) → Keeps p s R c → ((x : X) → R x → Q x) → Keeps p s Q c
+Keeps-map p s R Q c keeps each = From-map p (λ t x. (t ≡ s) × R x) (λ t x. (t ≡ s) × Q x) s c keeps (λ t x is. (is.0, each x is.1))
 
 -- ---- a course that is taken
 
@@ -143,17 +124,17 @@ module _ (rules : Rules) (p : ℕ) (least : (q : ℕ) → Contains rules.publish
 abbrev pub CommitEnd : ℕ → ℕ → Commit → Type 0
 CommitEnd frame s commit = (((commit.frames ≡ 0) × (commit.part ≡ 0)) ⊎ (s ≤ frame)) × OnWhole commit.ended (commit.part ≡ 0)
 
-module _ (s : ℕ) where
+module _ (p s : ℕ) where
   -- once a sample of a frame is placed
   each-keeps : (member frame : ℕ) (bindings : List ℕ) (sample_of : ℕ → ℤ) (qs : List ℕ) → s ≤ frame
-      → Keeps s (λ (end : ℕ × Ended). s ≤ frame) (lay_each member frame bindings sample_of qs)
+      → Keeps p s (λ (end : ℕ × Ended). s ≤ frame) (lay_each member frame bindings sample_of qs)
   unfolding lay_each
-  each-keeps member frame bindings sample_of [] past = past
+  each-keeps member frame bindings sample_of [] past = (refl, past)
   each-keeps member frame bindings sample_of (q ∷ qs) past = (
-    λ again. Keeps-then s (λ (end : ℕ × Ended). s ≤ frame) (λ (end : ℕ × Ended). s ≤ frame) (lay_each member frame bindings sample_of qs) (λ end. ends (one_more end))
-        (each-keeps member frame bindings sample_of qs past) (λ end is. is),
-    λ word. past,
-    past,
+    λ again. Keeps-then p s (λ (end : ℕ × Ended). s ≤ frame) (λ (end : ℕ × Ended). s ≤ frame) (lay_each member frame bindings sample_of qs) (λ end. ends (one_more end))
+        (each-keeps member frame bindings sample_of qs past) (λ end is. (refl, is)),
+    λ word. (refl, past),
+    (refl, past),
   )
 
   -- how many samples of a frame were placed
@@ -166,25 +147,25 @@ module _ (s : ℕ) where
   on_end frame ended.Stopped past = tt
 
   frame-keeps : (member frame : ℕ) (bindings : List ℕ) (sample_of : ℕ → ℤ) (qs : List ℕ) → 0 < length qs
-      → Keeps s (FrameEnd frame) (lay_each member frame bindings sample_of qs)
+      → Keeps p s (FrameEnd frame) (lay_each member frame bindings sample_of qs)
   unfolding lay_each
   frame-keeps member frame bindings sample_of [] some = absurd (omega (arith, some))
   frame-keeps member frame bindings sample_of (q ∷ qs) some = (
-    λ past. Keeps-then s (λ (end : ℕ × Ended). s ≤ frame) (FrameEnd frame) (lay_each member frame bindings sample_of qs) (λ end. ends (one_more end))
-        (each-keeps member frame bindings sample_of qs past) one,
-    λ word. (inl refl, tt),
-    (inl refl, tt),
+    λ past. Keeps-then p s (λ (end : ℕ × Ended). s ≤ frame) (FrameEnd frame) (lay_each member frame bindings sample_of qs) (λ end. ends (one_more end))
+        (each-keeps member frame bindings sample_of qs past) (λ end is. (refl, one end is)),
+    λ word. (refl, (inl refl, tt)),
+    (refl, (inl refl, tt)),
   )
     where
       one : (end : ℕ × Ended) → s ≤ frame → FrameEnd frame (one_more end)
       one (done, end) past = (inr past, on_end frame end past)
 
   pub frames-keep : (member card : ℕ) (bindings : List ℕ) (samples : ℕ → ℕ → ℤ) (count first : ℕ) → 0 < length (rising bindings)
-      → Keeps s (CommitEnd (card + first) s) (lay_frames member card bindings samples count first)
+      → Keeps p s (CommitEnd (card + first) s) (lay_frames member card bindings samples count first)
   unfolding lay_frames
-  frames-keep member card bindings samples zero first some = (inl (refl, refl), refl)
+  frames-keep member card bindings samples zero first some = (refl, (inl (refl, refl), refl))
   frames-keep member card bindings samples (suc count) first some =
-      Keeps-then s (FrameEnd (card + first)) (CommitEnd (card + first) s) (lay_frame member (card + first) bindings (samples first))
+      Keeps-then p s (FrameEnd (card + first)) (CommitEnd (card + first) s) (lay_frame member (card + first) bindings (samples first))
       (λ end. go_on end (lay_frames member card bindings samples count (first + 1)))
       (frame-keeps member (card + first) bindings (samples first) (rising bindings) some) (on (frames-keep member card bindings samples count (first + 1) some))
     where
@@ -192,17 +173,17 @@ module _ (s : ℕ) where
       kept done (inl none) = inl (refl, none)
       kept done (inr past) = inr past
 
-      on : Keeps s (CommitEnd (card + (first + 1)) s) (lay_frames member card bindings samples count (first + 1)) → (end : ℕ × Ended) → FrameEnd (card + first) end
-          → Keeps s (CommitEnd (card + first) s) (go_on end (lay_frames member card bindings samples count (first + 1)))
-      on rest (done, ended.Whole) (any, past) = Keeps-then s (CommitEnd (card + (first + 1)) s) (CommitEnd (card + first) s)
+      on : Keeps p s (CommitEnd (card + (first + 1)) s) (lay_frames member card bindings samples count (first + 1)) → (end : ℕ × Ended) → FrameEnd (card + first) end
+          → Keeps p s (CommitEnd (card + first) s) (go_on end (lay_frames member card bindings samples count (first + 1)))
+      on rest (done, ended.Whole) (any, past) = Keeps-then p s (CommitEnd (card + (first + 1)) s) (CommitEnd (card + first) s)
           (lay_frames member card bindings samples count (first + 1)) (λ commit. ends (one_frame_more commit))
-          rest (λ commit is. (inr past, is.1))
-      on rest (done, ended.Late word) (any, past) = (kept done any, tt)
-      on rest (done, ended.Stopped) (any, past) = (kept done any, tt)
+          rest (λ commit is. (refl, (inr past, is.1)))
+      on rest (done, ended.Late word) (any, past) = (refl, (kept done any, tt))
+      on rest (done, ended.Stopped) (any, past) = (refl, (kept done any, tt))
 
   -- the commit of a client
   pub commits-keep : (c : PlaybackStream) (ring : List ℤ) (count : ℕ) → Channels c.setup.bindings
-      → Keeps s (CommitEnd (c.stretch.card + c.stretch.committed) s) (commits c ring count)
+      → Keeps p s (CommitEnd (c.stretch.card + c.stretch.committed) s) (commits c ring count)
   commits-keep c ring count bound =
       frames-keep c.identity.member c.stretch.card c.setup.bindings (ring_sample c ring) count c.stretch.committed (channels-rise c.setup.bindings bound)
 
@@ -215,18 +196,18 @@ pub record RewindEnd (frame n s : ℕ) (left : Commit) : Type 0 where
   pub few : left.frames ≤ n
   pub whole : OnWhole left.ended (left.part ≡ 0)
 
-module _ (s : ℕ) where
+module _ (p s : ℕ) where
   -- how many samples of a frame are left
   abbrev FrameLeft : ℕ → ℕ → ℕ × Ended → Type 0
   FrameLeft frame n (left, end) = ((left ≡ n) ⊎ (s ≤ frame)) × OnWhole end (left ≡ 0)
 
-  each-back : (member frame : ℕ) (bindings : List ℕ) (sample_of : ℕ → ℤ) (n : ℕ) → Keeps s (FrameLeft frame n) (take_each member frame bindings sample_of n)
+  each-back : (member frame : ℕ) (bindings : List ℕ) (sample_of : ℕ → ℤ) (n : ℕ) → Keeps p s (FrameLeft frame n) (take_each member frame bindings sample_of n)
   unfolding take_each
-  each-back member frame bindings sample_of zero = (inl refl, refl)
+  each-back member frame bindings sample_of zero = (refl, (inl refl, refl))
   each-back member frame bindings sample_of (suc n) = (
-    λ past. Keeps-map s (FrameLeft frame n) (FrameLeft frame (suc n)) (take_each member frame bindings sample_of n) (each-back member frame bindings sample_of n) (less past),
-    λ word. (inl refl, tt),
-    (inl refl, tt),
+    λ past. Keeps-map p s (FrameLeft frame n) (FrameLeft frame (suc n)) (take_each member frame bindings sample_of n) (each-back member frame bindings sample_of n) (less past),
+    λ word. (refl, (inl refl, tt)),
+    (refl, (inl refl, tt)),
   )
     where
       less : s ≤ frame → (end : ℕ × Ended) → FrameLeft frame n end → FrameLeft frame (suc n) end
@@ -248,11 +229,11 @@ module _ (s : ℕ) where
         by_test false is (inl same) = absurd (grind (arith, nat_tests))
         by_test false is (inr past) = record { kept = inr (omega (arith, past)); few = omega arith; whole = on end left over }
 
-    pub frames-back : (samples : ℕ → ℕ → ℤ) (first n : ℕ) → Keeps s (RewindEnd (card + first) n s) (take_frames member card bindings samples first n)
+    pub frames-back : (samples : ℕ → ℕ → ℤ) (first n : ℕ) → Keeps p s (RewindEnd (card + first) n s) (take_frames member card bindings samples first n)
     unfolding take_frames
-    frames-back samples first zero = record { kept = inl (refl, refl); few = omega arith; whole = refl }
+    frames-back samples first zero = (refl, record { kept = inl (refl, refl); few = omega arith; whole = refl })
     frames-back samples first (suc n) =
-        Keeps-then s (FrameLeft (card + (first + n)) (length bindings)) (RewindEnd (card + first) (suc n) s)
+        Keeps-then p s (FrameLeft (card + (first + n)) (length bindings)) (RewindEnd (card + first) (suc n) s)
         (take_each member (card + (first + n)) bindings (samples (first + n)) (length bindings))
         (λ end. back_on end n (length bindings) (take_frames member card bindings samples first n))
         (each-back member (card + (first + n)) bindings (samples (first + n)) (length bindings)) (on (frames-back samples first n))
@@ -268,23 +249,46 @@ module _ (s : ℕ) where
             by_kept (inl (all, none)) = inr (omega (arith, all, below))
             by_kept (inr ends_there) = inr ends_there
 
-        on : Keeps s (RewindEnd (card + first) n s) (take_frames member card bindings samples first n) → (end : ℕ × Ended)
+        on : Keeps p s (RewindEnd (card + first) n s) (take_frames member card bindings samples first n) → (end : ℕ × Ended)
             → FrameLeft (card + (first + n)) (length bindings) end
-            → Keeps s (RewindEnd (card + first) (suc n) s) (back_on end n (length bindings) (take_frames member card bindings samples first n))
-        on rest (left, ended.Whole) (any, none) = Keeps-map s (RewindEnd (card + first) n s) (RewindEnd (card + first) (suc n) s) (take_frames member card bindings samples first n)
+            → Keeps p s (RewindEnd (card + first) (suc n) s) (back_on end n (length bindings) (take_frames member card bindings samples first n))
+        on rest (left, ended.Whole) (any, none) = Keeps-map p s (RewindEnd (card + first) n s) (RewindEnd (card + first) (suc n) s) (take_frames member card bindings samples first n)
             rest (fewer (past left any none))
-        on rest (left, ended.Late word) (any, none) = left-end first n left (ended.Late word) any tt
-        on rest (left, ended.Stopped) (any, none) = left-end first n left ended.Stopped any tt
+        on rest (left, ended.Late word) (any, none) = (refl, left-end first n left (ended.Late word) any tt)
+        on rest (left, ended.Stopped) (any, none) = (refl, left-end first n left ended.Stopped any tt)
 
 -- ---- a load, and the commit after it
 
-pub looks-from : (p s : ℕ) (Q : ℕ → Option Position × Commit → Type 0) (at : Position → PlaybackStream) (count : Position → ℕ) (ring : List ℤ) → Q s (None, nothing)
-    → ((position : Position) → p ≤ position.frame → From p (λ t commit. Q t (Some position, commit)) p (commits (at position) ring (count position)))
-    → From p Q s (looks at count ring)
+pub found-from : {T : Type 0} (p s : ℕ) (Q : ℕ → Answered T → Type 0) (at : Position → PlaybackStream) (count : Position → ℕ) (ring : List ℤ)
+    (done : Option Position → Commit → Answered T) → Q s (done None nothing)
+    → ((position : Position) → p ≤ position.frame → From p (λ t commit. Q t (done (Some position) commit)) p (commits (at position) ring (count position)))
+    → From p Q s (looks at count ring >>= λ found. ends (done found.0 found.1))
 unfolding looks ◌>>=◌
-looks-from p s Q at count ring none some = (
+found-from p s Q at count ring done none some = (
   none,
-  λ position least.
-      From-then p (λ t commit. Q t (Some position, commit)) Q p (commits (at position) ring (count position)) (λ commit. ends (Some position, commit))
-      (some position least) (λ t commit is. is),
+  λ position least. From-then p found-so Q p (commits (at position) ring (count position) >>= λ commit. ends (Some position, commit)) (λ found. ends (done found.0 found.1))
+      (From-then p (λ t commit. found-so t (Some position, commit)) found-so p (commits (at position) ring (count position)) (λ commit. ends (Some position, commit))
+      (some position least) (λ t commit is. is)) (λ t found is. is),
 )
+  where
+    found-so : ℕ → Option Position × Commit → Type 0
+    found-so t found = Q t (done found.0 found.1)
+
+-- ---- a line of an open client
+
+-- what holds of a client as it is, and of what each of its calls leaves, holds of what a line leaves
+pub line-from : (rules : Rules) (p : ℕ) → ((q : ℕ) → Contains rules.published q → p ≤ q) → (phase : ℕ) (wav : Sound) (number : ℕ) (a b : AtPort) (client after : Client) (asked : Op)
+    (answer : Answer) (c : PlaybackStream) → client.own ≡ Some c → (Q : Client → Type 0) → Q client
+    → ((m : Marks) (o : Op) → From p (λ t (done : Client × Answer). Q done.0) 0 (call_of wav m c o >>= λ done. ends (after_call client c o done)))
+    → LineMay (client_kind phase wav number) rules (a, client) asked (b, after) answer → Q after
+line-from rules p least phase wav number a b client after asked answer c is Q same each may =
+    Takes-from rules p least (λ (done : Client × Answer). Q done.0) 0 (begins client.own asked a) b (line_by wav m client client.own asked) (after, answer)
+    (subst (λ own. From p (λ t (done : Client × Answer). Q done.0) 0 (line_by wav m client own asked)) (sym is) (by_stop c.status.stopped asked)) (omega arith) may
+  where
+    m : Marks
+    m = (begins client.own asked a).marks
+
+    by_stop : (stopped : Bool) (o : Op) → From p (λ t (done : Client × Answer). Q done.0) 0 (line_if stopped wav m client c o)
+    by_stop true o = same
+    by_stop false (op.Die k) = same
+    by_stop false o = each m o

@@ -5,7 +5,6 @@ use Rattle.std.proofs.lemmas.List.{append-nil}
 use Rattle.std.specs.Prelude.{Bool, true, false, not, ◌&&◌, nat_eq, if◌then◌else◌, Ok, IfSome, Contains}
 use Rattle.snd_base.specs.declared.errors.PcmError.{PcmError}
 use Rattle.mix_core.specs.declared.marks.Marks.{Marks}
-use Rattle.mix_core.specs.declared.port.Position.{Position}
 use Rattle.pcm_states.specs.declared.calls.Call.TheVariants as call
 use Rattle.pcm_states.specs.declared.states.State.{State}
 use Rattle.pcm_states.specs.declared.states.State.TheVariants.{Paused, Prepared, Running}
@@ -14,15 +13,14 @@ use Rattle.pcm_stream.specs.declared.status.Status.{Status}
 use Rattle.pcm_stream.specs.Status.{refusal_of}
 use Rattle.course.specs.Course.{◌>>=◌, ends}
 use Rattle.wav_io.specs.Sound.{Sound}
-use Rattle.dmix_client.specs.declared.commit.Commit.{Commit}
 use Rattle.dmix_client.specs.declared.stream.PlaybackStream.{PlaybackStream}
 use Rattle.dmix_client.specs.Calls.{Answered, after_prepare, after_resume, after_start, is_paused, is_prepared, pending_of, segment_of, start_count, started_in, with_new_base}
-use Rattle.dmix_client.specs.Course.{admitted_by, looks, pause_course, resumes}
+use Rattle.dmix_client.specs.Course.{admitted_by, pause_course, resumes}
 use Rattle.lab_lines.specs.declared.line.Op.{Op}
 use Rattle.lab_lines.specs.declared.line.Op.TheVariants as op
 use Rattle.lab_lines.specs.declared.row.Answer.{Answer}
 use Rattle.lab_lines.specs.declared.row.Row.{Row}
-use Rattle.lab_run.specs.Client.{Client, after_call, begins, call_answer, call_of, client_kind, done_answer, ended_by, line_by, line_if, present_of, segments_of, stretch_of}
+use Rattle.lab_run.specs.Client.{Client, after_call, call_answer, call_of, client_kind, done_answer, ended_by, present_of, segments_of, stretch_of}
 use Rattle.lab_run.specs.Lines.{LineMay, LinesMay}
 use Rattle.lab_run.specs.Rules.{AtPort, Rules}
 use Rattle.lab_run.specs.Stage.{Session, Setup}
@@ -31,7 +29,7 @@ use Rattle.run_laws.proofs.Going.{still-client}
 use Rattle.run_laws.proofs.Onward.{Channels}
 use Rattle.run_laws.proofs.OnwardLines.{InOpen, append-none}
 use Rattle.run_laws.proofs.PlayedCalls.{CanStart, Fits, Kept, Started, call-kept, start-commits, stopped-fits}
-use Rattle.run_laws.proofs.PlayedCourses.{From, From-map, From-then, Takes-from, looks-from}
+use Rattle.run_laws.proofs.PlayedCourses.{From, From-map, From-then, found-from, line-from}
 use Rattle.run_laws.proofs.PlayedSegments.{IsAlike, IsPast, alike-same, heard, heard-append, stretch-alike, stretch-past}
 use Rattle.run_laws.proofs.Stages.{IsKept}
 
@@ -99,21 +97,14 @@ module _ (p : ℕ) (client : Client) (c : PlaybackStream) (own_is : client.own �
   resumes-from : (m : Marks) → is_paused c.status.state ≡ true → From p ResumedBy 0 (resumes c m.cursor [])
   unfolding resumes
   resumes-from m paused =
-      From-then p found-so ResumedBy 0
-      (looks (λ position. started_in (with_new_base c) Running position m.cursor) (λ position. start_count (with_new_base c) m.cursor position (pending_of c)) [])
-      (λ found. ends (after_resume c m.cursor found.0 found.1))
-      (looks-from p 0 found-so (λ position. started_in (with_new_base c) Running position m.cursor)
-      (λ position. start_count (with_new_base c) m.cursor position (pending_of c)) []
+      found-from p 0 ResumedBy (λ position. started_in (with_new_base c) Running position m.cursor)
+      (λ position. start_count (with_new_base c) m.cursor position (pending_of c)) [] (after_resume c m.cursor)
       (stopped-fits _ _ _ _ fits.bound (paused-unprepared c.status.state paused), inl (paused, alike-same p (segment_of c)))
       (λ position least. From-map p (λ t commit. Started p Running t (after_start (with_new_base c) Running m.cursor (Some position) commit))
-      (λ t commit. found-so t (Some position, commit)) p _
+      (λ t commit. ResumedBy t (after_resume c m.cursor (Some position) commit)) p _
       (start-commits p (with_new_base c) Running m.cursor (start_count (with_new_base c) m.cursor position (pending_of c)) [] can position least)
-      (λ t commit is. (is.1, inr (is.2, is.0)))))
-      (λ t found is. is)
+      (λ t commit is. (is.1, inr (is.2, is.0))))
     where
-      found-so : ℕ → Option Position × Commit → Type 0
-      found-so t found = ResumedBy t (after_resume c m.cursor found.0 found.1)
-
       can : CanStart (with_new_base c) Running
       can = record { bound = fits.bound; prepared = refl; none = refl; no_part = refl; unprepared = refl; unpaused = refl }
 
@@ -154,30 +145,16 @@ module _ (p : ℕ) (client : Client) (c : PlaybackStream) (own_is : client.own �
 
   -- ---- each line
 
-  op-leaves : (wav : Sound) (m : Marks) (asked : Op) → From p LeavesAfter 0 (line_if false wav m client c asked)
-  op-leaves wav m (op.Die k) = stays
+  op-leaves : (wav : Sound) (m : Marks) (asked : Op) → From p LeavesAfter 0 (call_of wav m c asked >>= λ done. ends (after_call client c asked done))
   op-leaves wav m op.Prepare = prepare-leaves wav m
   op-leaves wav m op.Resume = resume-leaves wav m
   op-leaves wav m asked = call-leaves wav asked m (λ answer d. refl) (call-kept p c fits wav m asked refl)
-
-  pub line-leaves : (wav : Sound) (m : Marks) (asked : Op) → From p LeavesAfter 0 (line_if c.status.stopped wav m client c asked)
-  line-leaves wav m asked = by_stop c.status.stopped
-    where
-      by_stop : (stopped : Bool) → From p LeavesAfter 0 (line_if stopped wav m client c asked)
-      by_stop true = stays
-      by_stop false = op-leaves wav m asked
 
 -- a line that is done
 pub done-leaves : (rules : Rules) (p : ℕ) → ((q : ℕ) → Contains rules.published q → p ≤ q) → (phase : ℕ) (wav : Sound) (number : ℕ) (a b : AtPort) (client after : Client) (asked : Op)
     (answer : Answer) (c : PlaybackStream) → client.own ≡ Some c → Fits c → LineMay (client_kind phase wav number) rules (a, client) asked (b, after) answer → Leaves p client c after
 done-leaves rules p least phase wav number a b client after asked answer c is fits may =
-    Takes-from rules p least (λ (done : Client × Answer). Leaves p client c done.0) 0 (begins client.own asked a) b
-    (line_by wav m client client.own asked) (after, answer)
-    (subst (λ own. From p (λ t (done : Client × Answer). Leaves p client c done.0) 0 (line_by wav m client own asked)) (sym is) (line-leaves p client c is fits wav m asked))
-    (omega arith) may
-  where
-    m : Marks
-    m = (begins client.own asked a).marks
+    line-from rules p least phase wav number a b client after asked answer c is (Leaves p client c) (stays p client c is fits) (op-leaves p client c is fits wav) may
 
 -- ---- each client of a run fits
 

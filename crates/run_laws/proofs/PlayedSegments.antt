@@ -21,7 +21,7 @@ use Rattle.lab_run.specs.Client.{stretch_of}
 use Rattle.lab_run.specs.LabRun.{entries_by}
 use Rattle.lab_run.specs.Stage.{Session, Setup}
 use Rattle.run_laws.proofs.Expanded.{other-frame}
-use Rattle.run_laws.proofs.OneSample.{before-none, behind-none}
+use Rattle.run_laws.proofs.AtMostOne.{before-none, behind-none}
 use Rattle.run_laws.proofs.Onward.{begun}
 
 -- nothing of a segment is below p
@@ -74,11 +74,6 @@ alike-then p s t u (inl one) (inl two) = inl (one.0, two.1)
 alike-then p s t u (inl one) (inr goes) = inl (one.0, past-on p t u one.1 goes)
 alike-then p s t u (inr goes) (inl two) = inl (past-on p t s two.0 (goes-back p s t goes), two.1)
 alike-then p s t u (inr one) (inr two) = inr (goes-then p s t u one two)
-
--- one that places nothing below p goes on so
-pub past-alike : (p : ℕ) (s t : Segment) → IsPast p s → IsAlike p s t → IsPast p t
-past-alike p s t past (inl both) = both.1
-past-alike p s t past (inr goes) = past-on p s t past goes
 
 -- ---- what they place
 

@@ -4,8 +4,7 @@ use Rattle.std.proofs.lemmas.List.{append-nil}
 use Rattle.std.proofs.lemmas.Nat.{div_below}
 use Rattle.std.proofs.lemmas.List.Concat.{flat_map-append}
 use Rattle.std.specs.List.{flat_map, range_with_len}
-use Rattle.std.specs.Prelude.{Bool, true, false, zero, suc, ◌/◌, ◌%◌, ℤ, IfSome, map, slice_index_or, slice_set, Contains, Result, Ok, Err}
-use Rattle.snd_base.specs.declared.errors.PcmError.{PcmError}
+use Rattle.std.specs.Prelude.{Bool, true, false, zero, suc, ◌/◌, ◌%◌, ℤ, IfSome, map, slice_index_or, slice_set, Contains}
 use Rattle.snd_base.specs.declared.geometry.Geometry.{Geometry}
 use Rattle.snd_base.specs.declared.places.Segment.{Segment}
 use Rattle.bindings.specs.Bound.{AreBindings}
@@ -16,27 +15,27 @@ use Rattle.mix_core.specs.Laid as laid
 use Rattle.mix_core.specs.Laid.{sum_of_samples}
 use Rattle.dmix_client.specs.declared.stream.PlaybackStream.{PlaybackStream}
 use Rattle.dsnoop_client.specs.declared.stream.CaptureStream as reading
+use Rattle.lab_lines.specs.declared.line.Actor.{Actor}
 use Rattle.lab_lines.specs.declared.line.Actor.TheVariants as actor
 use Rattle.lab_lines.specs.declared.line.Item.{Item}
 use Rattle.lab_lines.specs.declared.line.Item.TheVariants as item
 use Rattle.lab_lines.specs.declared.line.Op.{Op}
 use Rattle.lab_lines.specs.declared.row.Row.{Row}
 use Rattle.lab_lines.specs.Script.{first_frame}
-use Rattle.lab_run.specs.Claims.{claim_refusal}
-use Rattle.lab_run.specs.Client.{Client, present_of, segments_of}
+use Rattle.lab_run.specs.Client.{Client, segments_of}
 use Rattle.lab_run.specs.Items.{ItemMay, ItemsMay, client_kinds, is_stopped, reaped_client, reaped_client_if, rules_of}
 use Rattle.lab_run.specs.LabRun.{all_segments, entries_by, entries_of, mixed_at, with_numbers}
 use Rattle.lab_run.specs.Lines.{EachMay}
 use Rattle.lab_run.specs.Phases.{is_client, ops_by, phase_positions}
-use Rattle.lab_run.specs.Places.{Lobby, after_attach}
 use Rattle.lab_run.specs.Rules.{AtPort, Rules}
-use Rattle.lab_run.specs.Stage.{Session, Setup, Stage, attached_client, claimed_client, client_at, close_client, close_reader, ended_client, first_stage, no_client, open_client, open_client_with, open_reader, open_reader_with, reader_at}
+use Rattle.lab_run.specs.Stage.{Session, Setup, Stage, client_at, close_client, close_reader, ended_client, first_stage, no_client, open_client, open_reader, reader_at}
+use Rattle.lab_run.proofs.BorderLaws.{Border, close-by, close_client-by, close_reader-by, open-by, open_client-by, open_reader-by}
 use Rattle.run_laws.specs.OneSample.{AreBound}
 use Rattle.run_laws.specs.Played.{PlayedStays}
 use Rattle.run_laws.proofs.Onward.{Channels}
 use Rattle.run_laws.proofs.PlayedLines.{FitsWhere, clients-fit, lines-heard}
 use Rattle.run_laws.proofs.PlayedSegments.{heard}
-use Rattle.run_laws.proofs.Sole.{published-past}
+use Rattle.run_laws.proofs.Published.{published-past}
 use Rattle.run_laws.proofs.Stages.{AreSo, item-kept, reached-so}
 
 -- ---- the segments of all clients
@@ -110,47 +109,25 @@ pub record IsBorderOf (stage after : Stage) : Type 0 where
   pub position : after.position ≡ stage.position
 
 module _ (session : Session) (stage : Stage) where
-  pub same-border : IsBorderOf stage stage
-  same-border = record { segments = refl; position = refl }
-
-  pub opens-client : (n : ℕ) (own : Option PlaybackStream) → (client_at session stage n).1.own ≡ own → IsBorderOf stage (open_client session stage n (client_at session stage n) own)
-  opens-client n (Some c) is = record { segments = refl; position = refl }
-  opens-client n None is = by_setup (slice_index_or session.clients n None)
-    where
-      by_answer : (setup : Setup) (to : Lobby × Result (Unit {0}) PcmError) → IsBorderOf stage (attached_client session stage n setup (client_at session stage n) to)
-      by_answer setup (lobby, Ok done) = record {
-        segments = set-segments 0 n stage.clients (no_client session.ring) _
-            (ap (λ own. (client_at session stage n).1.ended ++ present_of own) (sym is));
-        position = refl;
-      }
-      by_answer setup (lobby, Err e) = record { segments = refl; position = refl }
-
-      by_claim : (setup : Setup) (refusal : Option PcmError) → IsBorderOf stage (claimed_client session stage n setup (client_at session stage n) refusal)
-      by_claim setup (Some e) = record { segments = refl; position = refl }
-      by_claim setup None = by_answer setup (after_attach n stage.position stage.lobby)
-
-      by_setup : (setup : Option Setup) → IsBorderOf stage (open_client_with session stage n setup (client_at session stage n))
-      by_setup None = record { segments = refl; position = refl }
-      by_setup (Some setup) = by_claim setup (claim_refusal session.card.share stage.claims setup.bindings stage.position)
-
-  pub closes-client : (n : ℕ) (own : Option PlaybackStream) → IsBorderOf stage (close_client session stage n (client_at session stage n) own)
-  closes-client n None = record { segments = refl; position = refl }
-  closes-client n (Some c) = record {
-    segments = set-segments 0 n stage.clients (no_client session.ring) _ (ended-segments session.ring (client_at session stage n));
-    position = refl;
+  pub border-of : (who : Actor) → Border session stage who (IsBorderOf stage)
+  border-of who = record {
+    none = λ card. record { segments = refl; position = refl };
+    refused = λ lobby row of. record { segments = refl; position = refl };
+    client = λ n client lobby claims row who_is of same. record { segments = set-segments 0 n stage.clients (no_client session.ring) _ same; position = refl };
+    reader = λ n own anew row who_is of. record { segments = refl; position = refl };
   }
 
+  pub opens-client : (n : ℕ) (own : Option PlaybackStream) → (client_at session stage n).1.own ≡ own → IsBorderOf stage (open_client session stage n (client_at session stage n) own)
+  opens-client n own is = open_client-by session stage (IsBorderOf stage) n (border-of (actor.Client n)) own is
+
+  pub closes-client : (n : ℕ) (own : Option PlaybackStream) → IsBorderOf stage (close_client session stage n (client_at session stage n) own)
+  closes-client n own = close_client-by session stage (IsBorderOf stage) n (border-of (actor.Client n)) own
+
   pub opens-reader : (n : ℕ) (own : Option reading.CaptureStream) → IsBorderOf stage (open_reader session stage n (reader_at session stage n) own)
-  opens-reader n (Some r) = record { segments = refl; position = refl }
-  opens-reader n None = by_setup (slice_index_or session.readers n None)
-    where
-      by_setup : (setup : Option Setup) → IsBorderOf stage (open_reader_with session stage n setup (reader_at session stage n))
-      by_setup None = record { segments = refl; position = refl }
-      by_setup (Some setup) = record { segments = refl; position = refl }
+  opens-reader n own = open_reader-by session stage (IsBorderOf stage) n (border-of (actor.Reader n)) own
 
   pub closes-reader : (n : ℕ) (own : Option reading.CaptureStream) → IsBorderOf stage (close_reader session stage n (reader_at session stage n) own)
-  closes-reader n None = record { segments = refl; position = refl }
-  closes-reader n (Some r) = record { segments = refl; position = refl }
+  closes-reader n own = close_reader-by session stage (IsBorderOf stage) n (border-of (actor.Reader n)) own
 
 -- ---- the items of a body
 
@@ -168,12 +145,8 @@ module _ (session : Session) (bound : AreBound session) (p : ℕ) where
   }
 
   item-stays : (stage after : Stage) (one : Item) → AreSo FitsWhere clients-fit session 0 stage.clients → p ≤ stage.position → ItemMay session stage one after → Stays session p stage after
-  item-stays stage after (item.Opens number actor.Card) are past is = border-stays stage after past (rw is (same-border session stage))
-  item-stays stage after (item.Opens number (actor.Client n)) are past is = border-stays stage after past (rw is (opens-client session stage n (client_at session stage n).1.own refl))
-  item-stays stage after (item.Opens number (actor.Reader n)) are past is = border-stays stage after past (rw is (opens-reader session stage n (reader_at session stage n).1.own))
-  item-stays stage after (item.Closes number actor.Card) are past is = border-stays stage after past (rw is (same-border session stage))
-  item-stays stage after (item.Closes number (actor.Client n)) are past is = border-stays stage after past (rw is (closes-client session stage n (client_at session stage n).1.own))
-  item-stays stage after (item.Closes number (actor.Reader n)) are past is = border-stays stage after past (rw is (closes-reader session stage n (reader_at session stage n).1.own))
+  item-stays stage after (item.Opens number who) are past is = border-stays stage after past (rw is (open-by session stage (IsBorderOf stage) who (border-of session stage who)))
+  item-stays stage after (item.Closes number who) are past is = border-stays stage after past (rw is (close-by session stage (IsBorderOf stage) who (border-of session stage who)))
   item-stays stage after (item.Phase lines) are past may = rw may.is (record {
     on = omega (arith, past);
     heard_so = λ frame channel before.

@@ -10,14 +10,13 @@ use Rattle.lab_lines.specs.declared.line.Item.{Item}
 use Rattle.lab_lines.specs.declared.script.CardLine.{CardLine}
 use Rattle.lab_lines.specs.declared.script.ReaderLine.{ReaderLine}
 use Rattle.lab_lines.specs.declared.script.Script.{Script}
-use Rattle.lab_run.specs.LabRun.{LabRun, Outcome, captured_sample, joined_runs, recorded_from, runs_of, bindings_of}
+use Rattle.lab_run.specs.LabRun.{LabRun, Outcome, captured_sample, joined_runs, runs_of, bindings_of}
 use Rattle.lab_run.specs.Openings.{AreReaderOpenings, IsSessionOf, read_by}
 use Rattle.lab_run.specs.OwnRows.{rows_by, runs_by}
 use Rattle.lab_run.specs.Phases.{is_reader}
-use Rattle.lab_run.specs.Reader.{Reader}
-use Rattle.lab_run.specs.Rules.{AtPort}
 use Rattle.lab_run.specs.Stage.{Session, Setup}
 use Rattle.lab_run.specs.Stretches.{AreSlices, ReadersReadInSlices, ReadsInSlices}
+use Rattle.run_laws.specs.Growth.{recorded_from-size}
 use Rattle.run_laws.specs.Recordings.{AreRecordingsOf, IsRecordingOf, bindings_at, frames_in_runs, frames_of_runs, recording_of, ReadersAreBound}
 use Rattle.run_laws.proofs.OwnLines.{map-size}
 use Rattle.run_laws.proofs.Sizes.{run-size}
@@ -49,7 +48,7 @@ frames-count ((first, count) ∷ runs) =
     ∙ ap (λ n. n + length (frames_of_runs runs)) (length-range_with_len first count)
     ∙ ap (λ n. count + n) (frames-count runs)
 
-samples-count : (sample_of : ℕ → ℕ → ℤ) (bindings frames : List ℕ) → length (flat_map (λ frame. map (sample_of frame) bindings) frames) ≡ length frames * length bindings
+pub samples-count : (sample_of : ℕ → ℕ → ℤ) (bindings frames : List ℕ) → length (flat_map (λ frame. map (sample_of frame) bindings) frames) ≡ length frames * length bindings
 samples-count sample_of bindings [] = omega arith
 samples-count sample_of bindings (frame ∷ frames) =
     length-append (map (sample_of frame) bindings) (flat_map (λ f. map (sample_of f) bindings) frames)
@@ -75,16 +74,11 @@ reader-recording session capture outcome number reads =
       stretches = subst (λ f. AreSlices None (rows_by (is_reader number) outcome.report.rows) f reads.after) (sym frames) reads.slices;
     }
 
-pub recorded-size : (session : Session) (capture : Option Sound) (number : ℕ) (readers : List (AtPort × Reader))
-    → length (recorded_from session capture number readers) ≡ length readers
-recorded-size session capture number [] = refl
-recorded-size session capture number (reader ∷ readers) = ap suc (recorded-size session capture (number + 1) readers)
-
 pub LabRun-recordings : (session : Session) (capture : Option Sound) (body : List Item) (client_stops reader_stops : ℕ → ℕ) (outcome : Outcome)
     → ReadersReadInSlices session capture body → LabRun session capture body client_stops reader_stops outcome
     → AreRecordingsOf session capture outcome.report outcome.recorded
 LabRun-recordings session capture body client_stops reader_stops outcome read run = record {
-  readers = ap (λ (o : Outcome). length o.recorded) run.is ∙ recorded-size session capture 0 run.end.readers ∙ (run-size session body run.end run.may).readers;
+  readers = ap (λ (o : Outcome). length o.recorded) run.is ∙ recorded_from-size session capture 0 run.end.readers ∙ (run-size session body run.end run.may).readers;
   each = λ number low. reader-recording session capture outcome number (read client_stops reader_stops outcome run number low);
 }
 

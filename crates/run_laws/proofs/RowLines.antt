@@ -2,42 +2,42 @@
 use Rattle.std.proofs.Common.{◌≡◌, ℕ, ◌+◌, refl, sym, ◌∙◌, ap, subst, arith, List, [], ◌∷◌, ◌++◌, Option, Some, None}
 use Rattle.std.proofs.lemmas.List.{append-nil, append_assoc}
 use Rattle.std.proofs.lemmas.List.Elements.{All-from_recursion}
-use Rattle.std.specs.List.{AllByRecursion, list_all, list_any, position}
-use Rattle.std.specs.Prelude.{Bool, true, false, suc, IfSome, if◌then◌else◌, slice_index_or, Result, Ok, Err, ⊤}
+use Rattle.std.specs.List.{AllByRecursion}
+use Rattle.std.specs.Prelude.{true, suc, IfErr, IfSome, slice_index_or, Result, Ok, Err}
 use Rattle.snd_base.specs.declared.errors.PcmError.{PcmError}
 use Rattle.snd_base.specs.declared.errors.PcmError.TheVariants as error
 use Rattle.snd_base.specs.declared.errors.XrunWhy.TheVariants as why
 use Rattle.wav_io.specs.Sound.{Sound}
 use Rattle.dmix_client.specs.declared.stream.PlaybackStream.{PlaybackStream}
 use Rattle.dsnoop_client.specs.declared.stream.CaptureStream as reading
-use Rattle.dshare.specs.Owners as owners
 use Rattle.lab_lines.specs.declared.line.Actor.TheVariants as actor
 use Rattle.lab_lines.specs.declared.line.Item.{Item}
 use Rattle.lab_lines.specs.declared.line.Item.TheVariants as item
 use Rattle.lab_lines.specs.declared.line.Line.{Line}
 use Rattle.lab_lines.specs.declared.line.Op.{Op}
 use Rattle.lab_lines.specs.declared.line.Op.TheVariants as op
-use Rattle.lab_lines.specs.declared.script.Share.{Share}
-use Rattle.lab_lines.specs.declared.script.Share.TheVariants.{Dmix, Dshare}
 use Rattle.lab_lines.specs.Script.{is_of_card, played_by}
 use Rattle.lab_lines.specs.declared.row.Answer.{Answer}
 use Rattle.lab_lines.specs.declared.row.Answer.TheVariants.{Failed}
 use Rattle.lab_lines.specs.declared.row.Row.{Row}
-use Rattle.lab_run.specs.Claims.{claim_refusal, is_free_channel}
+use Rattle.lab_run.specs.Claims.{claim_refusal}
 use Rattle.lab_run.specs.Client.{Client, row_by, segments_of}
-use Rattle.lab_run.specs.Items.{ItemMay, ItemsMay, client_kinds, no_sound, phase_end, reader_kinds, rules_of}
+use Rattle.lab_run.specs.Items.{ItemMay, ItemsMay, client_kinds, held_of, no_sound, phase_end, reader_kinds, rules_of}
 use Rattle.lab_run.specs.LabRun.{LabRun, Outcome, report_of}
 use Rattle.run_laws.specs.LateRows.{is_rewind}
 use Rattle.lab_run.specs.Lines.{EachMay, Kind, LineMay, LinesMay}
 use Rattle.lab_run.specs.Phases.{card_row, card_rows, is_client, is_reader, ops_by}
-use Rattle.lab_run.specs.Places.{Lobby, after_attach, attached_by, is_free, is_silent}
+use Rattle.lab_run.specs.Places.{Lobby, after_attach}
 use Rattle.lab_run.specs.Reader.{Reader, reader_kind}
 use Rattle.lab_run.specs.Reader as readers
 use Rattle.lab_run.specs.Rules.{AtPort, Rules}
 use Rattle.lab_run.specs.Stage.{Session, Setup, Stage, attached_client, claimed_client, client_at, close_client, close_reader, first_stage, no_client, open_client, open_client_with, open_reader, open_reader_with, reader_at}
+use Rattle.lab_run.proofs.RowsGrow.{items-more}
 use Rattle.run_laws.specs.Late.{IsLate, IsLineOf, ListsSegments, IsRowOfLine, LateLinesMiss, LateRowsMiss, RowMisses, RowNamesLast, SaysWhereLate}
-use Rattle.run_laws.proofs.Listed.{items-over, late-over, listed-at, reaped-over}
+use Rattle.run_laws.proofs.Borders.{IsBusy, attached-busy, claim-busy}
+use Rattle.run_laws.proofs.Listed.{OverAt, late-over, listed-at, over-held}
 use Rattle.run_laws.proofs.Sealed.{IsStart, Over, over-lines}
+use Rattle.run_laws.proofs.Stages.{items-held, reaped-held}
 use Rattle.snd_base.specs.declared.places.Segment.{Segment}
 use Rattle.lab_lines.specs.declared.report.Report.{Report}
 use Rattle.lab_run.specs.OwnRows.{segments_by}
@@ -65,34 +65,8 @@ ItemsMay-more session x stage between (first ∷ done) one (middle, step, rest) 
 
 -- ---- an opening is never late
 
-abbrev IsEarly : PcmError → Type 0
-IsEarly e = (frame channel : ℕ) → e ≡ error.Xrun (why.Late frame channel 0) → ⊥
-
-abbrev IsEarlyResult : Result (Unit {0}) PcmError → Type 0
-IsEarlyResult (Ok done) = ⊤
-IsEarlyResult (Err e) = IsEarly e
-
-busy-early : (until : Option ℕ) (seen : ℕ) → IsEarly (error.Busy until seen)
-busy-early until seen frame channel is = absurd (cc)
-
-claim-early : (share : Share) (claims : List owners.ClaimRow) (channels : List ℕ) (position : ℕ) → IfSome (claim_refusal share claims channels position) IsEarly
-claim-early Dmix claims channels position = tt
-claim-early Dshare claims channels position = by_test (list_all (is_free_channel claims position) channels)
-  where
-    by_test : (free : Bool) → IfSome (if free then None else Some (owners.busy claims channels position)) IsEarly
-    by_test true = tt
-    by_test false = busy-early _ _
-
-attached-early : (n at : ℕ) (lobby : Lobby) → IsEarlyResult (after_attach n at lobby).1
-attached-early n at lobby = by_test (list_any is_free lobby.places)
-  where
-    by_place : (place : Option ℕ) → IsEarlyResult (attached_by place n at lobby).1
-    by_place None = busy-early _ _
-    by_place (Some place) = tt
-
-    by_test : (free : Bool) → IsEarlyResult (if free then attached_by (position (is_silent at) lobby.places) n at lobby else (lobby, Err (error.Busy None lobby.seen))).1
-    by_test true = by_place (position (is_silent at) lobby.places)
-    by_test false = busy-early None lobby.seen
+busy-early : (e : PcmError) → IsBusy e → (frame channel : ℕ) → IsLate (Failed e) frame channel → ⊥
+busy-early e (until, seen, busy) frame channel late = let is : Failed (error.Busy until seen) ≡ Failed (error.Xrun (why.Late frame channel 0)) = ap (λ x. Failed x) (sym busy) ∙ late in absurd (cc)
 
 -- ---- rows are never taken back
 
@@ -103,56 +77,10 @@ IsFirst rows all = (later : List Row) × (all ≡ rows ++ later)
 first-more : (rows more all : List Row) → IsFirst (rows ++ more) all → IsFirst rows all
 first-more rows more all (later, is) = (more ++ later, is ∙ append_assoc rows more later)
 
-open-first : (session : Session) (stage : Stage) (n : ℕ) (x : AtPort × Client) (own : Option PlaybackStream) (all : List Row) → IsFirst (open_client session stage n x own).rows all → IsFirst stage.rows all
-open-first session stage n x (Some c) all = first-more stage.rows _ all
-open-first session stage n x None all = by_setup (slice_index_or session.clients n None)
-  where
-    by_answer : (setup : Setup) (at : Lobby × Result (Unit {0}) PcmError) → IsFirst (attached_client session stage n setup x at).rows all → IsFirst stage.rows all
-    by_answer setup (lobby, Ok done) is = first-more stage.rows _ all is
-    by_answer setup (lobby, Err e) is = first-more stage.rows _ all is
-
-    by_claim : (setup : Setup) (refusal : Option PcmError) → IsFirst (claimed_client session stage n setup x refusal).rows all → IsFirst stage.rows all
-    by_claim setup (Some e) is = first-more stage.rows _ all is
-    by_claim setup None is = by_answer setup (after_attach n stage.position stage.lobby) is
-
-    by_setup : (setup : Option Setup) → IsFirst (open_client_with session stage n setup x).rows all → IsFirst stage.rows all
-    by_setup None is = first-more stage.rows _ all is
-    by_setup (Some setup) is = by_claim setup (claim_refusal session.card.share stage.claims setup.bindings stage.position) is
-
-close-first : (session : Session) (stage : Stage) (n : ℕ) (x : AtPort × Client) (own : Option PlaybackStream) (all : List Row) → IsFirst (close_client session stage n x own).rows all → IsFirst stage.rows all
-close-first session stage n x None all is = first-more stage.rows _ all is
-close-first session stage n x (Some c) all is = first-more stage.rows _ all is
-
-open_reader-first : (session : Session) (stage : Stage) (n : ℕ) (x : AtPort × Reader) (own : Option reading.CaptureStream) (all : List Row)
-    → IsFirst (open_reader session stage n x own).rows all → IsFirst stage.rows all
-open_reader-first session stage n x (Some r) all = first-more stage.rows _ all
-open_reader-first session stage n x None all = by_setup (slice_index_or session.readers n None)
-  where
-    by_setup : (setup : Option Setup) → IsFirst (open_reader_with session stage n setup x).rows all → IsFirst stage.rows all
-    by_setup None is = first-more stage.rows _ all is
-    by_setup (Some setup) is = first-more stage.rows _ all is
-
-close_reader-first : (session : Session) (stage : Stage) (n : ℕ) (x : AtPort × Reader) (own : Option reading.CaptureStream) (all : List Row)
-    → IsFirst (close_reader session stage n x own).rows all → IsFirst stage.rows all
-close_reader-first session stage n x None all is = first-more stage.rows _ all is
-close_reader-first session stage n x (Some r) all is = first-more stage.rows _ all is
-
-item-first : (session : Session) (stage after : Stage) (one : Item) (all : List Row) → ItemMay session stage one after → IsFirst after.rows all → IsFirst stage.rows all
-item-first session stage after (item.Opens number actor.Card) all is = rw is (λ first. first)
-item-first session stage after (item.Opens number (actor.Client n)) all is = rw is (open-first session stage n (client_at session stage n) (client_at session stage n).1.own all)
-item-first session stage after (item.Opens number (actor.Reader n)) all is = rw is (open_reader-first session stage n (reader_at session stage n) (reader_at session stage n).1.own all)
-item-first session stage after (item.Closes number actor.Card) all is = rw is (λ first. first)
-item-first session stage after (item.Closes number (actor.Client n)) all is = rw is (close-first session stage n (client_at session stage n) (client_at session stage n).1.own all)
-item-first session stage after (item.Closes number (actor.Reader n)) all is = rw is (close_reader-first session stage n (reader_at session stage n) (reader_at session stage n).1.own all)
-item-first session stage after (item.Phase lines) all may = rw may.is (λ first. first-more stage.rows cards all
-    (first-more (stage.rows ++ cards) may.client_rows all (first-more (stage.rows ++ cards ++ may.client_rows) may.reader_rows all first)))
-  where
-    cards : List Row
-    cards = card_rows (stage.phases + 1) stage.position (ops_by is_of_card lines)
-
 items-first : (session : Session) (stage after : Stage) (items : List Item) (all : List Row) → ItemsMay session stage items after → IsFirst after.rows all → IsFirst stage.rows all
-items-first session stage after [] all is = rw is (λ first. first)
-items-first session stage after (one ∷ items) all (between, may, rest) = λ first. item-first session stage between one all may (items-first session between after items all rest first)
+items-first session stage after items all may first =
+    let more = items-more session stage after items may in
+    first-more stage.rows more.more all (subst (λ (rows : List Row). IsFirst rows all) more.rows first)
 
 module _ (session : Session) (body : List Item) (report : Report) (late : LateLinesMiss session body) where
   abbrev all : List Row
@@ -189,9 +117,6 @@ module _ (session : Session) (body : List Item) (report : Report) (late : LateLi
     rewinds = λ number frame channel who rewind is. absurd (other number who);
   }
 
-  failed-early : (e : PcmError) → IsEarly e → (frame channel : ℕ) → IsLate (Failed e) frame channel → ⊥
-  failed-early e early frame channel is = let same : e ≡ error.Xrun (why.Late frame channel 0) = cc in early frame channel same
-
   -- ---- rows of a phase
 
   card-P : (phase position : ℕ) (asked : Op) → P (card_row phase position asked)
@@ -220,17 +145,10 @@ module _ (session : Session) (body : List Item) (report : Report) (late : LateLi
       (reader-rows stage rules ops (number + 1) actors others other_rows rest))
 
   -- the row of a client's line
-  row-actor : (phase n : ℕ) (asked : Op) (own : Option PlaybackStream) (answer : Answer) → (row_by phase n asked own answer).actor ≡ actor.Client n
-  row-actor phase n asked None answer = refl
-  row-actor phase n asked (Some c) answer = refl
-
-  row-op : (phase n : ℕ) (asked : Op) (own : Option PlaybackStream) (answer : Answer) → (row_by phase n asked own answer).op ≡ asked
-  row-op phase n asked None answer = refl
-  row-op phase n asked (Some c) answer = refl
-
-  row-answer : (phase n : ℕ) (asked : Op) (own : Option PlaybackStream) (answer : Answer) → (row_by phase n asked own answer).answer ≡ answer
-  row-answer phase n asked None answer = refl
-  row-answer phase n asked (Some c) answer = refl
+  row-is : (phase n : ℕ) (asked : Op) (own : Option PlaybackStream) (answer : Answer)
+      → (let row : Row = row_by phase n asked own answer in (row.actor ≡ actor.Client n) × (row.op ≡ asked) × (row.answer ≡ answer))
+  row-is phase n asked None answer = (refl, refl, refl)
+  row-is phase n asked (Some c) answer = (refl, refl, refl)
 
   -- it is that of the line
   of-line : (n : ℕ) (before after : AtPort × Client) (asked : Op) (answer : Answer) (line : IsLineOf session body n before asked after answer) → IsFirst line.stage.rows all
@@ -283,13 +201,13 @@ module _ (session : Session) (body : List Item) (report : Report) (late : LateLi
       row = row_by (line.stage.phases + 1) n asked after.1.own answer
 
       op_is : is_rewind row.op ≡ is_rewind asked
-      op_is = ap is_rewind (row-op (line.stage.phases + 1) n asked after.1.own answer)
+      op_is = ap is_rewind (row-is (line.stage.phases + 1) n asked after.1.own answer).1
 
       same : (number : ℕ) → row.actor ≡ actor.Client number → n ≡ number
-      same number who = let own = row-actor (line.stage.phases + 1) n asked after.1.own answer in cc
+      same number who = let own = (row-is (line.stage.phases + 1) n asked after.1.own answer).0 in cc
 
       late_is : (frame channel : ℕ) → IsLate row.answer frame channel → IsLate answer frame channel
-      late_is frame channel is = sym (row-answer (line.stage.phases + 1) n asked after.1.own answer) ∙ is
+      late_is frame channel is = sym (row-is (line.stage.phases + 1) n asked after.1.own answer).2 ∙ is
 
   -- where a phase is in the body
   record IsPhaseOf (lines : List Line) (stage : Stage) : Type 0 where
@@ -325,21 +243,16 @@ module _ (session : Session) (body : List Item) (report : Report) (late : LateLi
       )
 
   client-rows : (lines : List Line) (stage : Stage) (phase : IsPhaseOf lines stage) (number : ℕ) (actors after : List (AtPort × Client)) (rows : List Row)
-      → ((i : ℕ) → slice_index_or actors i (no_client session.ring) ≡ client_at session stage (number + i))
-      → ((i : ℕ) → ListsOf (number + i) (slice_index_or after i (no_client session.ring)))
+      → ((i n : ℕ) → number + i ≡ n → slice_index_or actors i (no_client session.ring) ≡ client_at session stage n)
+      → ((i n : ℕ) → number + i ≡ n → ListsOf n (slice_index_or after i (no_client session.ring)))
       → EachMay (client_kinds session stage) (rules_of session stage lines) (λ n. ops_by (is_client n) lines) number actors after rows → AllByRecursion P rows
   client-rows lines stage phase number [] after rows at lists (same, none) = rw none tt
-  client-rows lines stage phase number (x ∷ actors) after rows at lists (own, others, own_rows, other_rows, may, rest, same, are) =
-      let here : number + 0 ≡ number = omega arith in
-      let is : client_at session stage number ≡ x = ap (client_at session stage) (sym here) ∙ sym (at 0) in
-      rw are (each-append P own_rows other_rows
-      (client-lines lines stage phase number x own [] (ops_by (is_client number) lines) [] own_rows
-      (subst (λ k. ListsOf k own) here (subst (λ (xs : List (AtPort × Client)). ListsOf (number + 0) (slice_index_or xs 0 (no_client session.ring))) same (lists 0))) refl (sym is, refl) may)
-      (client-rows lines stage phase (number + 1) actors others other_rows
-      (λ i. let next : number + suc i ≡ (number + 1) + i = omega arith in at (suc i) ∙ ap (client_at session stage) next)
-      (λ i. let next : number + suc i ≡ (number + 1) + i = omega arith in
-      subst (λ k. ListsOf k (slice_index_or others i (no_client session.ring))) next
-      (subst (λ (xs : List (AtPort × Client)). ListsOf (number + suc i) (slice_index_or xs (suc i) (no_client session.ring))) same (lists (suc i)))) rest))
+  client-rows lines stage phase number (x ∷ actors) after rows at lists (own, others, own_rows, other_rows, may, rest, same, are) = rw are (each-append P own_rows other_rows
+      (client-lines lines stage phase number x own [] (ops_by (is_client number) lines) [] own_rows (now 0 number (omega arith)) refl (at 0 number (omega arith), refl) may)
+      (client-rows lines stage phase (number + 1) actors others other_rows (λ i n is. at (suc i) n (omega (arith, is))) (λ i n is. now (suc i) n (omega (arith, is))) rest))
+    where
+      now : (i n : ℕ) → number + i ≡ n → ListsOf n (slice_index_or (own ∷ others) i (no_client session.ring))
+      now i n is = subst (λ (xs : List (AtPort × Client)). ListsOf n (slice_index_or xs i (no_client session.ring))) same (lists i n is)
 
   -- ---- rows of openings and closings
 
@@ -350,18 +263,18 @@ module _ (session : Session) (body : List Item) (report : Report) (late : LateLi
   open-rows stage n x (Some c) are = one-more stage.rows _ are (answered-other _ (λ frame channel is. absurd (cc)))
   open-rows stage n x None are = by_setup (slice_index_or session.clients n None)
     where
-      by_answer : (setup : Setup) (at : Lobby × Result (Unit {0}) PcmError) → IsEarlyResult at.1 → AllByRecursion P (attached_client session stage n setup x at).rows
-      by_answer setup (lobby, Ok done) early = one-more stage.rows _ are (answered-other _ (λ frame channel is. absurd (cc)))
-      by_answer setup (lobby, Err e) early = one-more stage.rows _ are (answered-other _ (failed-early e early))
+      by_answer : (setup : Setup) (at : Lobby × Result (Unit {0}) PcmError) → IfErr at.1 IsBusy → AllByRecursion P (attached_client session stage n setup x at).rows
+      by_answer setup (lobby, Ok done) busy = one-more stage.rows _ are (answered-other _ (λ frame channel is. absurd (cc)))
+      by_answer setup (lobby, Err e) busy = one-more stage.rows _ are (answered-other _ (busy-early e busy))
 
-      by_claim : (setup : Setup) (refusal : Option PcmError) → IfSome refusal IsEarly → AllByRecursion P (claimed_client session stage n setup x refusal).rows
-      by_claim setup (Some e) early = one-more stage.rows _ are (answered-other _ (failed-early e early))
-      by_claim setup None early = by_answer setup (after_attach n stage.position stage.lobby) (attached-early n stage.position stage.lobby)
+      by_claim : (setup : Setup) (refusal : Option PcmError) → IfSome refusal IsBusy → AllByRecursion P (claimed_client session stage n setup x refusal).rows
+      by_claim setup (Some e) busy = one-more stage.rows _ are (answered-other _ (busy-early e busy))
+      by_claim setup None busy = by_answer setup (after_attach n stage.position stage.lobby) (attached-busy n stage.position stage.lobby)
 
       by_setup : (setup : Option Setup) → AllByRecursion P (open_client_with session stage n setup x).rows
       by_setup None = one-more stage.rows _ are (answered-other _ (λ frame channel is. absurd (cc)))
       by_setup (Some setup) = by_claim setup (claim_refusal session.card.share stage.claims setup.bindings stage.position)
-          (claim-early session.card.share stage.claims setup.bindings stage.position)
+          (claim-busy session.card.share stage.claims setup.bindings stage.position)
 
   close-rows : (stage : Stage) (n : ℕ) (x : AtPort × Client) (own : Option PlaybackStream) → AllByRecursion P stage.rows → AllByRecursion P (close_client session stage n x own).rows
   close-rows stage n x None are = one-more stage.rows _ are (answered-other _ (λ frame channel is. absurd (cc)))
@@ -396,14 +309,13 @@ module _ (session : Session) (body : List Item) (report : Report) (late : LateLi
   item-rows stage after done others (item.Phase lines) body_is reached first lists are may =
       let phase : IsPhaseOf lines stage = record { done = done; others = others; body_is = body_is; reached = reached; first = first } in
       let cards = card_rows (stage.phases + 1) stage.position (ops_by is_of_card lines) in
-      let zero_more : (i : ℕ) → slice_index_or stage.clients i (no_client session.ring) ≡ client_at session stage (0 + i) =
-      λ i. let same : i ≡ 0 + i = omega arith in ap (client_at session stage) same in
       let at_end : ListsAt (phase_end session stage lines (may.clients, may.client_rows) (may.readers, may.reader_rows)) = subst ListsAt may.is lists in
       rw may.is (each-append P (stage.rows ++ cards ++ may.client_rows) may.reader_rows
       (each-append P (stage.rows ++ cards) may.client_rows
       (each-append P stage.rows cards are (cards-P (stage.phases + 1) stage.position (ops_by is_of_card lines)))
-      (client-rows lines stage phase 0 stage.clients may.clients may.client_rows zero_more
-      (λ i list over. let same : i ≡ 0 + i = omega arith in subst (λ k. Lists k list) same (at_end i list (reaped-over session list i i may.clients over))) may.clients_may))
+      (client-rows lines stage phase 0 stage.clients may.clients may.client_rows (λ i n is. let same : i ≡ n = omega (arith, is) in ap (client_at session stage) same)
+      (λ i n is list over. let same : i ≡ n = omega (arith, is) in subst (λ k. Lists k list) same
+      (at_end i list (reaped-held session (OverAt session list i) (over-held session list i) 0 [] may.clients 0 (held_of stage) refl over))) may.clients_may))
       (reader-rows stage (rules_of session stage lines) (λ n. ops_by (is_reader n) lines) 0 stage.readers may.readers may.reader_rows may.readers_may))
 
   items-rows : (stage after : Stage) (done items : List Item) → body ≡ done ++ items → ItemsMay session (first_stage session) done stage → IsFirst after.rows all
@@ -413,7 +325,7 @@ module _ (session : Session) (body : List Item) (report : Report) (late : LateLi
       items-rows between after (done ++ one ∷ []) items (body_is ∙ sym (append_assoc done (one ∷ []) items))
       (ItemsMay-more session (first_stage session) stage between done one reached may) first lists
       (item-rows stage between done items one body_is reached (items-first session stage after (one ∷ items) all (between, may, rest) first)
-      (λ number list over. lists number list (items-over session list number between after items rest over)) are may) rest
+      (λ number list over. lists number list (items-held session (OverAt session list number) (over-held session list number) between after items rest over)) are may) rest
 
 pub LabRun-late : (session : Session) (capture : Option Sound) (body : List Item) (client_stops reader_stops : ℕ → ℕ) (outcome : Outcome) → LateLinesMiss session body
     → LabRun session capture body client_stops reader_stops outcome → LateRowsMiss session body outcome.report

@@ -19,11 +19,11 @@ use Rattle.lab_lines.specs.Limits.{IsActor, IsItem, IsPhase}
 use Rattle.lab_lines.specs.Script.{is_of_card, phases_of, played_by}
 use Rattle.lab_lines.specs.declared.request.Request.{Request}
 use Rattle.lab_lines.specs.declared.row.Row.{Row}
-use Rattle.lab_report.specs.Requests.{in_order, item_requests, of_place, request_of, requests_from}
+use Rattle.lab_report.specs.Requests.{item_requests, of_place, request_of, requests_from}
 use Rattle.lab_lines.specs.Rows.{request_of_row}
 use Rattle.lab_report.specs.Text.{IsRowOf, IsRunOf, IsTailOf}
 use Rattle.lab_run.specs.Client.{Client, segments_of}
-use Rattle.lab_run.specs.Items.{ItemsMay, PhaseMay, client_kinds, is_reader_stopped, is_stopped, no_sound, reader_kinds, reaped_client, reaped_client_if, reaped_reader, reaped_reader_if, rules_of}
+use Rattle.lab_run.specs.Items.{ItemMay, ItemsMay, PhaseMay, client_kinds, is_reader_stopped, is_stopped, no_sound, reader_kinds, reaped_client, reaped_client_if, reaped_reader, reaped_reader_if, rules_of}
 use Rattle.lab_run.specs.LabRun.{with_numbers, report_of, runs_of}
 use Rattle.lab_run.specs.Openings.{AreClientOpenings, AreReaderOpenings, IsSessionOf}
 use Rattle.lab_run.specs.Phases.{card_row, card_rows, is_client, is_reader, ops_by}
@@ -103,15 +103,15 @@ four-parts phase before cards clients readers x y z one two three =
     ∙ ap (λ (rs : List Request). map request_of_row before ++ rs)
     (sym (map-append (request_of phase) (x ++ y) z ∙ ap (λ (rs : List Request). rs ++ map (request_of phase) z) (map-append (request_of phase) x y)))
 
--- what a phase leaves
-record AddsRows (script : Script) (stage : Stage) (lines : List Line) (after : Stage) : Type 0 where
+-- an item leaves such a stage, with the rows of its requests
+record AddsRows (script : Script) (stage : Stage) (one : Item) (after : Stage) : Type 0 where
   pub reportable : CanBeReported script after
-  pub phases : after.phases ≡ stage.phases + 1
-  pub asked : map request_of_row after.rows ≡ map request_of_row stage.rows ++ map (request_of (stage.phases + 1)) (in_order lines)
+  pub phases : after.phases ≡ stage.phases + length (phases_of (one ∷ []))
+  pub asked : map request_of_row after.rows ≡ map request_of_row stage.rows ++ item_requests stage.phases one
 
 phase-adds : (script : Script) (session : Session) (stage after : Stage) (lines : List Line) → length script.clients ≤ 64 → length script.readers ≤ 64
-    → IsPhase (length script.clients) (length script.readers) lines → PhaseMay session stage lines after → CanBeReported script stage → AddsRows script stage lines after
-phase-adds script session stage after lines few few_readers is may reportable = subst (AddsRows script stage lines) (sym may.is) (record {
+    → IsPhase (length script.clients) (length script.readers) lines → PhaseMay session stage lines after → CanBeReported script stage → AddsRows script stage (item.Phase lines) after
+phase-adds script session stage after lines few few_readers is may reportable = subst (AddsRows script stage (item.Phase lines)) (sym may.is) (record {
   reportable = record {
     all_clients = length-map may.clients (reaped_client session.ring) ∙ of_clients.count ∙ reportable.all_clients;
     all_readers = length-map may.readers (reaped_reader session.ring) ∙ of_readers.count ∙ reportable.all_readers;
@@ -154,51 +154,42 @@ phase-adds script session stage after lines few few_readers is may reportable = 
 
 -- ---- a body
 
--- what items leave, after so many phases
-record Leaves (script : Script) (stage : Stage) (phases : ℕ) (items : List Item) (after : Stage) : Type 0 where
-  pub reportable : CanBeReported script after
-  pub asked : map request_of_row after.rows ≡ map request_of_row stage.rows ++ requests_from phases items
-
-then-items : (script : Script) (stage between after : Stage) (phases next : ℕ) (one : Item) (items : List Item) → next ≡ phases + length (phases_of (one ∷ []))
-    → map request_of_row between.rows ≡ map request_of_row stage.rows ++ item_requests phases one → Leaves script between next items after
-    → Leaves script stage phases (one ∷ items) after
-then-items script stage between after phases next one items is first rest = record {
-  reportable = rest.reportable;
-  asked = rest.asked ∙ (λ i. first i ++ requests_from (is i) items)
-      ∙ append_assoc (map request_of_row stage.rows) (item_requests phases one) (requests_from (phases + length (phases_of (one ∷ []))) items);
+border-adds : (script : Script) (stage after : Stage) (one : Item) (request : Request) → phases_of (one ∷ []) ≡ [] → item_requests stage.phases one ≡ request ∷ []
+    → AddsRow script stage request after → AddsRows script stage one after
+border-adds script stage after one request none is adds = record {
+  reportable = adds.reportable;
+  phases = adds.phases ∙ rw none (omega arith);
+  asked = adds.asked ∙ ap (λ (rs : List Request). map request_of_row stage.rows ++ rs) (sym is);
 }
 
-items-leave : (script : Script) (session : Session) (stage after : Stage) (phases : ℕ) (items : List Item) → stage.phases ≡ phases
+item-adds : (script : Script) (session : Session) (stage after : Stage) (one : Item) → length script.clients ≤ 64 → length script.readers ≤ 64
+    → IsItem (length script.clients) (length script.readers) one → ItemMay session stage one after → CanBeReported script stage → AddsRows script stage one after
+item-adds script session stage after (item.Opens number who) few few_readers within is reportable = border-adds script stage after (item.Opens number who) _ refl refl
+    (subst (AddsRow script stage (asks stage.phases who op.Opens)) (sym is) (open-adds script session stage who within reportable))
+item-adds script session stage after (item.Closes number who) few few_readers within is reportable = border-adds script stage after (item.Closes number who) _ refl refl
+    (subst (AddsRow script stage (asks stage.phases who op.Closes)) (sym is) (close-adds script session stage who within reportable))
+item-adds script session stage after (item.Phase lines) few few_readers within may reportable = phase-adds script session stage after lines few few_readers within may reportable
+
+-- what items leave
+record Leaves (script : Script) (stage : Stage) (items : List Item) (after : Stage) : Type 0 where
+  pub reportable : CanBeReported script after
+  pub asked : map request_of_row after.rows ≡ map request_of_row stage.rows ++ requests_from stage.phases items
+
+items-leave : (script : Script) (session : Session) (stage after : Stage) (items : List Item)
     → length script.clients ≤ 64 → length script.readers ≤ 64 → All (IsItem (length script.clients) (length script.readers)) items
-    → ItemsMay session stage items after → CanBeReported script stage → Leaves script stage phases items after
-items-leave script session stage after phases [] at few few_readers are may reportable = record {
+    → ItemsMay session stage items after → CanBeReported script stage → Leaves script stage items after
+items-leave script session stage after [] few few_readers are may reportable = record {
   reportable = subst (CanBeReported script) (sym may) reportable;
   asked = ap (λ (s : Stage). map request_of_row s.rows) may ∙ sym (append-nil (map request_of_row stage.rows));
 }
-items-leave script session stage after phases (item.Opens number who ∷ items) at few few_readers are (between, is, rest) reportable =
-    let within = All-head (IsItem (length script.clients) (length script.readers)) (item.Opens number who) items are in
-    let one = subst (AddsRow script stage (asks stage.phases who op.Opens)) (sym is) (open-adds script session stage who within reportable) in
-    let same : between.phases ≡ phases + length (phases_of (item.Opens number who ∷ [])) = one.phases ∙ at ∙ omega arith in
-    then-items script stage between after phases between.phases (item.Opens number who) items same
-    (one.asked ∙ (λ i. map request_of_row stage.rows ++ asks (at i) who op.Opens ∷ []))
-    (items-leave script session between after between.phases items refl few few_readers
-    (All-tail (IsItem (length script.clients) (length script.readers)) (item.Opens number who) items are) rest one.reportable)
-items-leave script session stage after phases (item.Closes number who ∷ items) at few few_readers are (between, is, rest) reportable =
-    let within = All-head (IsItem (length script.clients) (length script.readers)) (item.Closes number who) items are in
-    let one = subst (AddsRow script stage (asks stage.phases who op.Closes)) (sym is) (close-adds script session stage who within reportable) in
-    let same : between.phases ≡ phases + length (phases_of (item.Closes number who ∷ [])) = one.phases ∙ at ∙ omega arith in
-    then-items script stage between after phases between.phases (item.Closes number who) items same
-    (one.asked ∙ (λ i. map request_of_row stage.rows ++ asks (at i) who op.Closes ∷ []))
-    (items-leave script session between after between.phases items refl few few_readers
-    (All-tail (IsItem (length script.clients) (length script.readers)) (item.Closes number who) items are) rest one.reportable)
-items-leave script session stage after phases (item.Phase lines ∷ items) at few few_readers are (between, may, rest) reportable =
-    let is = All-head (IsItem (length script.clients) (length script.readers)) (item.Phase lines) items are in
-    let one = phase-adds script session stage between lines few few_readers is may reportable in
-    let same : between.phases ≡ phases + length (phases_of (item.Phase lines ∷ [])) = one.phases ∙ omega (arith, at) in
-    then-items script stage between after phases between.phases (item.Phase lines) items same
-    (one.asked ∙ (λ i. map request_of_row stage.rows ++ map (request_of (at i + 1)) (in_order lines)))
-    (items-leave script session between after between.phases items refl few few_readers
-    (All-tail (IsItem (length script.clients) (length script.readers)) (item.Phase lines) items are) rest one.reportable)
+items-leave script session stage after (one ∷ items) few few_readers are (between, may, rest) reportable =
+    let first = item-adds script session stage between one few few_readers (All-head (IsItem (length script.clients) (length script.readers)) one items are) may reportable in
+    let more = items-leave script session between after items few few_readers (All-tail (IsItem (length script.clients) (length script.readers)) one items are) rest first.reportable in
+    record {
+      reportable = more.reportable;
+      asked = more.asked ∙ (λ i. first.asked i ++ requests_from (first.phases i) items)
+          ∙ append_assoc (map request_of_row stage.rows) (item_requests stage.phases one) (requests_from (stage.phases + length (phases_of (one ∷ []))) items);
+    }
 
 -- ---- segments and runs
 
@@ -226,9 +217,9 @@ All-first P [] ys all = All-nil P
 All-first P (x ∷ xs) ys all = All-cons P x xs (All-head P x (xs ++ ys) all) (All-first P xs ys (All-tail P x (xs ++ ys) all))
 
 reached-leaves : (script : Script) (wavs : List Sound) (session : Session) (done others : List Item) (stage : Stage) → IsReached script wavs session done others stage
-    → Leaves script (first_stage session) 0 done stage
+    → Leaves script (first_stage session) done stage
 reached-leaves script wavs session done others stage is =
-    items-leave script session (first_stage session) stage 0 done refl is.script_is.clients is.script_is.readers
+    items-leave script session (first_stage session) stage done is.script_is.clients is.script_is.readers
     (All-first (IsItem (length script.clients) (length script.readers)) done others
     (subst (λ (items : List Item). All (IsItem (length script.clients) (length script.readers)) items) is.body is.script_is.body))
     is.may (first-reportable script wavs session is.session_is)

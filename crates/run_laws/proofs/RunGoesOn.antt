@@ -1,8 +1,6 @@
 -- Each stage that a run reaches is one from which it can go on.
-use Rattle.std.proofs.Common.{◌≡◌, ℕ, ◌<◌, ◌≤◌, ◌+◌, refl, sym, arith, inl, inr, Option, Some, None, List, [], ◌∷◌, ◌++◌, length}
-use Rattle.std.proofs.lemmas.List.Sums.{sum_by-cons}
-use Rattle.std.specs.Prelude.{Bool, true, false, Contains, ⊤, zero, suc, slice_index_or, filter, if◌then◌else◌}
-use Rattle.std.specs.List.{range_with_len}
+use Rattle.std.proofs.Common.{◌≡◌, ℕ, ◌≤◌, ◌+◌, refl, sym, arith, inl, inr, Option, Some, None, List, [], ◌∷◌, ◌++◌}
+use Rattle.std.specs.Prelude.{Bool, true, false, Contains, ⊤}
 use Rattle.mix_core.specs.declared.port.Ended.{Ended}
 use Rattle.mix_core.specs.declared.port.Ended.TheVariants.{Whole, Late, Stopped}
 use Rattle.mix_core.specs.declared.port.Entry.{Entry}
@@ -18,13 +16,14 @@ use Rattle.lab_lines.specs.declared.row.Row.{Row}
 use Rattle.lab_run.specs.Items.{ItemsMay, PhaseMay, client_kinds, items_text, reader_kinds, rules_of}
 use Rattle.lab_run.specs.LabRun.{AreWithin, CanGoOn}
 use Rattle.lab_run.specs.Lines.{EachMay, Kind, LinesMay}
-use Rattle.lab_run.specs.Phases.{is_client, is_reader, on_the_way, ops_by, played_at, played_in, phase_positions, published_by}
+use Rattle.lab_run.specs.Phases.{is_client, is_reader, ops_by, played_in}
 use Rattle.lab_run.specs.Rules.{AtPort, May, MayGet, MayLay, MayLoad, Rules, lets_pass, with_asks, with_stop, with_stop_by}
 use Rattle.lab_run.specs.Stage.{Session, Stage, first_stage}
 use Rattle.lab_run.proofs.ActorKinds.{IsKind, client-IsKind, reader-IsKind}
 use Rattle.lab_run.proofs.EachLaws.{AreBehind}
 use Rattle.lab_run.proofs.RowsGrow.{items-more}
 use Rattle.lab_run.proofs.RunExists.{IsBehind, Within, behind-more, close-behind, first-behind, items-exist, open-behind, reaped-clients, reaped-readers, within}
+use Rattle.run_laws.proofs.Published.{published-within}
 
 -- no position that is published in a phase is past the last
 abbrev IsBounded : Rules → Type 0
@@ -42,22 +41,22 @@ load-low : (rules : Rules) (a b : AtPort) (load : Option Position) → IsBounded
 load-low rules a b None bounded low may = rw (may, stop-seen a) low
 load-low rules a b (Some position) bounded low (some, there, newer, gone, is) = rw is (bounded position.frame there)
 
-lay-low : (rules : Rules) (a b : AtPort) (e : Entry) (ended : Ended) → MayLay rules a e ended b → b.seen ≡ a.seen
-lay-low rules a b e Whole (low, all, is) = rw is refl
-lay-low rules a b e (Late word) (asks, none, high, which, all, is) = rw is refl
-lay-low rules a b e Stopped (inl (asks, which, all, is)) = rw is (stop-seen (with_asks asks a))
-lay-low rules a b e Stopped (inr (low, all, is)) = rw is refl
+pub lay-seen : (rules : Rules) (a b : AtPort) (e : Entry) (ended : Ended) → MayLay rules a e ended b → b.seen ≡ a.seen
+lay-seen rules a b e Whole (low, all, is) = rw is refl
+lay-seen rules a b e (Late word) (asks, none, high, which, all, is) = rw is refl
+lay-seen rules a b e Stopped (inl (asks, which, all, is)) = rw is (stop-seen (with_asks asks a))
+lay-seen rules a b e Stopped (inr (low, all, is)) = rw is refl
 
-get-low : (rules : Rules) (a b : AtPort) (frame : ℕ) (g : Got) → MayGet rules a frame g b → b.seen ≡ a.seen
-get-low rules a b frame got.Whole (low, all, is) = rw is refl
-get-low rules a b frame (got.Overtaken channel word) (none, high, few_channels, which, all, is) = rw is refl
-get-low rules a b frame got.Stopped (asks, few_channels, which, all, is) = rw is (stop-seen (with_asks asks a))
+pub get-seen : (rules : Rules) (a b : AtPort) (frame : ℕ) (g : Got) → MayGet rules a frame g b → b.seen ≡ a.seen
+get-seen rules a b frame got.Whole (low, all, is) = rw is refl
+get-seen rules a b frame (got.Overtaken channel word) (none, high, few_channels, which, all, is) = rw is refl
+get-seen rules a b frame got.Stopped (asks, few_channels, which, all, is) = rw is (stop-seen (with_asks asks a))
 
 May-low : {X : Type 0} (rules : Rules) (a b : AtPort) (course : Course X) (x : X) → IsBounded rules → a.seen ≤ rules.at.position → May rules a course b x → b.seen ≤ rules.at.position
 May-low rules a b (ends y) x bounded low may = rw (may.there) low
 May-low rules a b (loads next) x bounded low (load, m, step, rest) = May-low rules m b (next load) x bounded (load-low rules a m load bounded low step) rest
-May-low rules a b (lays e next) x bounded low (ended, m, step, rest) = May-low rules m b (next ended) x bounded (rw (lay-low rules a m e ended step) low) rest
-May-low rules a b (gets frame next) x bounded low (g, m, step, rest) = May-low rules m b (next g) x bounded (rw (get-low rules a m frame g step) low) rest
+May-low rules a b (lays e next) x bounded low (ended, m, step, rest) = May-low rules m b (next ended) x bounded (rw (lay-seen rules a m e ended step) low) rest
+May-low rules a b (gets frame next) x bounded low (g, m, step, rest) = May-low rules m b (next g) x bounded (rw (get-seen rules a m frame g step) low) rest
 
 lines-low : {S : Type 0} (kind : Kind S) → IsKind kind → (rules : Rules) (before after : AtPort × S) (ops : List Op) (rows : List Row) → IsBounded rules
     → before.0.seen ≤ rules.at.position → LinesMay kind rules before ops after rows → after.0.seen ≤ rules.at.position
@@ -79,54 +78,8 @@ each-low kind is rules ops number [] after rows bounded low (same, none) = rw sa
 each-low kind is rules ops number (x ∷ actors) after rows bounded low (own, others, own_rows, other_rows, may, rest, after_is, rows_are) =
     rw after_is (lines-low (kind number) (is number) rules x own (ops number) own_rows bounded low.0 may, tt, each-low kind is rules ops (number + 1) actors others other_rows bounded low.2 rest)
 
--- all numbers of a list are at most one
-abbrev AreLow : ℕ → List ℕ → Type 0
-AreLow p [] = ⊤
-AreLow p (x ∷ xs) = (x ≤ p) × AreLow p xs
-
-low-append : (p : ℕ) (xs ys : List ℕ) → AreLow p xs → AreLow p ys → AreLow p (xs ++ ys)
-low-append p [] ys one two = two
-low-append p (x ∷ xs) ys one two = (one.0, low-append p xs ys one.1 two)
-
-low-filter : (p : ℕ) (test : ℕ → Bool) (xs : List ℕ) → AreLow p xs → AreLow p (filter test xs)
-low-filter p test [] all = tt
-low-filter p test (x ∷ xs) all = by_test (test x) (low-filter p test xs all.1)
-  where
-    by_test : (b : Bool) → AreLow p (filter test xs) → AreLow p (if b then x ∷ filter test xs else filter test xs)
-    by_test true rest = (all.0, rest)
-    by_test false rest = rest
-
-low-range : (p a n : ℕ) → a + n ≤ p + 1 → AreLow p (range_with_len a n)
-low-range p a zero low = tt
-low-range p a (suc n) low = (omega arith, low-range p (a + 1) n (omega arith))
-
-low-more : (p q : ℕ) (xs : List ℕ) → p ≤ q → AreLow p xs → AreLow q xs
-low-more p q [] low all = tt
-low-more p q (x ∷ xs) low all = (omega (arith, low, all.0), low-more p q xs low all.1)
-
-low-published : (period from : ℕ) (lines : List Line) → AreLow (from + played_in lines) (published_by period from lines)
-low-published period from [] = tt
-low-published period from (line ∷ lines) =
-    low-append end (on_the_way period from (played_at line)) (published_by period (from + played_at line) lines)
-    (low-append end (filter _ (range_with_len (from + 1) (played_at line))) ((from + played_at line) ∷ [])
-    (low-filter end _ (range_with_len (from + 1) (played_at line)) (low-range end (from + 1) (played_at line) (omega (arith, sum_by-cons played_at line lines))))
-    (omega (arith, sum_by-cons played_at line lines), tt))
-    (low-more (from + played_at line + played_in lines) end _ (omega (arith, sum_by-cons played_at line lines)) (low-published period (from + played_at line) lines))
-  where
-    end : ℕ
-    end = from + played_in (line ∷ lines)
-
-low-Contains : (p : ℕ) (xs : List ℕ) → AreLow p xs → (q : ℕ) → Contains xs q → q ≤ p
-low-Contains p xs all q (i, low, is) = rw (sym is) (at xs i all low)
-  where
-    at : (xs : List ℕ) (i : ℕ) → AreLow p xs → i < length xs → slice_index_or xs i q ≤ p
-    at [] i all low = absurd (omega (arith, low))
-    at (x ∷ xs) zero all low = all.0
-    at (x ∷ xs) (suc i) all low = at xs i all.1 (omega (arith, low))
-
 bounded : (session : Session) (stage : Stage) (lines : List Line) → IsBounded (rules_of session stage lines)
-bounded session stage lines q there = low-Contains (stage.position + played_in lines) (phase_positions session.card.period stage.position lines)
-    (omega arith, low-published session.card.period stage.position lines) q there
+bounded session stage lines q there = (published-within session.card.period stage.position lines q there).1
 
 phase-low : (session : Session) (stage after : Stage) (lines : List Line) → IsBehind Any Any stage → PhaseMay session stage lines after → IsBehind Any Any after
 phase-low session stage after lines behind may = rw (may.is) (record {

@@ -1,13 +1,11 @@
 -- The samples that a run leaves are whole frames, no more than a script may play.
-use Rattle.std.proofs.Common.{◌≡◌, ℕ, ◌+◌, ◌*◌, ◌%◌, ◌<◌, ◌≤◌, ◌==◌, mul-le-mul, refl, sym, ◌∙◌, ap, subst, arith, List, [], ◌∷◌, length, map, take, zero, suc, zero-add, Option, Some, None}
-use Rattle.std.proofs.Math.Nat.{mul-mod_left, suc-mul}
+use Rattle.std.proofs.Common.{◌≡◌, ℕ, ◌+◌, ◌*◌, ◌%◌, ◌<◌, ◌≤◌, ◌==◌, mul-le-mul, refl, sym, ◌∙◌, ap, subst, arith, List, [], ◌∷◌, length, take, zero, suc, Option, Some, None}
+use Rattle.std.proofs.Math.Nat.{mul-mod_left}
 use Rattle.std.proofs.lemmas.Bool.Decides.{nat_tests}
-use Rattle.std.proofs.lemmas.List.{length-append, length-map}
 use Rattle.std.proofs.lemmas.List.FromFn.{length-map-range_with_len, length-range_with_len}
 use Rattle.std.proofs.lemmas.List.Sums.{sum_by-cons}
 use Rattle.std.proofs.lemmas.Option.{get_or_from_slice_get, slice_get_within}
 use Rattle.std.specs.Prelude.{Bool, true, false, if◌then◌else◌, ℤ, nat_lt, slice_get, slice_index_or, unwrap_or, Ok, Err}
-use Rattle.std.specs.List.{flat_map}
 use Rattle.snd_base.specs.declared.errors.Why.TheVariants.{BindingsEmpty, BindingsTooMany}
 use Rattle.bindings.specs.Answers.{answer_of, entry_defects, or_first}
 use Rattle.bindings.specs.Bound.{identity}
@@ -20,17 +18,17 @@ use Rattle.lab_lines.specs.declared.script.Script.{Script}
 use Rattle.lab_lines.specs.Limits.{IsBoundWhere, IsCardLine, IsReaderLine}
 use Rattle.lab_lines.specs.Script.{first_frame, frames_played, phases_of}
 use Rattle.lab_lines.specs.Script as scripts
-use Rattle.lab_run.specs.LabRun.{all_segments, bindings_of, captured_sample, entries_of, mixed_at, outcome_of, recorded_by, recorded_from, report_of}
+use Rattle.lab_run.specs.LabRun.{all_segments, bindings_of, captured_sample, entries_of, mixed_at, outcome_of, report_of}
 use Rattle.lab_run.specs.Openings.{AreReaderOpenings, IsReaderOpening, read_by}
 use Rattle.lab_run.specs.Reader.{Reader}
-use Rattle.lab_run.specs.Rules.{AtPort}
 use Rattle.lab_run.specs.ScriptWords.{IsReached}
 use Rattle.lab_run.specs.Stage.{Session, Setup, Stage, no_reader, reader_at}
 use Rattle.lab_run.proofs.ScriptWords.{stages-of_scripts}
+use Rattle.run_laws.specs.Growth.{recorded_from-at, recorded_from-size}
 use Rattle.run_laws.specs.Sizes.{AreWholeFrames, IsPlayed, IsRecorded, StagesHaveSizes}
 use Rattle.run_laws.proofs.Captured.{reader_at-within, run-within}
 use Rattle.run_laws.proofs.ReaderFrames.{frames-few}
-use Rattle.run_laws.proofs.Recorded.{recorded-size}
+use Rattle.run_laws.proofs.Recorded.{samples-count}
 use Rattle.run_laws.proofs.RowStages.{reached-reportable}
 
 -- ---- the frames that were played
@@ -82,24 +80,6 @@ played-frames script wavs session capture done others stage is =
     }
 
 -- ---- the frames that were read
-
--- the samples of frames through bindings
-samples-size : (of : ℕ → ℕ → ℤ) (bindings frames : List ℕ) → length (flat_map (λ frame. map (of frame) bindings) frames) ≡ length frames * length bindings
-samples-size of bindings [] = omega arith
-samples-size of bindings (frame ∷ frames) =
-    let one : length (map (of frame) bindings) ≡ length bindings = length-map bindings (of frame) in
-    let rest : length (flat_map (λ f. map (of f) bindings) frames) ≡ length frames * length bindings = samples-size of bindings frames in
-    length-append (map (of frame) bindings) (flat_map (λ f. map (of f) bindings) frames)
-    ∙ (omega (arith, one, rest, suc-mul (length frames) (length bindings)))
-
-recorded-at : (session : Session) (capture : Option Sound) (number n : ℕ) (readers : List (AtPort × Reader)) (d : AtPort × Reader) → n < length readers
-    → slice_index_or (recorded_from session capture number readers) n [] ≡ recorded_by session capture (number + n) (slice_index_or readers n d).1
-recorded-at session capture number n [] d within = absurd (omega (arith, within))
-recorded-at session capture number zero (reader ∷ readers) d within =
-    let same : number ≡ number + 0 = omega arith in ap (λ (m : ℕ). recorded_by session capture m reader.1) same
-recorded-at session capture number (suc n) (reader ∷ readers) d within =
-    let same : number + 1 + n ≡ number + suc n = omega arith in
-    recorded-at session capture (number + 1) n readers d (omega (arith, within)) ∙ ap (λ (m : ℕ). recorded_by session capture m (slice_index_or readers n d).1) same
 
 -- the opening of the reader of a number
 opening-at : (card : CardLine) (lines : List ReaderLine) (setups : List (Option Setup)) (n : ℕ) (d : ReaderLine) → AreReaderOpenings card lines setups → n < length lines
@@ -158,9 +138,8 @@ recorded-frames script wavs session capture done others stage is number line the
     frames-few (first_frame session.card) stage.position reader inside.1 in
     let bound = bound-size script.card line setup (length reader.frames) opening in
     let size : length (slice_index_or (outcome_of session capture stage).recorded number []) ≡ bound.0 * length (read_by script.card line) =
-    ap length (recorded-at session capture 0 number stage.readers (no_reader session.ring) (omega (arith, within, all)))
-    ∙ ap (λ (n : ℕ). length (recorded_by session capture n reader)) (zero-add number)
-    ∙ samples-size (captured_sample session capture) (bindings_of setup) reader.frames ∙ bound.2 in
+    ap length (recorded_from-at session capture stage.readers number (no_reader session.ring) (omega (arith, within, all)))
+    ∙ samples-count (captured_sample session capture) (bindings_of setup) reader.frames ∙ bound.2 in
     let fewer : bound.0 ≤ (report_of session stage).frames = let low : bound.0 ≤ length reader.frames = bound.1 in omega (arith, below, low) in
     record {
       frames = frames-whole (length (read_by script.card line)) bound.0 _ channels.0 channels.1 (omega (arith, fewer, few)) size;
@@ -171,6 +150,6 @@ recorded-frames script wavs session capture done others stage is number line the
 pub stages-have_sizes : StagesHaveSizes
 stages-have_sizes script wavs session capture done others stage is = record {
   played = played-frames script wavs session capture done others stage is;
-  readers = recorded-size session capture 0 stage.readers ∙ (reached-reportable script wavs session done others stage is).all_readers;
+  readers = recorded_from-size session capture 0 stage.readers ∙ (reached-reportable script wavs session done others stage is).all_readers;
   recorded = recorded-frames script wavs session capture done others stage is;
 }

@@ -2,7 +2,7 @@
 use Rattle.std.proofs.Common.{◌≡◌, ℕ, ◌⊎◌, inl, inr, refl, sym, ◌∙◌, ap, subst, List, [], ◌∷◌, ◌++◌, Option, Some, None}
 use Rattle.std.proofs.lemmas.Bool.{false≢true}
 use Rattle.std.proofs.lemmas.List.{append-nil, append_assoc}
-use Rattle.std.specs.Prelude.{Bool, true, false, ◌&&◌, nat_eq, if◌then◌else◌, Ok, Err}
+use Rattle.std.specs.Prelude.{Bool, true, false, ◌&&◌, nat_eq, if◌then◌else◌, Result, Ok, Err}
 use Rattle.snd_base.specs.declared.errors.PcmError.{PcmError}
 use Rattle.snd_base.specs.declared.errors.PcmError.TheVariants as error
 use Rattle.snd_base.specs.declared.places.Segment.{Segment}
@@ -81,27 +81,15 @@ Leaves c asked (d, answer) =
     ⊎ (ended_by asked answer c d ≡ stretch_of c)
 
 module _ (c : PlaybackStream) (sealed : is_sealed c.status.state ≡ true) where
-  still-resume : (asked : Op) (answer : Answer) → ((d : PlaybackStream) (given : Answer) → ended_by asked given c d ≡ []) → Leaves c asked (c, answer)
-  still-resume asked answer none = inl (none c answer, refl, sealed)
-
   -- a refused call
-  refused-done : (asked : Op) (called : Call) (m : Course (Answered (Unit {0}))) → IsRefused called ≡ true → ((d : PlaybackStream) (given : Answer) → ended_by asked given c d ≡ [])
-      → Gives (Leaves c asked) (call_answer done_answer (if_admitted c called m))
+  refused : {X : Type 0} (answer : Result X PcmError → Answer) (asked : Op) (called : Call) (m : Course (Answered X)) → IsRefused called ≡ true
+      → ((d : PlaybackStream) (given : Answer) → ended_by asked given c d ≡ []) → Gives (Leaves c asked) (call_answer answer (if_admitted c called m))
   unfolding ◌>>=◌
-  refused-done asked called m refused none = by_refusal (refusal_of Playback c.status called) refl
+  refused answer asked called m is_refused none = by_refusal (refusal_of Playback c.status called) refl
     where
-      by_refusal : (refusal : Option PcmError) → refusal_of Playback c.status called ≡ refusal → Gives (Leaves c asked) (call_answer done_answer (admitted_by refusal c m))
-      by_refusal None is = absurd (refused-by c.status.stopped c.status.state called sealed refused is)
-      by_refusal (Some e) is = still-resume asked (done_answer (Err e)) none
-
-  refused-count : (asked : Op) (called : Call) (m : Course (Answered ℕ)) → IsRefused called ≡ true → ((d : PlaybackStream) (given : Answer) → ended_by asked given c d ≡ [])
-      → Gives (Leaves c asked) (call_answer count_answer (if_admitted c called m))
-  unfolding ◌>>=◌
-  refused-count asked called m refused none = by_refusal (refusal_of Playback c.status called) refl
-    where
-      by_refusal : (refusal : Option PcmError) → refusal_of Playback c.status called ≡ refusal → Gives (Leaves c asked) (call_answer count_answer (admitted_by refusal c m))
-      by_refusal None is = absurd (refused-by c.status.stopped c.status.state called sealed refused is)
-      by_refusal (Some e) is = still-resume asked (count_answer (Err e)) none
+      by_refusal : (refusal : Option PcmError) → refusal_of Playback c.status called ≡ refusal → Gives (Leaves c asked) (call_answer answer (admitted_by refusal c m))
+      by_refusal None is = absurd (refused-by c.status.stopped c.status.state called sealed is_refused is)
+      by_refusal (Some e) is = inl (none c (answer (Err e)), refl, sealed)
 
   drop-leaves : (refusal : Option PcmError) → Gives (Leaves c op.Drop) (call_answer done_answer (admitted_by refusal c (ends (after_drop c, Ok tt))))
   unfolding ◌>>=◌
@@ -120,19 +108,19 @@ module _ (c : PlaybackStream) (sealed : is_sealed c.status.state ≡ true) where
   drain-leaves marks (Some e) = inl (refl, refl, sealed)
 
   call-leaves : (wav : Sound) (marks : Marks) (asked : Op) → Gives (Leaves c asked) (call_of wav marks c asked)
-  call-leaves wav marks (op.Write n) = refused-count (op.Write n) call.Transfer _ refl (λ d given. refl)
-  call-leaves wav marks op.Start = refused-done op.Start call.Start _ refl (λ d given. refl)
-  call-leaves wav marks op.Sync = refused-done op.Sync call.Sync _ refl (λ d given. refl)
-  call-leaves wav marks op.Avail = refused-count op.Avail call.Sync _ refl (λ d given. refl)
-  call-leaves wav marks op.Delay = refused-count op.Delay call.Sync _ refl (λ d given. refl)
+  call-leaves wav marks (op.Write n) = refused count_answer (op.Write n) call.Transfer _ refl (λ d given. refl)
+  call-leaves wav marks op.Start = refused done_answer op.Start call.Start _ refl (λ d given. refl)
+  call-leaves wav marks op.Sync = refused done_answer op.Sync call.Sync _ refl (λ d given. refl)
+  call-leaves wav marks op.Avail = refused count_answer op.Avail call.Sync _ refl (λ d given. refl)
+  call-leaves wav marks op.Delay = refused count_answer op.Delay call.Sync _ refl (λ d given. refl)
   call-leaves wav marks op.Drain = drain-leaves marks (refusal_of Playback c.status call.Drain)
   call-leaves wav marks op.Drop = drop-leaves (refusal_of Playback c.status call.Drop)
   call-leaves wav marks op.Prepare = prepare-leaves (refusal_of Playback c.status call.Prepare)
-  call-leaves wav marks op.Pause = refused-done op.Pause call.Pause _ refl (λ d given. refl)
-  call-leaves wav marks op.Resume = refused-done op.Resume call.Resume _ refl
+  call-leaves wav marks op.Pause = refused done_answer op.Pause call.Pause _ refl (λ d given. refl)
+  call-leaves wav marks op.Resume = refused done_answer op.Resume call.Resume _ refl
       (λ d given. unpaused-ends given c d (sealed-still c.status.state sealed).2)
-  call-leaves wav marks (op.Rewind n) = refused-count (op.Rewind n) call.Transfer _ refl (λ d given. refl)
-  call-leaves wav marks op.Rewindable = refused-count op.Rewindable call.Transfer _ refl (λ d given. refl)
+  call-leaves wav marks (op.Rewind n) = refused count_answer (op.Rewind n) call.Transfer _ refl (λ d given. refl)
+  call-leaves wav marks op.Rewindable = refused count_answer op.Rewindable call.Transfer _ refl (λ d given. refl)
   call-leaves wav marks other = inl (refl, refl, sealed)
 
 -- ---- a client
@@ -179,7 +167,7 @@ ended-line rules phase wav number a b client after asked answer may =
     same : IsStart client.ended client.ended
     same = ([], sym (append-nil client.ended))
 
-over-line : (list : List Segment) (rules : Rules) (phase : ℕ) (wav : Sound) (number : ℕ) (a b : AtPort) (client after : Client) (asked : Op) (answer : Answer)
+pub over-line : (list : List Segment) (rules : Rules) (phase : ℕ) (wav : Sound) (number : ℕ) (a b : AtPort) (client after : Client) (asked : Op) (answer : Answer)
     → Over list client → LineMay (client_kind phase wav number) rules (a, client) asked (b, after) answer → Over list after
 over-line list rules phase wav number a b client after asked answer (inl (more, is)) may =
     let grows = ended-line rules phase wav number a b client after asked answer may in

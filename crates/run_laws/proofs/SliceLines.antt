@@ -1,7 +1,7 @@
 -- The lines of a reader: each gets one slice of frames, and in a stretch each slice begins where the one before it ended.
 use Rattle.std.proofs.Common.{◌≡◌, ℕ, ◌+◌, ◌-◌, ◌≤◌, ◌⊎◌, refl, sym, ◌∙◌, ap, subst, arith, inl, inr, Option, Some, None, List, [], ◌∷◌, ◌++◌}
 use Rattle.std.proofs.lemmas.List.{append_assoc, append-nil}
-use Rattle.std.specs.Prelude.{Bool, true, false, zero, suc, nat_eq, nat_le, nat_lt, ◌&&◌, if◌then◌else◌, Result, Ok, Err, ⊤}
+use Rattle.std.specs.Prelude.{Bool, true, false, zero, suc, nat_eq, nat_le, nat_lt, ◌&&◌, if◌then◌else◌, Result, Ok, Err, ⊤, ◌++◌}
 use Rattle.std.specs.List.{range_with_len}
 use Rattle.snd_base.specs.declared.errors.PcmError.{PcmError}
 use Rattle.snd_base.specs.declared.errors.PcmError.TheVariants as error
@@ -27,14 +27,15 @@ use Rattle.dsnoop_client.specs.Course.{if_admitted, admitted_by, counts, gets_fr
 use Rattle.lab_lines.specs.declared.line.Op.{Op}
 use Rattle.lab_lines.specs.declared.line.Op.TheVariants as op
 use Rattle.lab_lines.specs.declared.row.Answer.{Answer}
-use Rattle.lab_lines.specs.declared.row.Answer.TheVariants.{Done, Failed}
+use Rattle.lab_lines.specs.declared.row.Answer.TheVariants.{Done, Failed, Count}
 use Rattle.lab_lines.specs.declared.row.Row.{Row}
 use Rattle.lab_run.specs.Client.{count_answer, done_answer, reported_error}
 use Rattle.lab_run.specs.Lines.{LineMay, LinesMay}
 use Rattle.lab_run.specs.Reader.{Reader, after_call, call_answer, call_of, frames_by, reader_kind, row_by}
 use Rattle.lab_run.specs.Rules.{AtPort, Rules}
 use Rattle.lab_run.specs.Stretches.{AreSlices, IsFirstOf, ends_by_row, goes_on_after, got_by}
-use Rattle.lab_run.proofs.EachLine.{reader-line}
+use Rattle.run_laws.specs.Slices.{ends_by, ends_stretch, GetsSlice, LinesGetSlices, ReadersReadOn, ReadsOn}
+use Rattle.lab_run.proofs.EachLine.{reader-line, open_reader-line}
 
 -- a reader that wasn't stopped and runs, or whose card is gone
 abbrev IsOn : CaptureStream → Type 0
@@ -50,11 +51,11 @@ IsGoing (Some next) None = ⊥
 IsGoing (Some next) (Some d) = (d.next ≡ next) × IsOpen d
 
 -- a call
-record Gets (at : Option ℕ) (asked : Op) (x : CaptureStream × Answer) : Type 0 where
-  first : ℕ
-  begins : IsFirstOf at first
-  frames : frames_by asked x.1 x.0 ≡ range_with_len first (got_by asked x.1)
-  goes : IsGoing (goes_on_after (ends_by_row asked x.1) at first (got_by asked x.1)) (Some x.0)
+pub record Gets (at : Option ℕ) (asked : Op) (x : CaptureStream × Answer) : Type 0 where
+  pub first : ℕ
+  pub begins : IsFirstOf at first
+  pub frames : frames_by asked x.1 x.0 ≡ range_with_len first (got_by asked x.1)
+  pub goes : IsGoing (goes_on_after (ends_by_row asked x.1) at first (got_by asked x.1)) (Some x.0)
 
 -- a row without frames, of a reader without a stretch, and of one with a stretch
 none-goes : (b : Bool) (first : ℕ) (own : Option CaptureStream) → IsGoing (goes_on_after b None first 0) own
@@ -92,7 +93,7 @@ ends-reported f xrun stop other is = absurd (cc)
 
 -- ---- a reader in a stretch
 
-abbrev going : CaptureStream → CaptureStream
+abbrev pub going : CaptureStream → CaptureStream
 going r = record r { status = record { state = Running; stopped = false } }
 
 abbrev gone : CaptureStream → CaptureStream
@@ -102,9 +103,15 @@ abbrev StaysBy : Result (Unit {0}) PcmError → CaptureStream → Type 0
 StaysBy (Ok done) d = IsOn d
 StaysBy (Err e) d = IsOpen d ⊎ (ends_by_error e ≡ true)
 
+-- a reader that doesn't run any more has an error that ends what it reads
+abbrev RunsBy : Result (Unit {0}) PcmError → CaptureStream → Type 0
+RunsBy (Ok done) d = ⊤
+RunsBy (Err e) d = (d.status.state ≡ Running) ⊎ (ends_by (reported_error e) ≡ true)
+
 record Syncs (r : CaptureStream) (x : Answered (Unit {0})) : Type 0 where
   next : x.0.next ≡ r.next
   stays : StaysBy x.1 x.0
+  runs : RunsBy x.1 x.0
 
 syncs-on : (r : CaptureStream) (asked : Call) → (asked ≡ call.Transfer) ⊎ (asked ≡ call.Sync) → Gives (Syncs r) (syncs (going r) asked)
 unfolding syncs
@@ -112,15 +119,15 @@ syncs-on r asked which = by_load
   where
     by_found : (c : Call) (p : Position) → (c ≡ call.Transfer) ⊎ (c ≡ call.Sync) → (gone : Bool) (over : Option (ℕ × ℕ))
         → Syncs r (with_outcome (seen_at (going r) p) (next_of Running c (facts_with gone over None)))
-    by_found c p (inl is) true over = rw is (record { next = refl; stays = inl (refl, inr refl) })
-    by_found c p (inl is) false (Some (avail, seen)) = rw is (record { next = refl; stays = inr refl })
-    by_found c p (inl is) false None = rw is (record { next = refl; stays = (refl, refl) })
-    by_found c p (inr is) true over = rw is (record { next = refl; stays = inl (refl, inr refl) })
-    by_found c p (inr is) false (Some (avail, seen)) = rw is (record { next = refl; stays = inr refl })
-    by_found c p (inr is) false None = rw is (record { next = refl; stays = (refl, refl) })
+    by_found c p (inl is) true over = rw is (record { next = refl; stays = inl (refl, inr refl); runs = inr refl })
+    by_found c p (inl is) false (Some (avail, seen)) = rw is (record { next = refl; stays = inr refl; runs = inr refl })
+    by_found c p (inl is) false None = rw is (record { next = refl; stays = (refl, refl); runs = tt })
+    by_found c p (inr is) true over = rw is (record { next = refl; stays = inl (refl, inr refl); runs = inr refl })
+    by_found c p (inr is) false (Some (avail, seen)) = rw is (record { next = refl; stays = inr refl; runs = inr refl })
+    by_found c p (inr is) false None = rw is (record { next = refl; stays = (refl, refl); runs = tt })
 
     by_load : (load : Option Position) → Syncs r (after_sync (going r) asked load)
-    by_load None = record { next = refl; stays = inr refl }
+    by_load None = record { next = refl; stays = inr refl; runs = inl refl }
     by_load (Some p) = by_found asked p which p.gone (over_of (seen_at (going r) p))
 
 -- a call of a reader in a stretch that gets nothing
@@ -134,29 +141,45 @@ nothing r d asked answer no_frames none same stays = record {
       (still-goes (ends_by_row asked answer) r.next r.next d same stays);
 }
 
+-- a call of a reader in a stretch that runs: the next frame is after those that it got, and the reader runs on, or the line ends what it reads
+pub record GoesOn (r : CaptureStream) (asked : Op) (x : CaptureStream × Answer) : Type 0 where
+  pub gets : Gets (Some r.next) asked x
+  pub next : x.0.next ≡ r.next + got_by asked x.1
+  pub goes : (x.0.status.state ≡ Running) ⊎ (ends_stretch asked x.1 ≡ true)
+
+still : (r d : CaptureStream) (asked : Op) (answer : Answer) → frames_by asked answer d ≡ [] → got_by asked answer ≡ 0 → d.next ≡ r.next
+    → IsOpen d ⊎ (ends_by_row asked answer ≡ true) → (d.status.state ≡ Running) ⊎ (ends_stretch asked answer ≡ true) → GoesOn r asked (d, answer)
+still r d asked answer no_frames none same stays goes =
+    record { gets = nothing r d asked answer no_frames none same stays; next = omega (arith, none, same); goes = goes }
+
 open-of : (d : CaptureStream) → IsOn d → IsOpen d
 open-of d on = (on.0, inl on.1)
 
 -- the frames of its read
-frames-on : (r d : CaptureStream) (n done : ℕ) (ended : Got) → d.next ≡ r.next → IsOn d → Gets (Some r.next) (op.Read n) (let x = read_after d n done ended in (x.0, count_answer x.1))
+frames-on : (r d : CaptureStream) (n done : ℕ) (ended : Got) → d.next ≡ r.next → IsOn d → GoesOn r (op.Read n) (let x = read_after d n done ended in (x.0, count_answer x.1))
 frames-on r d n done ended same on = by_test (nat_lt 0 n && nat_eq (avail_of d) 0)
   where
     whole : (count : ℕ) → IsGoing (goes_on_after false (Some r.next) r.next count) (Some (record d { next = d.next + count }))
     whole zero = (omega (arith, same), (on.0, inl on.1))
     whole (suc count) = (ap (λ k. k + suc count) same, (on.0, inl on.1))
 
-    by_end : (ended : Got) → Gets (Some r.next) (op.Read n) (let x = read_to d done ended in (x.0, count_answer x.1))
-    by_end got.Whole = record { first = r.next; begins = refl; frames = ap (λ first. range_with_len first done) (omega (arith, same)); goes = whole done }
-    by_end (got.Overtaken channel word) = nothing r _ (op.Read n) _ refl refl same (inr refl)
-    by_end got.Stopped = nothing r _ (op.Read n) _ refl refl same (inr refl)
+    by_end : (ended : Got) → GoesOn r (op.Read n) (let x = read_to d done ended in (x.0, count_answer x.1))
+    by_end got.Whole = record {
+      gets = record { first = r.next; begins = refl; frames = ap (λ first. range_with_len first done) (omega (arith, same)); goes = whole done };
+      next = omega (arith, same);
+      goes = inl on.1;
+    }
+    by_end (got.Overtaken channel word) = still r _ (op.Read n) _ refl refl same (inr refl) (inr refl)
+    by_end got.Stopped = still r _ (op.Read n) _ refl refl same (inr refl) (inl on.1)
 
-    by_test : (test : Bool) → Gets (Some r.next) (op.Read n) (let x = if test then (d, Err error.Again) else read_to d done ended in (x.0, count_answer x.1))
-    by_test true = nothing r d (op.Read n) _ refl refl same (inl (open-of d on))
+    by_test : (test : Bool) → GoesOn r (op.Read n) (let x = if test then (d, Err error.Again) else read_to d done ended in (x.0, count_answer x.1))
+    by_test true = still r d (op.Read n) _ refl refl same (inl (open-of d on)) (inl on.1)
     by_test false = by_end ended
 
-answers-on : {X : Type 0} (at : Option ℕ) (asked : Op) (answer : Result X PcmError → Answer) (m : Course (Answered X)) → Gives (λ x. Gets at asked (x.0, answer x.1)) m
-    → Gives (Gets at asked) (call_answer answer m)
-answers-on at asked answer m all = Gives-then (λ x. Gets at asked (x.0, answer x.1)) (Gets at asked) m (λ done. ends (done.0, answer done.1)) all (λ x is. is)
+-- a fact of a call and its answer
+answers-on : {X : Type 0} (P : CaptureStream × Answer → Type 0) (answer : Result X PcmError → Answer) (m : Course (Answered X)) → Gives (λ x. P (x.0, answer x.1)) m
+    → Gives P (call_answer answer m)
+answers-on P answer m all = Gives-then (λ x. P (x.0, answer x.1)) P m (λ done. ends (done.0, answer done.1)) all (λ x is. is)
 
 -- an error of a sync
 stays-on : (d : CaptureStream) (asked : Op) (e : PcmError) → ((w : XrunWhy) → ends_by_row asked (Failed (error.Xrun w)) ≡ true) → ends_by_row asked (Failed error.Stopped) ≡ true
@@ -164,34 +187,34 @@ stays-on : (d : CaptureStream) (asked : Op) (e : PcmError) → ((w : XrunWhy) �
 stays-on d asked e xrun stop (inl is) = inl is
 stays-on d asked e xrun stop (inr is) = inr (ends-reported (λ answer. ends_by_row asked answer) xrun stop e is)
 
-read-on : (r : CaptureStream) (n : ℕ) → Gives (λ x. Gets (Some r.next) (op.Read n) (x.0, count_answer x.1)) (reads_on (going r) n)
+read-on : (r : CaptureStream) (n : ℕ) → Gives (λ x. GoesOn r (op.Read n) (x.0, count_answer x.1)) (reads_on (going r) n)
 unfolding reads_on transfers
 read-on r n = Gives-then (Syncs r) _ (syncs (going r) call.Transfer) (transfer_on n) (syncs-on r call.Transfer (inl refl)) transfer
   where
-    transfer : (x : Answered (Unit {0})) → Syncs r x → Gives (λ x. Gets (Some r.next) (op.Read n) (x.0, count_answer x.1)) (transfer_on n x)
+    transfer : (x : Answered (Unit {0})) → Syncs r x → Gives (λ x. GoesOn r (op.Read n) (x.0, count_answer x.1)) (transfer_on n x)
     transfer (d, Ok done) is = Gives-then (λ x. ⊤) _ (gets_frames (taken_of d n) d.next) (λ end. ends (read_after d n end.0 end.1))
         (Gives-any (λ x. ⊤) (gets_frames (taken_of d n) d.next) (λ x. tt)) (λ x any. frames-on r d n x.0 x.1 is.next is.stays)
-    transfer (d, Err e) is = nothing r d (op.Read n) _ refl refl is.next (stays-on d (op.Read n) e (λ w. refl) refl is.stays)
+    transfer (d, Err e) is = still r d (op.Read n) _ refl refl is.next (stays-on d (op.Read n) e (λ w. refl) refl is.stays) is.runs
 
-calls-on : (r : CaptureStream) (asked : Op) → Gives (Gets (Some r.next) asked) (call_of (going r) asked)
+pub calls-on : (r : CaptureStream) (asked : Op) → Gives (GoesOn r asked) (call_of (going r) asked)
 unfolding ◌>>=◌ counts
-calls-on r (op.Read n) = answers-on (Some r.next) (op.Read n) count_answer _ (read-on r n)
-calls-on r op.Start = nothing r _ op.Start _ refl refl refl (inl (refl, inl refl))
-calls-on r op.Sync = answers-on (Some r.next) op.Sync done_answer _ (Gives-map (Syncs r) _ (syncs (going r) call.Sync) (syncs-on r call.Sync (inr refl)) by_sync)
+calls-on r (op.Read n) = answers-on (GoesOn r (op.Read n)) count_answer _ (read-on r n)
+calls-on r op.Start = still r _ op.Start _ refl refl refl (inl (refl, inl refl)) (inl refl)
+calls-on r op.Sync = answers-on (GoesOn r op.Sync) done_answer _ (Gives-map (Syncs r) _ (syncs (going r) call.Sync) (syncs-on r call.Sync (inr refl)) by_sync)
   where
-    by_sync : (x : Answered (Unit {0})) → Syncs r x → Gets (Some r.next) op.Sync (x.0, done_answer x.1)
-    by_sync (d, Ok done) is = nothing r d op.Sync _ refl refl is.next (inl (open-of d is.stays))
-    by_sync (d, Err e) is = nothing r d op.Sync _ refl refl is.next (stays-on d op.Sync e (λ w. refl) refl is.stays)
-calls-on r op.Avail = answers-on (Some r.next) op.Avail count_answer _
+    by_sync : (x : Answered (Unit {0})) → Syncs r x → GoesOn r op.Sync (x.0, done_answer x.1)
+    by_sync (d, Ok done) is = still r d op.Sync _ refl refl is.next (inl (open-of d is.stays)) (inl is.stays.1)
+    by_sync (d, Err e) is = still r d op.Sync _ refl refl is.next (stays-on d op.Sync e (λ w. refl) refl is.stays) is.runs
+calls-on r op.Avail = answers-on (GoesOn r op.Avail) count_answer _
     (Gives-then (Syncs r) _ (syncs (going r) call.Sync) (λ done. ends (with_avail done)) (syncs-on r call.Sync (inr refl)) by_sync)
   where
-    by_sync : (x : Answered (Unit {0})) → Syncs r x → Gets (Some r.next) op.Avail (let y = with_avail x in (y.0, count_answer y.1))
-    by_sync (d, Ok done) is = nothing r d op.Avail _ refl refl is.next (inl (open-of d is.stays))
-    by_sync (d, Err e) is = nothing r d op.Avail _ refl refl is.next (stays-on d op.Avail e (λ w. refl) refl is.stays)
-calls-on r op.Drop = nothing r _ op.Drop _ refl refl refl (inr refl)
-calls-on r op.Prepare = nothing r _ op.Prepare _ refl refl refl (inl (refl, inl refl))
-calls-on r op.Pause = nothing r _ op.Pause _ refl refl refl (inl (refl, inl refl))
-calls-on r other = nothing r _ other _ refl refl refl (inl (refl, inl refl))
+    by_sync : (x : Answered (Unit {0})) → Syncs r x → GoesOn r op.Avail (let y = with_avail x in (y.0, count_answer y.1))
+    by_sync (d, Ok done) is = still r d op.Avail _ refl refl is.next (inl (open-of d is.stays)) (inl is.stays.1)
+    by_sync (d, Err e) is = still r d op.Avail _ refl refl is.next (stays-on d op.Avail e (λ w. refl) refl is.stays) is.runs
+calls-on r op.Drop = still r _ op.Drop _ refl refl refl (inr refl) (inr refl)
+calls-on r op.Prepare = still r _ op.Prepare _ refl refl refl (inl (refl, inl refl)) (inl refl)
+calls-on r op.Pause = still r _ op.Pause _ refl refl refl (inl (refl, inl refl)) (inl refl)
+calls-on r other = still r _ other _ refl refl refl (inl (refl, inl refl)) (inl refl)
 
 -- a reader whose card is gone gets nothing
 calls-gone : (r : CaptureStream) (asked : Op) → Gives (Gets (Some r.next) asked) (call_of (gone r) asked)
@@ -311,7 +334,7 @@ idle d asked answer no_frames none = record {
 }
 
 calls-first : (r : CaptureStream) (asked : Op) → Gives (Gets None asked) (call_of r asked)
-calls-first r (op.Read n) = answers-on None (op.Read n) count_answer _ (Gives-map ReadsWell _ (if_admitted r call.Transfer (read_course r n)) (admitted-well r n) by_read)
+calls-first r (op.Read n) = answers-on (Gets None (op.Read n)) count_answer _ (Gives-map ReadsWell _ (if_admitted r call.Transfer (read_course r n)) (admitted-well r n) by_read)
   where
     goes : (d : CaptureStream) (count : ℕ) → (count ≡ 0) ⊎ ((count ≤ d.next) × IsOn d) → IsGoing (goes_on_after false None (d.next - count) count) (Some d)
     goes d zero well = tt
@@ -331,7 +354,8 @@ calls-first r other = Gives-any _ (call_of r other) (λ x. idle x.0 other x.1 re
 calls-get : (at : Option ℕ) (r : CaptureStream) (asked : Op) → IsGoing at (Some r) → Gives (Gets at asked) (call_of r asked)
 calls-get None r asked goes = calls-first r asked
 calls-get (Some next) r asked (same, (goes, inl runs)) = subst (λ k. Gives (Gets (Some k) asked) (call_of r asked)) same
-    (subst (λ q. Gives (Gets (Some r.next) asked) (call_of q asked)) (sym is) (calls-on r asked))
+    (Gives-map (GoesOn r asked) (Gets (Some r.next) asked) (call_of r asked)
+    (subst (λ q. Gives (GoesOn r asked) (call_of q asked)) (sym is) (calls-on r asked)) (λ x goes. goes.gets))
   where
     is : r ≡ going r
     is = λ i. record r { status = record { state = runs i; stopped = goes i } }
@@ -420,3 +444,45 @@ pub AreSlices-append : (a b c : Option ℕ) (xs ys : List Row) (f g : List ℕ) 
 AreSlices-append a b c [] ys f g (none, same) more = rw (none, sym same) more
 AreSlices-append a b c (x ∷ xs) ys f g (first, others, begins, frames, rest) more =
     (first, others ++ g, begins, ap (λ l. l ++ g) frames ∙ append_assoc _ others g, AreSlices-append (goes_on_after (ends_by_row x.op x.answer) a first (got_by x.op x.answer)) b c xs ys others g rest more)
+
+-- ---- a reader that runs reads on
+
+pub readers-read_on : (rules : Rules) (phase number : ℕ) → ReadersReadOn rules phase number
+readers-read_on rules phase number a b reader after r asked answer is runs may =
+    open_reader-line (λ x. ReadsOn reader r asked x.0 x.1) rules phase number a b reader after r asked answer is (stays (Failed error.Stopped)) (stays Done)
+    (λ goes. Gives-map (GoesOn r asked) (λ x. ReadsOn reader r asked (after_call reader asked x).0 (after_call reader asked x).1) (call_of r asked)
+    (subst (λ q. Gives (GoesOn r asked) (call_of q asked)) (sym (same goes)) (calls-on r asked)) called) may
+  where
+    stays : (given : Answer) → ReadsOn reader r asked reader given
+    stays given = record { own = r; is_own = is; count = 0; frames = sym (append-nil reader.frames); next = omega arith; goes = inl runs }
+
+    same : r.status.stopped ≡ false → r ≡ going r
+    same goes = λ i. record r { status = record { state = runs i; stopped = goes i } }
+
+    called : (x : CaptureStream × Answer) → GoesOn r asked x → ReadsOn reader r asked (after_call reader asked x).0 (after_call reader asked x).1
+    called (d, given) goes =
+        record {
+          own = d;
+          is_own = refl;
+          count = got_by asked given;
+          frames = ap (λ frames. reader.frames ++ frames) (goes.gets.frames ∙ ap (λ first. range_with_len first (got_by asked given)) goes.gets.begins);
+          next = goes.next;
+          goes = goes.goes;
+        }
+
+pub lines-get_slices : (rules : Rules) (phase number : ℕ) → LinesGetSlices rules phase number
+lines-get_slices rules phase number a b reader after asked answer may =
+    reader-line (λ x. GetsSlice reader x.0) rules phase number a b reader after asked answer (λ none. stays) (λ r is. stays) (λ r is. stays)
+    (λ r is. Gives-any (λ (x : CaptureStream × Answer). GetsSlice reader (after_call reader asked x).0) (call_of r asked) called) may
+  where
+    stays : GetsSlice reader reader
+    stays = record { first = 0; count = 0; frames = sym (append-nil reader.frames) }
+
+    -- what a call got
+    gets : (o : Op) (given : Answer) (d : CaptureStream) → (first : ℕ) × (count : ℕ) × (frames_by o given d ≡ range_with_len first count)
+    gets (op.Read n) (Count count) d = (d.next - count, count, refl)
+    gets other given d = (0, 0, refl)
+
+    called : (x : CaptureStream × Answer) → GetsSlice reader (after_call reader asked x).0
+    called (d, given) = let got = gets asked given d in
+        record { first = got.0; count = got.1; frames = ap (λ frames. reader.frames ++ frames) got.2 }

@@ -1,5 +1,4 @@
-use Rattle.run_laws.proofs.LateLaws.{late-rows}
-use Rattle.run_laws.proofs.LateRewinds.{late-rewinds}
+use Rattle.run_laws.proofs.LateRows.{late-rewinds, late-rows}
 use Rattle.run_laws.proofs.actors.late_rows_name_samples.Goals as goal
 
 pub returns : goal.returns
