@@ -2,13 +2,10 @@ pub mod Beginnings
 pub mod Capture
 pub mod ClientRows
 pub mod Mixed
-pub mod OrdinaryRows
-pub mod PauseRows
 pub mod PlaceRows
 pub mod Playback
 pub mod Printouts
 pub mod ReaderRows
-pub mod RewindRows
 pub mod Sessions
 pub mod Sizes
 pub mod Stops

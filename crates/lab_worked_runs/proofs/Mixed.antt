@@ -11,9 +11,11 @@ use Rattle.lab_lines.specs.declared.script.Script.{Script}
 use Rattle.lab_lines.specs.declared.script.Share.TheVariants as share
 use Rattle.lab_script.specs.Reading.{script_of}
 use Rattle.lab_run.specs.LabRun.{LabRun, Outcome, lab_text}
+use Rattle.lab_run.specs.Stage.{Session}
 use Rattle.lab_run.proofs.RunExists.{text-LabRun}
 use Rattle.lab_worked_runs.proofs.Beginnings.{beginning-LabRun, lab_by_beginning}
-use Rattle.lab_worked_runs.proofs.Printouts.{Printout, a_file, sequence, mono, printout_by, printout_of, session_of, silence, text_of}
+use Rattle.lab_worked_runs.proofs.Printouts.{Printout, a_file, mono, mono_card, printed, printout_by, printout_of, sequence, session_of, silence, text_of}
+use Rattle.lab_worked_runs.proofs.Sessions.{card}
 
 -- a text has a run that prints this
 pub record HasRun (ring : Geometry) (sounds : List Sound) (capture : Option Sound) (text : List ℕ)
@@ -26,25 +28,11 @@ pub record HasRun (ring : Geometry) (sounds : List Sound) (capture : Option Soun
   pub prints : printout_by script outcome ≡ printout
 
 one_phase : List ℕ
-one_phase = text_of (
-    codes "card channels 1 rate 48000 period 64 ring 256\nclient a a.wav\nopen a"
-    ∷ codes "phase\na write 64\ncard play 64\nend"
-    ∷ codes "phase\ncard play 192\nend"
-    ∷ [])
+one_phase = text_of (mono_card ∷ "client a a.wav\nopen a" ∷ "phase\na write 64\ncard play 64\nend" ∷ "phase\ncard play 192\nend" ∷ [])
 
 the_script : Script
 the_script = record {
-  card = record {
-    number = 1;
-    channels = 1;
-    rate = 48000;
-    period = 64;
-    ring = 256;
-    places = 64;
-    lap = 0;
-    capture = None;
-    share = share.Dmix;
-  };
+  card = card 1 64 share.Dmix;
   clients = record {
     number = 2;
     name = codes "a";
@@ -66,50 +54,39 @@ the_script = record {
       ∷ item.Phase (record { number = 9; actor = Card; op = op.Play 192 } ∷ []) ∷ [];
 }
 
+the_session : Session
+the_session = session_of mono (a_file 1 (sequence 1 64) ∷ []) the_script
+
 -- the client sees the position at the phase's beginning
-run_by_beginning : HasRun mono (a_file 1 (sequence 1 64) ∷ []) None one_phase (record {
-  report = text_of (
-      codes "dmixlab 1"
-      ∷ codes "0 a open = ok PREPARED -"
-      ∷ codes "1 card play 64 = 64 RUNNING 64"
-      ∷ codes "1 a write 64 = 64 RUNNING 0"
-      ∷ codes "2 card play 192 = 192 RUNNING 256"
-      ∷ codes "segment a 0 64 64 0"
-      ∷ codes "played 0 256"
-      ∷ codes "end"
-      ∷ []);
-  played = silence 64 ++ sequence 1 64 ++ silence 128;
-  recorded = [];
-})
-unfolding printout_of one_phase the_script
+run_by_beginning : HasRun mono (a_file 1 (sequence 1 64) ∷ []) None one_phase (printed
+    ("0 a open = ok PREPARED -"
+    ∷ "1 card play 64 = 64 RUNNING 64"
+    ∷ "1 a write 64 = 64 RUNNING 0"
+    ∷ "2 card play 192 = 192 RUNNING 256"
+    ∷ "segment a 0 64 64 0" ∷ "played 0 256" ∷ [])
+    (silence 64 ++ sequence 1 64 ++ silence 128) [])
+unfolding printout_of one_phase the_script the_session card
 run_by_beginning = record {
   script = the_script;
   text_is = refl;
-  outcome = lab_by_beginning (session_of mono (a_file 1 (sequence 1 64) ∷ []) the_script) None the_script.body;
-  may = beginning-LabRun (session_of mono (a_file 1 (sequence 1 64) ∷ []) the_script) None the_script.body;
+  outcome = lab_by_beginning the_session None the_script.body;
+  may = beginning-LabRun the_session None the_script.body;
   prints = refl;
 }
 
 -- it sees the one at the phase's end
-run_by_end : HasRun mono (a_file 1 (sequence 1 64) ∷ []) None one_phase (record {
-  report = text_of (
-      codes "dmixlab 1"
-      ∷ codes "0 a open = ok PREPARED -"
-      ∷ codes "1 card play 64 = 64 RUNNING 64"
-      ∷ codes "1 a write 64 = 64 RUNNING 64"
-      ∷ codes "2 card play 192 = 192 RUNNING 256"
-      ∷ codes "segment a 0 128 64 0"
-      ∷ codes "played 0 256"
-      ∷ codes "end"
-      ∷ []);
-  played = silence 128 ++ sequence 1 64 ++ silence 64;
-  recorded = [];
-})
-unfolding printout_of one_phase the_script
+run_by_end : HasRun mono (a_file 1 (sequence 1 64) ∷ []) None one_phase (printed
+    ("0 a open = ok PREPARED -"
+    ∷ "1 card play 64 = 64 RUNNING 64"
+    ∷ "1 a write 64 = 64 RUNNING 64"
+    ∷ "2 card play 192 = 192 RUNNING 256"
+    ∷ "segment a 0 128 64 0" ∷ "played 0 256" ∷ [])
+    (silence 128 ++ sequence 1 64 ++ silence 64) [])
+unfolding printout_of one_phase the_script the_session card
 run_by_end = record {
   script = the_script;
   text_is = refl;
-  outcome = lab_text (session_of mono (a_file 1 (sequence 1 64) ∷ []) the_script) None the_script.body;
-  may = text-LabRun (session_of mono (a_file 1 (sequence 1 64) ∷ []) the_script) None the_script.body;
+  outcome = lab_text the_session None the_script.body;
+  may = text-LabRun the_session None the_script.body;
   prints = refl;
 }

@@ -1,6 +1,7 @@
 -- What a script's text prints when it is run where no phase leaves a choice: the text of its report, and the samples.
+use Prim.Native.String.{String}
 use Rattle.std.proofs.Common.{ℕ, ◌/◌, arith, Option, Some, None}
-use Rattle.std.specs.Prelude.{List, [], ◌∷◌, ◌++◌, length, map, replicate, ℤ, pos, Result, Ok, Err}
+use Rattle.std.specs.Prelude.{List, [], ◌∷◌, ◌++◌, codes, length, map, replicate, ℤ, pos, Result, Ok, Err}
 use Rattle.std.specs.Fmt.{digits}
 use Rattle.std.specs.List.{flat_map, range_with_len}
 use Rattle.snd_base.specs.declared.geometry.Geometry.{Geometry}
@@ -30,8 +31,8 @@ use Rattle.lab_run.specs.Openings.{bound_by, read_by}
 use Rattle.lab_run.specs.Stage.{Session, Setup}
 
 -- lines of a text, each ended by a line feed
-abbrev pub text_of : List (List ℕ) → List ℕ
-text_of lines = flat_map (λ line. line ++ 10 ∷ []) lines
+abbrev pub text_of : List String → List ℕ
+text_of lines = flat_map (λ line. codes line ++ 10 ∷ []) lines
 
 -- the stop threshold of a line: the buffer size where it gives none; a run with `never` has a buffer of 256 frames, whose boundary this is
 abbrev pub stop_frames : ℕ → Option Stop → ℕ
@@ -151,13 +152,45 @@ mono = record {
 }
 
 abbrev pub stereo : Geometry
-stereo = record {
-  frames = 256;
-  channels = 2;
-  first_lap = 0;
-  frames_least = omega arith;
-  frames_most = omega arith;
-  channels_least = omega arith;
-  channels_most = omega arith;
-  first_lap_most = omega arith;
+stereo = record mono { channels = 2; channels_least = omega arith; channels_most = omega arith }
+
+-- the lines of their cards
+abbrev pub mono_card : String
+mono_card = "card channels 1 rate 48000 period 64 ring 256"
+
+abbrev pub stereo_card : String
+stereo_card = "card channels 2 rate 48000 period 64 ring 256"
+
+-- a ring, the clients' files, the captured one, a text, and what it prints or why it is refused
+pub record Shown : Type 0 where
+  pub ring : Geometry
+  pub sounds : List Sound
+  pub capture : Option Sound
+  pub script : List ℕ
+  pub printout : Result Printout ScriptError
+
+-- a report of these lines between its first and its last, and these samples
+abbrev pub printed : List String → List ℤ → List (List ℤ) → Printout
+printed rows played recorded =
+    record { report = text_of ("dmixlab 1" ∷ rows ++ "end" ∷ []); played = played; recorded = recorded }
+
+-- a text of these lines prints a report of these, and these samples
+abbrev pub prints : Geometry → List Sound → Option Sound → List String → List String → List ℤ → List (List ℤ) → Shown
+prints ring sounds capture script rows played recorded = record {
+  ring = ring;
+  sounds = sounds;
+  capture = capture;
+  script = text_of script;
+  printout = Ok (printed rows played recorded);
 }
+
+abbrev pub refused : Geometry → List Sound → Option Sound → List String → ScriptError → Shown
+refused ring sounds capture script error =
+    record { ring = ring; sounds = sounds; capture = capture; script = text_of script; printout = Err error }
+
+-- the printouts of texts, and those that were worked out
+abbrev pub printouts_of : List Shown → List (Result Printout ScriptError)
+printouts_of rows = map (λ (s : Shown). printout_of s.ring s.sounds s.capture s.script) rows
+
+abbrev pub worked_out : List Shown → List (Result Printout ScriptError)
+worked_out rows = map (λ (s : Shown). s.printout) rows

@@ -1,6 +1,6 @@
 -- The worked run of a workload: the script and the files of a seed, its report, and its summary.
 use Rattle.std.proofs.Common.{◌≡◌, refl, arith, None}
-use Rattle.std.specs.Prelude.{[], ◌∷◌, codes, pos, Ok}
+use Rattle.std.specs.Prelude.{[], ◌∷◌, pos, Ok}
 use Rattle.snd_base.specs.declared.geometry.Geometry.{Geometry}
 use Rattle.lab_script.specs.Reading.{script_of}
 use Rattle.lab_run.specs.LabRun.{Outcome, lab_text}
@@ -9,20 +9,11 @@ use Rattle.lab_make.specs.Files.{made_sounds}
 use Rattle.lab_make.specs.Lines.{made_text}
 use Rattle.lab_make.specs.Script.{made_body, made_script}
 use Rattle.lab_make.specs.Summary.{IsSummaryOf, summary_text}
-use Rattle.lab_worked_runs.proofs.Printouts.{printout_by, printout_of, session_of, silence, text_of}
+use Rattle.lab_worked_runs.proofs.Printouts.{printed, printout_by, printout_of, session_of, silence, stereo, text_of}
 
 -- the card of a workload
 made_ring : Geometry
-made_ring = record {
-  frames = 1024;
-  channels = 2;
-  first_lap = 0;
-  frames_least = omega arith;
-  frames_most = omega arith;
-  channels_least = omega arith;
-  channels_most = omega arith;
-  first_lap_most = omega arith;
-}
+made_ring = record stereo { frames = 1024; frames_least = omega arith; frames_most = omega arith }
 
 -- the workload of the seed 7, with one client and one turn, is this script
 made_text_script : script_of (made_text 1 1) ≡ Ok (made_script 1 1)
@@ -32,19 +23,12 @@ made_text_script = refl
 made_outcome : Outcome
 made_outcome = lab_text (session_of made_ring (made_sounds 7 1) (made_script 1 1)) None (made_body 1 1)
 
-made_printout : printout_by (made_script 1 1) made_outcome ≡ record {
-  report = text_of (
-      codes "dmixlab 1"
-      ∷ codes "0 c0 open = ok PREPARED -"
-      ∷ codes "1 c0 write 65 = 65 RUNNING 0"
-      ∷ codes "2 card play 64 = 64 RUNNING 64"
-      ∷ codes "segment c0 0 64 65 0"
-      ∷ codes "played 0 64"
-      ∷ codes "end"
-      ∷ []);
-  played = silence 128;
-  recorded = [];
-}
+made_printout : printout_by (made_script 1 1) made_outcome ≡ printed
+    ("0 c0 open = ok PREPARED -"
+    ∷ "1 c0 write 65 = 65 RUNNING 0"
+    ∷ "2 card play 64 = 64 RUNNING 64"
+    ∷ "segment c0 0 64 65 0" ∷ "played 0 64" ∷ [])
+    (silence 128) []
 unfolding printout_of made_outcome made_ring
 made_printout = refl
 
@@ -67,6 +51,6 @@ made_summary_is = record {
 
 made_summary_text : summary_text made_summary
     ≡ text_of (
-    codes "made 7 1 1" ∷ codes "played 64" ∷ codes "segments 1" ∷ codes "laid 130" ∷ codes "xruns 0" ∷ codes "sum 0" ∷ [])
+    "made 7 1 1" ∷ "played 64" ∷ "segments 1" ∷ "laid 130" ∷ "xruns 0" ∷ "sum 0" ∷ [])
 unfolding printout_of made_summary
 made_summary_text = refl
