@@ -1,7 +1,7 @@
 -- The rows of an actor that isn't open are its part of a run.
 use Rattle.std.proofs.Common.{◌≡◌, ℕ, ◌+◌, ◌<◌, List, [], ◌∷◌, ◌++◌, refl, sym, ◌∙◌, ap, append_assoc, get_or, length, take}
 use Rattle.std.proofs.lemmas.List.{map-append}
-use Rattle.std.specs.Prelude.{Bool, true, false, None, Option}
+use Rattle.std.specs.Prelude.{Bool, true, None, Option}
 use Rattle.snd_base.specs.declared.errors.PcmError.TheVariants.{BadState}
 use Rattle.snd_base.specs.declared.geometry.Geometry.{Geometry}
 use Rattle.wav_io.specs.Sound.{Sound}
@@ -21,7 +21,7 @@ use Rattle.lab_run.specs.Reader as readers
 use Rattle.lab_run.specs.ReaderAtPort.{ReaderLinesWithoutCall}
 use Rattle.lab_run.specs.Rules.{AtPort}
 use Rattle.lab_actors.specs.Refused.{AreRefused, refused_row, refused_rows}
-use Rattle.lab_actors.specs.LineLaws.{other-line, own-line}
+use Rattle.lab_actors.specs.LineLaws.{own-line}
 
 client-refused : (ring : Geometry) (phase : ℕ) (wav : Sound) (number : ℕ) → ClientLinesWithoutCall ring phase wav number → (a : AtPort) (found : Findings) (client : clients.Client)
     → client.own ≡ None → (ops : List Op)
@@ -56,18 +56,12 @@ are-refused client_laws reader_laws phase number ops = record {
   readers = λ ring a found reader closed. reader-refused ring phase number (reader_laws ring phase number) a found reader closed ops;
 }
 
--- the rows of the lines so far, after one line more
-pub refused-next : (phase : ℕ) (who : Actor) (mine : Actor → Bool) (lines : List Line) (k : ℕ) (line : Line) → k < length lines → get_or lines k line ≡ line
-    → (start before after : List Row) → before ≡ start ++ refused_rows phase who (ops_by mine (take k lines))
-    → (mine line.actor ≡ true → after ≡ before ++ refused_row phase who line.op ∷ []) → (mine line.actor ≡ false → after ≡ before)
-    → after ≡ start ++ refused_rows phase who (ops_by mine (take (k + 1) lines))
-refused-next phase who mine lines k line within is start before after were own others = by_test (mine line.actor) refl
-  where
-    by_test : (test : Bool) → mine line.actor ≡ test → after ≡ start ++ refused_rows phase who (ops_by mine (take (k + 1) lines))
-    by_test true own_is =
-        own own_is
-        ∙ ap (λ (rows : List Row). rows ++ refused_row phase who line.op ∷ []) were
-        ∙ append_assoc start (refused_rows phase who (ops_by mine (take k lines))) (refused_row phase who line.op ∷ [])
-        ∙ ap (λ (rows : List Row). start ++ rows)
-        (sym (ap (refused_rows phase who) (own-line mine lines k line within is own_is) ∙ map-append (refused_row phase who) (ops_by mine (take k lines)) (line.op ∷ [])))
-    by_test false other_is = others other_is ∙ were ∙ ap (λ (ops : List Op). start ++ refused_rows phase who ops) (sym (other-line mine lines k line within is other_is))
+-- the rows of the lines so far, after one line more of the actor's
+pub refused-next : (phase : ℕ) (who : Actor) (mine : Actor → Bool) (lines : List Line) (k : ℕ) (line : Line) → k < length lines → get_or lines k line ≡ line → mine line.actor ≡ true
+    → (start before : List Row) → before ≡ start ++ refused_rows phase who (ops_by mine (take k lines))
+    → before ++ refused_row phase who line.op ∷ [] ≡ start ++ refused_rows phase who (ops_by mine (take (k + 1) lines))
+refused-next phase who mine lines k line within is own start before were =
+    ap (λ (rows : List Row). rows ++ refused_row phase who line.op ∷ []) were
+    ∙ append_assoc start (refused_rows phase who (ops_by mine (take k lines))) (refused_row phase who line.op ∷ [])
+    ∙ ap (λ (rows : List Row). start ++ rows)
+    (sym (ap (refused_rows phase who) (own-line mine lines k line within is own) ∙ map-append (refused_row phase who) (ops_by mine (take k lines)) (line.op ∷ [])))

@@ -1,4 +1,4 @@
--- An actor's lines among the first of a phase's, and the room for what they leave.
+-- An actor's lines among the first of a phase's, the room for what they leave, and the lines that are no `die`.
 use Rattle.std.proofs.Common.{◌≡◌, ℕ, ◌+◌, ◌<◌, ◌≤◌, List, [], ◌∷◌, ◌++◌, refl, sym, ◌∙◌, ap, arith, append_assoc, length, get_or, take, drop, suc}
 use Rattle.std.proofs.Math.Seq.{take-suc}
 use Rattle.std.proofs.lemmas.List.{append-nil, length-append, take-append-drop}
@@ -7,6 +7,8 @@ use Rattle.std.specs.Global.{Vec}
 use Rattle.lab_lines.specs.declared.line.Actor.{Actor}
 use Rattle.lab_lines.specs.declared.line.Line.{Line}
 use Rattle.lab_lines.specs.declared.line.Op.{Op}
+use Rattle.lab_lines.specs.declared.line.Op.TheVariants as op
+use Rattle.lab_run.specs.ClientAtPort.{is_die}
 use Rattle.lab_run.specs.Phases.{ops_by}
 use Rattle.lab_actors.specs.Room.{GrowsBy, HasSpace}
 
@@ -49,25 +51,22 @@ pub own-size : (mine : Actor → Bool) (lines : List Line) (k : ℕ) (line : Lin
 own-size mine lines k line within is own =
     ap length (own-line mine lines k line within is own) ∙ length-append (ops_by mine (take k lines)) (line.op ∷ [])
 
--- the room that is left then
-pub room-next : {X : Type 0} (mine : Actor → Bool) (lines : List Line) (k : ℕ) (line : Line) (xs ys : Vec X) → k < length lines → get_or lines k line ≡ line
-    → vec_len xs + length (ops_by mine lines) ≤ vec_capacity xs + length (ops_by mine (take k lines))
-    → (mine line.actor ≡ true → GrowsBy 1 xs ys) → (mine line.actor ≡ false → (vec_len ys ≡ vec_len xs) × (vec_capacity ys ≡ vec_capacity xs))
+-- the room that is left after an own line
+pub room-next : {X : Type 0} (mine : Actor → Bool) (lines : List Line) (k : ℕ) (line : Line) (xs ys : Vec X) → k < length lines → get_or lines k line ≡ line → mine line.actor ≡ true
+    → vec_len xs + length (ops_by mine lines) ≤ vec_capacity xs + length (ops_by mine (take k lines)) → GrowsBy 1 xs ys
     → vec_len ys + length (ops_by mine lines) ≤ vec_capacity ys + length (ops_by mine (take (k + 1) lines))
-room-next mine lines k line xs ys within is before own others = by_test (mine line.actor) refl
-  where
-    by_test : (test : Bool) → mine line.actor ≡ test → vec_len ys + length (ops_by mine lines) ≤ vec_capacity ys + length (ops_by mine (take (k + 1) lines))
-    by_test true own_is =
-        let few = (own own_is).few in
-        let kept = (own own_is).kept in
-        omega (arith, before, few, kept, own-size mine lines k line within is own_is)
-    by_test false other_is =
-        let one = (others other_is).0 in
-        let two = (others other_is).1 in
-        omega (arith, before, one, two, ap length (other-line mine lines k line within is other_is))
+room-next mine lines k line xs ys within is own before grows =
+    let few = grows.few in
+    let kept = grows.kept in
+    omega (arith, before, few, kept, own-size mine lines k line within is own)
 
 -- there is room for an own line
 pub room-own : {X : Type 0} (mine : Actor → Bool) (lines : List Line) (k : ℕ) (line : Line) (xs : Vec X) → k < length lines → get_or lines k line ≡ line
     → vec_len xs + length (ops_by mine lines) ≤ vec_capacity xs + length (ops_by mine (take k lines)) → mine line.actor ≡ true → HasSpace 1 xs
 room-own mine lines k line xs within is before own_is =
     omega (arith, before, own-size mine lines k line within is own_is, few-lines mine lines (k + 1))
+
+-- a line that names something else than a `die`
+pub is_die-other : (asked : Op) → ((asks : ℕ) → asked ≡ op.Die asks → ⊥) → is_die asked ≡ false
+is_die-other (op.Die asks) never = absurd (never asks refl)
+is_die-other other never = refl

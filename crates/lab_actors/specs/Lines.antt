@@ -1,11 +1,9 @@
--- An actor's lines in a phase: which of them are its own, and which make a call.
-use Rattle.std.specs.Prelude.{ℕ, Bool, false, List, length, ◌≡◌}
+-- An actor's lines in a phase: which of them are its own.
+use Rattle.std.specs.Prelude.{ℕ, Bool, false, List, length}
 use Rattle.lab_lines.specs.declared.line.Actor.{Actor}
 use Rattle.lab_lines.specs.declared.line.Actor.TheVariants.{Card, Client, Reader}
 use Rattle.lab_lines.specs.declared.line.Line.{Line}
-use Rattle.lab_lines.specs.declared.line.Op.{Op}
 use Rattle.lab_run.specs.Phases.{is_client, is_reader, ops_by}
-use Rattle.lab_run.specs.ClientAtPort.{is_die}
 
 -- a client's or reader's lines are its own
 abbrev pub is_actor : Actor → Actor → Bool
@@ -15,8 +13,3 @@ is_actor Card = λ other. false
 
 abbrev pub line_count : Actor → List Line → ℕ
 line_count actor lines = length (ops_by (is_actor actor) lines)
-
--- a line makes a call: its client or reader isn't stopped, and it is no `die`
-pub record CanCall (stopped : Bool) (asked : Op) : Type 0 where
-  pub goes : stopped ≡ false
-  pub asks : is_die asked ≡ false

@@ -1,5 +1,6 @@
 -- Two lists item by item: each item of the one is in a relation, which may know its number, to that of the other.
-use Rattle.std.specs.Prelude.{◌≡◌, ℕ, zero, suc, ◌+◌, ◌<◌, ◌≤◌, List, [], ◌∷◌, length, slice_index_or, slice_set, ⊤}
+use Rattle.std.specs.Prelude.{◌≡◌, ℕ, zero, suc, ◌+◌, ◌<◌, ◌≤◌, List, [], ◌∷◌, length, slice_index_or, slice_set, vec_len, ⊤}
+use Rattle.std.specs.Global.{Vec}
 use Rattle.std.proofs.Common.{refl, sym, ◌∙◌, ap, subst, arith, inl, inr}
 use Rattle.std.proofs.lemmas.Bool.{cases_eq, cases_lt}
 use Rattle.std.proofs.lemmas.List.{get_or-set_other, get_or-set_same, length-set}
@@ -44,6 +45,10 @@ pub HasWalked-step : {X : Type 0} (R : ℕ → X → X → Type 0) (xs ys : List
     → HasWalked R xs (slice_set ys to y) (to + 1)
 HasWalked-step R xs ys to y e inside so_far step =
     HasWalked-next R xs ys to y inside so_far (λ d. subst (λ x. R to x y) (so_far.others to e (omega arith) ∙ get_or-any xs to e d inside) step)
+
+-- an item that is read at the place is as before
+pub HasWalked-still : {X : Type 0} (R : ℕ → X → X → Type 0) (xs ys : List X) (to : ℕ) (d : X) → HasWalked R xs ys to → d ≡ slice_index_or ys to d → d ≡ slice_index_or xs to d
+HasWalked-still R xs ys to d so_far is = is ∙ so_far.others to d (omega arith)
 
 -- a relation that follows from another at the places so far
 pub HasWalked-map : {X : Type 0} (R T : ℕ → X → X → Type 0) (xs ys : List X) (to : ℕ) → ((i : ℕ) (x y : X) → i < to → R i x y → T i x y) → HasWalked R xs ys to → HasWalked T xs ys to
@@ -121,3 +126,13 @@ AreEach-part R xs ys to still walked = AreEach-from R 0 xs ys walked.len
       | inl below ↦ walked.each i d below inside
       | inr from ↦ subst (R i (slice_index_or xs i d)) (sym (walked.others i d from)) (still i (slice_index_or xs i d))
     ]))
+
+-- a walk along a Vec up to its length: the item that was read at the place became another one, and the end
+pub HasWalked-read : {X : Type 0} {R : ℕ → X → X → Type 0} {to end : ℕ} (xs ys : Vec X) (y d : X) → end ≡ vec_len xs → to < end → HasWalked R xs.items ys.items to
+    → d ≡ slice_index_or ys.items to d → R to d y → HasWalked R xs.items (slice_set ys.items to y) (to + 1)
+HasWalked-read {X = X} {R = R} {to = to} xs ys y d end_is inside so_far is step =
+    let len = xs.ok.0 in
+    HasWalked-step R xs.items ys.items to y d (omega (arith, end_is, inside, len)) so_far (subst (λ (x : X). R to x y) is step)
+
+pub AreEach-ended : {X : Type 0} {R : ℕ → X → X → Type 0} {to end : ℕ} (xs ys : Vec X) → end ≡ vec_len xs → end ≤ to → HasWalked R xs.items ys.items to → AreEach R 0 xs.items ys.items
+AreEach-ended {R = R} {to = to} xs ys end_is over walked = let len = xs.ok.0 in AreEach-walked R xs.items ys.items to (omega (arith, end_is, over, len)) walked

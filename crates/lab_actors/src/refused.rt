@@ -1,8 +1,8 @@
 //! The lines of an actor that isn't open.
-ghost use Rattle.std.specs.Prelude.{◌≡◌, ◌++◌, ◌∷◌, [], ℕ, false, true};
+ghost use Rattle.std.specs.Prelude.{◌≡◌, ◌++◌, ℕ};
 ghost use Rattle.lab_run.specs.Phases.{ops_by};
-ghost use Rattle.lab_actors.specs.Refused.{AreRefused, refused_row, refused_rows};
-ghost use Rattle.lab_actors.specs.Room.{GrowsBy, HasSpace};
+ghost use Rattle.lab_actors.specs.Refused.{AreRefused, refused_rows};
+ghost use Rattle.lab_actors.specs.Room.{HasSpace};
 ghost use Rattle.lab_actors.specs.Lines.{is_actor, line_count};
 
 use crate::room::{is_of, push_row};
@@ -10,27 +10,6 @@ use lab_lines::{Actor, Answer, Line, Row};
 use lab_run::lines_without_calls;
 use pcm_states::State;
 use snd_base::PcmError;
-
-/// Appends the row of a line where it is the actor's.
-fn refuse_line(rows: &mut Vec<Row>, actor: Actor, phase: u32, line: &Line)
-    requires { is_actor actor line.now.actor ≡ true → HasSpace 1 rows.old }
-    ensures own { is_actor actor line.now.actor ≡ true
-        → rows.new.items ≡ rows.old.items ++ refused_row phase actor line.now.op ∷ [] }
-    ensures room { is_actor actor line.now.actor ≡ true → GrowsBy 1 rows.old rows.new }
-    ensures others { is_actor actor line.now.actor ≡ false → rows.new ≡ rows.old }
-{
-    if is_of(line, actor) {
-        let row = Row {
-            phase,
-            actor,
-            op: line.op,
-            answer: Answer::Failed(PcmError::BadState),
-            state: State::Open,
-            seen: None,
-        };
-        push_row(rows, row);
-    }
-}
 
 /// Appends the rows of a client's or reader's lines in a phase in which it isn't open: each is answered `BadState` (EBADFD),
 /// in OPEN, and nothing is done. There is room for them (`line_count`).
@@ -44,6 +23,17 @@ pub fn refuse_lines(rows: &mut Vec<Row>, actor: Actor, phase: u32, lines: &[Line
 {
     lines_without_calls();
     for index in 0..lines.len() {
-        refuse_line(rows, actor, phase, &lines[index]);
+        let line = &lines[index];
+        if is_of(line, actor) {
+            let row = Row {
+                phase,
+                actor,
+                op: line.op,
+                answer: Answer::Failed(PcmError::BadState),
+                state: State::Open,
+                seen: None,
+            };
+            push_row(rows, row);
+        }
     }
 }

@@ -19,10 +19,9 @@ use Rattle.lab_lines.specs.declared.row.Answer.{Answer}
 use Rattle.lab_lines.specs.declared.row.Answer.TheVariants.{Done, Failed}
 use Rattle.lab_run.specs.ActorPart.{Doing}
 use Rattle.lab_run.specs.Client.{ended_by, stretch_of}
-use Rattle.lab_run.specs.ClientAtPort.{ClientLinesAreParts, ClientLinesWithoutCall, IsClientLine}
+use Rattle.lab_run.specs.ClientAtPort.{ClientLinesAreParts, ClientLinesWithoutCall, IsClientLine, is_die}
 use Rattle.lab_run.specs.Members.{with_member}
 use Rattle.lab_run.specs.PortSteps.{IsAtPort}
-use Rattle.lab_actors.specs.Lines.{CanCall}
 use Rattle.lab_clients.specs.Lines.{ExtendsStretches, HasClientAnswered, HasClientCalled, IsReady, ends_stretch}
 use Rattle.lab_clients.proofs.StretchLaws.{ExtendsStretches-still}
 
@@ -46,12 +45,13 @@ ended_by-test other answer c d = refl
 
 module _ {S T : Type 0} (P : mixport.Ghosts S) (composes : Composes P.laid) (left : T → Option ℕ) (by_gate at_gate : T → ℕ) where
   pub answered-call : (G : gates.Ghosts T) → ((first : S) (ring : Geometry) (from : ℕ) → ClientLinesAreParts P G left by_gate at_gate first ring from)
-      → (s t : S × T) (wav : Sound) (c d : ClientView) (asked : Op) (answer : Answer) → CanCall c.stream.status.stopped asked → HasClientCalled P G s t wav c d asked answer
+      → (s t : S × T) (wav : Sound) (c d : ClientView) (asked : Op) (answer : Answer) → c.stream.status.stopped ≡ false → is_die asked ≡ false
+      → HasClientCalled P G s t wav c d asked answer
       → HasClientAnswered P left by_gate at_gate s t wav c d asked answer
-  answered-call G parts s t wav c d asked answer can called = record {
+  answered-call G parts s t wav c d asked answer goes asks called = record {
     line = λ phase number ended first ring from before at.
         parts first ring from s t phase wav number before (record { own = Some (with_member number c.stream); ended = ended }) c.stream c.ring called.samples asked d.stream answer
-        (record { is_open = refl; goes = can.goes; asks = can.asks }) called.offered at called.takes;
+        (record { is_open = refl; goes = goes; asks = asks }) called.offered at called.takes;
     ready = called.ready;
     extends = called.extends;
   }

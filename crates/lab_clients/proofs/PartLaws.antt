@@ -1,24 +1,20 @@
 -- A client's lines, one after the other.
-use Rattle.std.proofs.Common.{◌≡◌, ℕ, ◌+◌, ◌<◌, List, [], ◌∷◌, ◌++◌, refl, sym, ◌∙◌, ap, subst, append_assoc, length, get_or, take}
+use Rattle.std.proofs.Common.{◌≡◌, ℕ, ◌+◌, List, [], ◌∷◌, ◌++◌, refl, sym, ◌∙◌, ap, subst, append_assoc}
 use Rattle.std.proofs.lemmas.List.{append-nil}
-use Rattle.std.specs.Prelude.{Bool, true, false, Option, Some}
+use Rattle.std.specs.Prelude.{Option, Some}
 use Rattle.snd_base.specs.declared.geometry.Geometry.{Geometry}
 use Rattle.snd_base.specs.declared.places.Segment.{Segment}
 use Rattle.snd_base.specs.Relations.{Composes}
 use Rattle.mix_core.specs.declared.port.MixPort as mixport
 use Rattle.dmix_client.specs.View.{ClientView}
 use Rattle.wav_io.specs.Sound.{Sound}
-use Rattle.lab_lines.specs.declared.line.Actor.{Actor}
-use Rattle.lab_lines.specs.declared.line.Line.{Line}
 use Rattle.lab_lines.specs.declared.line.Op.{Op}
 use Rattle.lab_lines.specs.declared.row.Row.{Row}
 use Rattle.lab_run.specs.ActorPart.{Doing, PartsGrow}
 use Rattle.lab_run.specs.Client.{Client, client_kind, row_by}
 use Rattle.lab_run.specs.ClientAtPort.{IsClientLine}
 use Rattle.lab_run.specs.Members.{with_member}
-use Rattle.lab_run.specs.Phases.{ops_by}
 use Rattle.lab_run.specs.PortSteps.{IsAtPort}
-use Rattle.lab_actors.specs.LineLaws.{own-line, other-line}
 use Rattle.lab_clients.specs.declared.lines.ClientActor.{ClientActor}
 use Rattle.lab_clients.specs.Lines.{ExtendsStretches}
 use Rattle.lab_clients.specs.Parts.{ClientLine, ClientPart, HasClientDone, client_of}
@@ -104,21 +100,3 @@ ClientPart-shared P left by_gate at_gate other_left by_other at_other p q g h k 
       extends = subst (λ (v : ClientView). ExtendsStretches P wav.samples p q a.client.stream v.stream part.ended) (sym client) part.extends;
       same = number ∙ part.same;
     }
-
--- one line of a phase, which an actor does where it is its own
-pub ClientPart-next : {S T : Type 0} (P : mixport.Ghosts S) (composes : Composes P.laid) (left : T → Option ℕ) (by_gate at_gate : T → ℕ)
-    → ((ring : Geometry) (phase : ℕ) (wav : Sound) (number : ℕ) → PartsGrow (client_kind phase wav number) ring)
-    → (s t u : S × T) (phase : ℕ) (wav : Sound) (a x b : ClientActor) (mine : Actor → Bool) (lines : List Line) (k : ℕ) (line : Line) → k < length lines → get_or lines k line ≡ line
-    → ClientPart P left by_gate at_gate s t phase wav a x (ops_by mine (take k lines))
-    → (mine line.actor ≡ true → ClientLine P left by_gate at_gate t u phase wav x b line.op) → (mine line.actor ≡ false → (b ≡ x) × (u.0 ≡ t.0) × (u.1 ≡ t.1))
-    → ClientPart P left by_gate at_gate s u phase wav a b (ops_by mine (take (k + 1) lines))
-ClientPart-next {S = S} {T = T} P composes left by_gate at_gate grow s t u phase wav a x b mine lines k line within is part own others = by_test (mine line.actor) refl
-  where
-    by_test : (test : Bool) → mine line.actor ≡ test → ClientPart P left by_gate at_gate s u phase wav a b (ops_by mine (take (k + 1) lines))
-    by_test true own_is = subst (λ (ops : List Op). ClientPart P left by_gate at_gate s u phase wav a b ops) (sym (own-line mine lines k line within is own_is))
-        (ClientPart-more P composes left by_gate at_gate grow s t u phase wav a x b (ops_by mine (take k lines)) line.op part (own own_is))
-    by_test false other_is =
-        let r = others other_is in
-        subst (λ (ops : List Op). ClientPart P left by_gate at_gate s u phase wav a b ops) (sym (other-line mine lines k line within is other_is))
-        (subst (λ (y : ClientActor). ClientPart P left by_gate at_gate s u phase wav a y (ops_by mine (take k lines))) (sym r.0)
-        (let same : t ≡ u = λ i. ((sym r.1) i, (sym r.2) i) in subst (λ (v : S × T). ClientPart P left by_gate at_gate s v phase wav a x (ops_by mine (take k lines))) same part))

@@ -24,16 +24,16 @@ pub record HaveRun {T : Type 0} (G : gate.Ghosts T) (before after : List T) (sou
 
 -- the next client does its lines with the gate of its number
 pub HaveRun-next : {T : Type 0} (G : gate.Ghosts T) (before after : List T) (sounds : List Sound) (phase : ℕ) (lines : List Line) (old new : List LabClient) (to : ℕ) (g h : T) (d e : LabClient)
-    (s : Sound) → HaveRun G before after sounds phase lines old new to → to < length old → to < length before → to < length sounds → s ≡ slice_index_or sounds to s
-    → AsksGate G (slice_index_or after to g) h (λ stops later asks. RunsLines stops later asks phase s lines (slice_index_or new to d) e)
+    (s : Sound) → HaveRun G before after sounds phase lines old new to → to < length old → to < length before → to < length sounds → s ≡ slice_index_or sounds to s → d ≡ slice_index_or new to d
+    → AsksGate G (slice_index_or after to g) h (λ stops later asks. RunsLines stops later asks phase s lines d e)
     → HaveRun G before (slice_set after to h) sounds phase lines old (slice_set new to e) (to + 1)
-HaveRun-next G before after sounds phase lines old new to g h d e s so_far inside gated filed file run =
+HaveRun-next G before after sounds phase lines old new to g h d e s so_far inside gated filed file is run =
     let len = so_far.gates in
     let within : to < length after = omega (arith, gated, len) in
-    let own : RunsAt G before (slice_set after to h) sounds phase lines to (slice_index_or new to d) e =
-    subst (λ (x : Sound). AsksGateAt G before (slice_set after to h) to (λ stops later asks. RunsLines stops later asks phase x lines (slice_index_or new to d) e))
+    let own : RunsAt G before (slice_set after to h) sounds phase lines to d e =
+    subst (λ (x : Sound). AsksGateAt G before (slice_set after to h) to (λ stops later asks. RunsLines stops later asks phase x lines d e))
     (file ∙ get_or_default sounds to s no_sound filed)
-    (AsksGateAt-set G before after to g h (λ stops later asks. RunsLines stops later asks phase s lines (slice_index_or new to d) e) gated within (so_far.others to g (omega arith)) run) in
+    (AsksGateAt-set G before after to g h (λ stops later asks. RunsLines stops later asks phase s lines d e) gated within (so_far.others to g (omega arith)) run) in
     record {
       walked = HasWalked-step (RunsAt G before (slice_set after to h) sounds phase lines) old new to e d inside
           (HasWalked-map (RunsAt G before after sounds phase lines) (RunsAt G before (slice_set after to h) sounds phase lines) old new to
@@ -41,7 +41,7 @@ HaveRun-next G before after sounds phase lines old new to g h d e s so_far insid
           let other : i ≢ to = λ same. omega (arith, below, same) in
           AsksGateAt-other G before after i to h (λ stops later asks. RunsLines stops later asks phase (sound_at sounds i) lines x y) other ran)
           so_far.walked)
-          own;
+          (subst (λ (x : LabClient). RunsAt G before (slice_set after to h) sounds phase lines to x e) is own);
       gates = length-set after to h ∙ len;
       others = λ i e from.
           let other : i ≢ to = λ same. omega (arith, from, same) in

@@ -7,6 +7,7 @@ use bindings::Bindings;
 use card_sim::Card;
 use dmix_client::Client;
 use lab_actors::{Opening, line_count, refuse_lines};
+use lab_card::{hear_client, inform_client};
 use lab_lines::{Actor, Answer, Line, Op, Row};
 use mix_core::{Gate, MixPort};
 use pcm_states::State;
@@ -132,7 +133,7 @@ impl<'r> LabClient<'r> {
         ensures informed { IsClientInformed card.old self.old self.new }
     {
         if let Some(own) = &mut self.own {
-            own.inform(card);
+            inform_client(card, &mut own.seat);
         }
     }
 
@@ -149,7 +150,7 @@ impl<'r> LabClient<'r> {
             RunsLines before after asks phase wav.now lines.now self.old self.new) }
     {
         match &mut self.own {
-            Some(own) => own.run_lines(gate, wav, phase, lines),
+            Some(own) => own.actor.run_lines(&mut own.seat, gate, wav, phase, lines),
             None => refuse_lines(&mut self.rows, Actor::Client(self.number), phase, lines),
         }
     }
@@ -163,7 +164,7 @@ impl<'r> LabClient<'r> {
         ensures heard { IsClientHeard card.new self.old self.new }
     {
         if let Some(own) = &mut self.own {
-            own.hear(card);
+            hear_client(card, &mut own.seat);
         }
     }
 

@@ -1,9 +1,9 @@
 //! An open client of a script, and what its lines do in a phase.
-ghost use Rattle.std.specs.Prelude.{◌≡◌, ◌++◌, ◌+◌, ◌<◌, ◌≤◌, ◌∷◌, [], All, IfErr, OnOk, false, if◌then◌else◌, true, vec_capacity, vec_len};
+ghost use Rattle.std.specs.Prelude.{◌≡◌, ◌++◌, ◌+◌, ◌<◌, ◌≤◌, [], All, IfErr, OnOk, false, if◌then◌else◌, true, vec_capacity, vec_len};
 ghost use Rattle.dmix_client.specs.Calls.{is_paused};
 ghost use Rattle.lab_lines.specs.declared.line.Line.{Line};
 ghost use Rattle.lab_run.specs.Phases.{is_client, ops_by};
-ghost use Rattle.lab_actors.specs.Lines.{CanCall, line_count};
+ghost use Rattle.lab_actors.specs.Lines.{line_count};
 ghost use Rattle.lab_actors.specs.Countdown.{KeepsGate, at_gate_of, by_gate_of, left_of};
 ghost use Rattle.lab_actors.specs.Room.{GrowsBy, HasSpace};
 ghost use Rattle.lab_clients.specs.Lines.{HasClientAnswered, IsFew, IsReady, ends_stretch, laid_of};
@@ -65,26 +65,6 @@ fn push_ended(ended: &mut Vec<Segment>, segment: Segment, ends: bool)
     }
 }
 
-/// The call that a line of a client names which isn't stopped.
-fn call_line<P: MixPort, G: Gate, L: Ledger>(
-    client: &mut Client,
-    port: &mut P,
-    gate: &mut Countdown<'_, G, L>,
-    wav: &Wav,
-    asked: Op,
-) -> Answer
-    requires few { IsFew asked }
-    requires can { CanCall client.old.stream.status.stopped asked }
-    requires ready { IsReady P.MixPort wav.now port.old client.old }
-    ensures answered { HasClientAnswered P.MixPort left_of (by_gate_of G.stops) at_gate_of
-        (port.old, gate.old) (port.new, gate.new)
-        wav.now client.old client.new asked result }
-    ensures own_gate { KeepsGate G.asked gate.old gate.new }
-{
-    client_lines_are_parts::<P, Countdown<'_, G, L>>();
-    call(client, port, gate, wav, asked)
-}
-
 /// What a line of an open client is answered: after a stop nothing is done any more, and a `die` lets so many asks pass.
 fn answer_line<P: MixPort, G: Gate, L: Ledger>(
     client: &mut Client,
@@ -108,7 +88,8 @@ fn answer_line<P: MixPort, G: Gate, L: Ledger>(
         gate.let_pass(asks);
         return Answer::Done;
     }
-    call_line(client, port, gate, wav, asked)
+    client_lines_are_parts::<P, Countdown<'_, G, L>>();
+    call(client, port, gate, wav, asked)
 }
 
 impl ClientActor {
@@ -169,39 +150,6 @@ impl ClientActor {
         push_row(&mut self.rows, row);
     }
 
-    /// Does a line where it is this client's.
-    fn do_own<P: MixPort, G: Gate, L: Ledger>(
-        &mut self,
-        port: &mut P,
-        gate: &mut Countdown<'_, G, L>,
-        wav: &Wav,
-        phase: u32,
-        line: &Line,
-    )
-        requires few { IsFew line.now.op }
-        requires ready { IsReady P.MixPort wav.now port.old self.old.client }
-        requires rows_room { is_client self.old.number line.now.actor ≡ true
-            → HasSpace 1 self.old.rows }
-        requires ended_room { is_client self.old.number line.now.actor ≡ true
-            → HasSpace 1 self.old.ended }
-        ensures own { is_client self.old.number line.now.actor ≡ true
-            → ClientLine P.MixPort left_of (by_gate_of G.stops) at_gate_of (port.old, gate.old)
-            (port.new, gate.new)
-            phase wav.now self.old self.new line.now.op }
-        ensures others { is_client self.old.number line.now.actor ≡ false
-            → (self.new ≡ self.old) × (port.new ≡ port.old) × (gate.new ≡ gate.old) }
-        ensures ready { IsReady P.MixPort wav.now port.new self.new.client }
-        ensures own_gate { KeepsGate G.asked gate.old gate.new }
-        ensures rows_room { is_client self.old.number line.now.actor ≡ true
-            → GrowsBy 1 self.old.rows self.new.rows }
-        ensures ended_room { is_client self.old.number line.now.actor ≡ true
-            → GrowsBy 1 self.old.ended self.new.ended }
-    {
-        if is_of(line, Actor::Client(self.number)) {
-            self.do_line(port, gate, wav, phase, line.op);
-        }
-    }
-
     /// Does the lines of this client, in order.
     fn do_lines<P: MixPort, G: Gate, L: Ledger>(
         &mut self,
@@ -225,7 +173,10 @@ impl ClientActor {
     {
         parts_grow();
         for index in 0..lines.len() {
-            self.do_own(port, gate, wav, phase, &lines[index]);
+            let line = &lines[index];
+            if is_of(line, Actor::Client(self.number)) {
+                self.do_line(port, gate, wav, phase, line.op);
+            }
         }
     }
 

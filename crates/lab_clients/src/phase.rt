@@ -1,9 +1,7 @@
 //! All clients of a script in the lab, in a phase: the steps of it, in their order.
 use crate::at_once::run_at_once;
 use crate::clients::LabClients;
-use crate::steps::{
-    busy_count, hear_clients, inform_clients, run_in_turn, take_client_room, take_client_rows,
-};
+use crate::steps::busy_count;
 use card_sim::Card;
 use lab_lines::{Line, Row};
 use mix_core::Gate;
@@ -48,7 +46,10 @@ impl LabClients<'_> {
             (AreEach IsSameWithRows 0 (clients_of self.old) (clients_of self.new)) }
         ensures only { IfErr result (λ e. e ≡ PcmError.Memory) }
     {
-        take_client_room(self.clients.as_mut_slice(), lines)
+        for index in 0..self.clients.len() {
+            self.clients[index].take_room(lines)?;
+        }
+        Ok(())
     }
 
     /// Before the lines of a phase: the seat of each open client meets a note of the card.
@@ -61,7 +62,9 @@ impl LabClients<'_> {
         ensures informed { AreEach (IsInformedBy card.old) 0
             (clients_of self.old) (clients_of self.new) }
     {
-        inform_clients(card, self.clients.as_mut_slice());
+        for index in 0..self.clients.len() {
+            self.clients[index].inform(card);
+        }
     }
 
     /// All clients do their lines of a phase, one client after the other, each with its file and with the gate of its number. A
@@ -79,7 +82,9 @@ impl LabClients<'_> {
             (clients_of self.old) (clients_of self.new) }
         ensures others { AreSameFrom (length (clients_of self.old)) gates.old gates.new }
     {
-        run_in_turn(self.clients.as_mut_slice(), gates, wavs, phase, lines);
+        for index in 0..self.clients.len() {
+            self.clients[index].run_lines(&mut gates[index], &wavs[index], phase, lines);
+        }
     }
 
     /// Does what `run_lines` does, with each client in a thread of its own where one can be made. It returns once all clients are done.
@@ -113,7 +118,9 @@ impl LabClients<'_> {
         ensures heard { AreEach (IsHeardBy card.old) 0
             (clients_of self.old) (clients_of self.new) }
     {
-        hear_clients(card, self.clients.as_mut_slice());
+        for index in 0..self.clients.len() {
+            self.clients[index].hear(card);
+        }
     }
 
     /// Moves the rows of all clients to the end of the lab's, client by client: they have none then. It takes no memory.
@@ -127,6 +134,8 @@ impl LabClients<'_> {
         ensures room { vec_capacity rows.old ≤ vec_capacity rows.new }
         ensures clients { AreEach HasGivenRows 0 (clients_of self.old) (clients_of self.new) }
     {
-        take_client_rows(rows, self.clients.as_mut_slice());
+        for index in 0..self.clients.len() {
+            self.clients[index].take_rows(rows);
+        }
     }
 }

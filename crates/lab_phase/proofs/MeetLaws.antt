@@ -1,7 +1,7 @@
 -- The meets and the lines of a phase, one after the other: what each of them asks follows from what a phase asks of its actors.
 use Rattle.std.specs.Prelude.{◌≡◌, ℕ, ◌+◌, ◌*◌, ◌≤◌, ◌++◌, ℤ, List, All, drop, length, slice_index_or, take, vec_capacity, vec_len}
 use Rattle.std.specs.Global.{Vec}
-use Rattle.std.proofs.Common.{ap, sym, ◌∙◌, subst, arith}
+use Rattle.std.proofs.Common.{ap, refl, sym, ◌∙◌, subst, arith}
 use Rattle.std.proofs.lemmas.List.{drop-append-le, drop_all, take-append-le, take_all}
 use Rattle.mix_core.specs.declared.gate.Gate as gate
 use Rattle.snd_base.specs.declared.geometry.Geometry.{Geometry}
@@ -17,13 +17,13 @@ use Rattle.lab_run.specs.Phases.{ops_by}
 use Rattle.lab_actors.specs.Walks.{AreEach, AreEach-length}
 use Rattle.lab_card.specs.declared.card.CardActor.{CardActor}
 use Rattle.lab_card.specs.CardLines.{frames_by}
-use Rattle.lab_card.specs.MeetLaws.{frame-same, geometry-same}
+use Rattle.lab_card.specs.MeetLaws.{IsSameCard-joined, frame-same, geometry-same}
 use Rattle.lab_card.specs.Meets.{IsSameCard}
 use Rattle.lab_card.specs.Moves.{frame_of_card, geometry_of_card, seat_of_card}
 use Rattle.lab_card.specs.Room.{FitsRing, HasRoom}
 use Rattle.lab_clients.specs.OneClientLaws.{IsOfRing-card}
 use Rattle.lab_clients.specs.declared.clients.LabClients.{LabClients}
-use Rattle.lab_clients.specs.AtStage.{clients_of}
+use Rattle.lab_clients.specs.AtStage.{clients_of, places_of}
 use Rattle.lab_clients.specs.StepLaws.{AreOfCard-ring, AreOfRing, AreOfRing-informed, AreOfRing-run}
 use Rattle.lab_clients.specs.Steps as clients
 use Rattle.lab_clients.specs.Steps.{AreOfCard}
@@ -36,7 +36,7 @@ use Rattle.lab_readers.specs.Steps as readers
 use Rattle.lab_readers.specs.Steps.{EachReader}
 use Rattle.lab_phase.specs.declared.steps.PhaseInput.{PhaseInput}
 use Rattle.lab_phase.specs.PhaseInput.{CanMeet, CardCanRun, ClientsCanRun, ReadersCanRun}
-use Rattle.lab_phase.specs.PhaseSteps.{Asks, CardHasRun, ClientsHaveRun, HaveRun, IsSameButCard, ReadersHaveRun}
+use Rattle.lab_phase.specs.PhaseSteps.{Asks, CardHasRun, ClientsHaveRun, HaveMet, HaveRun, IsSameButCard, ReadersHaveRun}
 
 -- ---- before the lines
 
@@ -122,7 +122,7 @@ drop-front : {X : Type 0} (n : ℕ) (front back : List X) → length front ≡ n
 drop-front n front back len = drop-append-le n front back (omega (arith, len)) ∙ ap (λ xs. xs ++ back) (drop_all n front (omega (arith, len)))
 
 -- all did their lines with the gates of a list, of which the first are the clients'
-pub HaveRun-halves : {T : Type 0} (G : gate.Ghosts T) (count : ℕ) (gates near near_after far far_after : List T) (asked : Asks) (a b : CardActor) (cs ds : LabClients) (rs ss : LabReaders)
+HaveRun-halves : {T : Type 0} (G : gate.Ghosts T) (count : ℕ) (gates near near_after far far_after : List T) (asked : Asks) (a b : CardActor) (cs ds : LabClients) (rs ss : LabReaders)
     → gates ≡ near ++ far → length near ≡ count → length near_after ≡ length near → HaveRun G near near_after far far_after asked a b cs ds rs ss
     → HaveRun G (take count gates) (take count (near_after ++ far_after)) (drop count gates) (drop count (near_after ++ far_after)) asked a b cs ds rs ss
 HaveRun-halves {T = T} G count gates near near_after far far_after asked a b cs ds rs ss halves len same run =
@@ -133,3 +133,32 @@ HaveRun-halves {T = T} G count gates near near_after far far_after asked a b cs 
     (subst (λ (gs : List T). HaveRun G near gs (drop count gates) (drop count (near_after ++ far_after)) asked a b cs ds rs ss) (sym (take-front count near_after far_after after))
     (subst (λ (gs : List T). HaveRun G near near_after gs (drop count (near_after ++ far_after)) asked a b cs ds rs ss) (sym back)
     (subst (λ (gs : List T). HaveRun G near near_after far gs asked a b cs ds rs ss) (sym (drop-front count near_after far_after after)) run)))
+
+-- the meets before the lines, the lines with the gates of a list, of which the first 64 are the clients', and the meets after them
+pub HaveMet-halves : {T : Type 0} (G : gate.Ghosts T) (gates near near_after far far_after : List T) (asked : Asks) (a after : CardActor) (between informed heard last : Card)
+    (cs ds es fs : LabClients) (rs ss ts us : LabReaders) → gates ≡ near ++ far → length near ≡ 64 → length near_after ≡ length near
+    → IsSameCard a.card between → IsSameCard between informed → AreEach (clients.IsInformedBy a.card) 0 (clients_of cs) (clients_of ds) → EachReader (readers.IsInformedBy between) rs ss
+    → HaveRun G near near_after far far_after asked (record a { card = informed }) after ds es ss ts
+    → IsSameCard after.card heard → IsSameCard heard last → AreEach (clients.IsHeardBy after.card) 0 (clients_of es) (clients_of fs) → EachReader (readers.IsHeardBy heard) ts us
+    → places_of ds ≡ places_of cs → places_of fs ≡ places_of es
+    → HaveMet G (take 64 gates) (take 64 (near_after ++ far_after)) (drop 64 gates) (drop 64 (near_after ++ far_after)) asked a cs rs (record after { card = last }) fs us
+HaveMet-halves G gates near near_after far far_after asked a after between informed heard last cs ds es fs rs ss ts us halves len same first second clients_met readers_met run third fourth clients_heard readers_heard before then = record {
+  between = between;
+  before = record a { card = informed };
+  after = after;
+  heard = heard;
+  informed_clients = ds;
+  informed_readers = ss;
+  run_clients = es;
+  run_readers = ts;
+  first = first;
+  second = record { card = IsSameCard-joined a.card between informed first second; played = refl; rows = refl; captured = refl };
+  inform_clients = clients_met;
+  inform_readers = readers_met;
+  run = HaveRun-halves G 64 gates near near_after far far_after asked (record a { card = informed }) after ds es ss ts halves len same run;
+  third = third;
+  last = record { card = IsSameCard-joined after.card heard last third fourth; played = refl; rows = refl; captured = refl };
+  hear_clients = clients_heard;
+  hear_readers = readers_heard;
+  places = then ∙ (run.clients.places ∙ before);
+}

@@ -11,7 +11,7 @@ ghost use Rattle.lab_phase.specs.PhaseSteps.{AreSameButRoom, GiveFewRows, HaveRo
 ghost use Rattle.lab_phase.specs.PhaseRuns.{HaveRunLines, PlaysAlone};
 
 use crate::lab::Lab;
-use crate::steps::{PhaseInput, run_lines, take_room, take_rows};
+use crate::steps::{CLIENT_GATES, PhaseInput, run_all, take_room, take_rows};
 use lab_card::{CardActor, line_count};
 use lab_clients::LabClients;
 use lab_lines::{Line, Row};
@@ -72,20 +72,33 @@ fn run_together<R: Threads + Sync, G: Gate + Send>(
     ensures only { IfErr result (λ e. e ≡ PcmError.Memory) }
 {
     take_room(card, clients, readers, rows, asked.lines)?;
-    run_lines(rt, card, clients, readers, gates, asked);
+    clients.inform(&mut card.card);
+    readers.inform(&mut card.card);
+    let (client_gates, reader_gates) = gates.split_at_mut(CLIENT_GATES);
+    run_all(
+        rt,
+        card,
+        clients,
+        readers,
+        client_gates,
+        reader_gates,
+        asked,
+    );
+    clients.hear(&mut card.card);
+    readers.hear(&mut card.card);
     take_rows(rows, card, clients, readers);
     Ok(())
 }
 
 impl<'r> Lab<'r, '_> {
-    ghost use Rattle.std.specs.Prelude.{◌≡◌, ◌≢◌, ◌≤◌, ◌<◌, IfErr, OnErr, OnOk, length};
+    ghost use Rattle.std.specs.Prelude.{◌≡◌, ◌≤◌, ◌<◌, IfErr, OnErr, OnOk, length};
     ghost use Rattle.lab_lines.specs.declared.line.Item.TheVariants as item;
     ghost use Rattle.lab_lines.specs.Script.{is_of_card};
     ghost use Rattle.lab_run.specs.Phases.{ops_by};
     ghost use Rattle.lab_clients.specs.Reaped.{AreDoneInRun};
     ghost use Rattle.lab_readers.specs.AtStage.{AreOfRing};
     ghost use Rattle.lab_phase.specs.AtStage.{IsLab, IsNextItem};
-    ghost use Rattle.lab_phase.specs.PhaseRuns.{CountsPhase, DoesPhase, HasRunLines, HaveAsked, HaveSameAsks, IsLabWith, IsSameLab, Reaps, RunsPhase, Stops, stops_by};
+    ghost use Rattle.lab_phase.specs.PhaseRuns.{CountsPhase, DoesPhase, HaveAsked, HaveSameAsks, IsLabWith, IsSameLab, Reaps, RunsPhase, Stops, stops_by};
 
     /// Does the next phase of the script's body: the card and all clients and readers do their lines, at once where two of them have some,
     /// each in a thread of its own where one can be made. Before the lines each client and reader gets a note of the card's position, and
@@ -120,7 +133,8 @@ impl<'r> Lab<'r, '_> {
         Ok(())
     }
 
-    // The actors do the lines of a phase.
+    // The actors do the lines of a phase. Where these are all the card's, no other actor does anything in it; else those are reaped that were
+    // stopped in it.
     fn do_lines<R: Threads + Sync, G: Gate + Send>(
         &mut self,
         rt: &R,
@@ -138,13 +152,35 @@ impl<'r> Lab<'r, '_> {
         ensures only { IfErr result (λ e. e ≡ PcmError.Memory) }
     {
         if line_count(lines) == lines.len() {
-            self.run_card(lines)
-        } else {
-            self.run_actors(rt, lines, gates)
+            return self.run_card(lines);
         }
+        runs_are_of_scripts();
+        last_frames_are_own();
+        members_are_unreported();
+        parts_are_runs();
+        let asked = PhaseInput {
+            wavs: self.wavs,
+            capture: self.capture,
+            phase: self.phases + 1,
+            lines,
+        };
+        let Some(card) = &mut self.card else {
+            unreachable!()
+        };
+        run_together(
+            rt,
+            card,
+            &mut self.clients,
+            &mut self.readers,
+            &mut self.rows,
+            gates,
+            &asked,
+        )?;
+        self.reap();
+        Ok(())
     }
 
-    // A phase whose lines are all the card's: no other actor does anything in it.
+    // A phase whose lines are all the card's.
     fn run_card(&mut self, lines: &[Line]) -> Result<(), PcmError>
         requires at { IsLab self.old }
         requires next { IsNextItem self.old (item.Phase lines.now) }
@@ -163,73 +199,6 @@ impl<'r> Lab<'r, '_> {
         };
         match &mut self.card {
             Some(card) => play_alone(card, &mut self.rows, &asked),
-            None => unreachable!(),
-        }
-    }
-
-    // A phase in which clients or readers have lines.
-    fn run_actors<R: Threads + Sync, G: Gate + Send>(
-        &mut self,
-        rt: &R,
-        lines: &[Line],
-        gates: &mut [G],
-    ) -> Result<(), PcmError>
-        requires at { IsLabWith (stops_by G.stops gates.old) self.old }
-        requires next { IsNextItem self.old (item.Phase lines.now) }
-        requires gates { 128 ≤ length gates.old }
-        requires others { length (ops_by is_of_card lines.now) ≢ length lines.now }
-        ensures runs { OnOk result
-            (RunsPhase (HaveAsked G.asked gates.old gates.new) (stops_by G.stops gates.old)
-            (stops_by G.stops gates.new) self.old lines.now self.new) }
-        ensures kept { OnErr result (IsSameLab self.old self.new) }
-        ensures gates { OnErr result (gates.new ≡ gates.old) }
-        ensures only { IfErr result (λ e. e ≡ PcmError.Memory) }
-    {
-        last_frames_are_own();
-        members_are_unreported();
-        parts_are_runs();
-        self.run_unreaped(rt, lines, gates)?;
-        self.reap();
-        Ok(())
-    }
-
-    // The actors go through the lines of a phase; those that were stopped aren't reaped yet.
-    fn run_unreaped<R: Threads + Sync, G: Gate + Send>(
-        &mut self,
-        rt: &R,
-        lines: &[Line],
-        gates: &mut [G],
-    ) -> Result<(), PcmError>
-        requires at { IsLabWith (stops_by G.stops gates.old) self.old }
-        requires next { IsNextItem self.old (item.Phase lines.now) }
-        requires gates { 128 ≤ length gates.old }
-        requires others { length (ops_by is_of_card lines.now) ≢ length lines.now }
-        ensures runs { OnOk result
-            (HasRunLines G.Gate gates.old gates.new self.old lines.now self.new) }
-        ensures kept { OnErr result (IsSameLab self.old self.new) }
-        ensures gates { OnErr result (gates.new ≡ gates.old) }
-        ensures only { IfErr result (λ e. e ≡ PcmError.Memory) }
-    {
-        runs_are_of_scripts();
-        last_frames_are_own();
-        members_are_unreported();
-        parts_are_runs();
-        let asked = PhaseInput {
-            wavs: self.wavs,
-            capture: self.capture,
-            phase: self.phases + 1,
-            lines,
-        };
-        match &mut self.card {
-            Some(card) => run_together(
-                rt,
-                card,
-                &mut self.clients,
-                &mut self.readers,
-                &mut self.rows,
-                gates,
-                &asked,
-            ),
             None => unreachable!(),
         }
     }

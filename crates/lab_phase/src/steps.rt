@@ -1,12 +1,12 @@
 //! The steps of a phase in which clients or readers have lines.
-ghost use Rattle.std.specs.Prelude.{◌≡◌, ◌≤◌, ◌++◌, IfErr, OnErr, OnOk, drop, length, take};
+ghost use Rattle.std.specs.Prelude.{◌≡◌, IfErr, OnErr, OnOk, length};
 ghost use Rattle.std.specs.Thread.{IsSend, IsSync};
 ghost use Rattle.lab_lines.specs.Script.{is_of_card};
 ghost use Rattle.lab_run.specs.Phases.{ops_by};
 ghost use Rattle.lab_actors.specs.Room.{HasSpace};
 ghost use Rattle.lab_card.specs.Room.{FitsRing};
-ghost use Rattle.lab_phase.specs.PhaseInput.{CardCanRun, ClientsCanRun, CanMeet, ReadersCanRun, asks_of, busy_in};
-ghost use Rattle.lab_phase.specs.PhaseSteps.{AreSameButRoom, CardHasRun, ClientsHaveRun, HaveGivenRows, HaveMet, HaveRoom, HaveRun, ReadersHaveRun, rows_by};
+ghost use Rattle.lab_phase.specs.PhaseInput.{CardCanRun, ClientsCanRun, ReadersCanRun, asks_of, busy_in};
+ghost use Rattle.lab_phase.specs.PhaseSteps.{AreSameButRoom, CardHasRun, ClientsHaveRun, HaveGivenRows, HaveRoom, HaveRun, ReadersHaveRun, rows_by};
 
 use lab_card::{CardActor, line_count};
 use lab_clients::LabClients;
@@ -54,26 +54,6 @@ pub(crate) fn take_room(
     card.take_room(lines)?;
     clients.take_room(lines)?;
     readers.take_room(lines)
-}
-
-/// The card and all actors do their lines, one after the other.
-fn run_in_turn<G: Gate>(
-    card: &mut CardActor<'_>,
-    clients: &mut LabClients<'_>,
-    readers: &mut LabReaders<'_>,
-    client_gates: &mut [G],
-    reader_gates: &mut [G],
-    asked: &PhaseInput<'_>,
-)
-    requires card { CardCanRun asked.now.lines.now card.old }
-    requires clients { ClientsCanRun (length client_gates.old) asked.now clients.old }
-    requires readers { ReadersCanRun (length reader_gates.old) asked.now readers.old }
-    ensures { HaveRun G.Gate client_gates.old client_gates.new reader_gates.old reader_gates.new
-        (asks_of asked.now) card.old card.new clients.old clients.new readers.old readers.new }
-{
-    card.run_lines(asked.capture, asked.phase, asked.lines);
-    clients.run_lines(client_gates, asked.wavs, asked.phase, asked.lines);
-    readers.run_lines(reader_gates, asked.phase, asked.lines);
 }
 
 /// All clients and all readers do their lines at once, each in a thread of its own where one can be made.
@@ -150,8 +130,8 @@ fn busy_count(clients: &LabClients<'_>, readers: &LabReaders<'_>, lines: &[Line]
     card + clients.busy_count(lines) + readers.busy_count(lines)
 }
 
-/// The card and all actors do their lines, at once where two of them have some. Where no two of them have lines no thread is started.
-fn run_all<R: Threads + Sync, G: Gate + Send>(
+/// The card and all actors do their lines: at once where two of them have some, and else one after the other, without a thread.
+pub(crate) fn run_all<R: Threads + Sync, G: Gate + Send>(
     rt: &R,
     card: &mut CardActor<'_>,
     clients: &mut LabClients<'_>,
@@ -177,41 +157,10 @@ fn run_all<R: Threads + Sync, G: Gate + Send>(
             asked,
         );
     } else {
-        run_in_turn(card, clients, readers, client_gates, reader_gates, asked);
+        card.run_lines(asked.capture, asked.phase, asked.lines);
+        clients.run_lines(client_gates, asked.wavs, asked.phase, asked.lines);
+        readers.run_lines(reader_gates, asked.phase, asked.lines);
     }
-}
-
-/// Each actor meets a note of the card, then all do their lines, and then the card meets a note of each.
-///
-/// The caller has taken the room of the lines (`take_room`), and has the clients' files and a gate for each actor: the first 64 are the
-/// clients', and the ones after them the readers'. The actors are of the card's rings.
-pub(crate) fn run_lines<R: Threads + Sync, G: Gate + Send>(
-    rt: &R,
-    card: &mut CardActor<'_>,
-    clients: &mut LabClients<'_>,
-    readers: &mut LabReaders<'_>,
-    gates: &mut [G],
-    asked: &PhaseInput<'_>,
-)
-    requires { CanMeet (length gates.old) asked.now card.old clients.old readers.old }
-    ensures { HaveMet G.Gate (take 64 gates.old) (take 64 gates.new)
-        (drop 64 gates.old) (drop 64 gates.new) (asks_of asked.now)
-        card.old clients.old readers.old card.new clients.new readers.new }
-{
-    clients.inform(&mut card.card);
-    readers.inform(&mut card.card);
-    let (client_gates, reader_gates) = gates.split_at_mut(CLIENT_GATES);
-    run_all(
-        rt,
-        card,
-        clients,
-        readers,
-        client_gates,
-        reader_gates,
-        asked,
-    );
-    clients.hear(&mut card.card);
-    readers.hear(&mut card.card);
 }
 
 /// Moves the rows of a phase to the end of the lab's: the card's, then the clients', then the readers'. It takes no memory.

@@ -1,6 +1,5 @@
 //! The items of a script's body, one after the other.
 ghost use Rattle.std.specs.Prelude.{◌≡◌, ◌≢◌, ◌+◌, ◌≤◌, Err, IfErr, OnErr, OnOk, length};
-ghost use Rattle.lab_lines.specs.declared.line.Item.TheVariants as item;
 ghost use Rattle.lab_stop.specs.Effects.{StoresAndPuts};
 ghost use Rattle.lab_stop.specs.declared.stop.Stop.TheVariants as stops;
 ghost use Rattle.lab_phase.specs.AtStage.{DoesItem, IsBorderItem, IsLab, IsNextItem, IsSameScript, items_done, played_of};
@@ -8,7 +7,7 @@ ghost use Rattle.lab_phase.specs.PhaseRuns.{HaveAsked, stops_by};
 ghost use Rattle.lab_play.specs.Playing.{CanPlay, GoesOnWriting, IsKnownRun, StaysWritten, StopsAt, scene};
 
 use crate::write::write_phase;
-use lab_lines::{Item, Line, Script};
+use lab_lines::{Item, Script};
 use lab_output::Outputs;
 use lab_phase::Lab;
 use lab_shelf::{Shelf, Sink};
@@ -77,7 +76,7 @@ pub(crate) fn do_items<R: Threads + Sync, S: Shelf, K: Sink, G: Gate + Send>(
     Ok(())
 }
 
-/// Does the script's next item; what a phase played, recorded and answered is written.
+/// Does the script's next item: an opening or a closing, or a phase, of which all that was played, recorded and answered is written then.
 fn do_item<R: Threads + Sync, S: Shelf, K: Sink, G: Gate + Send>(
     rt: &R,
     alloc: Global,
@@ -111,60 +110,13 @@ fn do_item<R: Threads + Sync, S: Shelf, K: Sink, G: Gate + Send>(
         (scene lab.old outputs.old (S.files shelf.old) (K.taken out.old))
         → result ≢ Err stops.Write }
 {
-    match item {
-        Item::Phase(lines) => do_phase(
-            rt,
-            alloc,
-            script,
-            lines.as_slice(),
-            lab,
-            outputs,
-            shelf,
-            out,
-            gates,
-        ),
-        Item::Opens { .. } | Item::Closes { .. } => do_border(lab, item),
-    }
-}
-
-/// Does a phase: the lab plays and records it, and then all that is new of it is written.
-fn do_phase<R: Threads + Sync, S: Shelf, K: Sink, G: Gate + Send>(
-    rt: &R,
-    alloc: Global,
-    script: &Script,
-    lines: &[Line],
-    lab: &mut Lab<'_, '_>,
-    outputs: &mut Outputs,
-    shelf: &mut S,
-    out: &mut K,
-    gates: &mut [G],
-) -> Result<(), Stop>
-    requires playing { CanPlay script.now (stops_by G.stops gates.old)
-        (scene lab.old outputs.old (S.files shelf.old) (K.taken out.old)) }
-    requires next { IsNextItem lab.old (item.Phase lines.now) }
-    requires gates { 128 ≤ length gates.old }
-    ensures done { OnOk result (GoesOnWriting (HaveAsked G.asked gates.old gates.new)
-        (stops_by G.stops gates.old)
-        (scene lab.old outputs.old (S.files shelf.old) (K.taken out.old))
-        (stops_by G.stops gates.new)
-        (scene lab.new outputs.new (S.files shelf.new) (K.taken out.new))) }
-    ensures next { OnOk result (items_done lab.new ≡ items_done lab.old + 1) }
-    ensures same { OnOk result (IsSameScript lab.old lab.new) }
-    ensures part { OnErr result (StopsAt
-        (stops_by G.stops gates.old)
-        (scene lab.old outputs.old (S.files shelf.old) (K.taken out.old))
-        (stops_by G.stops gates.new) lab.new (S.files shelf.new) (K.taken out.new)) }
-    ensures stores_and_puts { StoresAndPuts S.Shelf K.Sink result (shelf.old, out.old)
-        (shelf.new, out.new) }
-    ensures never { S.is_reliable shelf.old → K.is_reliable out.old
-        → IsKnownRun (stops_by G.stops gates.old)
-        (scene lab.old outputs.old (S.files shelf.old) (K.taken out.old))
-        → result ≢ Err stops.Write }
-{
     stages_grow();
-    match lab.run_phase(rt, lines, gates) {
-        Ok(()) => write_phase(alloc, script, lab, outputs, shelf, out),
-        Err(_) => Err(Stop::Memory),
+    match item {
+        Item::Phase(lines) => match lab.run_phase(rt, lines.as_slice(), gates) {
+            Ok(()) => write_phase(alloc, script, lab, outputs, shelf, out),
+            Err(_) => Err(Stop::Memory),
+        },
+        Item::Opens { .. } | Item::Closes { .. } => do_border(lab, item),
     }
 }
 

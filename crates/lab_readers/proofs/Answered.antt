@@ -23,9 +23,9 @@ use Rattle.lab_lines.specs.declared.line.Op.TheVariants as op
 use Rattle.lab_lines.specs.declared.row.Answer.{Answer}
 use Rattle.lab_lines.specs.declared.row.Answer.TheVariants.{Count, Done, Failed}
 use Rattle.lab_run.specs.Client.{count_answer}
+use Rattle.lab_run.specs.ClientAtPort.{is_die}
 use Rattle.lab_run.specs.Reader.{call_of, frames_by}
 use Rattle.lab_run.specs.ReaderAtPort.{IsReaderLine, ReaderLinesAreParts, ReaderLinesWithoutCall}
-use Rattle.lab_actors.specs.Lines.{CanCall}
 use Rattle.lab_run.specs.Stretches.{got_by}
 use Rattle.lab_readers.specs.Progress.{Progress}
 use Rattle.lab_readers.specs.Lines.{AreSamples, HasReaderAnswered, HasReaderCalled, HasRead}
@@ -79,9 +79,9 @@ call-fitting P G s t r d other spare answer fits takes = takes
 
 module _ {S T : Type 0} (P : snoopport.Ghosts S) (composes : Composes P.got) (loading : Composes P.loaded) (left : T → Option ℕ) (by_gate at_gate : T → ℕ) where
   pub answered-call : (G : gates.Ghosts T) → ((first : S) (ring : Geometry) → ReaderLinesAreParts P G left by_gate at_gate first ring)
-      → (s t : S × T) (r d : CaptureStream) (before samples : List ℤ) (asked : Op) (spare : ℕ) (answer : Answer) → CanCall r.status.stopped asked
+      → (s t : S × T) (r d : CaptureStream) (before samples : List ℤ) (asked : Op) (spare : ℕ) (answer : Answer) → r.status.stopped ≡ false → is_die asked ≡ false
       → HasReaderCalled P G s t r d before samples (fitting_op spare asked) answer → HasReaderAnswered P left by_gate at_gate s t r d before samples asked spare answer
-  answered-call G parts s t r d before samples asked spare answer can called =
+  answered-call G parts s t r d before samples asked spare answer goes asks called =
       let makes = call-makes P G s t r d (fitting_op spare asked) answer called.takes in
       let got = got-fitting asked spare answer in
       let few = makes.few in
@@ -89,7 +89,7 @@ module _ {S T : Type 0} (P : snoopport.Ghosts S) (composes : Composes P.got) (lo
       record {
         line = λ fits phase number frames first ring doing at.
             parts first ring s t phase number doing (record { own = Some r; frames = frames }) r asked d answer
-            (record { is_open = refl; goes = can.goes; asks = can.asks }) at (call-fitting P G s t r d asked spare answer fits called.takes);
+            (record { is_open = refl; goes = goes; asks = asks }) at (call-fitting P G s t r d asked spare answer fits called.takes);
         has_read = HasRead-fitting P s.0 t.0 r d before samples asked spare answer called.has_read;
         loaded = loaded-some P G loading s t (call_of r (fitting_op spare asked)) (d, answer) called.takes;
         progress = subst (λ (n : ℕ). Progress n r d (P.view s.0) (P.view t.0)) got makes.progress;

@@ -1,5 +1,5 @@
 -- A reader's lines, one after the other.
-use Rattle.std.proofs.Common.{◌≡◌, ℕ, ◌+◌, ◌*◌, ◌<◌, ◌≤◌, List, [], ◌∷◌, ◌++◌, refl, sym, ◌∙◌, ap, subst, arith, append_assoc, length, get_or, take, drop, suc, zero-mul}
+use Rattle.std.proofs.Common.{◌≡◌, ℕ, ◌+◌, ◌*◌, ◌<◌, ◌≤◌, List, [], ◌∷◌, ◌++◌, refl, sym, ◌∙◌, ap, subst, arith, append_assoc, length, get_or, drop, suc, zero-mul}
 use Rattle.std.proofs.Math.Nat.{add-mul, mul-le-mul_right}
 use Rattle.std.proofs.Math.Seq.{drop-cons}
 use Rattle.std.proofs.lemmas.List.{append-nil, length-append, length-map, map-append}
@@ -36,7 +36,6 @@ use Rattle.lab_readers.specs.Progress.{Progress-joined, Progress-most, SeesAtMos
 use Rattle.lab_readers.specs.Parts.{AppendsFrames, HasReaderDone, HasGot, HasRowsFor, IsSameReader, ReaderLine, ReaderPart, TakesRow, channels_of, reader_of}
 use Rattle.lab_actors.specs.Room.{HasSpace}
 use Rattle.lab_readers.specs.Room.{asked_by, frames_wanted, most_wanted, spare_frames, wanted_by}
-use Rattle.lab_actors.specs.LineLaws.{other-line, own-line}
 use Rattle.lab_readers.proofs.Called.{HasLoaded-joined, HasLoaded-none, frames_by-count, length-through}
 use Rattle.lab_readers.proofs.CallProgress.{Progress-same}
 
@@ -63,7 +62,7 @@ own-left : (mine : Actor → Bool) (lines : List Line) (k : ℕ) (line : Line) �
 own-left mine lines k line within is own =
     ap length (left-before mine lines k line within is ∙ ap (λ (test : Bool). (if test then line.op ∷ [] else []) ++ ops_by mine (drop (k + 1) lines)) own)
 
-other-left : (mine : Actor → Bool) (lines : List Line) (k : ℕ) (line : Line) → k < length lines → get_or lines k line ≡ line → mine line.actor ≡ false
+pub other-left : (mine : Actor → Bool) (lines : List Line) (k : ℕ) (line : Line) → k < length lines → get_or lines k line ≡ line → mine line.actor ≡ false
     → length (ops_by mine (drop k lines)) ≡ length (ops_by mine (drop (k + 1) lines))
 other-left mine lines k line within is other =
     ap length (left-before mine lines k line within is ∙ ap (λ (test : Bool). (if test then line.op ∷ [] else []) ++ ops_by mine (drop (k + 1) lines)) other)
@@ -77,23 +76,16 @@ HasRowsFor-own a mine lines k line within is own room =
     let runs = room.runs in
     record { rows = omega (arith, rows, size); runs = omega (arith, runs, size) }
 
-pub HasRowsFor-next : (a b : ReaderActor) (mine : Actor → Bool) (lines : List Line) (k : ℕ) (line : Line) → k < length lines → get_or lines k line ≡ line
-    → HasRowsFor a (length (ops_by mine (drop k lines))) → (mine line.actor ≡ true → TakesRow a b) → (mine line.actor ≡ false → b ≡ a)
-    → HasRowsFor b (length (ops_by mine (drop (k + 1) lines)))
-HasRowsFor-next a b mine lines k line within is room takes others = by_test (mine line.actor) refl
-  where
-    by_test : (test : Bool) → mine line.actor ≡ test → HasRowsFor b (length (ops_by mine (drop (k + 1) lines)))
-    by_test true own =
-        let size = own-left mine lines k line within is own in
-        let rows = room.rows in
-        let few = (takes own).rows.few in
-        let kept = (takes own).rows.kept in
-        let runs = room.runs in
-        let one = (takes own).runs in
-        record { rows = omega (arith, rows, few, kept, size); runs = omega (arith, runs, one, size) }
-    by_test false other =
-        subst (λ (x : ReaderActor). HasRowsFor x (length (ops_by mine (drop (k + 1) lines)))) (sym (others other))
-        (subst (HasRowsFor a) (other-left mine lines k line within is other) room)
+pub HasRowsFor-next : (a b : ReaderActor) (mine : Actor → Bool) (lines : List Line) (k : ℕ) (line : Line) → k < length lines → get_or lines k line ≡ line → mine line.actor ≡ true
+    → HasRowsFor a (length (ops_by mine (drop k lines))) → TakesRow a b → HasRowsFor b (length (ops_by mine (drop (k + 1) lines)))
+HasRowsFor-next a b mine lines k line within is own room takes =
+    let size = own-left mine lines k line within is own in
+    let rows = room.rows in
+    let few = takes.rows.few in
+    let kept = takes.rows.kept in
+    let runs = room.runs in
+    let one = takes.runs in
+    record { rows = omega (arith, rows, few, kept, size); runs = omega (arith, runs, one, size) }
 
 -- ---- the frames that they got
 
@@ -140,7 +132,7 @@ HasGot-none v a =
       progress = Progress-same a.reader v;
     }
 
-HasGot-more : (u v w : SnoopView) (a x b : ReaderActor) (ops : List Op) (asked : Op) → IsSameReader a x → HasGot u v a x ops → HasGot v w x b (asked ∷ [])
+pub HasGot-more : (u v w : SnoopView) (a x b : ReaderActor) (ops : List Op) (asked : Op) → IsSameReader a x → HasGot u v a x ops → HasGot v w x b (asked ∷ [])
     → HasGot u w a b (ops ++ asked ∷ [])
 HasGot-more u v w a x b ops asked same one two =
     let few = one.few in
@@ -159,20 +151,6 @@ HasGot-more u v w a x b ops asked same one two =
       room = omega (arith, kept, still);
       progress = Progress-joined one.count two.count a.reader x.reader b.reader u v w one.progress two.progress;
     }
-
-pub HasGot-next : (u v w : SnoopView) (a x b : ReaderActor) (mine : Actor → Bool) (lines : List Line) (k : ℕ) (line : Line) → k < length lines → get_or lines k line ≡ line
-    → IsSameReader a x → HasGot u v a x (ops_by mine (take k lines)) → (mine line.actor ≡ true → HasGot v w x b (line.op ∷ []))
-    → (mine line.actor ≡ false → (b ≡ x) × (w ≡ v)) → HasGot u w a b (ops_by mine (take (k + 1) lines))
-HasGot-next u v w a x b mine lines k line within is same got own others = by_test (mine line.actor) refl
-  where
-    by_test : (test : Bool) → mine line.actor ≡ test → HasGot u w a b (ops_by mine (take (k + 1) lines))
-    by_test true own_is = subst (HasGot u w a b) (sym (own-line mine lines k line within is own_is))
-        (HasGot-more u v w a x b (ops_by mine (take k lines)) line.op same got (own own_is))
-    by_test false other_is =
-        let r = others other_is in
-        subst (HasGot u w a b) (sym (other-line mine lines k line within is other_is))
-        (subst (λ (y : ReaderActor). HasGot u w a y (ops_by mine (take k lines))) (sym r.0)
-        (subst (λ (z : SnoopView). HasGot u z a x (ops_by mine (take k lines))) (sym r.1) got))
 
 -- ---- the room for them
 
@@ -298,25 +276,6 @@ module _ {S T : Type 0} (P : snoopport.Ghosts S) (composes : Composes P.got) (lo
         appends = AppendsFrames-joined P composes s.0 t.0 u.0 a x b one.same one.appends line.appends;
         same = IsSameActor-joined a x b one.same line.same;
       }
-
-  -- one line of a phase, which an actor does where it is its own
-  pub ReaderPart-next : ((ring : Geometry) (phase number : ℕ) → PartsGrow (reader_kind phase number) ring)
-      → (s t u : S × T) (phase played : ℕ) (a x b : ReaderActor) (mine : Actor → Bool) (lines : List Line) (k : ℕ) (line : Line) → k < length lines
-      → get_or lines k line ≡ line → (mine line.actor ≡ true → (P.view t.0).seen ≤ (P.view u.0).seen)
-      → (mine line.actor ≡ true → SeesAtMost played (P.view s.0) (P.view t.0) → wanted_by (most_read x.reader) line.op ≤ spare_frames x.reader x.samples)
-      → ReaderPart P left by_gate at_gate s t phase played a x (ops_by mine (take k lines))
-      → (mine line.actor ≡ true → ReaderLine P left by_gate at_gate t u phase x b line.op) → (mine line.actor ≡ false → (b ≡ x) × (u.0 ≡ t.0) × (u.1 ≡ t.1))
-      → ReaderPart P left by_gate at_gate s u phase played a b (ops_by mine (take (k + 1) lines))
-  ReaderPart-next grow s t u phase played a x b mine lines k line within is rising fits part own others = by_test (mine line.actor) refl
-    where
-      by_test : (test : Bool) → mine line.actor ≡ test → ReaderPart P left by_gate at_gate s u phase played a b (ops_by mine (take (k + 1) lines))
-      by_test true own_is = subst (λ (ops : List Op). ReaderPart P left by_gate at_gate s u phase played a b ops) (sym (own-line mine lines k line within is own_is))
-          (ReaderPart-more grow s t u phase played a x b (ops_by mine (take k lines)) line.op (rising own_is) (fits own_is) part (own own_is))
-      by_test false other_is =
-          let r = others other_is in
-          subst (λ (ops : List Op). ReaderPart P left by_gate at_gate s u phase played a b ops) (sym (other-line mine lines k line within is other_is))
-          (subst (λ (y : ReaderActor). ReaderPart P left by_gate at_gate s u phase played a y (ops_by mine (take k lines))) (sym r.0)
-          (let same : t ≡ u = λ i. ((sym r.1) i, (sym r.2) i) in subst (λ (v : S × T). ReaderPart P left by_gate at_gate s v phase played a x (ops_by mine (take k lines))) same part))
 
 -- the same at a gate of which the shares are the same
 IsAtSnoop-shared : {S T U : Type 0} (P : snoopport.Ghosts S) (left : T → Option ℕ) (by_gate at_gate : T → ℕ) (other_left : U → Option ℕ) (by_other at_other : U → ℕ)

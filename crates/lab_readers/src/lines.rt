@@ -1,10 +1,9 @@
 //! An open reader of a script, and what its lines do in a phase.
-ghost use Rattle.std.specs.Prelude.{◌≡◌, ◌<◌, ◌≤◌, ◌∷◌, [], All, IfErr, OnOk, false, true, length, vec_capacity};
+ghost use Rattle.std.specs.Prelude.{◌≡◌, ◌<◌, ◌≤◌, ◌∷◌, [], All, IfErr, OnOk, vec_capacity};
 ghost use Rattle.dsnoop_client.specs.View.{CanUse};
 ghost use Rattle.lab_lines.specs.declared.line.Line.{Line};
 ghost use Rattle.lab_run.specs.Phases.{is_reader, ops_by, played_in};
 ghost use Rattle.lab_run.specs.Stretches.{got_by};
-ghost use Rattle.lab_actors.specs.Lines.{CanCall};
 ghost use Rattle.lab_actors.specs.Countdown.{KeepsGate, at_gate_of, by_gate_of, left_of};
 ghost use Rattle.lab_readers.specs.Lines.{HasReaderAnswered, IsFewRead};
 ghost use Rattle.lab_readers.specs.Parts.{HasGot, HasRoomForLines, HasRowsFor, ReaderLine, ReaderPart, ReaderTurn, TakesRow};
@@ -45,28 +44,6 @@ fn frames_read(asked: Op, answer: Answer) -> u64
     }
 }
 
-/// The call that a line of a reader names which isn't stopped.
-fn call_line<P: SnoopPort, G: Gate, L: Ledger>(
-    reader: &mut Reader,
-    port: &mut P,
-    gate: &mut Countdown<'_, G, L>,
-    samples: &mut Vec<i16>,
-    asked: Op,
-) -> Answer
-    requires few { IsFewRead asked }
-    requires can { CanCall reader.old.status.stopped asked }
-    requires usable { CanUse reader.old (P.view port.old) }
-    ensures answered { HasReaderAnswered P.SnoopPort left_of (by_gate_of G.stops) at_gate_of
-        (port.old, gate.old) (port.new, gate.new)
-        reader.old reader.new samples.old.items samples.new.items
-        asked (spare_frames reader.old samples.old) result }
-    ensures own_gate { KeepsGate G.asked gate.old gate.new }
-    ensures room { vec_capacity samples.old ≤ vec_capacity samples.new }
-{
-    reader_lines_are_parts::<P, Countdown<'_, G, L>>();
-    call_fitting(reader, port, gate, samples, asked)
-}
-
 /// What a line of an open reader is answered: after a stop nothing is done any more, and a `die` lets so many asks pass.
 fn answer_line<P: SnoopPort, G: Gate, L: Ledger>(
     reader: &mut Reader,
@@ -92,7 +69,8 @@ fn answer_line<P: SnoopPort, G: Gate, L: Ledger>(
         gate.let_pass(asks);
         return Answer::Done;
     }
-    call_line(reader, port, gate, samples, asked)
+    reader_lines_are_parts::<P, Countdown<'_, G, L>>();
+    call_fitting(reader, port, gate, samples, asked)
 }
 
 impl ReaderActor {
@@ -157,35 +135,6 @@ impl ReaderActor {
         push_row(&mut self.rows, row);
     }
 
-    /// Does a line where it is this reader's.
-    fn do_own<P: SnoopPort, G: Gate, L: Ledger>(
-        &mut self,
-        port: &mut P,
-        gate: &mut Countdown<'_, G, L>,
-        phase: u32,
-        line: &Line,
-    )
-        requires few { IsFewRead line.now.op }
-        requires usable { CanUse self.old.reader (P.view port.old) }
-        requires room { is_reader self.old.number line.now.actor ≡ true → HasRowsFor self.old 1 }
-        ensures own { is_reader self.old.number line.now.actor ≡ true
-            → ReaderLine P.SnoopPort left_of (by_gate_of G.stops) at_gate_of
-            (port.old, gate.old) (port.new, gate.new)
-            phase self.old self.new line.now.op }
-        ensures others { is_reader self.old.number line.now.actor ≡ false
-            → (self.new ≡ self.old) × (port.new ≡ port.old) × (gate.new ≡ gate.old) }
-        ensures usable { CanUse self.new.reader (P.view port.new) }
-        ensures own_gate { KeepsGate G.asked gate.old gate.new }
-        ensures room { is_reader self.old.number line.now.actor ≡ true
-            → TakesRow self.old self.new }
-        ensures got { is_reader self.old.number line.now.actor ≡ true
-            → HasGot (P.view port.old) (P.view port.new) self.old self.new (line.now.op ∷ []) }
-    {
-        if is_of(line, Actor::Reader(self.number)) {
-            self.do_line(port, gate, phase, line.op);
-        }
-    }
-
     /// Does the lines of this reader, in order.
     fn do_lines<P: SnoopPort, G: Gate, L: Ledger>(
         &mut self,
@@ -208,7 +157,10 @@ impl ReaderActor {
         // There is a channel at least, so that the room counts the frames.
         let _channels = self.reader.channels();
         for index in 0..lines.len() {
-            self.do_own(port, gate, phase, &lines[index]);
+            let line = &lines[index];
+            if is_of(line, Actor::Reader(self.number)) {
+                self.do_line(port, gate, phase, line.op);
+            }
         }
     }
 

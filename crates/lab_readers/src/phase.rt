@@ -1,9 +1,7 @@
 //! All readers of a script in the lab, in a phase: the steps of it, in their order.
 use crate::at_once::run_at_once;
 use crate::readers::LabReaders;
-use crate::steps::{
-    busy_count, hear_readers, inform_readers, run_in_turn, take_reader_room, take_reader_rows,
-};
+use crate::steps::busy_count;
 use card_sim::Card;
 use lab_lines::{Line, Row};
 use mix_core::Gate;
@@ -44,7 +42,10 @@ impl LabReaders<'_> {
         ensures same { EachReader IsSameWithRows self.old self.new }
         ensures only { IfErr result (λ e. e ≡ PcmError.Memory) }
     {
-        take_reader_room(self.readers.as_mut_slice(), lines)
+        for index in 0..self.readers.len() {
+            self.readers[index].take_room(lines)?;
+        }
+        Ok(())
     }
 
     /// Before the lines of a phase: the seat of each open reader meets a note of the card.
@@ -55,7 +56,9 @@ impl LabReaders<'_> {
         ensures card { IsSameCard card.old card.new }
         ensures informed { EachReader (IsInformedBy card.old) self.old self.new }
     {
-        inform_readers(card, self.readers.as_mut_slice());
+        for index in 0..self.readers.len() {
+            self.readers[index].inform(card);
+        }
     }
 
     /// All readers do their lines of a phase, one reader after the other, each with the gate of its number. A reader that isn't open is
@@ -70,7 +73,9 @@ impl LabReaders<'_> {
         ensures { EachReader (RunsAt G.Gate gates.old gates.new phase lines.now)
             self.old self.new }
     {
-        run_in_turn(self.readers.as_mut_slice(), gates, phase, lines);
+        for index in 0..self.readers.len() {
+            self.readers[index].run_lines(&mut gates[index], phase, lines);
+        }
     }
 
     /// Does what `run_lines` does, with each reader in a thread of its own where one can be made. It returns once all readers are done.
@@ -98,7 +103,9 @@ impl LabReaders<'_> {
         ensures card { IsSameCard card.old card.new }
         ensures heard { EachReader (IsHeardBy card.old) self.old self.new }
     {
-        hear_readers(card, self.readers.as_mut_slice());
+        for index in 0..self.readers.len() {
+            self.readers[index].hear(card);
+        }
     }
 
     /// Moves the rows of all readers to the end of the lab's, reader by reader: they have none then. It takes no memory.
@@ -111,6 +118,8 @@ impl LabReaders<'_> {
         ensures room { vec_capacity rows.old ≤ vec_capacity rows.new }
         ensures readers { EachReader HasGivenRows self.old self.new }
     {
-        take_reader_rows(rows, self.readers.as_mut_slice());
+        for index in 0..self.readers.len() {
+            self.readers[index].take_rows(rows);
+        }
     }
 }

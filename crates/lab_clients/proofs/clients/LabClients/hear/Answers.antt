@@ -1,15 +1,38 @@
-use Rattle.std.specs.Prelude.{List}
 use Rattle.std.proofs.Common.{arith, subst, sym}
+use Rattle.sum_table.specs.Players.{player_key, player_ring}
+use Rattle.lab_actors.specs.Walks.{AreEach-ended, HasWalked-read, HasWalked-still}
+use Rattle.lab_card.specs.MeetLaws.{IsSameCard-joined}
+use Rattle.lab_card.specs.Moves.{seat_of_card}
 use Rattle.lab_clients.specs.declared.client.LabClient.{LabClient}
-use Rattle.lab_clients.specs.Steps.{AreOfCard, IsHeardBy}
-use Rattle.lab_clients.proofs.Lent.{AreEach-lent}
+use Rattle.lab_clients.specs.AtStage.{clients_of}
+use Rattle.lab_clients.specs.OneClient.{IsOfCard}
+use Rattle.lab_clients.specs.OneClientLaws.{IsOfCard-ring, IsOfRing-card}
+use Rattle.lab_clients.specs.Steps.{IsHeardBy}
 use Rattle.lab_clients.proofs.clients.LabClients.hear.Goals as goal
 
-pub hear_clients-requires : goal.hear_clients-requires
-hear_clients-requires c = subst (λ (ds : List LabClient). AreOfCard c.args.card.now ds) (sym c.as_mut_slice.ensures.value) c.requires
+pub hear-requires : goal.hear-requires
+hear-requires c =
+    let l = c.loop-index in
+    let below = c.loop-index-test.true in
+    let end = c.len-index-end.ensures in
+    let len = c.args.self.now.clients.ok.0 in
+    let d = c.index_mut.result.now in
+    let was = HasWalked-still (IsHeardBy c.args.card.now) (clients_of c.args.self.now) (clients_of l.self) l.index d l.invariant.walked c.index_mut.ensures.value in
+    let of = subst (λ (x : LabClient). IsOfCard c.args.card.now x) (sym was) (c.requires l.index d (omega (arith, below, end, len))) in
+    IsOfCard-ring (player_ring (seat_of_card c.args.card.now)) (player_key (seat_of_card c.args.card.now)) l.card d
+    (record { of_ring = l.invariant.card.player.ring; of_key = l.invariant.card.player.key }) (IsOfRing-card c.args.card.now d of)
+
+pub loop-index-preserved : goal.loop-index-preserved
+loop-index-preserved c =
+    let l = c.loop-index in
+    let same = IsSameCard-joined c.args.card.now l.card c.hear.new.card l.invariant.card c.hear.ensures.card in
+    record {
+      places = l.invariant.places;
+      card = same;
+      walked = HasWalked-read c.args.self.now.clients l.self.clients c.hear.new.self c.index_mut.result.now c.len-index-end.ensures c.loop-index-test.true l.invariant.walked
+          c.index_mut.ensures.value (record { card = c.hear.new.card; same = same; heard = c.hear.ensures.heard });
+    }
 
 pub returns-clause-heard : goal.returns-clause-heard
 returns-clause-heard c =
-    let same = c.hear_clients.auto.clients in
-    let len = c.as_mut_slice.ensures.len in
-    AreEach-lent (IsHeardBy c.args.card.now) _ _ c.hear_clients.new.clients _ c.as_mut_slice.ensures.value (omega (arith, same, len)) c.hear_clients.ensures.heard
+    AreEach-ended c.args.self.now.clients c.loop-index.self.clients c.len-index-end.ensures c.loop-index-test.false c.loop-index.invariant.walked

@@ -1,15 +1,37 @@
-use Rattle.std.specs.Prelude.{List}
 use Rattle.std.proofs.Common.{arith, subst, sym}
+use Rattle.sum_table.specs.Players.{player_key, player_ring}
+use Rattle.lab_actors.specs.Walks.{AreEach-ended, HasWalked-read, HasWalked-still}
+use Rattle.lab_card.specs.MeetLaws.{IsSameCard-joined}
+use Rattle.lab_card.specs.Moves.{seat_of_card}
 use Rattle.lab_clients.specs.declared.client.LabClient.{LabClient}
-use Rattle.lab_clients.specs.Steps.{AreOfCard, IsInformedBy}
-use Rattle.lab_clients.proofs.Lent.{AreEach-lent}
+use Rattle.lab_clients.specs.AtStage.{clients_of}
+use Rattle.lab_clients.specs.OneClient.{IsOfCard}
+use Rattle.lab_clients.specs.OneClientLaws.{IsOfCard-ring, IsOfRing-card}
+use Rattle.lab_clients.specs.Steps.{IsInformedBy}
 use Rattle.lab_clients.proofs.clients.LabClients.inform.Goals as goal
 
-pub inform_clients-requires : goal.inform_clients-requires
-inform_clients-requires c = subst (λ (ds : List LabClient). AreOfCard c.args.card.now ds) (sym c.as_mut_slice.ensures.value) c.requires
+pub inform-requires : goal.inform-requires
+inform-requires c =
+    let l = c.loop-index in
+    let below = c.loop-index-test.true in
+    let end = c.len-index-end.ensures in
+    let len = c.args.self.now.clients.ok.0 in
+    let d = c.index_mut.result.now in
+    let was = HasWalked-still (IsInformedBy c.args.card.now) (clients_of c.args.self.now) (clients_of l.self) l.index d l.invariant.walked c.index_mut.ensures.value in
+    let of = subst (λ (x : LabClient). IsOfCard c.args.card.now x) (sym was) (c.requires l.index d (omega (arith, below, end, len))) in
+    IsOfCard-ring (player_ring (seat_of_card c.args.card.now)) (player_key (seat_of_card c.args.card.now)) l.card d
+    (record { of_ring = l.invariant.card.player.ring; of_key = l.invariant.card.player.key }) (IsOfRing-card c.args.card.now d of)
+
+pub loop-index-preserved : goal.loop-index-preserved
+loop-index-preserved c =
+    let l = c.loop-index in
+    record {
+      places = l.invariant.places;
+      card = IsSameCard-joined c.args.card.now l.card c.inform.new.card l.invariant.card c.inform.ensures.card;
+      walked = HasWalked-read c.args.self.now.clients l.self.clients c.inform.new.self c.index_mut.result.now c.len-index-end.ensures c.loop-index-test.true l.invariant.walked
+          c.index_mut.ensures.value (record { card = l.card; same = l.invariant.card; informed = c.inform.ensures.informed });
+    }
 
 pub returns-clause-informed : goal.returns-clause-informed
 returns-clause-informed c =
-    let same = c.inform_clients.auto.clients in
-    let len = c.as_mut_slice.ensures.len in
-    AreEach-lent (IsInformedBy c.args.card.now) _ _ c.inform_clients.new.clients _ c.as_mut_slice.ensures.value (omega (arith, same, len)) c.inform_clients.ensures.informed
+    AreEach-ended c.args.self.now.clients c.loop-index.self.clients c.len-index-end.ensures c.loop-index-test.false c.loop-index.invariant.walked

@@ -1,26 +1,59 @@
-use Rattle.std.specs.Prelude.{◌≡◌, ◌≤◌, List, length}
-use Rattle.std.proofs.Common.{arith, subst, sym}
+use Rattle.std.specs.Prelude.{◌<◌, length}
+use Rattle.std.proofs.Common.{◌∙◌, arith, subst, sym}
+use Rattle.std.proofs.lemmas.List.{get_or_default}
+use Rattle.wav_io.specs.Sound.{Sound}
+use Rattle.lab_actors.specs.Walks.{AreEach-ended, HasWalked-still}
+use Rattle.lab_run.specs.Items.{no_sound}
 use Rattle.lab_clients.specs.declared.client.LabClient.{LabClient}
-use Rattle.lab_clients.specs.Steps.{AreReady, AreSameFrom, RunsAt}
-use Rattle.lab_clients.proofs.Lent.{AreEach-lent}
+use Rattle.lab_clients.specs.AtStage.{clients_of}
+use Rattle.lab_clients.specs.OneClient.{CanRun}
+use Rattle.lab_clients.specs.Steps.{IsReadyAt, RunsAt}
+use Rattle.lab_clients.proofs.RunLemmas.{HaveRun-next}
 use Rattle.lab_clients.proofs.clients.LabClients.run_lines.Goals as goal
 
-pub run_in_turn-requires-clause-gates : goal.run_in_turn-requires-clause-gates
-run_in_turn-requires-clause-gates g c = subst (λ (ds : List LabClient). length ds ≤ length c.args.gates.now) (sym c.as_mut_slice.ensures.value) c.requires.gates
+pub run_lines-requires : goal.run_lines-requires
+run_lines-requires g c =
+    let l = c.loop-index in
+    let below = c.loop-index-test.true in
+    let end = c.len-index-end.ensures in
+    let len = c.args.self.now.clients.ok.0 in
+    let files = c.requires.files in
+    let clients = clients_of c.args.self.now in
+    let wavs = c.args.wavs.now in
+    let within : l.index < length clients = omega (arith, below, end, len) in
+    let d = c.index_mut.result.now in
+    let wav = c.index-wavs-index.result in
+    let was = HasWalked-still (RunsAt g.G.Gate c.args.gates.now l.gates wavs c.args.phase c.args.lines.now) clients (clients_of l.self) l.index d l.invariant.run.walked c.index_mut.ensures.value in
+    let ready : IsReadyAt wavs c.args.lines.now l.index d = subst (λ (x : LabClient). IsReadyAt wavs c.args.lines.now l.index x) (sym was) (c.requires.ready l.index d within) in
+    record {
+      few = c.requires.few;
+      ready = subst (λ (s : Sound). CanRun s d) (sym (c.index-wavs-index.is ∙ get_or_default wavs l.index wav no_sound (omega (arith, within, files)))) ready.ready;
+      room = ready.room;
+    }
 
-pub run_in_turn-requires-clause-files : goal.run_in_turn-requires-clause-files
-run_in_turn-requires-clause-files g c = subst (λ (ds : List LabClient). length c.args.wavs.now ≡ length ds) (sym c.as_mut_slice.ensures.value) c.requires.files
-
-pub run_in_turn-requires-clause-ready : goal.run_in_turn-requires-clause-ready
-run_in_turn-requires-clause-ready g c = subst (λ (ds : List LabClient). AreReady c.args.wavs.now c.args.lines.now ds) (sym c.as_mut_slice.ensures.value) c.requires.ready
+pub loop-index-preserved : goal.loop-index-preserved
+loop-index-preserved g c =
+    let l = c.loop-index in
+    let below = c.loop-index-test.true in
+    let end = c.len-index-end.ensures in
+    let len = c.args.self.now.clients.ok.0 in
+    let gates = c.requires.gates in
+    let files = c.requires.files in
+    let within : l.index < length (clients_of c.args.self.now) = omega (arith, below, end, len) in
+    record {
+      places = l.invariant.places;
+      run = HaveRun-next g.G.Gate c.args.gates.now l.gates c.args.wavs.now c.args.phase c.args.lines.now (clients_of c.args.self.now) (clients_of l.self) l.index
+          _ c.run_lines.new.gate c.index_mut.result.now c.run_lines.new.self c.index-wavs-index.result
+          l.invariant.run within (omega (arith, within, gates)) (omega (arith, within, files)) c.index-wavs-index.is c.index_mut.ensures.value c.run_lines.ensures;
+    }
 
 pub returns-clause-run : goal.returns-clause-run
 returns-clause-run g c =
-    let same = c.run_in_turn.auto.clients in
-    let len = c.as_mut_slice.ensures.len in
-    AreEach-lent (RunsAt g.G.Gate c.args.gates.now c.run_in_turn.new.gates c.args.wavs.now c.args.phase c.args.lines.now) _ _ c.run_in_turn.new.clients _ c.as_mut_slice.ensures.value
-    (omega (arith, same, len)) c.run_in_turn.ensures.run
+    AreEach-ended c.args.self.now.clients c.loop-index.self.clients c.len-index-end.ensures c.loop-index-test.false c.loop-index.invariant.run.walked
 
 pub returns-clause-others : goal.returns-clause-others
 returns-clause-others g c =
-    subst (λ (ds : List LabClient). AreSameFrom (length ds) c.args.gates.now c.run_in_turn.new.gates) c.as_mut_slice.ensures.value c.run_in_turn.ensures.others
+    let most = c.loop-index.auto.index-end in
+    let end = c.len-index-end.ensures in
+    let len = c.args.self.now.clients.ok.0 in
+    λ i gate from. c.loop-index.invariant.run.others i gate (omega (arith, from, most, end, len))

@@ -1,18 +1,51 @@
-use Rattle.std.specs.Prelude.{List, length}
+use Rattle.std.proofs.Common.{◌++◌, ◌∙◌, List, ap, arith, length, subst, sym}
 use Rattle.std.specs.List.{flat_map}
-use Rattle.std.proofs.Common.{arith, subst, sym}
+use Rattle.std.proofs.lemmas.List.{take_all}
 use Rattle.lab_actors.specs.Room.{HasSpace}
+use Rattle.lab_actors.specs.Rows.{rows-next, rows-room}
+use Rattle.lab_actors.specs.Walks.{AreEach-ended, HasWalked-read}
 use Rattle.lab_clients.specs.declared.client.LabClient.{LabClient}
+use Rattle.lab_clients.specs.AtStage.{clients_of}
 use Rattle.lab_clients.specs.OneClient.{rows_of}
 use Rattle.lab_clients.specs.Steps.{HasGivenRows}
-use Rattle.lab_clients.proofs.Lent.{AreEach-lent}
 use Rattle.lab_clients.proofs.clients.LabClients.take_rows.Goals as goal
 
-pub take_client_rows-requires : goal.take_client_rows-requires
-take_client_rows-requires c = subst (λ (ds : List LabClient). HasSpace (length (flat_map rows_of ds)) c.args.rows.now) (sym c.as_mut_slice.ensures.value) c.requires
+pub take_rows-requires : goal.take_rows-requires
+take_rows-requires c =
+    let l = c.loop-index in
+    let below = c.loop-index-test.true in
+    let end = c.len-index-end.ensures in
+    let len = c.args.self.now.clients.ok.0 in
+    subst (λ (x : LabClient). HasSpace (length (rows_of x)) l.rows) (sym c.index_mut.ensures.value)
+    (rows-room rows_of HasGivenRows c.args.rows.now l.rows (clients_of c.args.self.now) (clients_of l.self) l.index c.index_mut.result.now (omega (arith, below, end, len)) l.invariant.walked l.invariant.rows
+    c.requires l.invariant.room)
+
+pub loop-index-preserved : goal.loop-index-preserved
+loop-index-preserved c =
+    let l = c.loop-index in
+    let below = c.loop-index-test.true in
+    let end = c.len-index-end.ensures in
+    let len = c.args.self.now.clients.ok.0 in
+    let d = c.index_mut.result.now in
+    let was = l.invariant.room in
+    let grown = c.take_rows.ensures.room in
+    record {
+      places = l.invariant.places;
+      walked = HasWalked-read c.args.self.now.clients l.self.clients c.take_rows.new.self d c.len-index-end.ensures c.loop-index-test.true l.invariant.walked c.index_mut.ensures.value
+          (record { none = c.take_rows.ensures.none; same = c.take_rows.ensures.same });
+      rows = c.take_rows.ensures.rows ∙ ap (λ (x : LabClient). l.rows.items ++ rows_of x) c.index_mut.ensures.value
+          ∙ rows-next rows_of HasGivenRows c.args.rows.now.items l.rows.items (clients_of c.args.self.now) (clients_of l.self) l.index d (omega (arith, below, end, len)) l.invariant.walked l.invariant.rows;
+      room = omega (arith, was, grown);
+    }
 
 pub returns-clause-clients : goal.returns-clause-clients
 returns-clause-clients c =
-    let same = c.take_client_rows.auto.clients in
-    let len = c.as_mut_slice.ensures.len in
-    AreEach-lent HasGivenRows _ _ c.take_client_rows.new.clients _ c.as_mut_slice.ensures.value (omega (arith, same, len)) c.take_client_rows.ensures.clients
+    AreEach-ended c.args.self.now.clients c.loop-index.self.clients c.len-index-end.ensures c.loop-index-test.false c.loop-index.invariant.walked
+
+pub returns-clause-rows : goal.returns-clause-rows
+returns-clause-rows c =
+    let l = c.loop-index in
+    let over = c.loop-index-test.false in
+    let end = c.len-index-end.ensures in
+    let len = c.args.self.now.clients.ok.0 in
+    l.invariant.rows ∙ ap (λ (xs : List LabClient). c.args.rows.now.items ++ flat_map rows_of xs) (take_all l.index (clients_of c.args.self.now) (omega (arith, over, end, len)))

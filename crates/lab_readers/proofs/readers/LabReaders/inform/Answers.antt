@@ -1,0 +1,35 @@
+use Rattle.std.proofs.Common.{arith, subst, sym}
+use Rattle.lab_actors.specs.Walks.{AreEach-ended, HasWalked-read, HasWalked-still}
+use Rattle.lab_card.specs.MeetLaws.{IsSameCard-joined}
+use Rattle.lab_readers.specs.declared.reader.LabReader.{LabReader}
+use Rattle.lab_readers.specs.AtStage.{readers_of}
+use Rattle.lab_readers.specs.OneReader.{IsOfCard}
+use Rattle.lab_readers.specs.OneReaderLaws.{IsOfCard-same}
+use Rattle.lab_readers.specs.Steps.{IsInformedBy}
+use Rattle.lab_readers.proofs.readers.LabReaders.inform.Goals as goal
+
+pub inform-requires : goal.inform-requires
+inform-requires c =
+    let l = c.loop-index in
+    let below = c.loop-index-test.true in
+    let end = c.len-index-end.ensures in
+    let len = c.args.self.now.readers.ok.0 in
+    let d = c.index_mut.result.now in
+    let was = HasWalked-still (IsInformedBy c.args.card.now) (readers_of c.args.self.now) (readers_of l.self) l.index d l.invariant.walked c.index_mut.ensures.value in
+    let of = subst (λ (x : LabReader). IsOfCard c.args.card.now x) (sym was) (c.requires l.index d (omega (arith, below, end, len))) in
+    IsOfCard-same c.args.card.now l.card d l.invariant.card of
+
+pub loop-index-preserved : goal.loop-index-preserved
+loop-index-preserved c =
+    let l = c.loop-index in
+    record {
+      spare = l.invariant.spare;
+      card = IsSameCard-joined c.args.card.now l.card c.inform.new.card l.invariant.card c.inform.ensures.card;
+      walked = HasWalked-read c.args.self.now.readers l.self.readers c.inform.new.self c.index_mut.result.now c.len-index-end.ensures c.loop-index-test.true l.invariant.walked
+          c.index_mut.ensures.value (record { card = l.card; same = l.invariant.card; informed = c.inform.ensures.informed });
+    }
+
+pub returns-clause-informed : goal.returns-clause-informed
+returns-clause-informed c =
+    let l = c.loop-index in
+    record { spare = l.invariant.spare; each = AreEach-ended c.args.self.now.readers l.self.readers c.len-index-end.ensures c.loop-index-test.false l.invariant.walked }

@@ -1,0 +1,49 @@
+use Rattle.std.proofs.Common.{◌≢◌, ◌<◌, length, refl, slice_set, ◌∙◌, arith}
+use Rattle.std.proofs.lemmas.List.{get_or-set_other}
+use Rattle.lab_actors.specs.Gates.{AsksGateAt-other, AsksGateAt-set}
+use Rattle.lab_actors.specs.Walks.{AreEach-ended, HasWalked-map, HasWalked-none, HasWalked-read}
+use Rattle.lab_readers.specs.AtStage.{readers_of}
+use Rattle.lab_readers.specs.OpenReader.{RunsLines}
+use Rattle.lab_readers.specs.Steps.{RunsAt}
+use Rattle.lab_readers.proofs.readers.LabReaders.run_lines.Goals as goal
+
+pub loop-index-init : goal.loop-index-init
+loop-index-init g c = record {
+  spare = refl;
+  walked = HasWalked-none (RunsAt g.G.Gate c.args.gates.now c.args.gates.now c.args.phase c.args.lines.now) (readers_of c.args.self.now);
+  beyond = λ i e from. refl;
+}
+
+pub loop-index-preserved : goal.loop-index-preserved
+loop-index-preserved g c =
+    let below = c.loop-index-test.true in
+    let end = c.len-index-end.ensures in
+    let len = c.args.self.now.readers.ok.0 in
+    let enough = c.requires.gates in
+    let G = g.G.Gate in let phase = c.args.phase in let lines = c.args.lines.now in
+    let index = c.loop-index.index in let before = readers_of c.args.self.now in let reader = c.index_mut.result.now in let after = c.run_lines.new.self in
+    let first = c.args.gates.now in let gates = c.loop-index.gates in let gate = c.run_lines.new.gate in let now = slice_set gates index gate in
+    let inside : index < length before = omega (arith, below, end, len) in
+    let behind : index < length gates = omega arith in
+    let had : index < length first = omega (arith, inside, enough) in
+    let so_far = c.loop-index.invariant in
+    record {
+      spare = so_far.spare;
+      walked = HasWalked-read c.args.self.now.readers c.loop-index.self.readers after reader c.len-index-end.ensures c.loop-index-test.true
+          (HasWalked-map (RunsAt G first gates phase lines) (RunsAt G first now phase lines) before (readers_of c.loop-index.self) index
+          (λ j r s below run. let other : j ≢ index = omega arith in
+          AsksGateAt-other G first gates j index gate (λ stops later asks. RunsLines phase stops later asks lines r s) other run) so_far.walked)
+          c.index_mut.ensures.value
+          (AsksGateAt-set G first gates index c.index-gates-index.result gate (λ stops later asks. RunsLines phase stops later asks lines reader after) had behind
+          (so_far.beyond index c.index-gates-index.result (omega arith)) c.run_lines.ensures);
+      beyond = λ j e from. let other : j ≢ index = omega arith in
+          get_or-set_other gates index j gate e other ∙ so_far.beyond j e (omega arith);
+    }
+
+pub returns : goal.returns
+returns g c =
+    let l = c.loop-index in
+    record {
+      spare = l.invariant.spare;
+      each = AreEach-ended c.args.self.now.readers l.self.readers c.len-index-end.ensures c.loop-index-test.false l.invariant.walked;
+    }
