@@ -1,3 +1,4 @@
+mod FileParts
 pub mod OwnLines
 pub mod Hearing
 pub mod Meeting

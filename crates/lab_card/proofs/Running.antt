@@ -1,6 +1,6 @@
 -- One run of a card, as a part of a phase.
 use Rattle.std.proofs.Common.{◌≡◌, ℕ, ◌+◌, ◌-◌, ◌*◌, ◌/◌, ◌%◌, ◌<◌, ◌≤◌, ℤ, List, [], ◌++◌, length, take, drop, refl, sym, ap, subst, ◌∙◌, arith, inl, inr}
-use Rattle.std.specs.Prelude.{Bool, true, false, ◌||◌, ◌⊎◌, ◌==◌, min, Option}
+use Rattle.std.specs.Prelude.{true, false, ◌||◌, ◌⊎◌, ◌==◌, min, Option}
 use borrow.Rule.Slice.PartMut.{post_of}
 use Rattle.std.proofs.Math.ListN.{drop_of_length-le}
 use Rattle.std.proofs.Math.Seq.{take-append_seam}

@@ -1,5 +1,5 @@
 //! The samples that a card captures.
-ghost use Rattle.std.specs.Prelude.{◌≡◌, ◌+◌, ◌*◌, ◌^◌, ◌<◌, ◌≤◌, ◌++◌, Some, pos, replicate, vec_capacity, vec_len};
+ghost use Rattle.std.specs.Prelude.{◌≡◌, ◌+◌, ◌*◌, ◌^◌, ◌<◌, ◌≤◌, ◌++◌, Some, drop, length, pos, replicate, take, vec_capacity, vec_len};
 ghost use Rattle.std.specs.Option.{option_copied};
 ghost use Rattle.lab_card.specs.Captures.{captured_frame, captured_frames, sample_in};
 
@@ -14,6 +14,27 @@ pub(crate) fn push_silence(samples: &mut Vec<i16>, count: usize)
 {
     let count = samples.len() + count;
     samples.resize(count, 0).unwrap();
+}
+
+/// Appends samples, for which there is room.
+fn push_samples(samples: &mut Vec<i16>, more: &[i16])
+    requires { vec_len samples.old + length more.now ≤ vec_capacity samples.old }
+    ensures items { samples.new.items ≡ samples.old.items ++ more.now }
+    ensures len { vec_len samples.new ≡ vec_len samples.old + length more.now }
+    ensures room { vec_capacity samples.old ≤ vec_capacity samples.new }
+{
+    samples.extend_from_slice(more).unwrap();
+}
+
+/// So many of some samples from a frame on, or those that there are.
+fn part_from(samples: &[i16], from: u64, channels: u8, count: usize) -> &[i16]
+    ensures part { result.now ≡ take count (drop (from * channels) samples.now) }
+    ensures few { length result.now ≤ count }
+{
+    let start = (from as usize).saturating_mul(channels as usize);
+    let first = start.min(samples.len());
+    let size = count.min(samples.len() - first);
+    &samples[first..first + size]
 }
 
 /// The sample of a file at a frame, counted from the file's first, and a channel: 0 where the file has none.
@@ -41,7 +62,7 @@ fn push_frame(captured: &mut Vec<i16>, wav: &Wav, frame: u64, channels: u8)
     }
 }
 
-/// Makes a list of the samples of so many frames of a file from one on, interleaved, for which it has room.
+/// Makes a list of the samples of so many frames of a file from one on, interleaved and one by one, for which it has room.
 fn capture_file(captured: &mut Vec<i16>, wav: &Wav, from: u64, frames: usize, channels: u8)
     requires room { frames * channels ≤ vec_capacity captured.old }
     requires fits { from + frames < 2 ^ 64 }
@@ -52,6 +73,38 @@ fn capture_file(captured: &mut Vec<i16>, wav: &Wav, from: u64, frames: usize, ch
     captured.clear();
     for index in 0..frames {
         push_frame(captured, wav, from + index as u64, channels);
+    }
+}
+
+/// Makes a list of the samples of so many frames from one on of a file with the card's channels, for which it has room: they are
+/// copied at once, and silence follows those that the file has.
+fn capture_part(captured: &mut Vec<i16>, wav: &Wav, from: u64, frames: usize, channels: u8)
+    requires same { wav.now.channels ≡ channels }
+    requires room { frames * channels ≤ vec_capacity captured.old }
+    ensures items { captured.new.items ≡ captured_frames (Some wav.now) channels from frames }
+    ensures len { vec_len captured.new ≡ frames * channels }
+    ensures room { vec_capacity captured.old ≤ vec_capacity captured.new }
+{
+    let count = frames * channels as usize;
+    let part = part_from(wav.samples.as_slice(), from, channels, count);
+    captured.clear();
+    push_samples(captured, part);
+    push_silence(captured, count - part.len());
+}
+
+/// Makes a list of the samples of so many frames of a file from one on, interleaved, for which it has room: at once where the file
+/// has the card's channels, and else one by one.
+fn capture_wav(captured: &mut Vec<i16>, wav: &Wav, from: u64, frames: usize, channels: u8)
+    requires room { frames * channels ≤ vec_capacity captured.old }
+    requires fits { from + frames < 2 ^ 64 }
+    ensures items { captured.new.items ≡ captured_frames (Some wav.now) channels from frames }
+    ensures len { vec_len captured.new ≡ frames * channels }
+    ensures room { vec_capacity captured.old ≤ vec_capacity captured.new }
+{
+    if wav.channels == channels as u16 {
+        capture_part(captured, wav, from, frames, channels);
+    } else {
+        capture_file(captured, wav, from, frames, channels);
     }
 }
 
@@ -66,8 +119,7 @@ fn capture_silence(captured: &mut Vec<i16>, count: usize)
     push_silence(captured, count);
 }
 
-/// Makes a list of the captured samples of so many frames from one on, interleaved, for which it has room. Silence is written at
-/// once, and a file's samples one by one.
+/// Makes a list of the captured samples of so many frames from one on, interleaved, for which it has room.
 pub(crate) fn capture_frames(
     captured: &mut Vec<i16>,
     capture: Option<&Wav>,
@@ -83,7 +135,7 @@ pub(crate) fn capture_frames(
     ensures room { vec_capacity captured.old ≤ vec_capacity captured.new }
 {
     match capture {
-        Some(wav) => capture_file(captured, wav, from, frames, channels),
+        Some(wav) => capture_wav(captured, wav, from, frames, channels),
         None => capture_silence(captured, frames * channels as usize),
     }
 }

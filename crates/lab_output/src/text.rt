@@ -5,21 +5,9 @@ ghost use Rattle.lab_report.specs.Text.{IsRowOf, IsTailOf, row_line, tail_text};
 ghost use Rattle.lab_stop.specs.declared.stop.Stop.TheVariants as stops;
 
 use lab_lines::{Report, Row, Script};
-use lab_report::{print_row, print_tail};
+use lab_report::{print_rows, print_tail};
 use lab_stop::Stop;
 use std::alloc::Global;
-
-/// Appends the line of a row.
-fn push_row(text: &mut Vec<u8>, script: &Script, row: &Row) -> Result<(), Stop>
-    requires { IsRowOf script.now row.now }
-    ensures ok { OnOk result (text.new.items ≡ text.old.items ++ row_line script.now row.now) }
-    ensures only { IfErr result (λ stop. stop ≡ stops.Memory) }
-{
-    match print_row(row, script, text) {
-        Ok(()) => Ok(()),
-        Err(_) => Err(Stop::Memory),
-    }
-}
 
 /// The lines of some rows.
 pub fn rows_from(alloc: Global, script: &Script, rows: &[Row]) -> Result<Vec<u8>, Stop>
@@ -27,11 +15,10 @@ pub fn rows_from(alloc: Global, script: &Script, rows: &[Row]) -> Result<Vec<u8>
     ensures text { IfOk result (λ text. text.items ≡ flat_map (row_line script.now) rows.now) }
     ensures only { IfErr result (λ stop. stop ≡ stops.Memory) }
 {
-    let mut text = Vec::new(alloc);
-    for row in rows {
-        push_row(&mut text, script, row)?;
+    match print_rows(alloc, rows, script) {
+        Ok(text) => Ok(text),
+        Err(_) => Err(Stop::Memory),
     }
-    Ok(text)
 }
 
 /// Appends what is below the rows of a report.

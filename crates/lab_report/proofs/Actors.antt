@@ -1,9 +1,8 @@
 -- Each request of a script is of an actor that it declares.
-use Rattle.std.proofs.Common.{◌≡◌, ◌≢◌, ℕ, ◌+◌, ◌<◌, ◌==◌, Bool, true, false, List, [], ◌∷◌, ◌++◌, length, map, take, get_or, zero, suc, refl, ap, ◌∙◌, add-one, append_assoc, arith}
-use Rattle.std.proofs.lemmas.Bool.Decides.{nat_tests}
-use Rattle.std.proofs.lemmas.List.{map-append, take_more}
+use Rattle.std.proofs.Common.{◌≡◌, ℕ, ◌+◌, List, [], ◌∷◌, ◌++◌, length, map, zero, suc, refl, add-one, append_assoc}
+use Rattle.std.proofs.lemmas.List.{map-append}
 use Rattle.std.specs.List.{All, AllByRecursion}
-use Rattle.std.proofs.lemmas.List.Elements.{All-append, All-cons, All-nil, All-filter, All-map, filter-append, recursion_from_All}
+use Rattle.std.proofs.lemmas.List.Elements.{All-append, All-cons, All-nil, All-filter, All-map, recursion_from_All}
 use Rattle.lab_lines.specs.declared.line.Actor.{Actor}
 use Rattle.lab_lines.specs.declared.line.Actor.TheVariants.{Card, Client, Reader}
 use Rattle.lab_lines.specs.declared.line.Item.{Item}
@@ -13,7 +12,7 @@ use Rattle.lab_lines.specs.declared.script.Script.{Script}
 use Rattle.lab_lines.specs.Limits.{IsActor, IsBorder, IsItem, IsScript}
 use Rattle.lab_lines.specs.Script.{phases_of}
 use Rattle.lab_lines.specs.declared.request.Request.{Request}
-use Rattle.lab_report.specs.Requests.{request_of, of_place, before_place, in_order, item_requests, requests_from, requests_of, place_of_actor}
+use Rattle.lab_report.specs.Requests.{request_of, of_place, before_place, in_order, item_requests, requests_from, requests_of}
 
 -- a request is of one of so many clients and readers, or of the card
 abbrev pub IsAsked : ℕ → ℕ → Request → Type 0
@@ -62,21 +61,3 @@ pub requests-more : (phase place : ℕ) (lines : List Line) (a r s : List Reques
 requests-more phase place lines a r s e f =
     rw (f, e, before_place-more lines place, map-append (request_of phase) (before_place lines place) (of_place lines place))
     (append_assoc a (map (request_of phase) (before_place lines place)) (map (request_of phase) (of_place lines place)))
-
-other_place : (a b : ℕ) → a ≢ b → (a == b) ≡ false
-other_place a b n = by (a == b) refl
-  where
-    by : (t : Bool) → (a == b) ≡ t → t ≡ false
-    by true e = absurd (n (same a b e))
-      where
-        same : (a b : ℕ) → (a == b) ≡ true → a ≡ b
-        same a b e = grind (arith, nat_tests)
-    by false e = refl
-
--- a line more, whose actor has another place
-pub of_place-other : (lines : List Line) (i k : ℕ) (d : Line) → i < length lines → place_of_actor (get_or lines i d).actor ≢ k → of_place (take i lines) k ≡ []
-    → of_place (take (i + 1) lines) k ≡ []
-of_place-other lines i k d h n e =
-    ap (λ (ls : List Line). of_place ls k) (take_more lines i d h)
-    ∙ filter-append (λ (line : Line). place_of_actor line.actor == k) (take i lines) (get_or lines i d ∷ [])
-    ∙ rw (e, other_place (place_of_actor (get_or lines i d).actor) k n) refl

@@ -1,6 +1,6 @@
 pub mod Parts
 pub mod Actors
-pub mod Marks
+pub mod Sorting
 pub mod RowLine
 pub mod Ends
 pub mod Read

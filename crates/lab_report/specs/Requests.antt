@@ -1,5 +1,5 @@
 -- What the rows of a report are about: each line of a script once, in the order of the rows.
-use Rattle.std.specs.Prelude.{ℕ, ◌+◌, ◌==◌, List, [], ◌∷◌, ◌++◌, length, map, filter, zero, suc}
+use Rattle.std.specs.Prelude.{◌≡◌, ℕ, ◌+◌, ◌<◌, ◌==◌, List, [], ◌∷◌, ◌++◌, length, map, filter, slice_index_or, zero, suc}
 use Rattle.lab_lines.specs.declared.line.Actor.{Actor}
 use Rattle.lab_lines.specs.declared.line.Actor.TheVariants.{Card, Client, Reader}
 use Rattle.lab_lines.specs.declared.line.Item.{Item}
@@ -32,6 +32,15 @@ before_place lines (suc place) = before_place lines place ++ of_place lines plac
 -- the lines of a phase in the order of their rows: those of the card, of each of 64 clients, and of each of 64 readers
 abbrev pub in_order : List Line → List Line
 in_order lines = before_place lines 129
+
+-- each place has the requests of its lines in a phase, in order
+abbrev pub AreSorted : ℕ → List Line → List (List Request) → Type 0
+AreSorted phase lines places = (k : ℕ) → k < length places → slice_index_or places k [] ≡ map (request_of phase) (of_place lines k)
+
+-- the request of a line comes after those of its actor's place, where there is one, and the other places are as before
+abbrev pub AddsRequest : ℕ → Line → List (List Request) → List (List Request) → Type 0
+AddsRequest phase line before after =
+    (k : ℕ) → k < length before → slice_index_or after k [] ≡ slice_index_or before k [] ++ map (request_of phase) (of_place (line ∷ []) k)
 
 -- the requests of an item of a body, after so many phases
 abbrev pub item_requests : ℕ → Item → List Request

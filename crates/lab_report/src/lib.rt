@@ -6,6 +6,7 @@ mod answers;
 mod error;
 mod lines;
 mod numbers;
+mod places;
 mod print;
 mod ranges;
 mod reader;
@@ -17,7 +18,7 @@ mod words;
 
 pub use error::{ReportError, ReportWhy};
 pub use lab_lines::{Answer, Report, Request, Row, Rows, Runs, Segments};
-pub use print::{print_report, print_row, print_tail};
+pub use print::{print_report, print_row, print_rows, print_tail};
 pub use ranges::numbers_are_in_range;
 pub use reader::read_report;
 pub use request::requests_of;

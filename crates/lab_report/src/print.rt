@@ -11,6 +11,9 @@ use lab_lines::{Report, Row, Script};
 use snd_base::{PcmError, Segment};
 use std::alloc::{AllocError, Global};
 
+/// For how many bytes of each row's line a text of rows has room from the first.
+const LINE_ROOM: usize = 64;
+
 /// Appends the lines of rows.
 fn push_rows(text: &mut String, script: &Script, rows: &[Row]) -> Result<(), AllocError>
     requires { All (IsRowOf script.now) rows.now }
@@ -88,6 +91,20 @@ pub fn print_row(row: &Row, script: &Script, text: &mut Vec<u8>) -> Result<(), P
     push_row(&mut line, script, row)?;
     text.extend_from_slice(line.as_bytes())?;
     Ok(())
+}
+
+/// The lines of rows of a run of this script, in bytes: what `print_row` appends for each, one after the other. The memory is
+/// taken for all at once, and a row takes none of its own where its line isn't long.
+///
+/// The rows have to be such as `print_row` takes. The one error is `PcmError::Memory`.
+pub fn print_rows(alloc: Global, rows: &[Row], script: &Script) -> Result<Vec<u8>, PcmError>
+    requires { All (IsRowOf script.now) rows.now }
+    ensures text { IfOk result (λ bytes. bytes.items ≡ flat_map (row_line script.now) rows.now) }
+    ensures only { IfErr result (λ error. error ≡ PcmError.Memory) }
+{
+    let mut text = String::with_capacity(alloc, rows.len().saturating_mul(LINE_ROOM))?;
+    push_rows(&mut text, script, rows)?;
+    Ok(text.into_bytes())
 }
 
 /// Appends what is below the rows of a report of a run of this script to the bytes of its text: the lines of
