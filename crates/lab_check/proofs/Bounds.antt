@@ -1,5 +1,5 @@
 -- No sum of a report's samples passes 64 bits.
-use Rattle.std.proofs.Common.{◌≡◌, ℕ, ◌+◌, ◌*◌, ◌^◌, ◌<◌, ◌≤◌, refl, sym, subst, arith, List, [], ◌∷◌, ◌++◌, length, Option, Some, None, w64, FitsSigned}
+use Rattle.std.proofs.Common.{◌≡◌, ℕ, ◌+◌, ◌*◌, ◌^◌, ◌<◌, ◌≤◌, refl, subst, arith, List, [], ◌∷◌, ◌++◌, length, Option, Some, None, w64, FitsSigned}
 use Rattle.std.proofs.lemmas.Int.{ints}
 use Rattle.std.proofs.lemmas.List.Elements.{recursion_from_All}
 use Rattle.std.specs.List.{AllByRecursion, flat_map, range_with_len}
@@ -32,9 +32,6 @@ near-sample x is = let low = is.low in let high = is.high in record { low = omeg
 
 near-zero : (n : ℕ) → IsAround n (pos 0)
 near-zero n = record { low = omega (arith, ints); high = omega (arith, ints) }
-
-near-sum : (n m : ℕ) (x y : ℤ) → IsAround n x → IsAround m y → IsAround (n + m) (x +ℤ y)
-near-sum n m x y first second = record { low = omega (arith, ints, first.low, second.low); high = omega (arith, ints, first.high, second.high) }
 
 near-more : (n m : ℕ) (x : ℤ) → n ≤ m → IsAround n x → IsAround m x
 near-more n m x most near = record { low = omega (arith, ints, most, near.low); high = omega (arith, ints, most, near.high) }
@@ -93,12 +90,9 @@ total-near (e ∷ es) frame channel are = by_place (total-near es frame channel 
         (sum_of_samples (map value_of (if b then e ∷ filter (is_at frame channel) es else filter (is_at frame channel) es)))
     by_place rest false = rest
     by_place rest true =
-        let both : IsAround (32768 + 32768 * count es frame channel) (value_of e +ℤ total es frame channel) = near-sum 32768 (32768 * count es frame channel) (value_of e) (total es frame channel) are.0 rest in
         let sum : fold (λ a s. a +ℤ s) (pos 0 +ℤ value_of e) (at es frame channel) ≡ (pos 0 +ℤ value_of e) +ℤ total es frame channel = fold-from (pos 0 +ℤ value_of e) (at es frame channel) in
-        let value : value_of e +ℤ total es frame channel ≡ fold (λ a s. a +ℤ s) (pos 0 +ℤ value_of e) (at es frame channel) = omega (arith, ints, sum) in
-        let size : 32768 + 32768 * count es frame channel ≡ 32768 * suc (count es frame channel) = omega arith in
-        subst (λ n. IsAround n (fold (λ a s. a +ℤ s) (pos 0 +ℤ value_of e) (at es frame channel))) size
-        (subst (IsAround (32768 + 32768 * count es frame channel)) value both)
+        let more : IsAround 32768 (value_of e) = are.0 in
+        record { low = omega (arith, ints, sum, more.low, rest.low); high = omega (arith, ints, sum, more.high, rest.high) }
 
 -- a segment has at most one sample at a place
 segment-near : ((number : ℕ) (segment : Segment) (samples : List ℤ) (bindings : List ℕ) → PlacesOnce number segment samples bindings)
@@ -125,11 +119,9 @@ placed-near once script wavs ((client, segment) ∷ segments) frame channel are 
     let own = entries_of_segment script wavs client segment in
     let first : IsAround 32768 (total own frame channel) = segment-near once client segment (slice_get script.clients client) (slice_get wavs client) frame channel (λ w is. wav-of wavs client w are is) in
     let rest : IsAround (32768 * length segments) (total (entries_of_segments script wavs segments) frame channel) = placed-near once script wavs segments frame channel are in
-    let both : IsAround (32768 + 32768 * length segments) (total own frame channel +ℤ total (entries_of_segments script wavs segments) frame channel) =
-    near-sum 32768 (32768 * length segments) (total own frame channel) (total (entries_of_segments script wavs segments) frame channel) first rest in
-    let size : 32768 + 32768 * length segments ≡ 32768 * suc (length segments) = omega arith in
-    subst (λ n. IsAround n (total (own ++ entries_of_segments script wavs segments) frame channel)) size
-    (subst (IsAround (32768 + 32768 * length segments)) (sym (total-append own (entries_of_segments script wavs segments) frame channel)) both)
+    let sum : total (own ++ entries_of_segments script wavs segments) frame channel ≡ total own frame channel +ℤ total (entries_of_segments script wavs segments) frame channel =
+    total-append own (entries_of_segments script wavs segments) frame channel in
+    record { low = omega (arith, ints, sum, first.low, rest.low); high = omega (arith, ints, sum, first.high, rest.high) }
 
 pub placed_fits : ((number : ℕ) (segment : Segment) (samples : List ℤ) (bindings : List ℕ) → PlacesOnce number segment samples bindings)
     → (script : Script) (wavs : List Sound) (segments : List (ℕ × Segment)) (frame channel : ℕ) → AllByRecursion (λ (w : Sound). EachIsSample w.samples) wavs

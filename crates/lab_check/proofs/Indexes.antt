@@ -1,4 +1,5 @@
 -- The indexes of all clients and channels tell where a client has a sample.
+use Rattle.std.proofs.lemmas.Option.{slice_get_past}
 use Rattle.std.proofs.Common.{◌≡◌, ℕ, ◌+◌, ◌*◌, ◌/◌, ◌%◌, ◌^◌, ◌<◌, ◌≤◌, ◌⊎◌, inl, inr, refl, sym, ◌∙◌, ap, subst, arith, mul-le-mul, List, [], ◌∷◌, ◌++◌, length}
 use Rattle.std.proofs.lemmas.Bool.{cases_lt}
 use Rattle.std.proofs.lemmas.List.Elements.{recursion_from_All}
@@ -14,7 +15,7 @@ use Rattle.lab_check.specs.Segments.{is_right_segment}
 use Rattle.lab_check.specs.Spans.{AreIndexes, has_client_sample, is_in_index, is_in_span}
 use Rattle.lab_check.proofs.ClientTotals.{in-range}
 use Rattle.lab_check.proofs.Covers.{covers-other}
-use Rattle.lab_check.proofs.SpanSearch.{get-before, get-past, get-pushed}
+use Rattle.lab_check.proofs.SpanSearch.{get-before, get-pushed}
 
 -- no segment that can be is of a client that there isn't
 none-of-client : (script : Script) (wavs : List Sound) (segments : List (ℕ × Segment)) (number channel frame : ℕ) → length script.clients ≤ number
@@ -67,7 +68,7 @@ indexes-are script wavs segments indexes count count_is size right each number c
         ∙ ap (λ n. has_client_sample script wavs segments n (place % script.card.channels) frame) (div-mul-add number script.card.channels channel inside)
         ∙ ap (λ n. has_client_sample script wavs segments number n frame) (mod-mul-add number script.card.channels channel inside)
     by_place (inr past) =
-        ap (is_in_index frame) (get-past indexes place (omega (arith, size, past)))
+        ap (is_in_index frame) (slice_get_past indexes place (omega (arith, size, past)))
         ∙ sym (none-of-client script wavs segments number channel frame (behind (cases_lt number (length script.clients)))
         (recursion_from_All (λ segment. is_right_segment script wavs segment ≡ true) segments right))
       where

@@ -1,11 +1,11 @@
 -- A late row of a report that passes names a place without a sample of its client, or, of a rewind, with one.
-use Rattle.std.proofs.Common.{◌≡◌, ◌≢◌, ℕ, refl, sym, ◌∙◌, ap, subst, List, [], ◌∷◌, ◌++◌, Some}
-use Rattle.std.proofs.lemmas.Bool.{ltb-true}
+use Rattle.std.proofs.Common.{◌≡◌, ◌≢◌, ℕ, refl, sym, ◌∙◌, ap, subst, List, [], ◌∷◌, Some}
+use Rattle.std.proofs.lemmas.Bool.{and_parts, ltb-true, not-true}
+use Rattle.std.proofs.lemmas.List.Folds.{list_any-append}
 use Rattle.std.specs.List.{AllByRecursion, flat_map, list_any}
-use Rattle.std.specs.Prelude.{ℤ, Bool, true, false, not, ◌&&◌, ◌||◌, nat_eq, nat_lt, if◌then◌else◌, map, filter}
+use Rattle.std.specs.Prelude.{Bool, true, false, not, ◌&&◌, ◌||◌, nat_eq, nat_lt, if◌then◌else◌, map, filter}
 use Rattle.snd_base.specs.declared.places.Segment.{Segment}
 use Rattle.mix_core.specs.declared.port.Entry.{Entry}
-use Rattle.mix_core.specs.HistoryLaws.{at-append}
 use Rattle.mix_core.specs.Laid.{at, is_at, value_of}
 use Rattle.wav_io.specs.Sound.{Sound}
 use Rattle.lab_lines.specs.declared.report.Report.{Report}
@@ -17,16 +17,6 @@ use Rattle.lab_run.specs.OwnRows.{segments_by}
 use Rattle.run_laws.specs.Late.{IsLate}
 use Rattle.lab_check.specs.Late.{covers, has_sample, is_covered, is_right_place, is_right_row, late_place, entries_of_segment}
 use Rattle.lab_check.specs.Shown.{ShowsLate}
-use Rattle.lab_check.proofs.Tested.{and-left, and-right}
-
--- neither of two tests holds
-or-left : (a b : Bool) → (a || b) ≡ false → a ≡ false
-or-left true b is = absurd cc
-or-left false b is = refl
-
-or-right : (a b : Bool) → (a || b) ≡ false → b ≡ false
-or-right true b is = absurd cc
-or-right false b is = is
 
 -- no entry is at a place
 pub none-at : (es : List Entry) (frame channel : ℕ) → has_sample es frame channel ≡ false → at es frame channel ≡ []
@@ -53,78 +43,38 @@ module _ (script : Script) (wavs : List Sound) (number frame channel : ℕ) wher
   abbrev pub entries_in : List (ℕ × Segment) → List Entry
   entries_in segments = flat_map (entries_of_segment script wavs number) (segments_by number segments)
 
-  joined : (segment : Segment) (segments : List (ℕ × Segment))
-      → at (entries_of_segment script wavs number segment ++ entries_in segments) frame channel
-      ≡ at (entries_of_segment script wavs number segment) frame channel ++ at (entries_in segments) frame channel
-  joined segment segments = at-append (entries_of_segment script wavs number segment) (entries_in segments) frame channel
-
-  pub uncovered : (segments : List (ℕ × Segment)) → list_any (covers script wavs number frame channel) segments ≡ false
-      → at (entries_in segments) frame channel ≡ []
-  uncovered [] is = refl
-  uncovered ((client, segment) ∷ segments) is = by_client (λ free. uncovered segments free) (nat_eq client number) is
+  covers-at : (segments : List (ℕ × Segment)) → list_any (covers script wavs number frame channel) segments ≡ has_sample (entries_in segments) frame channel
+  covers-at [] = refl
+  covers-at ((client, segment) ∷ segments) = by_client (covers-at segments) (nat_eq client number)
     where
-      by_sample : at (entries_in segments) frame channel ≡ [] → (b : Bool) → has_sample (entries_of_segment script wavs number segment) frame channel ≡ b
-          → b ≡ false
-          → at (entries_of_segment script wavs number segment ++ entries_in segments) frame channel ≡ []
-      by_sample others true sample free = absurd cc
-      by_sample others false sample free = joined segment segments
-          ∙ ap (λ l. l ++ at (entries_in segments) frame channel) (none-at (entries_of_segment script wavs number segment) frame channel sample)
-          ∙ others
+      own : List Entry
+      own = entries_of_segment script wavs number segment
 
-      by_client : (list_any (covers script wavs number frame channel) segments ≡ false → at (entries_in segments) frame channel ≡ []) → (b : Bool)
-          → ((b && has_sample (entries_of_segment script wavs number segment) frame channel) || list_any (covers script wavs number frame channel) segments) ≡ false
-          → at (flat_map (entries_of_segment script wavs number)
-          (map (λ (pair : ℕ × Segment). pair.1) (if b then (client, segment) ∷ filter (λ (pair : ℕ × Segment). nat_eq pair.0 number) segments else filter (λ (pair : ℕ × Segment). nat_eq pair.0 number) segments))) frame channel ≡ []
-      by_client others true free = by_sample (others (or-right (has_sample (entries_of_segment script wavs number segment) frame channel) _ free))
-          (has_sample (entries_of_segment script wavs number segment) frame channel) refl
-          (or-left (has_sample (entries_of_segment script wavs number segment) frame channel) _ free)
-      by_client others false free = others free
+      by_client : list_any (covers script wavs number frame channel) segments ≡ has_sample (entries_in segments) frame channel → (b : Bool)
+          → ((b && has_sample own frame channel) || list_any (covers script wavs number frame channel) segments)
+          ≡ has_sample (flat_map (entries_of_segment script wavs number)
+          (map (λ (pair : ℕ × Segment). pair.1) (if b then (client, segment) ∷ filter (λ (pair : ℕ × Segment). nat_eq pair.0 number) segments else filter (λ (pair : ℕ × Segment). nat_eq pair.0 number) segments))) frame channel
+      by_client others true = ap (λ t. has_sample own frame channel || t) others ∙ sym (list_any-append (is_at frame channel) own (entries_in segments))
+      by_client others false = others
 
-  append-some : (xs ys : List ℤ) → xs ≢ [] → xs ++ ys ≢ []
-  append-some [] ys some = absurd (some refl)
-  append-some (x ∷ xs) ys some = λ none. absurd cc
+  pub uncovered : (segments : List (ℕ × Segment)) → list_any (covers script wavs number frame channel) segments ≡ false → at (entries_in segments) frame channel ≡ []
+  uncovered segments is = none-at (entries_in segments) frame channel (sym (covers-at segments) ∙ is)
 
-  append-last : (xs ys : List ℤ) → ys ≢ [] → xs ++ ys ≢ []
-  append-last [] ys some = some
-  append-last (x ∷ xs) ys some = λ none. absurd cc
-
-  pub covered : (segments : List (ℕ × Segment)) → list_any (covers script wavs number frame channel) segments ≡ true
-      → at (entries_in segments) frame channel ≢ []
-  covered [] is = absurd cc
-  covered ((client, segment) ∷ segments) is = by_client (λ held. covered segments held) (nat_eq client number) is
-    where
-      by_sample : (list_any (covers script wavs number frame channel) segments ≡ true → at (entries_in segments) frame channel ≢ [])
-          → (b : Bool) → has_sample (entries_of_segment script wavs number segment) frame channel ≡ b
-          → (b || list_any (covers script wavs number frame channel) segments) ≡ true
-          → at (entries_of_segment script wavs number segment ++ entries_in segments) frame channel ≢ []
-      by_sample others true sample held = λ none. append-some (at (entries_of_segment script wavs number segment) frame channel) (at (entries_in segments) frame channel)
-          (some-at (entries_of_segment script wavs number segment) frame channel sample) (sym (joined segment segments) ∙ none)
-      by_sample others false sample held = λ none. append-last (at (entries_of_segment script wavs number segment) frame channel) (at (entries_in segments) frame channel)
-          (others held) (sym (joined segment segments) ∙ none)
-
-      by_client : (list_any (covers script wavs number frame channel) segments ≡ true → at (entries_in segments) frame channel ≢ []) → (b : Bool)
-          → ((b && has_sample (entries_of_segment script wavs number segment) frame channel) || list_any (covers script wavs number frame channel) segments) ≡ true
-          → at (flat_map (entries_of_segment script wavs number)
-          (map (λ (pair : ℕ × Segment). pair.1) (if b then (client, segment) ∷ filter (λ (pair : ℕ × Segment). nat_eq pair.0 number) segments else filter (λ (pair : ℕ × Segment). nat_eq pair.0 number) segments))) frame channel ≢ []
-      by_client others true held = by_sample others (has_sample (entries_of_segment script wavs number segment) frame channel) refl held
-      by_client others false held = others held
+  pub covered : (segments : List (ℕ × Segment)) → list_any (covers script wavs number frame channel) segments ≡ true → at (entries_in segments) frame channel ≢ []
+  covered segments is = some-at (entries_in segments) frame channel (sym (covers-at segments) ∙ is)
 
 -- a row that passes
-not-true : (b : Bool) → not b ≡ true → b ≡ false
-not-true true is = absurd cc
-not-true false is = refl
-
 module _ (script : Script) (wavs : List Sound) (report : Report) (row : Row) (right : is_right_row script wavs report row ≡ true) where
   placed : (frame channel : ℕ) → IsLate row.answer frame channel → is_right_place script wavs report row (Some (frame, channel)) ≡ true
   placed frame channel late = subst (λ (a : Answer). is_right_place script wavs report row (late_place a) ≡ true) late right
 
   second : (frame channel : ℕ) → IsLate row.answer frame channel
       → (if is_rewind row.op then is_covered script wavs report row.actor frame channel else not (is_covered script wavs report row.actor frame channel)) ≡ true
-  second frame channel late = and-right (nat_lt channel script.card.channels) _ (placed frame channel late)
+  second frame channel late = (and_parts (nat_lt channel script.card.channels) _ (placed frame channel late)).1
 
   pub row-shows : ShowsLate script wavs report row
   row-shows = record {
-    channel = λ frame channel late. ltb-true channel script.card.channels (and-left (nat_lt channel script.card.channels) _ (placed frame channel late));
+    channel = λ frame channel late. ltb-true channel script.card.channels (and_parts (nat_lt channel script.card.channels) _ (placed frame channel late)).0;
     missed = λ number frame channel of not_rewind late.
         let free : not (is_covered script wavs report row.actor frame channel) ≡ true =
         subst (λ b. (if b then is_covered script wavs report row.actor frame channel else not (is_covered script wavs report row.actor frame channel)) ≡ true) not_rewind (second frame channel late) in

@@ -1,6 +1,6 @@
 -- What is known of a segment that can be: where its client's channels go, and that its samples are there.
 use Rattle.std.proofs.Common.{◌≡◌, ℕ, ◌+◌, ◌*◌, ◌<◌, ◌≤◌, refl, sym, ◌∙◌, ap, subst, arith, mul-le-mul, List, [], ◌∷◌, ◌++◌, length, get_or, Option, Some, None}
-use Rattle.std.proofs.lemmas.Bool.{eqb-true, leb-true, ltb-true}
+use Rattle.std.proofs.lemmas.Bool.{and_parts, eqb-true, leb-true, ltb-true}
 use Rattle.std.proofs.lemmas.List.{take_more}
 use Rattle.std.proofs.lemmas.Grind.{flat_map-append}
 use Rattle.std.proofs.lemmas.List.{append-nil}
@@ -8,8 +8,7 @@ use Rattle.std.proofs.lemmas.List.Elements.{All-get_or}
 use Rattle.std.proofs.lemmas.List.FromFn.{get_or-range_with_len, length-range_with_len}
 use Rattle.std.proofs.lemmas.Option.{get_or_from_slice_get, slice_get_within}
 use Rattle.std.proofs.Math.Nat.{div-mul-le_self}
-use Rattle.std.specs.List.{flat_map, range_with_len}
-use Rattle.std.specs.Prelude.{ℤ, All, Bool, true, false, ◌&&◌, nat_eq, nat_le, nat_lt, slice_get, slice_index, take}
+use Rattle.std.specs.Prelude.{ℤ, true, slice_get, slice_index, take}
 use Rattle.bindings.specs.AnswerLaws.{All-below-answered}
 use Rattle.bindings.specs.Bound.{identity}
 use Rattle.snd_base.specs.declared.places.Segment.{Segment}
@@ -22,10 +21,9 @@ use Rattle.lab_lines.specs.Limits.{IsBoundWhere, IsClientLine, IsScript}
 use Rattle.lab_run.specs.Client.{frames_of}
 use Rattle.lab_run.specs.Openings.{bound_by}
 use Rattle.lab_check.specs.Late.{entries_of_segment}
-use Rattle.lab_check.specs.Segments.{frames_taken, is_bound, is_right_segment, is_segment_of, is_within}
+use Rattle.lab_check.specs.Segments.{frames_taken, is_bound, is_right_segment, is_within}
 use Rattle.lab_check.specs.Sums.{IsSummed, entries_of_segments}
 use Rattle.lab_check.proofs.Summing.{summed-both}
-use Rattle.lab_check.proofs.Tested.{and-left, and-right}
 
 -- a segment that can be, of a client with this line and file
 module _ (script : Script) (wavs : List Sound) (client : ℕ) (segment : Segment) (line : ClientLine) (wav : Sound) (line_is : slice_get script.clients client ≡ Some line)
@@ -33,20 +31,19 @@ module _ (script : Script) (wavs : List Sound) (client : ℕ) (segment : Segment
   pub samples-of : entries_of_segment script wavs client segment ≡ expand client segment wav.samples (bound_by line wav)
   samples-of = rw (line_is, wav_is) refl
 
-  both : is_right_segment script wavs (client, segment) ≡ true → (is_bound script.card line wav && is_within script.card segment wav.channels (frames_of wav)) ≡ true
-  both right = subst (λ (w : Option Sound). is_segment_of script.card segment (Some line) w ≡ true) wav_is
-      (subst (λ (l : Option ClientLine). is_segment_of script.card segment l (slice_get wavs client) ≡ true) line_is right)
+  both : is_right_segment script wavs (client, segment) ≡ true → (is_bound script.card line wav ≡ true) × (is_within script.card segment wav.channels (frames_of wav) ≡ true)
+  both right = and_parts (is_bound script.card line wav) _ (rw (line_is, wav_is) at right)
 
   pub has-channels : is_right_segment script wavs (client, segment) ≡ true → length (bound_by line wav) ≡ wav.channels
   has-channels right =
-      eqb-true _ _ (and-left _ _ (and-left (is_bound script.card line wav) _ (both right)))
+      eqb-true _ _ (and_parts _ _ (both right).0).0
 
   pub few-channels : is_right_segment script wavs (client, segment) ≡ true → wav.channels ≤ script.card.channels
-  few-channels right = leb-true _ _ (and-right _ _ (and-left (is_bound script.card line wav) _ (both right)))
+  few-channels right = leb-true _ _ (and_parts _ _ (both right).0).1
 
   pub has-samples : is_right_segment script wavs (client, segment) ≡ true → (segment.source + frames_taken segment) * length (bound_by line wav) ≤ length wav.samples
   has-samples right =
-      let frames : segment.source + frames_taken segment ≤ frames_of wav = leb-true _ _ (and-right _ _ (and-right (is_bound script.card line wav) _ (both right))) in
+      let frames : segment.source + frames_taken segment ≤ frames_of wav = leb-true _ _ (and_parts _ _ (both right).1).1 in
       let product : (segment.source + frames_taken segment) * length (bound_by line wav) ≤ frames_of wav * length (bound_by line wav) =
       mul-le-mul {n₁ = segment.source + frames_taken segment} {m₁ = length (bound_by line wav)} {n₂ = frames_of wav} {m₂ = length (bound_by line wav)} frames (omega arith) in
       let same : frames_of wav * length (bound_by line wav) ≡ frames_of wav * wav.channels = ap (λ n. frames_of wav * n) (has-channels right) in
@@ -56,7 +53,7 @@ module _ (script : Script) (wavs : List Sound) (client : ℕ) (segment : Segment
   pub part-within : is_right_segment script wavs (client, segment) ≡ true → segment.part ≤ length (bound_by line wav)
   part-within right =
       let less : segment.part < wav.channels =
-      ltb-true segment.part wav.channels (and-right _ _ (and-left _ _ (and-left _ _ (and-right (is_bound script.card line wav) _ (both right))))) in
+      ltb-true segment.part wav.channels (and_parts _ _ (and_parts _ _ (and_parts _ _ (both right).1).0).0).1 in
       let same : length (bound_by line wav) ≡ wav.channels = has-channels right in
       omega (arith, less, same)
 

@@ -1,18 +1,17 @@
 -- The tests that the report of a run passes, and the samples that it says.
 use Rattle.std.proofs.Common.{◌≡◌, ℕ, ◌+◌, ◌*◌, ◌<◌, ◌≤◌, refl, sym, ◌∙◌, ap, subst, arith, inl, inr, ◌⊎◌, List, [], ◌∷◌, length, map, Option, Some, None}
-use Rattle.std.proofs.lemmas.Bool.{and_from, eq-eqb, le-leb, le-ltb, lt-ltb}
+use Rattle.std.proofs.lemmas.Bool.{and_from, eq-eqb, le-leb, le-ltb}
 use Rattle.std.proofs.lemmas.Bool.Decides.{nat_tests}
 use Rattle.std.proofs.lemmas.List.Elements.{recursion_from_All}
 use Rattle.std.proofs.lemmas.Option.{slice_get_within}
 use Rattle.std.specs.List.{AllByRecursion, flat_map, position, prefix_len, range_with_len}
-use Rattle.std.specs.Prelude.{Bool, true, false, cond, not, ◌&&◌, nat_eq, nat_lt, nat_le, zero, suc, if◌then◌else◌, option_map, ℤ, slice_get, slice_index_or, Ok, Err}
+use Rattle.std.specs.Prelude.{Bool, true, cond, not, nat_eq, nat_lt, zero, suc, if◌then◌else◌, option_map, ℤ, slice_get, slice_index_or, Ok, Err}
 use Rattle.snd_base.specs.declared.places.Segment.{Segment}
 use Rattle.wav_io.specs.Canonical.{canonical}
 use Rattle.wav_io.specs.Sound.{Sound}
 use Rattle.lab_lines.specs.declared.report.Report.{Report}
 use Rattle.lab_lines.specs.declared.row.Row.{Row}
 use Rattle.lab_lines.specs.declared.script.CardLine.{CardLine}
-use Rattle.lab_lines.specs.declared.script.ClientLine.{ClientLine}
 use Rattle.lab_lines.specs.declared.script.ReaderLine.{ReaderLine}
 use Rattle.lab_lines.specs.declared.script.Script.{Script}
 use Rattle.lab_lines.specs.Script.{first_frame, frames_played, phases_of}
@@ -21,7 +20,7 @@ use Rattle.lab_report.specs.Reading.{report_in_text}
 use Rattle.lab_report.specs.Text.{report_text}
 use Rattle.lab_run.specs.Client.{frames_of}
 use Rattle.lab_run.specs.LabRun.{Outcome, captured_sample, entries_of, mixed_at, outcome_of, report_of}
-use Rattle.lab_run.specs.Openings.{IsSessionOf, bound_by, read_by}
+use Rattle.lab_run.specs.Openings.{IsSessionOf, read_by}
 use Rattle.lab_run.specs.OwnRows.{runs_by}
 use Rattle.lab_run.specs.Stage.{Session, Stage}
 use Rattle.run_laws.specs.Files.{IsPlacedFrom}
@@ -35,7 +34,7 @@ use Rattle.lab_check.specs.Lines.{first_row_line, first_segment_line, line_of_pl
 use Rattle.lab_check.specs.Reads.{reader_defect, readers_defect}
 use Rattle.lab_check.specs.Runs.{CanPass, UnlateRowsPass, samples_of_run}
 use Rattle.lab_check.specs.Samples.{captured_by, captured_runs, played_samples, reader_samples, readers_samples, run_samples}
-use Rattle.lab_check.specs.Segments.{frames_taken, is_bound, is_right_segment, is_segment_of, is_within}
+use Rattle.lab_check.specs.Segments.{frames_taken, is_bound, is_right_segment, is_within}
 use Rattle.lab_check.specs.Shown.{SaysHeadline}
 use Rattle.lab_check.proofs.RunReads.{both-none, reader-passes}
 use Rattle.lab_check.proofs.Shows.{says-headline}
@@ -70,36 +69,19 @@ unlate-pass script wavs report none = ap (option_map (λ k. first_row_line + k))
 
 -- ---- segments
 
-taken-few : (segment : Segment) (frames : ℕ) → segment.source + segment.whole ≤ frames → (0 < segment.part → segment.source + segment.whole < frames)
-    → segment.source + frames_taken segment ≤ frames
-taken-few segment frames whole begun = by_part (nat_eq segment.part 0) refl
-  where
-    some : (part : ℕ) → nat_eq part 0 ≡ false → 0 < part
-    some part is = grind (arith, nat_tests)
-
-    by_part : (none : Bool) → nat_eq segment.part 0 ≡ none → segment.source + (segment.whole + (if none then 0 else 1)) ≤ frames
-    by_part true is = omega (arith, whole)
-    by_part false is = let more = begun (some segment.part is) in omega (arith, more)
-
 segment-passes : (script : Script) (wavs : List Sound) (number : ℕ) (segment : Segment) → IsOfClient script wavs number segment
     → is_right_segment script wavs (number, segment) ≡ true
 segment-passes script wavs number segment of =
-    ap (λ (o : Option ClientLine). is_segment_of script.card segment o (slice_get wavs number)) of.line_is
-    ∙ ap (λ (o : Option Sound). is_segment_of script.card segment (Some of.line) o) of.wav_is
-    ∙ and_from (is_bound script.card of.line of.wav) (is_within script.card segment of.wav.channels (frames_of of.wav)) bound within
+    rw (of.line_is, of.wav_is) (and_from (is_bound script.card of.line of.wav) (is_within script.card segment of.wav.channels (frames_of of.wav)) bound within)
   where
     bound : is_bound script.card of.line of.wav ≡ true
-    bound = and_from (nat_eq (length (bound_by of.line of.wav)) of.wav.channels) (nat_le of.wav.channels script.card.channels)
-        (eq-eqb (length (bound_by of.line of.wav)) of.wav.channels of.bound) (le-leb of.wav.channels script.card.channels of.channels)
+    bound = grind (arith, nat_tests, of.bound, of.channels)
+
+    taken : segment.source + frames_taken segment ≤ frames_of of.wav
+    taken = grind (arith, nat_tests, of.frames.source, of.frames.begun)
 
     within : is_within script.card segment of.wav.channels (frames_of of.wav) ≡ true
-    within = and_from (nat_lt 0 (segment.whole + segment.part) && nat_lt segment.part of.wav.channels && nat_le (first_frame script.card) segment.card)
-        (nat_le (segment.source + frames_taken segment) (frames_of of.wav))
-        (and_from (nat_lt 0 (segment.whole + segment.part) && nat_lt segment.part of.wav.channels) (nat_le (first_frame script.card) segment.card)
-        (and_from (nat_lt 0 (segment.whole + segment.part)) (nat_lt segment.part of.wav.channels)
-        (lt-ltb 0 (segment.whole + segment.part) of.frames.some) (lt-ltb segment.part of.wav.channels of.frames.part))
-        (le-leb (first_frame script.card) segment.card of.frames.card))
-        (le-leb (segment.source + frames_taken segment) (frames_of of.wav) (taken-few segment (frames_of of.wav) of.frames.source of.frames.begun))
+    within = grind (arith, nat_tests, of.frames.some, of.frames.part, of.frames.card, taken)
 
 segments-pass : (script : Script) (wavs : List Sound) (segments : List (ℕ × Segment)) → AllByRecursion (λ (pair : ℕ × Segment). IsOfClient script wavs pair.0 pair.1) segments
     → AllByRecursion (λ segment. is_right_segment script wavs segment ≡ true) segments

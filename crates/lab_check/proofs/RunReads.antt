@@ -1,10 +1,10 @@
 -- A reader whose rows read its runs in slices, where each run is of captured frames, has no defect.
 use Rattle.std.proofs.Common.{◌≡◌, ℕ, ◌+◌, ◌-◌, ◌<◌, ◌≤◌, refl, sym, ◌∙◌, ap, subst, arith, List, [], ◌∷◌, ◌++◌, Option, Some, None}
-use Rattle.std.proofs.lemmas.Bool.{and_from, eq-eqb, le-leb, lt-ltb}
+use Rattle.std.proofs.lemmas.Bool.{and_from, eq-eqb, le-leb}
 use Rattle.std.proofs.lemmas.Bool.Decides.{nat_tests}
 use Rattle.std.proofs.lemmas.List.{append_cancel_left}
 use Rattle.std.specs.List.{range_with_len}
-use Rattle.std.specs.Prelude.{Bool, true, false, ◌&&◌, nat_eq, nat_lt, nat_le, zero, suc, if◌then◌else◌, map, Ok}
+use Rattle.std.specs.Prelude.{Bool, true, false, ◌&&◌, nat_eq, nat_le, zero, suc, if◌then◌else◌, map, Ok}
 use Rattle.lab_lines.specs.declared.report.Report.{Report}
 use Rattle.lab_lines.specs.declared.row.Row.{Row}
 use Rattle.lab_run.specs.OwnRows.{rows_by, runs_by}
@@ -22,11 +22,8 @@ use Rattle.lab_check.proofs.Slices.{frames-taken, goes-without, lines-off, unlin
 runs-within : (least end : ℕ) (runs : List (ℕ × ℕ × ℕ)) → AreCapturedRuns least end (map unlined runs) → run_defect least end runs ≡ None
 runs-within least end [] captured = refl
 runs-within least end ((line, first, count) ∷ runs) (some, low, within, rest) =
-    subst (λ b. (if b then run_defect (first + count + 1) end runs else Some line) ≡ None) (sym passes) (runs-within (first + count + 1) end runs rest)
-  where
-    passes : is_run_within least end first count ≡ true
-    passes = and_from (nat_lt 0 count && nat_le least first) (nat_le (first + count) end)
-        (and_from (nat_lt 0 count) (nat_le least first) (lt-ltb 0 count some) (le-leb least first low)) (le-leb (first + count) end within)
+    let passes : is_run_within least end first count ≡ true = grind (arith, nat_tests, some, low, within) in
+    rw passes (runs-within (first + count + 1) end runs rest)
 
 captured-less : (least more end : ℕ) (runs : List (ℕ × ℕ)) → least ≤ more → AreCapturedRuns more end runs → AreCapturedRuns least end runs
 captured-less least more end [] less captured = tt

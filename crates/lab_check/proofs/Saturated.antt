@@ -1,7 +1,8 @@
 -- Sums that are saturated are the samples that are played.
 use Rattle.std.proofs.Common.{◌≡◌, ℕ, ◌+◌, ◌*◌, ◌/◌, ◌%◌, ◌<◌, refl, sym, ◌∙◌, ap, subst, arith, List, [], ◌∷◌, ◌++◌, length, take, drop, append_assoc}
 use Rattle.std.proofs.lemmas.Int.{ints}
-use Rattle.std.proofs.lemmas.List.{map-append, take-append-le, take_all}
+use Rattle.std.proofs.lemmas.List.{get_or-replicate, length-replicate, map-append, take-append-le, take_all}
+use Rattle.std.proofs.lemmas.List.FromFn.{map-range_with_len_more}
 use Rattle.std.proofs.lemmas.Nat.{div-mul-add, mod-mul-add}
 use Rattle.std.proofs.Math.Nat.{div-add-mod, mod-lt}
 use Rattle.std.specs.Int.{int_wrap, w64}
@@ -14,22 +15,13 @@ use Rattle.dmix_client.specs.ExpansionLaws.{range_with_len-append}
 use Rattle.lab_run.specs.LabRun.{mixed_at}
 use Rattle.lab_check.specs.Sums.{IsSummed}
 
-zeros-at : (n k : ℕ) → slice_index_or (replicate n (pos 0)) k (pos 0) ≡ pos 0
-zeros-at zero k = refl
-zeros-at (suc n) zero = refl
-zeros-at (suc n) (suc k) = zeros-at n k
-
-zeros-size : (n : ℕ) → length (replicate n (pos 0)) ≡ n
-zeros-size zero = refl
-zeros-size (suc n) = ap suc (zeros-size n)
-
 -- a sum is the total at its place, up to a multiple of 2^64
 pub saturated-total : (channels from : ℕ) (es : List Entry) (sums : List ℤ) (k : ℕ) → IsSummed channels from es (replicate (length sums) (pos 0)) sums → k < length sums
     → int_wrap w64 (slice_index_or sums k (pos 0)) ≡ int_wrap w64 (total es (from + k / channels) (k % channels))
 saturated-total channels from es sums k summed low =
-    let none : slice_index_or (replicate (length sums) (pos 0)) k (pos 0) ≡ pos 0 = zeros-at (length sums) k in
+    let none : slice_index_or (replicate (length sums) (pos 0)) k (pos 0) ≡ pos 0 = get_or-replicate (length sums) k (pos 0) (pos 0) low in
     let all : slice_index_or (replicate (length sums) (pos 0)) k (pos 0) +ℤ total es (from + k / channels) (k % channels) ≡ total es (from + k / channels) (k % channels) = omega (arith, ints, none) in
-    summed.sums k (subst (λ n. k < n) (sym (zeros-size (length sums))) low) ∙ ap (int_wrap w64) all
+    summed.sums k (subst (λ n. k < n) (sym (length-replicate (length sums) (pos 0))) low) ∙ ap (int_wrap w64) all
 
 -- one sample more
 pub played-more : (channels from k : ℕ) (es : List Entry) (before : List ℤ) (sample : ℤ) → sample ≡ clamp_of (total es (from + k / channels) (k % channels))
@@ -37,10 +29,7 @@ pub played-more : (channels from k : ℕ) (es : List Entry) (before : List ℤ) 
 played-more channels from k es before sample is =
     append_assoc before (map (mixed_at channels from es) (range_with_len 0 k)) (sample ∷ [])
     ∙ ap (λ (l : List ℤ). before ++ l)
-    (ap (λ (s : ℤ). map (mixed_at channels from es) (range_with_len 0 k) ++ s ∷ []) is
-    ∙ sym (map-append (mixed_at channels from es) (range_with_len 0 k) (k ∷ []))
-    ∙ ap (λ (n : ℕ). map (mixed_at channels from es) (range_with_len 0 k ++ n ∷ [])) (let e : k ≡ 0 + k = omega arith in e)
-    ∙ ap (map (mixed_at channels from es)) (sym (range_with_len-append 0 k 1)))
+    (ap (λ (s : ℤ). map (mixed_at channels from es) (range_with_len 0 k) ++ s ∷ []) is ∙ sym (map-range_with_len_more (mixed_at channels from es) 0 k k (omega arith)))
 
 -- ---- windows
 

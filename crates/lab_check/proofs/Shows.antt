@@ -1,6 +1,6 @@
 -- What a checked run shows.
 use Rattle.std.proofs.Common.{◌≡◌, ℕ, ◌+◌, ◌*◌, ◌%◌, ◌<◌, ◌≤◌, refl, sym, ◌∙◌, ap, subst, arith, mul-le-mul, List, [], ◌∷◌, length, Option, Some, None}
-use Rattle.std.proofs.lemmas.List.{length-append}
+use Rattle.std.proofs.lemmas.List.{length-append, length-map}
 use Rattle.std.proofs.lemmas.List.Elements.{All-from_recursion}
 use Rattle.std.proofs.lemmas.List.FromFn.{get_or-map-range_with_len, length-map-range_with_len, length-range_with_len}
 use Rattle.std.proofs.lemmas.Nat.{div-mul-add, mod-mul-add}
@@ -59,15 +59,11 @@ frames-count ((first, count) ∷ runs) =
     ∙ ap (λ n. n + length (frames_of_runs runs)) (length-range_with_len first count)
     ∙ ap (λ n. count + n) (frames-count runs)
 
-map-size : {X Y : Type 0} (f : X → Y) (xs : List X) → length (map f xs) ≡ length xs
-map-size f [] = refl
-map-size f (x ∷ xs) = ap suc (map-size f xs)
-
 samples-count : (sample_of : ℕ → ℕ → ℤ) (bindings frames : List ℕ) → length (flat_map (λ frame. map (sample_of frame) bindings) frames) ≡ length frames * length bindings
 samples-count sample_of bindings [] = omega arith
 samples-count sample_of bindings (frame ∷ frames) =
     length-append (map (sample_of frame) bindings) (flat_map (λ f. map (sample_of f) bindings) frames)
-    ∙ ap (λ n. n + length (flat_map (λ f. map (sample_of f) bindings) frames)) (map-size (sample_of frame) bindings)
+    ∙ ap (λ n. n + length (flat_map (λ f. map (sample_of f) bindings) frames)) (length-map bindings (sample_of frame))
     ∙ ap (λ n. length bindings + n) (samples-count sample_of bindings frames)
     ∙ step
   where

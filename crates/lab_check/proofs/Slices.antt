@@ -1,6 +1,6 @@
 -- The rows of a reader that pass took its runs in slices.
 use Rattle.std.proofs.Common.{◌≡◌, ℕ, ◌+◌, ◌-◌, ◌≤◌, refl, sym, ◌∙◌, ap, subst, arith, List, [], ◌∷◌, ◌++◌, Option, Some, None, append_assoc}
-use Rattle.std.proofs.lemmas.Bool.{eqb-true, leb-true, ltb-true}
+use Rattle.std.proofs.lemmas.Bool.{and_parts, eqb-true, leb-true, ltb-true}
 use Rattle.std.specs.List.{AllByRecursion, range_with_len}
 use Rattle.std.specs.Prelude.{Bool, true, false, ◌&&◌, nat_eq, nat_lt, nat_le, zero, suc, if◌then◌else◌, map, filter, Ok}
 use Rattle.dmix_client.specs.ExpansionLaws.{range_with_len-append}
@@ -81,7 +81,7 @@ row-took number next runs row own zero ends after got_is ends_is taken rest =
     )
 row-took number next [] row own (suc n) ends after got_is ends_is taken rest = absurd cc
 row-took number next ((line, first, count) ∷ runs) row own (suc n) ends after got_is ends_is taken rest =
-    by_tests (is_next next first) (nat_le (suc n) count) refl refl taken
+    by_test (is_next next first && nat_le (suc n) count) refl taken
   where
     took : IsFirstOf next first → suc n ≤ count → (goes_on_after ends next first (suc n), runs_without (suc n) line first count runs) ≡ after → TookAll next ((line, first, count) ∷ runs) (row ∷ own)
     took is_first few same =
@@ -98,12 +98,11 @@ row-took number next ((line, first, count) ∷ runs) row own (suc n) ends after 
           ),
         )
 
-    by_tests : (a b : Bool) → is_next next first ≡ a → nat_le (suc n) count ≡ b
-        → (if a && b then Some (goes_on_after ends next first (suc n), runs_without (suc n) line first count runs) else None) ≡ Some after
+    by_test : (b : Bool) → (is_next next first && nat_le (suc n) count) ≡ b
+        → (if b then Some (goes_on_after ends next first (suc n), runs_without (suc n) line first count runs) else None) ≡ Some after
         → TookAll next ((line, first, count) ∷ runs) (row ∷ own)
-    by_tests true true is_first few same = took (first-of next first is_first) (leb-true (suc n) count few) cc
-    by_tests true false is_first few same = absurd cc
-    by_tests false b is_first few same = absurd cc
+    by_test true both same = let tests = and_parts (is_next next first) _ both in took (first-of next first tests.0) (leb-true (suc n) count tests.1) cc
+    by_test false both same = absurd cc
 
 none-left : (line : ℕ) (next : Option ℕ) (runs : List (ℕ × ℕ × ℕ)) → end_defect (Ok runs) ≡ None → TookAll next runs []
 none-left line next [] is = (next, (refl, refl))
@@ -136,17 +135,15 @@ pub runs-captured : (least end bottom : ℕ) (runs : List (ℕ × ℕ × ℕ)) �
     → AllByRecursion (IsCapturedRun bottom end) (map unlined runs)
 runs-captured least end bottom [] low is = tt
 runs-captured least end bottom ((line, first, count) ∷ runs) low is =
-    by_tests (λ above rest. runs-captured (first + count + 1) end bottom runs above rest) (nat_lt 0 count) (nat_le least first) (nat_le (first + count) end) refl refl refl is
+    by_test (λ above rest. runs-captured (first + count + 1) end bottom runs above rest) (nat_lt 0 count && nat_le least first && nat_le (first + count) end) refl is
   where
-    by_tests : (bottom ≤ first + count + 1 → run_defect (first + count + 1) end runs ≡ None → AllByRecursion (IsCapturedRun bottom end) (map unlined runs))
-        → (a b c : Bool) → nat_lt 0 count ≡ a → nat_le least first ≡ b → nat_le (first + count) end ≡ c
-        → (if a && b && c then run_defect (first + count + 1) end runs else Some line) ≡ None
+    by_test : (bottom ≤ first + count + 1 → run_defect (first + count + 1) end runs ≡ None → AllByRecursion (IsCapturedRun bottom end) (map unlined runs))
+        → (b : Bool) → (nat_lt 0 count && nat_le least first && nat_le (first + count) end) ≡ b
+        → (if b then run_defect (first + count + 1) end runs else Some line) ≡ None
         → AllByRecursion (IsCapturedRun bottom end) ((first, count) ∷ map unlined runs)
-    by_tests others true true true some from to rest =
-        let above : least ≤ first = leb-true least first from in
-        let past : bottom ≤ first + count + 1 = omega (arith, above, low) in
-        let over : bottom ≤ first = omega (arith, above, low) in
-        ((ltb-true 0 count some, over, leb-true (first + count) end to), others past rest)
-    by_tests others true true false some from to rest = absurd cc
-    by_tests others true false c some from to rest = absurd cc
-    by_tests others false b c some from to rest = absurd cc
+    by_test others true tests rest =
+        let to = and_parts _ (nat_le (first + count) end) tests in
+        let from = and_parts (nat_lt 0 count) _ to.0 in
+        let above : least ≤ first = leb-true least first from.1 in
+        ((ltb-true 0 count from.0, omega (arith, above, low), leb-true (first + count) end to.1), others (omega (arith, above, low)) rest)
+    by_test others false tests rest = absurd cc

@@ -1,50 +1,23 @@
 -- A frame is looked up among spans.
 use Rattle.std.proofs.Common.{◌≡◌, ℕ, ◌+◌, ◌-◌, ◌^◌, ◌<◌, ◌≤◌, refl, sym, ◌∙◌, ap, subst, arith, List, [], ◌∷◌, ◌++◌, length, take, get_or, Some, None}
-use Rattle.std.proofs.lemmas.Bool.{leb-false, leb-true, le-leb, lt-leb}
-use Rattle.std.proofs.lemmas.List.{map-append, take_more}
+use Rattle.std.proofs.lemmas.Bool.Decides.{nat_tests}
+use Rattle.std.proofs.lemmas.List.{length-map, map-append, take_more}
 use Rattle.std.proofs.lemmas.List.Folds.{list_any-append}
+use Rattle.std.proofs.Math.Bool.{or-false, or_assoc}
 use Rattle.std.specs.List.{list_any, position, prefix_len}
 use Rattle.std.specs.Prelude.{Bool, true, false, ◌&&◌, ◌||◌, cond, map, max, min, nat_le, nat_lt, not, suc, zero, slice_get, slice_index_or}
 use Rattle.lab_check.specs.declared.spans.FrameSpan.{FrameSpan}
 use Rattle.lab_check.specs.Spans.{greatest_ends, is_in_span}
 
-or-false : (b : Bool) → (b || false) ≡ b
-or-false true = refl
-or-false false = refl
-
-or-or : (a b c : Bool) → (a || (b || c)) ≡ ((a || b) || c)
-or-or true b c = refl
-or-or false b c = refl
-
 -- ---- one span
 
 le-max : (frame a b : ℕ) → nat_le frame (max a b) ≡ (nat_le frame a || nat_le frame b)
-le-max frame a b = by_tests (nat_le frame a) (nat_le frame b) refl refl
-  where
-    by_tests : (x y : Bool) → nat_le frame a ≡ x → nat_le frame b ≡ y → nat_le frame (max a b) ≡ (x || y)
-    by_tests true y first second = let low : frame ≤ a = leb-true frame a first in le-leb frame (max a b) (omega (arith, low))
-    by_tests false true first second = let low : frame ≤ b = leb-true frame b second in le-leb frame (max a b) (omega (arith, low))
-    by_tests false false first second =
-        let past : a < frame = leb-false frame a first in
-        let past_two : b < frame = leb-false frame b second in
-        lt-leb frame (max a b) (omega (arith, past, past_two))
+le-max frame a b = grind (arith, nat_tests)
 
 -- the frames up to the one that is so many behind a first one
 pub span-frames : (frame first count last : ℕ) → frame < 2 ^ 64 → last ≡ min (first + count) (2 ^ 64 - 1)
     → (nat_le first frame && nat_le frame last) ≡ (nat_le first frame && nat_le (frame - first) count)
-span-frames frame first count last low last_is = by_first (nat_le first frame) refl
-  where
-    same : first ≤ frame → (b : Bool) → nat_le (frame - first) count ≡ b → nat_le frame last ≡ b
-    same from true is =
-        let few : frame - first ≤ count = leb-true (frame - first) count is in
-        le-leb frame last (omega (arith, low, last_is, from, few))
-    same from false is =
-        let many : count < frame - first = leb-false (frame - first) count is in
-        lt-leb frame last (omega (arith, last_is, from, many))
-
-    by_first : (b : Bool) → nat_le first frame ≡ b → (b && nat_le frame last) ≡ (b && nat_le (frame - first) count)
-    by_first true is = same (leb-true first frame is) (nat_le (frame - first) count) refl
-    by_first false is = refl
+span-frames frame first count last low last_is = grind (arith, nat_tests)
 
 -- ---- spans, one after the other
 
@@ -82,7 +55,7 @@ looked-up most frame (suc k) (span ∷ spans) low early late =
     let here : nat_le span.first frame ≡ true = early zero span (omega arith) in
     let any = list_any (is_in_span frame) spans in
     ap (λ b. nat_le frame most || ((b && nat_le frame span.last) || any)) here
-    ∙ or-or (nat_le frame most) (nat_le frame span.last) any
+    ∙ sym (or_assoc (nat_le frame most) (nat_le frame span.last) any)
     ∙ ap (λ b. b || any) (sym (le-max frame most span.last))
     ∙ looked-up (max most span.last) frame k spans (omega (arith, low)) (λ j d below. early (suc j) d (omega (arith, below)))
     (λ j d from below. late (suc j) d (omega (arith, from)) (omega (arith, below)))
@@ -118,25 +91,16 @@ get-before [] x k low = absurd (omega (arith, low))
 get-before (y ∷ xs) x zero low = refl
 get-before (y ∷ xs) x (suc k) low = get-before xs x k (omega (arith, low))
 
-pub get-past : {X : Type 0} (xs : List X) (k : ℕ) → length xs ≤ k → slice_get xs k ≡ None
-get-past [] k past = refl
-get-past (x ∷ xs) zero past = absurd (omega (arith, past))
-get-past (x ∷ xs) (suc k) past = get-past xs k (omega (arith, past))
-
 -- ---- the place of a test among the answers
 
 answers-before : {X : Type 0} (test : X → Bool) (xs : List X) → prefix_len (λ b. not (not b)) (map test xs) ≡ prefix_len (λ x. not (not (test x))) xs
 answers-before test [] = refl
 answers-before test (x ∷ xs) = ap (λ n. cond (not (not (test x))) (1 + n) 0) (answers-before test xs)
 
-map-length : {X Y : Type 0} (f : X → Y) (xs : List X) → length (map f xs) ≡ length xs
-map-length f [] = refl
-map-length f (x ∷ xs) = ap suc (map-length f xs)
-
 pub position-map : {X : Type 0} (test : X → Bool) (xs : List X) → position (λ b. not b) (map test xs) ≡ position (λ x. not (test x)) xs
 position-map test xs =
     ap (λ n. cond (nat_lt n (length (map test xs))) (Some n) None) (answers-before test xs)
-    ∙ ap (λ n. cond (nat_lt (prefix_len (λ x. not (not (test x))) xs) n) (Some (prefix_len (λ x. not (not (test x))) xs)) None) (map-length test xs)
+    ∙ ap (λ n. cond (nat_lt (prefix_len (λ x. not (not (test x))) xs) n) (Some (prefix_len (λ x. not (not (test x))) xs)) None) (length-map xs test)
 
 -- one answer more
 pub map-more : {X Y : Type 0} (f : X → Y) (xs ys : List X) (k : ℕ) (d : X) → ys ≡ xs → k < length ys

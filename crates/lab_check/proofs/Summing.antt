@@ -1,15 +1,14 @@
 -- Sums to which entries are added.
-use Rattle.std.proofs.Common.{◌≡◌, ℕ, ◌+◌, ◌*◌, ◌/◌, ◌%◌, ◌<◌, ◌≤◌, refl, sym, ◌∙◌, ap, subst, arith, List, [], ◌∷◌, ◌++◌, length, set, length-set}
-use Rattle.std.proofs.lemmas.Bool.{eqb-true, eqb-false, eq-eqb}
+use Rattle.std.proofs.Common.{◌≡◌, ℕ, ◌+◌, ◌*◌, ◌/◌, ◌%◌, ◌<◌, ◌≤◌, refl, sym, ◌∙◌, ap, subst, arith, List, [], ◌∷◌, ◌++◌, length, set, length-set, div-add-mod'}
+use Rattle.std.proofs.lemmas.Bool.{and_from, eqb-true, eqb-false, eq-eqb}
 use Rattle.std.proofs.lemmas.Bool.Decides.{nat_tests}
 use Rattle.std.proofs.lemmas.Int.{ints, int_wrap-add_same, int_wrap_fits, SFits-int_wrap}
-use Rattle.std.proofs.lemmas.List.{append-nil, get_or-set_same, get_or-set_other, map-append, take_more}
+use Rattle.std.proofs.lemmas.List.{get_or-set_same, get_or-set_other, map-append, take_more}
 use Rattle.std.proofs.lemmas.Grind.{flat_map-append}
 use Rattle.std.proofs.lemmas.Nat.{div-mul-add, mod-mul-add}
-use Rattle.std.proofs.Math.Nat.{div-add-mod}
 use Rattle.std.specs.Int.{int_wrap, w64}
 use Rattle.std.specs.List.{flat_map, range_with_len}
-use Rattle.std.specs.Prelude.{ℤ, pos, ◌+ℤ◌, Bool, true, false, ◌&&◌, nat_eq, nat_lt, zero, suc, if◌then◌else◌, slice_index, slice_index_or, take}
+use Rattle.std.specs.Prelude.{ℤ, pos, ◌+ℤ◌, Bool, true, false, nat_eq, nat_lt, zero, suc, if◌then◌else◌, slice_index, slice_index_or, take}
 use Rattle.bindings.specs.Bound.{rising}
 use Rattle.mix_core.specs.declared.port.Entry.{Entry}
 use Rattle.mix_core.specs.declared.port.Kind.TheVariants.{Added}
@@ -58,53 +57,24 @@ module _ (channels from row channel member : ℕ) (sample : ℤ) where
   pub summed-one : (old : List ℤ) (value : ℤ) → channel < channels → row * channels + channel < length old
       → int_wrap w64 value ≡ int_wrap w64 (slice_index_or old (row * channels + channel) (pos 0) +ℤ sample)
       → IsSummed channels from (the_entry ∷ []) old (set old (row * channels + channel) value)
-  summed-one old value in_channels in_sums is = record {
-    same = length-set old place value;
-    sums = λ k low. by_place k low (nat_eq place k) refl;
-  }
+  summed-one old value in_channels in_sums is = record { same = length-set old place value; sums = λ k low. by_place k (nat_eq place k) refl }
     where
       place : ℕ
       place = row * channels + channel
 
-      here : int_wrap w64 (slice_index_or (set old (row * channels + channel) value) (row * channels + channel) (pos 0))
-          ≡ int_wrap w64 (slice_index_or old (row * channels + channel) (pos 0) +ℤ total (the_entry ∷ []) (from + (row * channels + channel) / channels) ((row * channels + channel) % channels))
-      here =
-          let row_is : (row * channels + channel) / channels ≡ row = div-mul-add row channels channel in_channels in
-          let channel_is : (row * channels + channel) % channels ≡ channel = mod-mul-add row channels channel in_channels in
-          let at_entry : is_at (from + (row * channels + channel) / channels) ((row * channels + channel) % channels) the_entry ≡ true =
-          rw (row_is, channel_is) (rw (eq-eqb (from + row) (from + row) refl, eq-eqb channel channel refl) refl) in
-          let value_is : total (the_entry ∷ []) (from + (row * channels + channel) / channels) ((row * channels + channel) % channels) ≡ sample = one-total _ _ true at_entry in
-          ap (int_wrap w64) (get_or-set_same old (row * channels + channel) value (pos 0) in_sums)
-          ∙ is
-          ∙ ap (λ x. int_wrap w64 (slice_index_or old (row * channels + channel) (pos 0) +ℤ x)) (sym value_is)
+      is-there : (k : ℕ) (b : Bool) → nat_eq place k ≡ b → is_at (from + k / channels) (k % channels) the_entry ≡ b
+      is-there k true same = subst (λ n. is_at (from + n / channels) (n % channels) the_entry ≡ true) (eqb-true place k same)
+          (rw (div-mul-add row channels channel in_channels, mod-mul-add row channels channel in_channels) (and_from _ _ (eq-eqb (from + row) _ refl) (eq-eqb channel _ refl)))
+      is-there k false other =
+          let parts : k / channels * channels + k % channels ≡ k = div-add-mod' k channels in
+          grind (arith, nat_tests, parts, other)
 
-      elsewhere : (k : ℕ) → (k ≡ row * channels + channel → ⊥) → is_at (from + k / channels) (k % channels) the_entry ≡ false
-      elsewhere k not = by_tests (nat_eq (from + row) (from + k / channels)) (nat_eq channel (k % channels)) refl refl
-        where
-          by_tests : (a b : Bool) → nat_eq (from + row) (from + k / channels) ≡ a → nat_eq channel (k % channels) ≡ b → (a && b) ≡ false
-          by_tests true true first second =
-              let row_is : from + row ≡ from + k / channels = eqb-true (from + row) (from + k / channels) first in
-              let row_same : row ≡ k / channels = omega (arith, row_is) in
-              let channel_is : channel ≡ k % channels = eqb-true channel (k % channels) second in
-              let parts : channels * (k / channels) + k % channels ≡ k = div-add-mod k channels in
-              let product : row * channels ≡ k / channels * channels = ap (λ r. r * channels) row_same in
-              absurd (not (omega (arith, product, channel_is, parts)))
-          by_tests true false first second = refl
-          by_tests false b first second = refl
-
-      by_place : (k : ℕ) → k < length old → (b : Bool) → nat_eq (row * channels + channel) k ≡ b
-          → int_wrap w64 (slice_index_or (set old (row * channels + channel) value) k (pos 0))
-          ≡ int_wrap w64 (slice_index_or old k (pos 0) +ℤ total (the_entry ∷ []) (from + k / channels) (k % channels))
-      by_place k low true same =
-          subst (λ n. int_wrap w64 (slice_index_or (set old (row * channels + channel) value) n (pos 0))
-          ≡ int_wrap w64 (slice_index_or old n (pos 0) +ℤ total (the_entry ∷ []) (from + n / channels) (n % channels)))
-          (eqb-true (row * channels + channel) k same) here
-      by_place k low false other =
-          let not : row * channels + channel ≡ k → ⊥ = eqb-false (row * channels + channel) k other in
-          let apart : k ≡ row * channels + channel → ⊥ = λ e. not (sym e) in
-          let nothing : total (the_entry ∷ []) (from + k / channels) (k % channels) ≡ pos 0 = one-total _ _ false (elsewhere k apart) in
-          let same : slice_index_or old k (pos 0) ≡ slice_index_or old k (pos 0) +ℤ total (the_entry ∷ []) (from + k / channels) (k % channels) = omega (arith, ints, nothing) in
-          ap (int_wrap w64) (get_or-set_other old (row * channels + channel) k value (pos 0) apart ∙ same)
+      by_place : (k : ℕ) (b : Bool) → nat_eq place k ≡ b
+          → int_wrap w64 (slice_index_or (set old place value) k (pos 0)) ≡ int_wrap w64 (slice_index_or old k (pos 0) +ℤ total (the_entry ∷ []) (from + k / channels) (k % channels))
+      by_place k true same = rw (one-total _ _ true (is-there k true same)) (subst (λ n. int_wrap w64 (slice_index_or (set old place value) n (pos 0)) ≡ int_wrap w64 (slice_index_or old n (pos 0) +ℤ sample))
+          (eqb-true place k same) (ap (int_wrap w64) (get_or-set_same old place value (pos 0) in_sums) ∙ is))
+      by_place k false other = rw (one-total _ _ false (is-there k false other)) (ap (int_wrap w64)
+          (get_or-set_other old place k value (pos 0) (λ e. eqb-false place k other (sym e)) ∙ omega (arith, ints)))
 
 -- ---- a frame
 
@@ -159,35 +129,27 @@ module _ (member : ℕ) (bindings : List ℕ) (sample_of : ℕ → ℕ → ℤ) 
   abbrev pub whole_frame : ℕ → List Entry
   whole_frame j = frame_entries member bindings (sample_of j) (length bindings) (card + j)
 
-  pub whole-same : (a n : ℕ) → a + n ≤ whole → flat_map whole_frame (range_with_len a n) ≡ flat_map frame_of_segment (range_with_len a n)
+  abbrev pub of : ℕ → ℕ → List Entry
+  of a n = flat_map frame_of_segment (range_with_len a n)
+
+  -- frames and those behind them
+  pub of-append : (a n k b : ℕ) → a + n ≡ b → of a (n + k) ≡ of a n ++ of b k
+  of-append a n k b is = ap (flat_map frame_of_segment) (range_with_len-append a n k ∙ ap (λ c. range_with_len a n ++ range_with_len c k) is)
+      ∙ flat_map-append frame_of_segment (range_with_len a n) (range_with_len b k)
+
+  pub whole-same : (a n : ℕ) → a + n ≤ whole → flat_map whole_frame (range_with_len a n) ≡ of a n
   whole-same a zero low = refl
   whole-same a (suc n) low =
       let test : nat_lt a whole ≡ true = grind (arith, nat_tests, low) in
-      let first : whole_frame a ≡ frame_of_segment a = rw test refl in
-      ap (λ es. es ++ flat_map whole_frame (range_with_len (a + 1) n)) first
-      ∙ ap (λ es. frame_of_segment a ++ es) (whole-same (a + 1) n (omega (arith, low)))
-
-  pub frames-are : flat_map whole_frame (range_with_len 0 whole) ++ frame_entries member bindings (sample_of (0 + whole)) part (card + (0 + whole))
-      ≡ flat_map frame_of_segment (range_with_len 0 (whole + 1))
-  frames-are =
-      let test : nat_lt whole whole ≡ false = grind (arith, nat_tests) in
-      let zero_whole : 0 + whole ≡ whole = omega arith in
-      let last : frame_entries member bindings (sample_of (0 + whole)) part (card + (0 + whole)) ≡ frame_of_segment whole =
-      ap (λ n. frame_entries member bindings (sample_of n) part (card + n)) zero_whole ∙ rw test refl in
-      let one : flat_map frame_of_segment (range_with_len (0 + whole) 1) ≡ frame_of_segment whole =
-      ap (λ n. frame_of_segment n ++ []) zero_whole ∙ append-nil (frame_of_segment whole) in
-      ap (λ es. es ++ frame_entries member bindings (sample_of (0 + whole)) part (card + (0 + whole))) (whole-same 0 whole (omega arith))
-      ∙ ap (λ es. flat_map frame_of_segment (range_with_len 0 whole) ++ es) (last ∙ sym one)
-      ∙ sym (flat_map-append frame_of_segment (range_with_len 0 whole) (range_with_len (0 + whole) 1))
-      ∙ ap (flat_map frame_of_segment) (sym (range_with_len-append 0 whole 1))
+      rw test (ap (λ es. whole_frame a ++ es) (whole-same (a + 1) n (omega (arith, low))))
 
   pub outside : (a n frame channel : ℕ) → ((j : ℕ) → a ≤ j → j < a + n → card + j ≡ frame → ⊥)
-      → at (flat_map frame_of_segment (range_with_len a n)) frame channel ≡ []
+      → at (of a n) frame channel ≡ []
   outside a zero frame channel not = refl
   outside a (suc n) frame channel not =
       let apart : card + a ≡ frame → ⊥ = not a (omega arith) (omega arith) in
-      at-append (frame_of_segment a) (flat_map frame_of_segment (range_with_len (a + 1) n)) frame channel
-      ∙ ap (λ l. l ++ at (flat_map frame_of_segment (range_with_len (a + 1) n)) frame channel)
+      at-append (frame_of_segment a) (of (a + 1) n) frame channel
+      ∙ ap (λ l. l ++ at (of (a + 1) n) frame channel)
       (none-at (frame_of_segment a) frame channel
       (other-frame member bindings frame channel (sample_of a) (card + a) (take (places_at a) (rising bindings)) (grind (arith, nat_tests, apart))))
       ∙ outside (a + 1) n frame channel (λ j low high. not j (omega (arith, low)) (omega (arith, high)))

@@ -19,15 +19,6 @@ use Rattle.lab_check.specs.Reads.{first_defect, reader_defect, readers_defect}
 use Rattle.lab_check.specs.Segments.{is_right_segment}
 use Rattle.lab_check.specs.Defects.{HasTestedRuns, HasTestedSegments, most_of_report, played_defect, report_defect, report_or_line, row_defect, segment_defect, tested, tested_report}
 
--- two tests that both hold
-pub and-left : (a b : Bool) → (a && b) ≡ true → a ≡ true
-and-left true b is = refl
-and-left false b is = absurd cc
-
-pub and-right : (a b : Bool) → (a && b) ≡ true → b ≡ true
-and-right true b is = is
-and-right false b is = absurd cc
-
 -- two causes neither of which is there
 pub first-none : (a b : Option ℕ) → first_defect a b ≡ None → a ≡ None
 first-none None b is = refl
@@ -93,35 +84,52 @@ pub rows-pass : (script : Script) (wavs : List Sound) (report : Report) → row_
     → AllByRecursion (λ row. is_right_row script wavs report row ≡ true) report.rows
 rows-pass script wavs report is = none-fails (is_right_row script wavs report) report.rows (map-none (λ k. first_row_line + k) _ is)
 
-pub report-passes : (script : Script) (wavs : List Sound) (report : Report) → report_defect script wavs report ≡ None → Passes script wavs report
-report-passes script wavs report is =
-    let rest = second-none (played_defect script report) _ is in
-    let rest_two = second-none (segment_defect script wavs report) _ rest in
-    let played = played-passes script report (first-none (played_defect script report) _ is) in
+-- none of the four defects of a report is there, where there is none of it
+pub record HasNone (script : Script) (wavs : List Sound) (report : Report) : Type 0 where
+  pub played : played_defect script report ≡ None
+  pub segment : segment_defect script wavs report ≡ None
+  pub row : row_defect script wavs report ≡ None
+  pub readers : readers_defect report 0 (length script.readers) ≡ None
+
+pub has-none : (script : Script) (wavs : List Sound) (report : Report) → report_defect script wavs report ≡ None → HasNone script wavs report
+has-none script wavs report is =
+    let behind = second-none (played_defect script report) _ is in
+    let last = second-none (segment_defect script wavs report) _ behind in
     record {
-      first = played.0;
-      frames = played.1;
-      segments = none-fails (is_right_segment script wavs) report.segments (map-none (λ k. first_segment_line report + k) _ (first-none (segment_defect script wavs report) _ rest));
-      rows = rows-pass script wavs report (first-none (row_defect script wavs report) _ rest_two);
-      readers = second-none (row_defect script wavs report) _ rest_two;
+      played = first-none (played_defect script report) _ is;
+      segment = first-none (segment_defect script wavs report) _ behind;
+      row = first-none (row_defect script wavs report) _ last;
+      readers = second-none (row_defect script wavs report) _ last;
     }
 
 -- all segments can be, where none can't
+right-segments : (script : Script) (wavs : List Sound) (report : Report) → segment_defect script wavs report ≡ None
+    → AllByRecursion (λ segment. is_right_segment script wavs segment ≡ true) report.segments
+right-segments script wavs report is = none-fails (is_right_segment script wavs) report.segments (map-none (λ k. first_segment_line report + k) _ is)
+
+pub report-passes : (script : Script) (wavs : List Sound) (report : Report) → report_defect script wavs report ≡ None → Passes script wavs report
+report-passes script wavs report is =
+    let none = has-none script wavs report is in
+    let played = played-passes script report none.played in
+    record { first = played.0; frames = played.1; segments = right-segments script wavs report none.segment; rows = rows-pass script wavs report none.row; readers = none.readers }
+
 pub segments_right : (script : Script) (wavs : List Sound) (report : Report) → segment_defect script wavs report ≡ None
     → All (λ segment. is_right_segment script wavs segment ≡ true) report.segments
 segments_right script wavs report is =
-    All-from_recursion (λ segment. is_right_segment script wavs segment ≡ true) report.segments
-    (none-fails (is_right_segment script wavs) report.segments (map-none (λ k. first_segment_line report + k) _ is))
+    All-from_recursion (λ segment. is_right_segment script wavs segment ≡ true) report.segments (right-segments script wavs report is)
 
--- what a script's card played ends at a number of 64 bits
-pub ends_below : (script : Script) (report : Report) → IsScript script → played_defect script report ≡ None → report.first + report.frames + 1 < 2 ^ 64
-ends_below script report valid is =
+-- what a script's card played ends far below the numbers of 64 bits
+played-end : (script : Script) (report : Report) → IsScript script → played_defect script report ≡ None → report.first + report.frames < 2 ^ 62
+played-end script report valid is =
     let played = played-passes script report is in
     let ring : script.card.ring ≤ 16384 = valid.card.ring.high in
     let most : script.card.lap * script.card.ring ≤ 4294967294 * 16384 = mul-le-mul valid.card.lap ring in
     let first : report.first ≡ script.card.lap * script.card.ring = played.0 in
     let frames : report.frames ≤ 4194304 = subst (λ n. n ≤ 4194304) (sym played.1) valid.frames in
     omega (arith, most, first, frames)
+
+pub ends_below : (script : Script) (report : Report) → IsScript script → played_defect script report ≡ None → report.first + report.frames + 1 < 2 ^ 64
+ends_below script report valid is = let end = played-end script report valid is in omega (arith, end)
 
 -- what is known of a text whose report passes
 pub record IsPassed (script : Script) (wavs : List Sound) (text : List ℕ) (report : Report) : Type 0 where
@@ -169,37 +177,17 @@ one_reader script report number low is =
 -- what a report that passes has, as the code asks for it
 pub tested_segments : (script : Script) (wavs : List Sound) (report : Report) → report_defect script wavs report ≡ None → line_of_end report < 2 ^ 32
     → HasTestedSegments script wavs report
-tested_segments script wavs report is lines =
-    let rest = second-none (played_defect script report) _ is in
-    record {
-      played = first-none (played_defect script report) _ is;
-      segments = first-none (segment_defect script wavs report) _ rest;
-      few = lines;
-    }
+tested_segments script wavs report is lines = let none = has-none script wavs report is in record { played = none.played; segments = none.segment; few = lines }
 
 pub tested_runs : (script : Script) (wavs : List Sound) (report : Report) → report_defect script wavs report ≡ None → line_of_end report < 2 ^ 32
     → HasTestedRuns script report
-tested_runs script wavs report is lines =
-    let rest = second-none (played_defect script report) _ is in
-    let others = second-none (segment_defect script wavs report) _ rest in
-    record {
-      played = first-none (played_defect script report) _ is;
-      readers = second-none (row_defect script wavs report) _ others;
-      few = lines;
-    }
+tested_runs script wavs report is lines = let none = has-none script wavs report is in record { played = none.played; readers = none.readers; few = lines }
 
 -- all segments of such a report can be
 pub passed_segments : (script : Script) (wavs : List Sound) (report : Report) → HasTestedSegments script wavs report
     → All (λ segment. is_right_segment script wavs segment ≡ true) report.segments
 passed_segments script wavs report tested = segments_right script wavs report tested.segments
 
--- what was played ends far below the numbers of 64 bits
 pub passed_end : (script : Script) (wavs : List Sound) (report : Report) → IsScript script → HasTestedSegments script wavs report
     → report.first + report.frames < 2 ^ 62
-passed_end script wavs report valid tested =
-    let played = played-passes script report tested.played in
-    let ring : script.card.ring ≤ 16384 = valid.card.ring.high in
-    let most : script.card.lap * script.card.ring ≤ 4294967294 * 16384 = mul-le-mul valid.card.lap ring in
-    let first : report.first ≡ script.card.lap * script.card.ring = played.0 in
-    let frames : report.frames ≤ 4194304 = subst (λ n. n ≤ 4194304) (sym played.1) valid.frames in
-    omega (arith, most, first, frames)
+passed_end script wavs report valid tested = played-end script report valid tested.played

@@ -2,7 +2,7 @@
 use Rattle.std.proofs.Common.{◌≡◌, ◌≤◌, ◌<◌, ◌+◌, ℕ, suc, zero, true, false, sym, ap, subst, ◌∙◌, refl, List, [], ◌∷◌, length, take, drop, get_or, length-take, add-one, arith, drop-cons}
 use Rattle.std.proofs.lemmas.Bool.Decides.{nat_tests}
 use Rattle.std.proofs.lemmas.List.{drop_all, take_all}
-use Rattle.std.proofs.lemmas.Option.{get_or_from_slice_get}
+use Rattle.std.proofs.lemmas.Option.{get_or_from_slice_get, slice_get_within}
 use Rattle.std.specs.Prelude.{All, Bool, ℤ, Option, Some, None, Result, Ok, Err, IfOk, min, nat_le, slice_get, slice_index_or, if◌then◌else◌}
 use Rattle.std.specs.Option.{ForSome, option_map}
 use Rattle.lab_check.specs.declared.error.CheckError.{CheckError}
@@ -30,27 +30,18 @@ use Rattle.lab_compare.specs.Checking.{IsReportIn, as_tested, check_in, is_same_
 
 -- ---- a file that is compared
 
--- whether a file is the one that it must be decides its test
-pub same_in-compared : (m : Files) (line : ℕ) (file : OutputFile) (samples : List ℤ) (same : Bool) → is_same_in m file samples ≡ Ok same
-    → same_in m line file samples ≡ same_or_line line same
+-- whether a file is the one that it must be decides its test, and one that is missing fails it so
+pub same_in-of : (m : Files) (line : ℕ) (file : OutputFile) (samples : List ℤ) (same : Result Bool Cause) → is_same_in m file samples ≡ same
+    → same_in m line file samples ≡ (same >>= λ s. same_or_line line s)
 unfolding same_in
-same_in-compared m line file samples same is = ap (λ (r : Result Bool Cause). r >>= λ s. same_or_line line s) is
-
--- a file that is missing fails its test so
-pub same_in-missing : (m : Files) (line : ℕ) (file : OutputFile) (samples : List ℤ) (e : Cause) → is_same_in m file samples ≡ Err e
-    → same_in m line file samples ≡ Err e
-unfolding same_in
-same_in-missing m line file samples e is = ap (λ (r : Result Bool Cause). r >>= λ s. same_or_line line s) is
+same_in-of m line file samples same is = ap (λ (r : Result Bool Cause). r >>= λ s. same_or_line line s) is
 
 -- the test of a file is that of what was played, where it is compared with that
 pub played_in-of : (m : Files) (input : RunInput) (out : List ℕ) (report : Report) (line : ℕ) (file : OutputFile) (samples : List ℤ)
     → line ≡ line_of_played report → file ≡ played_file input.script.card out → samples ≡ played_samples input.script input.sounds report
     → same_in m line file samples ≡ played_in m input out report
 unfolding played_in
-played_in-of m input out report line file samples line_is file_is samples_are =
-    ap (λ (l : ℕ). same_in m l file samples) line_is
-    ∙ ap (λ (f : OutputFile). same_in m (line_of_played report) f samples) file_is
-    ∙ ap (λ (zs : List ℤ). same_in m (line_of_played report) (played_file input.script.card out) zs) samples_are
+played_in-of m input out report line file samples line_is file_is samples_are = rw (line_is, file_is, samples_are) refl
 
 -- and that of what a reader recorded
 pub recording_in-of : (m : Files) (input : RunInput) (out : List ℕ) (report : Report) (number : ℕ) (reader : ReaderLine) (line : ℕ) (file : OutputFile) (samples : List ℤ)
@@ -58,10 +49,7 @@ pub recording_in-of : (m : Files) (input : RunInput) (out : List ℕ) (report : 
     → samples ≡ reader_samples input.script.card input.capture report number reader
     → same_in m line file samples ≡ recording_in m input out report number reader
 unfolding recording_in
-recording_in-of m input out report number reader line file samples line_is file_is samples_are =
-    ap (λ (l : ℕ). same_in m l file samples) line_is
-    ∙ ap (λ (f : OutputFile). same_in m (line_of_end report) f samples) file_is
-    ∙ ap (λ (zs : List ℤ). same_in m (line_of_end report) (recorded_file input.script.card out reader) zs) samples_are
+recording_in-of m input out report number reader line file samples line_is file_is samples_are = rw (line_is, file_is, samples_are) refl
 
 -- ---- the report
 
@@ -76,7 +64,7 @@ whole-file (Some content) name text most is few =
     ap (λ (c : List ℕ). Some c) (sym (take_all (most + 1) content low) ∙ first)
 
 -- a text that passes isn't too long
-few-bytes : (script : Script) (wavs : List Sound) (text : List ℕ) (report : Report) → tested_report script wavs text ≡ Ok report → length text ≤ most_of_report
+pub few-bytes : (script : Script) (wavs : List Sound) (text : List ℕ) (report : Report) → tested_report script wavs text ≡ Ok report → length text ≤ most_of_report
 few-bytes script wavs text report passes = by_test (nat_le (length text) most_of_report) refl passes
   where
     by_test : (b : Bool) → nat_le (length text) most_of_report ≡ b
@@ -92,17 +80,10 @@ report-held files name script wavs text report fetched passes m told =
     whole-file (bytes_under m name) name text most_of_report (fetched m told) (few-bytes script wavs text report passes)
 
 -- what a text's tests give is what its file gives
-pub tested_in-fetched : (m : Files) (input : RunInput) (name text : List ℕ) → first_bytes m name (most_of_report + 1) ≡ Ok text
-    → tested_in m input name ≡ as_tested (tested_report input.script input.sounds text)
+pub tested_in-of : (m : Files) (input : RunInput) (name : List ℕ) (fetched : Result (List ℕ) Cause) → first_bytes m name (most_of_report + 1) ≡ fetched
+    → tested_in m input name ≡ (fetched >>= λ text. as_tested (tested_report input.script input.sounds text))
 unfolding tested_in
-tested_in-fetched m input name text is =
-    ap (λ (r : Result (List ℕ) Cause). r >>= λ t. as_tested (tested_report input.script input.sounds t)) is
-
-pub tested_in-missing : (m : Files) (input : RunInput) (name : List ℕ) (e : Cause) → first_bytes m name (most_of_report + 1) ≡ Err e
-    → tested_in m input name ≡ Err e
-unfolding tested_in
-tested_in-missing m input name e is =
-    ap (λ (r : Result (List ℕ) Cause). r >>= λ t. as_tested (tested_report input.script input.sounds t)) is
+tested_in-of m input name fetched is = ap (λ (r : Result (List ℕ) Cause). r >>= λ t. as_tested (tested_report input.script input.sounds t)) is
 
 -- a command ends at the first test that a text fails
 pub AnswersOrStops-passed : {X : Type 0} (end : Result X CheckError) (said : Result X ℕ) → ChecksAs (λ x. x) end said
@@ -128,7 +109,7 @@ pub tested-answers : (files : Option Files) (input : RunInput) (wavs : List Soun
     → ChecksAs (λ report. report) end (tested_report input.script wavs spelled)
     → ForSome files (λ m. AnswersOrStops (λ report. report) (passed end) (tested_in m input name))
 tested-answers files input wavs name text spelled end fetched wavs_are same is m told =
-    subst (λ (given : Result Report Cause). AnswersOrStops (λ report. report) (passed end) given) (sym (tested_in-fetched m input name text (fetched m told)))
+    subst (λ (given : Result Report Cause). AnswersOrStops (λ report. report) (passed end) given) (sym (tested_in-of m input name (Ok text) (fetched m told)))
     (AnswersOrStops-passed end (tested_report input.script input.sounds text)
     (subst (λ (t : List ℕ). ChecksAs (λ report. report) end (tested_report input.script input.sounds t)) same
     (subst (λ (ws : List Sound). ChecksAs (λ report. report) end (tested_report input.script ws spelled)) wavs_are is)))
@@ -168,49 +149,22 @@ readers_samples-at card capture report first (line ∷ lines) (suc k) reader is 
     let there : (first + 1) + k ≡ first + suc k = omega arith in
     readers_samples-at card capture report (first + 1) lines k reader is ∙ ap (λ n. reader_samples card capture report n reader) there
 
-reader_samples-at : (card : CardLine) (capture : Option Sound) (report : Report) (readers : List ReaderLine) (number : ℕ) (reader : ReaderLine)
-    → slice_get readers number ≡ Some reader
-    → slice_index_or (readers_samples card capture report 0 readers) number [] ≡ reader_samples card capture report number reader
-reader_samples-at card capture report readers number reader is =
-    let there : 0 + number ≡ number = omega arith in
-    readers_samples-at card capture report 0 readers number reader is ∙ ap (λ (n : ℕ). reader_samples card capture report n reader) there
-
 -- the samples that are compared are those of the reader
 pub reader_samples-taken : (card : CardLine) (capture copied : Option Sound) (report : Report) (readers : List ReaderLine) (number : ℕ) (reader : ReaderLine)
     (taken given : List ℤ) → taken ≡ given → given ≡ slice_index_or (readers_samples card copied report 0 readers) number [] → copied ≡ capture
     → slice_get readers number ≡ Some reader → taken ≡ reader_samples card capture report number reader
 reader_samples-taken card capture copied report readers number reader taken given same is copy line =
+    let there : 0 + number ≡ number = omega arith in
     same ∙ is
     ∙ ap (λ (c : Option Sound). slice_index_or (readers_samples card c report 0 readers) number []) copy
-    ∙ reader_samples-at card capture report readers number reader line
+    ∙ readers_samples-at card capture report 0 readers number reader line
+    ∙ ap (λ (n : ℕ). reader_samples card capture report n reader) there
 
--- a reader that there is has a number below that of all, and keeps a line's limits
-pub reader-below : (readers : List ReaderLine) (number : ℕ) (reader : ReaderLine) → slice_get readers number ≡ Some reader → number < length readers
-reader-below [] number reader is = absurd cc
-reader-below (line ∷ lines) zero reader is = omega arith
-reader-below (line ∷ lines) (suc number) reader is = omega (arith, reader-below lines number reader is)
-
+-- a reader that there is keeps a line's limits
 pub reader-line : (card : CardLine) (readers : List ReaderLine) (number : ℕ) (reader : ReaderLine) → All (IsReaderLine card) readers
     → slice_get readers number ≡ Some reader → IsReaderLine card reader
 reader-line card readers number reader each is =
-    subst (IsReaderLine card) (get_or_from_slice_get readers number reader reader is) (each number reader (reader-below readers number reader is))
-
--- the readers that are left, at an index
-readers-left : (readers : List ReaderLine) (index : ℕ) (reader : ReaderLine) → index < length readers → reader ≡ get_or readers index reader
-    → drop index readers ≡ reader ∷ drop (suc index) readers
-readers-left readers index reader within is =
-    drop-cons readers index reader within ∙ ap (λ r. r ∷ drop (suc index) readers) (sym is)
-
-recordings_in-first : (m : Files) (input : RunInput) (out : List ℕ) (report : Report) (number : ℕ) (reader : ReaderLine) (readers : List ReaderLine)
-    (first : Result (Unit {0}) Cause) → recording_in m input out report number reader ≡ first
-    → recordings_in m input out report number (reader ∷ readers) ≡ (first >>= λ same. recordings_in m input out report (number + 1) readers)
-unfolding recordings_in
-recordings_in-first m input out report number reader readers first is =
-    ap (λ (r : Result (Unit {0}) Cause). r >>= λ same. recordings_in m input out report (number + 1) readers) is
-
-recordings_in-none : (m : Files) (input : RunInput) (out : List ℕ) (report : Report) (number : ℕ) → recordings_in m input out report number [] ≡ Ok tt
-unfolding recordings_in
-recordings_in-none m input out report number = refl
+    subst (IsReaderLine card) (get_or_from_slice_get readers number reader reader is) (each number reader (slice_get_within readers number reader is))
 
 -- what a loop over the readers keeps: the tests of all are those of the ones that are left
 pub record Reviewing {S : Type 0} (H : shelves.Ghosts S) (old now : S) (input : RunInput) (out : List ℕ) (report : Report)
@@ -225,60 +179,38 @@ pub recordings_in-next : (m : Files) (input : RunInput) (out : List ℕ) (report
     → recordings_in m input out report 0 readers ≡ recordings_in m input out report number (drop index readers)
     → index < length readers → reader ≡ get_or readers index reader → recording_in m input out report number reader ≡ first
     → recordings_in m input out report 0 readers ≡ (first >>= λ same. recordings_in m input out report (number + 1) (drop (index + 1) readers))
+unfolding recordings_in
 recordings_in-next m input out report readers index number reader first so_far within is tests =
     so_far
-    ∙ ap (λ (rs : List ReaderLine). recordings_in m input out report number rs) (readers-left readers index reader within is)
-    ∙ recordings_in-first m input out report number reader (drop (suc index) readers) first tests
-    ∙ ap (λ (k : ℕ). first >>= λ same. recordings_in m input out report (number + 1) (drop k readers)) (sym (add-one index))
+    ∙ ap (λ (rs : List ReaderLine). recordings_in m input out report number rs)
+    (drop-cons readers index reader within ∙ ap (λ r. r ∷ drop (suc index) readers) (sym is) ∙ ap (λ k. reader ∷ drop k readers) (sym (add-one index)))
+    ∙ ap (λ (r : Result (Unit {0}) Cause). r >>= λ same. recordings_in m input out report (number + 1) (drop (index + 1) readers)) tests
 
 -- all readers' tests pass
 pub recordings_in-all : (files : Option Files) (input : RunInput) (out : List ℕ) (report : Report) (readers : List ReaderLine) (index number : ℕ)
     → ForSome files (λ m. recordings_in m input out report 0 readers ≡ recordings_in m input out report number (drop index readers))
     → length readers ≤ index → ForSome files (λ m. recordings_in m input out report 0 readers ≡ Ok tt)
+unfolding recordings_in
 recordings_in-all files input out report readers index number so_far all m told =
-    so_far m told
-    ∙ ap (λ (rs : List ReaderLine). recordings_in m input out report number rs) (drop_all index readers all)
-    ∙ recordings_in-none m input out report number
+    so_far m told ∙ ap (λ (rs : List ReaderLine). recordings_in m input out report number rs) (drop_all index readers all)
 
 -- ---- the outputs
 
-outputs_in-played : (m : Files) (input : RunInput) (out : List ℕ) (report : Report) (played : Result (Unit {0}) Cause) → played_in m input out report ≡ played
+-- where what was played is right, the readers' tests decide
+pub outputs_in-of : (m : Files) (input : RunInput) (out : List ℕ) (report : Report) (played : Result (Unit {0}) Cause) → played_in m input out report ≡ played
     → outputs_in m input out report ≡ (played >>= λ same. recordings_in m input out report 0 input.script.readers)
 unfolding outputs_in
-outputs_in-played m input out report played is =
-    ap (λ (r : Result (Unit {0}) Cause). r >>= λ same. recordings_in m input out report 0 input.script.readers) is
-
--- where what was played isn't right, the outputs aren't
-pub outputs_in-refused : (m : Files) (input : RunInput) (out : List ℕ) (report : Report) (e : Cause) → played_in m input out report ≡ Err e
-    → outputs_in m input out report ≡ Err e
-outputs_in-refused m input out report e is = outputs_in-played m input out report (Err e) is
-
--- where it is, the readers' tests decide
-pub outputs_in-passed : (m : Files) (input : RunInput) (out : List ℕ) (report : Report) → played_in m input out report ≡ Ok tt
-    → outputs_in m input out report ≡ recordings_in m input out report 0 input.script.readers
-outputs_in-passed m input out report is = outputs_in-played m input out report (Ok tt) is
+outputs_in-of m input out report played is = ap (λ (r : Result (Unit {0}) Cause). r >>= λ same. recordings_in m input out report 0 input.script.readers) is
 
 -- ---- all
 
 -- where the input isn't right, the check isn't
 pub check_in-input : (m : Files) (script report out : List ℕ) (e : Cause) → input_in m script ≡ Err e → check_in m script report out ≡ Err e
 unfolding check_in
-check_in-input m script report out e is =
-    ap (λ (r : Result RunInput Cause). r >>= λ input. tested_in m input report >>= λ tested. outputs_in m input out tested) is
+check_in-input m script report out e is = rw is refl
 
-check_in-read : (m : Files) (script report out : List ℕ) (input : RunInput) (tested : Result Report Cause) → input_in m script ≡ Ok input
+-- where it is, the report's tests decide, and then those of the outputs
+pub check_in-read : (m : Files) (script report out : List ℕ) (input : RunInput) (tested : Result Report Cause) → input_in m script ≡ Ok input
     → tested_in m input report ≡ tested → check_in m script report out ≡ (tested >>= λ t. outputs_in m input out t)
 unfolding check_in
-check_in-read m script report out input tested read is =
-    ap (λ (r : Result RunInput Cause). r >>= λ i. tested_in m i report >>= λ t. outputs_in m i out t) read
-    ∙ ap (λ (r : Result Report Cause). r >>= λ t. outputs_in m input out t) is
-
--- where the report isn't right, the check isn't
-pub check_in-report : (m : Files) (script report out : List ℕ) (input : RunInput) (e : Cause) → input_in m script ≡ Ok input
-    → tested_in m input report ≡ Err e → check_in m script report out ≡ Err e
-check_in-report m script report out input e read is = check_in-read m script report out input (Err e) read is
-
--- where it is, the outputs decide
-pub check_in-outputs : (m : Files) (script report out : List ℕ) (input : RunInput) (tested : Report) → input_in m script ≡ Ok input
-    → tested_in m input report ≡ Ok tested → check_in m script report out ≡ outputs_in m input out tested
-check_in-outputs m script report out input tested read is = check_in-read m script report out input (Ok tested) read is
+check_in-read m script report out input tested read is = rw read (ap (λ (r : Result Report Cause). r >>= λ t. outputs_in m input out t) is)

@@ -1,15 +1,14 @@
 -- A check of the files of a checked run finds no cause.
 use Rattle.std.proofs.Common.{◌≡◌, ℕ, ◌+◌, ◌≤◌, refl, sym, ◌∙◌, ap, arith, List, [], ◌∷◌, length, map, take, drop, Option, Some, None}
-use Rattle.std.proofs.lemmas.Bool.{leb-true}
 use Rattle.std.proofs.lemmas.List.{take_all}
 use Rattle.std.proofs.lemmas.List.FromFn.{length-range_with_len}
 use Rattle.std.proofs.lemmas.Slice.Eq.{bytes_eq-Decides}
-use Rattle.std.specs.Prelude.{Bool, true, false, ℤ, nat_le, if◌then◌else◌, unwrap_or, Result, Ok, Err}
+use Rattle.std.specs.Prelude.{Bool, true, ℤ, unwrap_or, Result, Ok}
 use Rattle.std.specs.List.{range_with_len}
 use Rattle.std.specs.Option.{option_map}
 use Rattle.std.specs.Str.{bytes_eq}
 use Rattle.lab_check.specs.Checked.{IsChecked, recorded_sounds, run_sounds}
-use Rattle.lab_check.specs.Defects.{most_of_report, tested, tested_report}
+use Rattle.lab_check.specs.Defects.{most_of_report, tested_report}
 use Rattle.lab_check.specs.Lines.{line_of_end, line_of_played}
 use Rattle.lab_check.specs.Runs.{samples_of_run}
 use Rattle.lab_check.specs.Samples.{played_samples, reader_samples, readers_samples, run_samples}
@@ -17,17 +16,15 @@ use Rattle.lab_input.specs.Input.{RunInput, input_in}
 use Rattle.lab_lines.specs.declared.report.Report.{Report}
 use Rattle.lab_lines.specs.declared.script.CardLine.{CardLine}
 use Rattle.lab_lines.specs.declared.script.ReaderLine.{ReaderLine}
-use Rattle.lab_lines.specs.declared.script.Script.{Script}
 use Rattle.lab_output.specs.declared.file.OutputFile.{OutputFile}
 use Rattle.lab_output.specs.Files.{finished_file, output_files, played_file, reader_channels, recorded_file}
-use Rattle.lab_report.specs.Reading.{report_in_text}
 use Rattle.lab_report.specs.Text.{report_text}
 use Rattle.lab_run.specs.LabRun.{Outcome}
 use Rattle.lab_run.specs.Openings.{read_by}
 use Rattle.lab_shelf.specs.Files.{Files, bytes_under}
 use Rattle.lab_stop.specs.Causes.{Cause, bytes_or_cause, first_bytes, ◌>>=◌}
 use Rattle.wav_io.specs.Canonical.{canonical}
-use Rattle.wav_io.specs.Sound.{Sound}
+use Rattle.lab_compare.proofs.Checks.{few-bytes}
 use Rattle.lab_compare.specs.Checking.{HoldsRun, as_tested, check_in, is_same_in, outputs_in, played_in, recording_in, recordings_in, same_in, same_or_line, tested_in}
 
 -- ---- the bytes of a file
@@ -101,20 +98,12 @@ module _ (m : Files) (input : RunInput) (out : List ℕ) (report : Report) where
 
 -- ---- the report
 
--- a text that passes isn't too long
-short-text : (script : Script) (wavs : List Sound) (text : List ℕ) (report : Report) → tested_report script wavs text ≡ Ok report → length text ≤ most_of_report
-short-text script wavs text report is = by_length (nat_le (length text) most_of_report) refl is
-  where
-    by_length : (b : Bool) → nat_le (length text) most_of_report ≡ b → (if b then tested script wavs (report_in_text script text) else Err 0) ≡ Ok report → length text ≤ most_of_report
-    by_length true few passes = leb-true (length text) most_of_report few
-    by_length false few passes = absurd cc
-
 tested-passes : (m : Files) (input : RunInput) (name text : List ℕ) (report : Report) → bytes_under m name ≡ Some text
     → tested_report input.script input.sounds text ≡ Ok report → tested_in m input name ≡ Ok report
 unfolding tested_in
 tested-passes m input name text report held passes =
     ap (λ (r : Result (List ℕ) Cause). r >>= λ bytes. as_tested (tested_report input.script input.sounds bytes))
-    (first-all m name text (most_of_report + 1) held (let few = short-text input.script input.sounds text report passes in omega (arith, few)))
+    (first-all m name text (most_of_report + 1) held (let few = few-bytes input.script input.sounds text report passes in omega (arith, few)))
     ∙ ap as_tested passes
 
 -- ---- a checked run

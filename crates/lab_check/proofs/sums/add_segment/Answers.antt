@@ -1,7 +1,7 @@
 use Rattle.std.proofs.Common.{◌≡◌, ◌≤◌, ◌<◌, ◌+◌, ◌-◌, ◌*◌, ◌⊎◌, inl, inr, ℕ, subst, sym, ap, ◌∙◌, arith, length, List}
 use Rattle.std.proofs.lemmas.Bool.Decides.{nat_tests}
 use Rattle.std.specs.List.{flat_map, range_with_len}
-use Rattle.std.specs.Prelude.{ℤ, pos, true, false, nat_lt, slice_index_or, if◌then◌else◌}
+use Rattle.std.specs.Prelude.{pos, true, false, slice_index_or, if◌then◌else◌}
 use Rattle.mix_core.specs.declared.port.Entry.{Entry}
 use Rattle.dmix_client.specs.Expansion.{frame_entries}
 use Rattle.lab_check.specs.Sums.{IsSummed}

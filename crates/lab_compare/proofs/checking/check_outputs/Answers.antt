@@ -1,15 +1,15 @@
-use Rattle.std.proofs.Common.{sym}
+use Rattle.std.proofs.Common.{sym, Err, Ok}
 use Rattle.lab_input.specs.Read.{input_of}
 use Rattle.lab_stop.specs.ReadLaws.{AnswersFrom-last, AnswersFrom-passed, IsSameShelf-same}
 use Rattle.lab_stop.specs.TestLaws.{IsSameShelf-tests, OnlyTests-after, OnlyTests-passed}
-use Rattle.lab_compare.proofs.Checks.{outputs_in-passed, outputs_in-refused}
+use Rattle.lab_compare.proofs.Checks.{outputs_in-of}
 use Rattle.lab_compare.proofs.checking.check_outputs.Goals as goal
 
 pub returns-in_err-check_played-clause-outputs : goal.returns-in_err-check_played-clause-outputs
 returns-in_err-check_played-clause-outputs g c =
     AnswersFrom-passed g.S.Shelf _ _ c.from_residual.result c.in_err-check_played.field-0.0 _ _ _ _ c.from_residual.ensures.1
     (IsSameShelf-same g.S.Shelf _) c.in_err-check_played.ensures.played
-    (λ m told. outputs_in-refused m (input_of c.args.input.now) c.args.out.now c.args.report.now)
+    (λ m told e. outputs_in-of m (input_of c.args.input.now) c.args.out.now c.args.report.now (Err e))
 
 pub returns-in_err-check_played-clause-only_tests : goal.returns-in_err-check_played-clause-only_tests
 returns-in_err-check_played-clause-only_tests g c =
@@ -20,7 +20,7 @@ pub returns-clause-outputs : goal.returns-clause-outputs
 returns-clause-outputs g c =
     AnswersFrom-last g.S.Shelf _ c.check_recordings.result _ _ _ _ (IsSameShelf-tests g.S.Shelf _ _ _ c.in_ok-check_played.ensures.only_tests)
     c.check_recordings.ensures.recorded
-    (λ m told. sym (outputs_in-passed m (input_of c.args.input.now) c.args.out.now c.args.report.now (c.in_ok-check_played.ensures.played.answer m told)))
+    (λ m told. sym (outputs_in-of m (input_of c.args.input.now) c.args.out.now c.args.report.now (Ok tt) (c.in_ok-check_played.ensures.played.answer m told)))
 
 pub returns-clause-only_tests : goal.returns-clause-only_tests
 returns-clause-only_tests g c =

@@ -1,14 +1,15 @@
 use Rattle.std.proofs.Common.{ap, arith, length, subst, sym}
+use Rattle.std.proofs.lemmas.Option.{slice_get_within}
 use Rattle.lab_input.specs.Read.{input_of}
 use Rattle.lab_output.specs.FileLaws.{IsOutputFile-recorded}
 use Rattle.lab_output.specs.Files.{IsOutputFile}
 use Rattle.lab_stop.specs.ReadLaws.{AnswersFrom-last, AnswersFrom-memory, IsSameShelf-same}
 use Rattle.lab_stop.specs.TestLaws.{OnlyTests-memory}
-use Rattle.lab_compare.proofs.Checks.{reader-below, reader-line, reader_samples-taken, recording_in-of}
+use Rattle.lab_compare.proofs.Checks.{reader-line, reader_samples-taken, recording_in-of}
 use Rattle.lab_compare.proofs.checking.check_recording.Goals as goal
 
 pub reader_samples-requires-clause-number : goal.reader_samples-requires-clause-number
-reader_samples-requires-clause-number g c = reader-below c.args.input.now.script.readers c.args.number c.args.reader.now c.requires.reader
+reader_samples-requires-clause-number g c = slice_get_within c.args.input.now.script.readers c.args.number c.args.reader.now c.requires.reader
 
 pub check_file-requires-clause-file : goal.check_file-requires-clause-file
 check_file-requires-clause-file g c =

@@ -1,4 +1,4 @@
-use Rattle.std.proofs.Common.{◌≡◌, ◌∙◌, subst, sym}
+use Rattle.std.proofs.Common.{◌≡◌, ◌∙◌, subst, sym, Err, Ok}
 use Rattle.std.specs.Prelude.{Option}
 use Rattle.lab_input.specs.Read.{input_of}
 use Rattle.lab_shelf.specs.Files.{Files}
@@ -6,7 +6,7 @@ use Rattle.lab_stop.specs.ReadLaws.{AnswersFrom-last, AnswersFrom-passed, IsSame
 use Rattle.lab_stop.specs.TestLaws.{IsSameShelf-tests, OnlyTests-after, OnlyTests-passed, OnlyTests-reads}
 use Rattle.lab_compare.specs.Checking.{IsReportIn}
 use Rattle.lab_compare.proofs.CheckedFiles.{IsCheckedRun-done}
-use Rattle.lab_compare.proofs.Checks.{check_in-input, check_in-outputs, check_in-report}
+use Rattle.lab_compare.proofs.Checks.{check_in-input, check_in-read}
 use Rattle.lab_compare.proofs.checking.check_run.Goals as goal
 
 pub returns-in_err-input-clause-check : goal.returns-in_err-input-clause-check
@@ -24,7 +24,7 @@ pub returns-in_err-tested-clause-check : goal.returns-in_err-tested-clause-check
 returns-in_err-tested-clause-check g c =
     AnswersFrom-passed g.S.Shelf _ _ c.from_residual-in_err-tested.result c.in_err-tested.field-0.0 _ _ _ _ c.from_residual-in_err-tested.ensures.1
     (IsSameShelf-reads g.S.Shelf _ _ _ c.in_ok-input.ensures.only_reads) c.in_err-tested.ensures.report
-    (λ m told e. check_in-report m c.args.script.now c.args.report.now c.args.out.now (input_of c.in_ok-input.input) e (c.in_ok-input.ensures.input.answer m told))
+    (λ m told e. check_in-read m c.args.script.now c.args.report.now c.args.out.now (input_of c.in_ok-input.input) (Err e) (c.in_ok-input.ensures.input.answer m told))
 
 pub returns-in_err-tested-clause-only_tests : goal.returns-in_err-tested-clause-only_tests
 returns-in_err-tested-clause-only_tests g c =
@@ -37,7 +37,7 @@ returns-clause-check g c =
     AnswersFrom-last g.S.Shelf _ c.check_outputs.result _ _ _ _
     (IsSameShelf-then g.S.Shelf _ _ _ (IsSameShelf-reads g.S.Shelf _ _ _ c.in_ok-input.ensures.only_reads)
     (IsSameShelf-tests g.S.Shelf _ _ _ c.in_ok-tested.ensures.only_tests)) c.check_outputs.ensures.outputs
-    (λ m told. sym (check_in-outputs m c.args.script.now c.args.report.now c.args.out.now (input_of c.in_ok-input.input) c.in_ok-tested.tested
+    (λ m told. sym (check_in-read m c.args.script.now c.args.report.now c.args.out.now (input_of c.in_ok-input.input) (Ok c.in_ok-tested.tested)
     (c.in_ok-input.ensures.input.answer m told) (c.in_ok-tested.ensures.report.answer m (c.in_ok-input.ensures.only_reads.files ∙ told))))
 
 pub returns-clause-only_tests : goal.returns-clause-only_tests

@@ -1,13 +1,14 @@
+use Rattle.std.proofs.Common.{Err}
 use Rattle.lab_input.specs.Read.{input_of}
 use Rattle.lab_stop.specs.ReadLaws.{AnswersFrom-passed, IsSameShelf-same}
 use Rattle.lab_stop.specs.TestLaws.{OnlyTests-passed, OnlyTests-reads}
-use Rattle.lab_compare.proofs.Checks.{Misses-test, TestFaults-passed, tested-answers, tested-held, tested_in-missing}
+use Rattle.lab_compare.proofs.Checks.{Misses-test, TestFaults-passed, tested-answers, tested-held, tested_in-of}
 use Rattle.lab_compare.proofs.checking.load_report.Goals as goal
 
 pub returns-in_err-text-clause-report : goal.returns-in_err-text-clause-report
 returns-in_err-text-clause-report g c =
     AnswersFrom-passed g.S.Shelf _ _ c.from_residual.result c.in_err-text.field-0.0 _ _ _ _ c.from_residual.ensures.1
-    (IsSameShelf-same g.S.Shelf _) c.in_err-text.ensures.bytes (λ m told. tested_in-missing m (input_of c.args.input.now) c.args.name.now)
+    (IsSameShelf-same g.S.Shelf _) c.in_err-text.ensures.bytes (λ m told e. tested_in-of m (input_of c.args.input.now) c.args.name.now (Err e))
 
 pub returns-in_err-text-clause-only_tests : goal.returns-in_err-text-clause-only_tests
 returns-in_err-text-clause-only_tests g c =

@@ -1,14 +1,14 @@
-use Rattle.std.proofs.Common.{ap, ◌∙◌}
+use Rattle.std.proofs.Common.{ap, ◌∙◌, Err}
 use Rattle.lab_stop.specs.ReadLaws.{AnswersFrom-passed, IsSameShelf-reads, IsSameShelf-same}
 use Rattle.lab_stop.specs.TestLaws.{OnlyTests-done, OnlyTests-passed, OnlyTests-reads}
 use Rattle.lab_compare.specs.Checking.{same_or_line}
-use Rattle.lab_compare.proofs.Checks.{same_in-compared, same_in-missing}
+use Rattle.lab_compare.proofs.Checks.{same_in-of}
 use Rattle.lab_compare.proofs.comparison.check_file.Goals as goal
 
 pub returns-in_err-same-clause-same : goal.returns-in_err-same-clause-same
 returns-in_err-same-clause-same g c =
     AnswersFrom-passed g.S.Shelf _ _ c.from_residual.result c.in_err-same.field-0.0 _ _ _ _ c.from_residual.ensures.1
-    (IsSameShelf-same g.S.Shelf _) c.in_err-same.ensures.same (λ m told. same_in-missing m c.args.line c.args.file.now c.args.samples.now)
+    (IsSameShelf-same g.S.Shelf _) c.in_err-same.ensures.same (λ m told e. same_in-of m c.args.line c.args.file.now c.args.samples.now (Err e))
 
 pub returns-in_err-same-clause-only_tests : goal.returns-in_err-same-clause-only_tests
 returns-in_err-same-clause-only_tests g c =
@@ -17,7 +17,7 @@ returns-in_err-same-clause-only_tests g c =
 
 pub returns-then-same-clause-same : goal.returns-then-same-clause-same
 returns-then-same-clause-same g c = record {
-  answer = λ m told. same_in-compared m c.args.line c.args.file.now c.args.samples.now _ (c.in_ok-same.ensures.same.answer m told)
+  answer = λ m told. same_in-of m c.args.line c.args.file.now c.args.samples.now _ (c.in_ok-same.ensures.same.answer m told)
       ∙ ap (same_or_line c.args.line) c.if-same.true;
   missing = λ is m told. tt;
 }
@@ -27,7 +27,7 @@ returns-then-same-clause-only_tests g c = OnlyTests-done g.S.Shelf _ _ _ (IsSame
 
 pub returns-else-same-clause-same : goal.returns-else-same-clause-same
 returns-else-same-clause-same g c = record {
-  answer = λ m told. same_in-compared m c.args.line c.args.file.now c.args.samples.now _ (c.in_ok-same.ensures.same.answer m told)
+  answer = λ m told. same_in-of m c.args.line c.args.file.now c.args.samples.now _ (c.in_ok-same.ensures.same.answer m told)
       ∙ ap (same_or_line c.args.line) c.if-same.false;
   missing = λ is m told. tt;
 }
