@@ -1,6 +1,6 @@
 -- The card, the clients, the readers and the ops of their lines are in their ranges.
-use Rattle.std.proofs.Common.{◌≡◌, ℕ, ◌/◌, ◌≤◌, ◌<◌, Bool, true, false, not, cond, List, [], ◌∷◌, length, refl, subst, arith, Option, Some, is_some, Result, Ok, codes, bytes_eq, nat_le}
-use Rattle.lab_script.specs.declared.error.ScriptWhy.{ScriptWhy}
+use Rattle.std.proofs.Common.{◌≡◌, ℕ, ◌/◌, ◌≤◌, ◌<◌, Bool, true, false, not, cond, List, [], ◌∷◌, length, refl, subst, arith, Option, Some, is_some, Ok, codes, bytes_eq, nat_le}
+use Rattle.std.proofs.lemmas.Bool.{leb-false}
 use Rattle.lab_script.specs.declared.error.ScriptWhy.TheVariants as why
 use Rattle.lab_script.specs.declared.keys.Kind.TheVariants as kind
 use Rattle.lab_lines.specs.declared.line.Actor.{Actor}
@@ -17,12 +17,9 @@ use Rattle.text_words.specs.Table.{row_of}
 use Rattle.lab_script.specs.Keys.{number_in, keys_from, word_after, number_given, small_given, byte_given, name_of, file_of, file_where, bindings_where}
 use Rattle.lab_lines.specs.Limits.{IsIn, IsCardLine, IsClientLine, IsReaderLine, IsOpOf}
 use Rattle.lab_script.specs.Ops.{ops_of, with_count, op_with, op_of}
-use Rattle.lab_script.proofs.Ranges.{bind_ok, not_refused, some_is, below, number_in-range, given_number, given_where, given_stop, limited_in, name_of-is, file_of-is, file_where-is, bindings_where-is, divides-half, divides-rest}
+use Rattle.lab_script.proofs.Ranges.{bind_ok, ok_to, not_refused, some_is, number_in-range, given_number, given_where, given_stop, limited_in, name_of-is, file_of-is, file_where-is, bindings_where-is, divides-half, divides-rest}
 
 -- the card of its line is in its ranges
-pub ok_card : (x card : CardLine) → ◌≡◌ {A = Result CardLine ScriptWhy} (Ok x) (Ok card) → IsCardLine x → IsCardLine card
-ok_card x card e h = let same : x ≡ card = cc (e) in subst IsCardLine same h
-
 pub card_of-ranges : (number : ℕ) (ws : List (List ℕ)) (card : CardLine) → card_of number ws ≡ Ok card → IsCardLine card
 unfolding card_of
 card_of-ranges number ws card e =
@@ -40,7 +37,7 @@ card_of-ranges number ws card e =
     let places : IsIn 1 64 (small_given (codes "places") 64 ws) = limited_in 4294967295 1 64 _ (omega arith) (given_number kind.Card (codes "places") 64 1 64 ws keys refl (record { low = omega arith; high = omega arith })) in
     let lap : IsIn 0 4294967294 (small_given (codes "lap") 0 ws) = limited_in 4294967295 0 4294967294 _ (omega arith) (given_number kind.Card (codes "lap") 0 0 4294967294 ws keys refl (record { low = omega arith; high = omega arith })) in
     let half : p ≤ r / 2 = divides-half p r fits in
-    ok_card _ card f.2 (record {
+    ok_to IsCardLine _ card f.2 (record {
       channels = channels;
       rate = rate;
       ring = ring;
@@ -58,9 +55,6 @@ pub record IsNewClient (s : State) (client : ClientLine) : Type 0 where
   pub new : is_some (actor_named s client.name) ≡ false
   pub room : length s.clients < 64
 
-ok_client : (s : State) (x client : ClientLine) → ◌≡◌ {A = Result ClientLine ScriptWhy} (Ok x) (Ok client) → IsNewClient s x → IsNewClient s client
-ok_client s x client e h = let same : x ≡ client = cc (e) in subst (IsNewClient s) same h
-
 pub client_of-ranges : (s : State) (number : ℕ) (ws : List (List ℕ)) (client : ClientLine) → client_of s number ws ≡ Ok client → IsNewClient s client
 unfolding client_of
 client_of-ranges s number ws client e =
@@ -76,7 +70,7 @@ client_of-ranges s number ws client e =
     let fits = bind_ok (refuse_if (nat_le s.card.ring (number_given (codes "lead") s.card.period ks)) why.Fit) _ client room.2 in
     let bindings = bind_ok (bindings_where s.card.channels (word_after (codes "bindings") ks)) _ client fits.2 in
     let form = name_of-is first.0.0 name.0 name.1 in
-    ok_client s _ client bindings.2 (record {
+    ok_to (IsNewClient s) _ client bindings.2 (record {
       line = record {
         name = form.0;
         file = file_of-is second.0.0 file.0 file.1;
@@ -85,10 +79,10 @@ client_of-ranges s number ws client e =
         period = given_where kind.Client (codes "period") 16 8192 ks (omega arith) keys refl;
         start = given_number kind.Client (codes "start") 1 1 65536 ks keys refl (record { low = omega arith; high = omega arith });
         stop = given_stop kind.Client ks keys refl;
-        lead = below s.card.ring (number_given (codes "lead") s.card.period ks) (not_refused _ why.Fit fits.0 fits.1);
+        lead = leb-false s.card.ring (number_given (codes "lead") s.card.period ks) (not_refused _ why.Fit fits.0 fits.1);
       };
       new = subst (λ (w : List ℕ). is_some (actor_named s w) ≡ false) form.1 (not_refused _ why.NameTwice once.0 once.1);
-      room = below 64 (length s.clients) (not_refused _ why.TooMany room.0 room.1);
+      room = leb-false 64 (length s.clients) (not_refused _ why.TooMany room.0 room.1);
     })
 
 -- a reader that is read: it is in its ranges, its name is new, and there is room for it
@@ -96,9 +90,6 @@ pub record IsNewReader (s : State) (reader : ReaderLine) : Type 0 where
   pub line : IsReaderLine s.card reader
   pub new : is_some (actor_named s reader.name) ≡ false
   pub room : length s.readers < 64
-
-ok_reader : (s : State) (x reader : ReaderLine) → ◌≡◌ {A = Result ReaderLine ScriptWhy} (Ok x) (Ok reader) → IsNewReader s x → IsNewReader s reader
-ok_reader s x reader e h = let same : x ≡ reader = cc (e) in subst (IsNewReader s) same h
 
 pub reader_of-ranges : (s : State) (number : ℕ) (ws : List (List ℕ)) (reader : ReaderLine) → reader_of s number ws ≡ Ok reader → IsNewReader s reader
 unfolding reader_of
@@ -112,7 +103,7 @@ reader_of-ranges s number ws reader e =
     let room = bind_ok (refuse_if (nat_le 64 (length s.readers)) why.TooMany) _ reader once.2 in
     let bindings = bind_ok (bindings_where s.card.channels (word_after (codes "bindings") ks)) _ reader room.2 in
     let form = name_of-is first.0.0 name.0 name.1 in
-    ok_reader s _ reader bindings.2 (record {
+    ok_to (IsNewReader s) _ reader bindings.2 (record {
       line = record {
         name = form.0;
         bindings = bindings_where-is s.card.channels (word_after (codes "bindings") ks) bindings.0 bindings.1;
@@ -122,7 +113,7 @@ reader_of-ranges s number ws reader e =
         stop = given_stop kind.Reader ks keys refl;
       };
       new = subst (λ (w : List ℕ). is_some (actor_named s w) ≡ false) form.1 (not_refused _ why.NameTwice once.0 once.1);
-      room = below 64 (length s.readers) (not_refused _ why.TooMany room.0 room.1);
+      room = leb-false 64 (length s.readers) (not_refused _ why.TooMany room.0 room.1);
     })
 
 -- what each row of a table has, its choice has
@@ -148,19 +139,16 @@ ops_of-have Card = ((λ n h. h), (tt, tt))
 ops_of-have (Client number) = ((λ n h. h), (tt, (tt, (tt, (tt, (tt, (tt, (tt, (tt, (tt, ((λ n h. h), (tt, ((λ n h. h), tt)))))))))))))
 ops_of-have (Reader number) = ((λ n h. h), (tt, (tt, (tt, (tt, (tt, (tt, ((λ n h. h), tt))))))))
 
-ok_op : (actor : Actor) (x o : Op) → ◌≡◌ {A = Result Op ScriptWhy} (Ok x) (Ok o) → IsOpOf actor x → IsOpOf actor o
-ok_op actor x o e h = let same : x ≡ o = cc (e) in subst (IsOpOf actor) same h
-
 op_with-is : (actor : Actor) (form : Form) (ws : List (List ℕ)) (o : Op) → IsFormOf actor form → op_with form ws ≡ Ok o → IsOpOf actor o
 op_with-is actor (Plain x) ws o h e =
     let a = bind_ok (end_of ws) (λ u. Ok x) o e in
-    ok_op actor x o a.2 h
+    ok_to (IsOpOf actor) x o a.2 h
 op_with-is actor (Counted x most) ws o h e =
     let number = bind_ok (word_and_rest ws) _ o e in
     let n = bind_ok (number_in 0 most number.0.0) _ o number.2 in
     let end = bind_ok (end_of number.0.1) _ o n.2 in
     let r = number_in-range 0 most number.0.0 n.0 n.1 in
-    ok_op actor (with_count x n.0) o end.2 (h n.0 r.1.high)
+    ok_to (IsOpOf actor) (with_count x n.0) o end.2 (h n.0 r.1.high)
 
 -- what is asked for is something that the actor can be asked for
 pub op_of-is : (actor : Actor) (ws : List (List ℕ)) (o : Op) → op_of actor ws ≡ Ok o → IsOpOf actor o

@@ -1,5 +1,5 @@
 -- The ranges of what is given by keys, and the forms of names, files and bindings.
-use Rattle.std.proofs.Common.{◌≡◌, ℕ, ◌/◌, ◌%◌, ◌≤◌, ◌<◌, Bool, true, false, not, cond, List, [], ◌∷◌, ◌++◌, refl, ap, subst, ◌∙◌, arith, Option, Some, None, option_map, Result, Ok, Err, codes, bytes_eq, nat_le}
+use Rattle.std.proofs.Common.{◌≡◌, ℕ, ◌/◌, ◌%◌, ◌≤◌, Bool, true, false, not, cond, List, [], ◌∷◌, ◌++◌, refl, ap, subst, ◌∙◌, arith, Option, Some, None, option_map, Result, Ok, Err, codes, bytes_eq, nat_le}
 use Rattle.std.specs.Option.{option_map_or}
 use Rattle.std.proofs.lemmas.Bool.Decides.{nat_tests}
 use Rattle.std.proofs.lemmas.Slice.Eq.{bytes_eq-Decides}
@@ -23,6 +23,10 @@ pub bind_ok : {A B : Type 0} (r : Result A ScriptWhy) (f : A → Result B Script
 bind_ok (Ok x) f y e = (x, refl, e)
 bind_ok (Err w) f y e = absurd (cc)
 
+-- what holds of the value of an answer
+pub ok_to : {A E : Type 0} (P : A → Type 0) (x y : A) → ◌≡◌ {A = Result A E} (Ok x) (Ok y) → P x → P y
+ok_to P x y e h = let same : x ≡ y = cc (e) in subst P same h
+
 pub not_refused : (b : Bool) (w : ScriptWhy) (u : Unit {0}) → refuse_if b w ≡ Ok u → b ≡ false
 not_refused true w u e = absurd (cc)
 not_refused false w u e = refl
@@ -33,9 +37,6 @@ some_is w (Some y) x e = cc
 
 pub at_least : (a b : ℕ) → not (nat_le a b) ≡ false → a ≤ b
 at_least a b e = grind (arith, nat_tests)
-
-pub below : (a b : ℕ) → nat_le a b ≡ false → b < a
-below a b e = grind (arith, nat_tests)
 
 pub number_in-range : (least most : ℕ) (w : List ℕ) (n : ℕ) → number_in least most w ≡ Ok n → (number_of_word w ≡ Some n) × IsIn least most n
 number_in-range least most w n e =

@@ -1,7 +1,8 @@
 -- What the lines that are read so far keep: ranges, names that differ, actors that there are, and the card's limits.
-use Rattle.std.proofs.Common.{◌≡◌, ◌≢◌, ℕ, ◌+◌, ◌*◌, ◌≤◌, ◌<◌, ◌==◌, Bool, true, false, not, cond, ◌&&◌, ◌||◌, List, [], ◌∷◌, ◌++◌, length, get_or, refl, ap, sym, subst, ◌∙◌, arith, zero, suc, Option, Some, None, option_map, is_some, Result, Ok, Err, nat_le, nat_lt}
+use Rattle.std.proofs.Common.{Bool, Err, List, None, Ok, Option, Result, Some, [], ap, arith, cond, false, get_or, is_some, length, length-append, nat_le, nat_lt, not, option_map, refl, subst, suc, sym, true, zero, ℕ, ◌&&◌, ◌*◌, ◌++◌, ◌+◌, ◌<◌, ◌==◌, ◌||◌, ◌∙◌, ◌∷◌, ◌≡◌, ◌≢◌, ◌≤◌}
 use Rattle.std.specs.List.{All, AllPairs, list_any, position, position_or_len}
 use Rattle.std.proofs.Math.Nat.{mul-le-mul_right}
+use Rattle.std.proofs.lemmas.Bool.{leb-false, ltb-false, or_parts, or_right}
 use Rattle.std.proofs.lemmas.Bool.Decides.{nat_tests, not_from_Decides}
 use Rattle.std.proofs.lemmas.List.{append-nil}
 use Rattle.std.proofs.lemmas.List.Elements.{All-push, All-nil}
@@ -31,7 +32,7 @@ use Rattle.lab_script.specs.Ops.{op_of}
 use Rattle.lab_script.specs.Reading.{on_line, card_line, first_by, after, script_at_end, script_at, script_of_lines, Answers}
 use Rattle.std.specs.Result.{IfOk}
 use Rattle.lab_lines.specs.Script.{phases_of, played_in, frames_played, first_frame, is_card_line, is_of_card, is_unplug, unplugs, played_by}
-use Rattle.lab_script.proofs.Ranges.{bind_ok, not_refused, some_is, below}
+use Rattle.lab_script.proofs.Ranges.{bind_ok, ok_to, not_refused, some_is}
 use Rattle.lab_script.proofs.Kept.{card_of-ranges, IsNewClient, client_of-ranges, IsNewReader, reader_of-ranges, op_of-is}
 
 -- whether a phase is open
@@ -39,33 +40,43 @@ abbrev pub open_phases : Option ℕ → ℕ
 open_phases None = 0
 open_phases (Some line) = 1
 
+-- clients and readers that are declared: they are in their ranges, and their names differ
+pub record AreDeclared (card : CardLine) (clients : List ClientLine) (readers : List ReaderLine) : Type 0 where
+  pub few_clients : length clients ≤ 64
+  pub few_readers : length readers ≤ 64
+  pub each_client : All (IsClientLine card) clients
+  pub each_reader : All (IsReaderLine card) readers
+  pub clients_differ : AllPairs (λ (a : ClientLine) (b : ClientLine). a.name ≢ b.name) clients
+  pub readers_differ : AllPairs (λ (a : ReaderLine) (b : ReaderLine). a.name ≢ b.name) readers
+  pub apart : All (λ (client : ClientLine). All (λ (reader : ReaderLine). client.name ≢ reader.name) readers) clients
+
+-- items, and the lines of the phase that is open, where so many clients and readers are declared
+pub record AreItems (clients readers : ℕ) (body : List Item) (lines : List Line) : Type 0 where
+  pub each_item : All (IsItem clients readers) body
+  pub each_line : All (IsLine clients readers) lines
+  pub alone : IsAlone lines
+
+-- phases, and the lines of the one that is open: how many they are, and whether the card is unplugged
+pub record ArePhases (phases : List (List Line)) (lines : List Line) (phase : Option ℕ) (count : ℕ) (gone : Bool) : Type 0 where
+  pub count_is : length phases + open_phases phase ≡ count
+  pub few : count ≤ 4096
+  pub after : AllPairs IsGoneAfter phases
+  pub lines_after : All (λ (before : List Line). IsGoneAfter before lines) phases
+  pub gone_is : gone ≡ (list_any unplugs phases || unplugs lines)
+
+-- so many frames are played in them
+pub record ArePlayed (card : CardLine) (phases : List (List Line)) (lines : List Line) (played : ℕ) : Type 0 where
+  pub sum : frames_played phases + played_in lines ≡ played
+  pub frames : played ≤ 4194304
+  pub laps : first_frame card + played + card.ring ≤ 4294967295 * card.ring
+
 -- what is read so far keeps the limits of a script
 pub record IsState (s : State) : Type 0 where
   pub card : IsCardLine s.card
-  pub clients : length s.clients ≤ 64
-  pub readers : length s.readers ≤ 64
-  pub each_client : All (IsClientLine s.card) s.clients
-  pub each_reader : All (IsReaderLine s.card) s.readers
-  pub clients_differ : AllPairs (λ (a : ClientLine) (b : ClientLine). a.name ≢ b.name) s.clients
-  pub readers_differ : AllPairs (λ (a : ReaderLine) (b : ReaderLine). a.name ≢ b.name) s.readers
-  pub apart : All (λ (client : ClientLine). All (λ (reader : ReaderLine). client.name ≢ reader.name) s.readers) s.clients
-  pub body : All (IsItem (length s.clients) (length s.readers)) s.body
-  pub lines : All (IsLine (length s.clients) (length s.readers)) s.lines
-  pub alone : IsAlone s.lines
-  pub phases : length (phases_of s.body) + open_phases s.phase ≡ s.phases
-  pub few_phases : s.phases ≤ 4096
-  pub gone : AllPairs IsGoneAfter (phases_of s.body)
-  pub gone_lines : All (λ (before : List Line). IsGoneAfter before s.lines) (phases_of s.body)
-  pub gone_is : s.gone ≡ (list_any unplugs (phases_of s.body) || unplugs s.lines)
-  pub played : frames_played (phases_of s.body) + played_in s.lines ≡ s.played
-  pub frames : s.played ≤ 4194304
-  pub laps : first_frame s.card + s.played + s.card.ring ≤ 4294967295 * s.card.ring
-
-ok_state : (x t : State) → ◌≡◌ {A = Result State ScriptWhy} (Ok x) (Ok t) → IsState x → IsState t
-ok_state x t e h = let same : x ≡ t = cc (e) in subst IsState same h
-
-not_above : (a b : ℕ) → nat_lt a b ≡ false → b ≤ a
-not_above a b e = grind (arith, nat_tests)
+  pub declared : AreDeclared s.card s.clients s.readers
+  pub items : AreItems (length s.clients) (length s.readers) s.body s.lines
+  pub phases : ArePhases (phases_of s.body) s.lines s.phase s.phases s.gone
+  pub played : ArePlayed s.card (phases_of s.body) s.lines s.played
 
 laps_at_first : (lap ring : ℕ) → lap ≤ 4294967294 → lap * ring + 0 + ring ≤ 4294967295 * ring
 laps_at_first lap ring h = omega (arith, mul-le-mul_right {m = lap} {n = 4294967294} ring h)
@@ -74,24 +85,18 @@ laps_at_first lap ring h = omega (arith, mul-le-mul_right {m = lap} {n = 4294967
 pub begun-kept : (card : CardLine) → IsCardLine card → IsState (card_alone card)
 begun-kept card h = record {
   card = h;
-  clients = omega arith;
-  readers = omega arith;
-  each_client = All-nil _;
-  each_reader = All-nil _;
-  clients_differ = λ i j d a b. absurd (omega (arith, b));
-  readers_differ = λ i j d a b. absurd (omega (arith, b));
-  apart = All-nil _;
-  body = All-nil _;
-  lines = All-nil _;
-  alone = λ e. absurd (cc);
-  phases = refl;
-  few_phases = omega arith;
-  gone = λ i j d a b. absurd (omega (arith, b));
-  gone_lines = All-nil _;
-  gone_is = refl;
-  played = refl;
-  frames = omega arith;
-  laps = laps_at_first card.lap card.ring h.lap;
+  declared = record {
+    few_clients = omega arith;
+    few_readers = omega arith;
+    each_client = All-nil _;
+    each_reader = All-nil _;
+    clients_differ = λ i j d a b. absurd (omega (arith, b));
+    readers_differ = λ i j d a b. absurd (omega (arith, b));
+    apart = All-nil _;
+  };
+  items = record { each_item = All-nil _; each_line = All-nil _; alone = λ e. absurd (cc) };
+  phases = record { count_is = refl; few = omega arith; after = λ i j d a b. absurd (omega (arith, b)); lines_after = All-nil _; gone_is = refl };
+  played = record { sum = refl; frames = omega arith; laps = laps_at_first card.lap card.ring h.lap };
 }
 
 -- a place of a list, where there is one
@@ -118,7 +123,7 @@ named-is s w actor e =
     named_by (length s.clients) (length s.readers) (position (is_client w) s.clients) (position (is_reader w) s.readers) actor
     (position-in (is_client w) s.clients) (position-in (is_reader w) s.readers) e
 
-border-actor : (m n : ℕ) (actor : Actor) → IsBorder m n actor → IsActor m n actor
+pub border-actor : (m n : ℕ) (actor : Actor) → IsBorder m n actor → IsActor m n actor
 border-actor m n Card h = tt
 border-actor m n (Client k) h = h
 border-actor m n (Reader k) h = h
@@ -168,67 +173,53 @@ more_item m n p q (item.Opens number actor) a b h = more_border m n p q actor a 
 more_item m n p q (item.Closes number actor) a b h = more_border m n p q actor a b h
 more_item m n p q (item.Phase lines) a b h = record { each = more_lines m n p q lines a b h.each; alone = h.alone }
 
-more_items : (m n p q : ℕ) (items : List Item) → m ≤ p → n ≤ q → All (IsItem m n) items → All (IsItem p q) items
-more_items m n p q items a b all = λ k d h. more_item m n p q _ a b (all k d h)
-
-length_more : {X : Type 0} (xs : List X) (x : X) → length (xs ++ x ∷ []) ≡ length xs + 1
-length_more [] x = refl
-length_more (y ∷ ys) x = let e = length_more ys x in omega arith
+more : (m n p q : ℕ) (body : List Item) (lines : List Line) → m ≤ p → n ≤ q → AreItems m n body lines → AreItems p q body lines
+more m n p q body lines a b are = record { each_item = λ k d h. more_item m n p q _ a b (are.each_item k d h); each_line = more_lines m n p q lines a b are.each_line; alone = are.alone }
 
 -- one client more
 client-kept : (s : State) (client : ClientLine) → IsNewClient s client → IsState s → IsState (record s { clients = s.clients ++ client ∷ [] })
 client-kept s client new st =
-    let more : length (s.clients ++ client ∷ []) ≡ length s.clients + 1 = length_more s.clients client in
+    let count : length (s.clients ++ client ∷ []) ≡ length s.clients + 1 = length-append s.clients (client ∷ []) in
     let at_least : length s.clients ≤ length (s.clients ++ client ∷ []) = omega arith in
     let same : length s.readers ≤ length s.readers = omega arith in
+    let before = st.declared in
     record {
       card = st.card;
-      clients = omega (arith, new.room);
-      readers = st.readers;
-      each_client = All-push (IsClientLine s.card) s.clients client st.each_client new.line;
-      each_reader = st.each_reader;
-      clients_differ = all_pairs_push (λ (a : ClientLine) (b : ClientLine). a.name ≢ b.name) s.clients client st.clients_differ (client-differs s client.name new.new);
-      readers_differ = st.readers_differ;
-      apart = All-push (λ (c : ClientLine). All (λ (reader : ReaderLine). c.name ≢ reader.name) s.readers) s.clients client st.apart (λ k d h e. reader-differs s client.name new.new k d h (sym e));
-      body = more_items _ _ _ _ s.body at_least same st.body;
-      lines = more_lines _ _ _ _ s.lines at_least same st.lines;
-      alone = st.alone;
+      declared = record {
+        few_clients = omega (arith, new.room);
+        few_readers = before.few_readers;
+        each_client = All-push (IsClientLine s.card) s.clients client before.each_client new.line;
+        each_reader = before.each_reader;
+        clients_differ = all_pairs_push (λ (a : ClientLine) (b : ClientLine). a.name ≢ b.name) s.clients client before.clients_differ (client-differs s client.name new.new);
+        readers_differ = before.readers_differ;
+        apart = All-push (λ (c : ClientLine). All (λ (reader : ReaderLine). c.name ≢ reader.name) s.readers) s.clients client before.apart (λ k d h e. reader-differs s client.name new.new k d h (sym e));
+      };
+      items = more _ _ _ _ s.body s.lines at_least same st.items;
       phases = st.phases;
-      few_phases = st.few_phases;
-      gone = st.gone;
-      gone_lines = st.gone_lines;
-      gone_is = st.gone_is;
       played = st.played;
-      frames = st.frames;
-      laps = st.laps;
     }
 
 -- one reader more
 reader-kept : (s : State) (reader : ReaderLine) → IsNewReader s reader → IsState s → IsState (record s { readers = s.readers ++ reader ∷ [] })
 reader-kept s reader new st =
-    let more : length (s.readers ++ reader ∷ []) ≡ length s.readers + 1 = length_more s.readers reader in
+    let count : length (s.readers ++ reader ∷ []) ≡ length s.readers + 1 = length-append s.readers (reader ∷ []) in
     let at_least : length s.readers ≤ length (s.readers ++ reader ∷ []) = omega arith in
     let same : length s.clients ≤ length s.clients = omega arith in
+    let before = st.declared in
     record {
       card = st.card;
-      clients = st.clients;
-      readers = omega (arith, new.room);
-      each_client = st.each_client;
-      each_reader = All-push (IsReaderLine s.card) s.readers reader st.each_reader new.line;
-      clients_differ = st.clients_differ;
-      readers_differ = all_pairs_push (λ (a : ReaderLine) (b : ReaderLine). a.name ≢ b.name) s.readers reader st.readers_differ (reader-differs s reader.name new.new);
-      apart = λ k d h. All-push (λ (r : ReaderLine). (get_or s.clients k d).name ≢ r.name) s.readers reader (st.apart k d h) (client-differs s reader.name new.new k d h);
-      body = more_items _ _ _ _ s.body same at_least st.body;
-      lines = more_lines _ _ _ _ s.lines same at_least st.lines;
-      alone = st.alone;
+      declared = record {
+        few_clients = before.few_clients;
+        few_readers = omega (arith, new.room);
+        each_client = before.each_client;
+        each_reader = All-push (IsReaderLine s.card) s.readers reader before.each_reader new.line;
+        clients_differ = before.clients_differ;
+        readers_differ = all_pairs_push (λ (a : ReaderLine) (b : ReaderLine). a.name ≢ b.name) s.readers reader before.readers_differ (reader-differs s reader.name new.new);
+        apart = λ k d h. All-push (λ (r : ReaderLine). (get_or s.clients k d).name ≢ r.name) s.readers reader (before.apart k d h) (client-differs s reader.name new.new k d h);
+      };
+      items = more _ _ _ _ s.body s.lines same at_least st.items;
       phases = st.phases;
-      few_phases = st.few_phases;
-      gone = st.gone;
-      gone_lines = st.gone_lines;
-      gone_is = st.gone_is;
       played = st.played;
-      frames = st.frames;
-      laps = st.laps;
     }
 
 with_client-kept : (s : State) (number : ℕ) (ws : List (List ℕ)) (t : State) → with_client s number ws ≡ Ok t → IsState s → IsState t
@@ -236,14 +227,14 @@ unfolding with_client
 with_client-kept s number ws t e st =
     let order = bind_ok (refuse_if (not (length s.body == 0)) why.Order) _ t e in
     let client = bind_ok (client_of s number ws) _ t order.2 in
-    ok_state _ t client.2 (client-kept s client.0 (client_of-ranges s number ws client.0 client.1) st)
+    ok_to IsState _ t client.2 (client-kept s client.0 (client_of-ranges s number ws client.0 client.1) st)
 
 with_reader-kept : (s : State) (number : ℕ) (ws : List (List ℕ)) (t : State) → with_reader s number ws ≡ Ok t → IsState s → IsState t
 unfolding with_reader
 with_reader-kept s number ws t e st =
     let order = bind_ok (refuse_if (not (length s.body == 0)) why.Order) _ t e in
     let reader = bind_ok (reader_of s number ws) _ t order.2 in
-    ok_state _ t reader.2 (reader-kept s reader.0 (reader_of-ranges s number ws reader.0 reader.1) st)
+    ok_to IsState _ t reader.2 (reader-kept s reader.0 (reader_of-ranges s number ws reader.0 reader.1) st)
 
 phases_of-append : (xs ys : List Item) → phases_of (xs ++ ys) ≡ phases_of xs ++ phases_of ys
 phases_of-append [] ys = refl
@@ -257,24 +248,10 @@ border-kept s i none it st =
     let same : phases_of s.body ≡ phases_of (s.body ++ i ∷ []) = sym (phases_of-append s.body (i ∷ []) ∙ ap (λ ps. phases_of s.body ++ ps) none ∙ append-nil (phases_of s.body)) in
     record {
       card = st.card;
-      clients = st.clients;
-      readers = st.readers;
-      each_client = st.each_client;
-      each_reader = st.each_reader;
-      clients_differ = st.clients_differ;
-      readers_differ = st.readers_differ;
-      apart = st.apart;
-      body = All-push (IsItem (length s.clients) (length s.readers)) s.body i st.body it;
-      lines = st.lines;
-      alone = st.alone;
-      phases = subst (λ (ps : List (List Line)). length ps + open_phases s.phase ≡ s.phases) same st.phases;
-      few_phases = st.few_phases;
-      gone = subst (λ (ps : List (List Line)). AllPairs IsGoneAfter ps) same st.gone;
-      gone_lines = subst (λ (ps : List (List Line)). All (λ (before : List Line). IsGoneAfter before s.lines) ps) same st.gone_lines;
-      gone_is = subst (λ (ps : List (List Line)). s.gone ≡ (list_any unplugs ps || unplugs s.lines)) same st.gone_is;
-      played = subst (λ (ps : List (List Line)). frames_played ps + played_in s.lines ≡ s.played) same st.played;
-      frames = st.frames;
-      laps = st.laps;
+      declared = st.declared;
+      items = record { each_item = All-push (IsItem (length s.clients) (length s.readers)) s.body i st.items.each_item it; each_line = st.items.each_line; alone = st.items.alone };
+      phases = subst (λ (ps : List (List Line)). ArePhases ps s.lines s.phase s.phases s.gone) same st.phases;
+      played = subst (λ (ps : List (List Line)). ArePlayed s.card ps s.lines s.played) same st.played;
     }
 
 border_of-is : (s : State) (ws : List (List ℕ)) (actor : Actor) → border_of s ws ≡ Ok actor → IsBorder (length s.clients) (length s.readers) actor
@@ -290,13 +267,13 @@ with_open-kept : (s : State) (number : ℕ) (ws : List (List ℕ)) (t : State) �
 unfolding with_open
 with_open-kept s number ws t e st =
     let who = bind_ok (border_of s ws) _ t e in
-    ok_state _ t who.2 (border-kept s (item.Opens number who.0) refl (border_of-is s ws who.0 who.1) st)
+    ok_to IsState _ t who.2 (border-kept s (item.Opens number who.0) refl (border_of-is s ws who.0 who.1) st)
 
 with_close-kept : (s : State) (number : ℕ) (ws : List (List ℕ)) (t : State) → with_close s number ws ≡ Ok t → IsState s → IsState t
 unfolding with_close
 with_close-kept s number ws t e st =
     let who = bind_ok (border_of s ws) _ t e in
-    ok_state _ t who.2 (border-kept s (item.Closes number who.0) refl (border_of-is s ws who.0 who.1) st)
+    ok_to IsState _ t who.2 (border-kept s (item.Closes number who.0) refl (border_of-is s ws who.0 who.1) st)
 
 open_by : (phase : Option ℕ) (number n phases : ℕ) → phase ≡ None → n + open_phases phase ≡ phases → n + 1 ≡ phases + 1
 open_by None number n phases e h = omega arith
@@ -307,27 +284,20 @@ unfolding with_phase
 with_phase-kept s number ws t none e st =
     let end = bind_ok (end_of ws) _ t e in
     let room = bind_ok (refuse_if (nat_le 4096 s.phases) why.TooMany) _ t end.2 in
-    let few : s.phases < 4096 = below 4096 s.phases (not_refused _ why.TooMany room.0 room.1) in
-    ok_state _ t room.2 (record {
+    let few : s.phases < 4096 = leb-false 4096 s.phases (not_refused _ why.TooMany room.0 room.1) in
+    let before = st.phases in
+    ok_to IsState _ t room.2 (record {
       card = st.card;
-      clients = st.clients;
-      readers = st.readers;
-      each_client = st.each_client;
-      each_reader = st.each_reader;
-      clients_differ = st.clients_differ;
-      readers_differ = st.readers_differ;
-      apart = st.apart;
-      body = st.body;
-      lines = st.lines;
-      alone = st.alone;
-      phases = open_by s.phase number (length (phases_of s.body)) s.phases none st.phases;
-      few_phases = omega arith;
-      gone = st.gone;
-      gone_lines = st.gone_lines;
-      gone_is = st.gone_is;
+      declared = st.declared;
+      items = st.items;
+      phases = record {
+        count_is = open_by s.phase number (length (phases_of s.body)) s.phases none before.count_is;
+        few = omega arith;
+        after = before.after;
+        lines_after = before.lines_after;
+        gone_is = before.gone_is;
+      };
       played = st.played;
-      frames = st.frames;
-      laps = st.laps;
     })
 
 end_by : (phase : Option ℕ) (k n phases : ℕ) → phase ≡ Some k → n + open_phases phase ≡ phases → n + 1 + 0 ≡ phases
@@ -344,51 +314,38 @@ unfolding with_end
 with_end-kept s k ws t some e st =
     let end = bind_ok (end_of ws) _ t e in
     let same : phases_of s.body ++ s.lines ∷ [] ≡ phases_of (s.body ++ item.Phase s.lines ∷ []) = sym (phases_of-append s.body (item.Phase s.lines ∷ [])) in
-    let more : length (phases_of s.body ++ s.lines ∷ []) ≡ length (phases_of s.body) + 1 = length_more (phases_of s.body) s.lines in
-    let one : length (phases_of s.body) + 1 + 0 ≡ s.phases = end_by s.phase k (length (phases_of s.body)) s.phases some st.phases in
+    let more : length (phases_of s.body ++ s.lines ∷ []) ≡ length (phases_of s.body) + 1 = length-append (phases_of s.body) (s.lines ∷ []) in
+    let before = st.phases in
+    let one : length (phases_of s.body) + 1 + 0 ≡ s.phases = end_by s.phase k (length (phases_of s.body)) s.phases some before.count_is in
     let any : list_any unplugs (phases_of s.body ++ s.lines ∷ []) ≡ (list_any unplugs (phases_of s.body) || (unplugs s.lines || false)) = list_any-append unplugs (phases_of s.body) (s.lines ∷ []) in
     let sum : frames_played (phases_of s.body ++ s.lines ∷ []) ≡ frames_played (phases_of s.body) + played_in s.lines = sum_by_push played_in (phases_of s.body) s.lines in
-    ok_state _ t end.2 (record {
+    ok_to IsState _ t end.2 (record {
       card = st.card;
-      clients = st.clients;
-      readers = st.readers;
-      each_client = st.each_client;
-      each_reader = st.each_reader;
-      clients_differ = st.clients_differ;
-      readers_differ = st.readers_differ;
-      apart = st.apart;
-      body = All-push (IsItem (length s.clients) (length s.readers)) s.body (item.Phase s.lines) st.body (record { each = st.lines; alone = st.alone });
-      lines = All-nil (IsLine (length s.clients) (length s.readers));
-      alone = λ e. absurd (cc);
-      phases = subst (λ (ps : List (List Line)). length ps + 0 ≡ s.phases) same (omega arith);
-      few_phases = st.few_phases;
-      gone = subst (λ (ps : List (List Line)). AllPairs IsGoneAfter ps) same (all_pairs_push IsGoneAfter (phases_of s.body) s.lines st.gone st.gone_lines);
-      gone_lines = λ i d h e. refl;
-      gone_is = subst (λ (ps : List (List Line)). s.gone ≡ (list_any unplugs ps || false)) same
-          (st.gone_is ∙ or_false (list_any unplugs (phases_of s.body)) (unplugs s.lines) ∙ sym (ap (λ b. b || false) any));
-      played = subst (λ (ps : List (List Line)). frames_played ps + 0 ≡ s.played) same (let p = st.played in omega arith);
-      frames = st.frames;
-      laps = st.laps;
+      declared = st.declared;
+      items = record {
+        each_item = All-push (IsItem (length s.clients) (length s.readers)) s.body (item.Phase s.lines) st.items.each_item (record { each = st.items.each_line; alone = st.items.alone });
+        each_line = All-nil (IsLine (length s.clients) (length s.readers));
+        alone = λ e. absurd (cc);
+      };
+      phases = subst (λ (ps : List (List Line)). ArePhases ps [] None s.phases s.gone) same (record {
+        count_is = omega arith;
+        few = before.few;
+        after = all_pairs_push IsGoneAfter (phases_of s.body) s.lines before.after before.lines_after;
+        lines_after = λ i d h e. refl;
+        gone_is = before.gone_is ∙ or_false (list_any unplugs (phases_of s.body)) (unplugs s.lines) ∙ sym (ap (λ b. b || false) any);
+      });
+      played = subst (λ (ps : List (List Line)). ArePlayed s.card ps [] s.played) same
+          (record { sum = let p = st.played.sum in omega arith; frames = st.played.frames; laps = st.played.laps });
     })
-
-or_no : (a b : Bool) → (a || b) ≡ false → (a ≡ false) × (b ≡ false)
-or_no true b e = absurd (cc)
-or_no false true e = absurd (cc)
-or_no false false e = (refl, refl)
-
-no_or : (a b c : Bool) → a ≡ false → b ≡ false → (a || (b || c)) ≡ true → c ≡ true
-no_or true b c e f g = absurd (cc)
-no_or false true c e f g = absurd (cc)
-no_or false false c e f g = g
 
 -- one line more of a phase: the one that unplugs is alone
 alone-more : (lines : List Line) (line : Line) → IsAlone lines → is_beside lines line.op ≡ false → IsAlone (lines ++ line ∷ [])
 alone-more [] line h e = λ g. refl
 alone-more (first ∷ []) line h e = λ g.
-    let no = or_no (is_unplug first.op) (is_unplug line.op) e in
-    absurd (cc (no_or (is_unplug first.op) (is_unplug line.op) false no.0 no.1 g))
+    let no = or_parts (is_unplug first.op) (is_unplug line.op) e in
+    absurd (cc (rw (no.0, no.1) at g))
 alone-more (first ∷ second ∷ more) line h e = λ g.
-    let no = or_no (is_unplug first.op) (is_unplug line.op) e in
+    let no = or_parts (is_unplug first.op) (is_unplug line.op) e in
     let parts : unplugs ((first ∷ second ∷ more) ++ line ∷ []) ≡ (unplugs (first ∷ second ∷ more) || (is_unplug line.op || false)) = list_any-append (λ (l : Line). is_unplug l.op) (first ∷ second ∷ more) (line ∷ []) in
     alone_by (unplugs (first ∷ second ∷ more)) (is_unplug line.op) (length more) _ h no.1 (sym parts ∙ g)
   where
@@ -400,25 +357,13 @@ alone-more (first ∷ second ∷ more) line h e = λ g.
 any_at : {X : Type 0} (p : X → Bool) (xs : List X) (k : ℕ) (d : X) → k < length xs → p (get_or xs k d) ≡ true → list_any p xs ≡ true
 any_at p [] k d h e = absurd (omega (arith, h))
 any_at p (x ∷ xs) zero d h e = rw e refl
-any_at p (x ∷ xs) (suc k) d h e = or_true (p x) _ (any_at p xs k d (omega (arith, h)) e)
-  where
-    or_true : (a b : Bool) → b ≡ true → (a || b) ≡ true
-    or_true true b e = refl
-    or_true false b e = e
+any_at p (x ∷ xs) (suc k) d h e = or_right (p x) _ (any_at p xs k d (omega (arith, h)) e)
 
 gone_by : (gone any lines card : Bool) → gone ≡ (any || lines) → (gone && card) ≡ false → any ≡ true → card ≡ false
-gone_by gone any lines true e f g = absurd (contradiction gone any lines e f g)
-  where
-    contradiction : (gone any lines : Bool) → gone ≡ (any || lines) → (gone && true) ≡ false → any ≡ true → ⊥
-    contradiction true any lines e f g = cc
-    contradiction false true lines e f g = cc
-    contradiction false false lines e f g = cc
-gone_by gone any lines false e f g = refl
+gone_by gone any lines card e f g = rw (e, g) at f
 
 or_both : (a b : Bool) → a ≡ false → b ≡ false → (a || (b || false)) ≡ false
-or_both true b e f = absurd (cc)
-or_both false true e f = absurd (cc)
-or_both false false e f = refl
+or_both a b e f = rw (e, f) refl
 
 or_more : (g a u b : Bool) → g ≡ (a || u) → (g || b) ≡ (a || (u || (b || false)))
 or_more g true u b e = rw e refl
@@ -434,27 +379,24 @@ line-kept s line ok beside plugged frames laps st =
     let sum : played_in (s.lines ++ line ∷ []) ≡ played_in s.lines + played_by line.op = sum_by_push (λ (l : Line). played_by l.op) s.lines line in
     let card : list_any is_card_line (s.lines ++ line ∷ []) ≡ (list_any is_card_line s.lines || (is_card_line line || false)) = list_any-append is_card_line s.lines (line ∷ []) in
     let any : unplugs (s.lines ++ line ∷ []) ≡ (unplugs s.lines || (is_unplug line.op || false)) = list_any-append (λ (l : Line). is_unplug l.op) s.lines (line ∷ []) in
+    let before = st.phases in
     record {
       card = st.card;
-      clients = st.clients;
-      readers = st.readers;
-      each_client = st.each_client;
-      each_reader = st.each_reader;
-      clients_differ = st.clients_differ;
-      readers_differ = st.readers_differ;
-      apart = st.apart;
-      body = st.body;
-      lines = All-push (IsLine (length s.clients) (length s.readers)) s.lines line st.lines ok;
-      alone = alone-more s.lines line st.alone beside;
-      phases = st.phases;
-      few_phases = st.few_phases;
-      gone = st.gone;
-      gone_lines = λ k d h e. card ∙ or_both _ _ (st.gone_lines k d h e)
-          (gone_by s.gone (list_any unplugs (phases_of s.body)) (unplugs s.lines) (is_card_line line) st.gone_is plugged (any_at unplugs (phases_of s.body) k d h e));
-      gone_is = or_more s.gone (list_any unplugs (phases_of s.body)) (unplugs s.lines) (is_unplug line.op) st.gone_is ∙ sym (ap (λ b. list_any unplugs (phases_of s.body) || b) any);
-      played = let p = st.played in omega arith;
-      frames = frames;
-      laps = laps;
+      declared = st.declared;
+      items = record {
+        each_item = st.items.each_item;
+        each_line = All-push (IsLine (length s.clients) (length s.readers)) s.lines line st.items.each_line ok;
+        alone = alone-more s.lines line st.items.alone beside;
+      };
+      phases = record {
+        count_is = before.count_is;
+        few = before.few;
+        after = before.after;
+        lines_after = λ k d h e. card ∙ or_both _ _ (before.lines_after k d h e)
+            (gone_by s.gone (list_any unplugs (phases_of s.body)) (unplugs s.lines) (is_card_line line) before.gone_is plugged (any_at unplugs (phases_of s.body) k d h e));
+        gone_is = or_more s.gone (list_any unplugs (phases_of s.body)) (unplugs s.lines) (is_unplug line.op) before.gone_is ∙ sym (ap (λ b. list_any unplugs (phases_of s.body) || b) any);
+      };
+      played = record { sum = let p = st.played.sum in omega arith; frames = frames; laps = laps };
     }
 
 with_line-kept : (s : State) (number : ℕ) (actor : Actor) (ws : List (List ℕ)) (t : State) → IsActor (length s.clients) (length s.readers) actor → with_line s number actor ws ≡ Ok t → IsState s → IsState t
@@ -466,24 +408,23 @@ with_line-kept s number actor ws t who e st =
     let plugged = bind_ok (refuse_if (s.gone && is_of_card actor) why.Unplugged) _ t alone.2 in
     let frames = bind_ok (refuse_if (nat_lt 4194304 played) why.Frames) _ t plugged.2 in
     let laps = bind_ok (refuse_if (ends_lap s.card played) why.LapEnd) _ t frames.2 in
-    ok_state _ t laps.2 (line-kept s (record { number = number; actor = actor; op = asked.0 })
+    ok_to IsState _ t laps.2 (line-kept s (record { number = number; actor = actor; op = asked.0 })
     (record { actor = who; op = op_of-is actor ws asked.0 asked.1 })
     (not_refused _ why.Alone alone.0 alone.1) (not_refused _ why.Unplugged plugged.0 plugged.1)
-    (not_above 4194304 played (not_refused _ why.Frames frames.0 frames.1))
-    (not_above _ _ (not_refused (ends_lap s.card played) why.LapEnd laps.0 laps.1)) st)
+    (ltb-false 4194304 played (not_refused _ why.Frames frames.0 frames.1))
+    (ltb-false _ _ (not_refused (ends_lap s.card played) why.LapEnd laps.0 laps.1)) st)
 
 unknown_outside-kept : (o : Option Actor) (t : State) (P : Type 0) → unknown_outside o ≡ Ok t → P
 unknown_outside-kept None t P e = absurd (cc)
 unknown_outside-kept (Some actor) t P e = absurd (cc)
 
 outside-kept : (s : State) (number : ℕ) (word : List ℕ) (k : Option Keyword) (ws : List (List ℕ)) (t : State) → s.phase ≡ None → outside s number word k ws ≡ Ok t → IsState s → IsState t
-outside-kept s number word (Some keyword.Card) ws t none e st = absurd (cc)
 outside-kept s number word (Some keyword.Client) ws t none e st = with_client-kept s number ws t e st
 outside-kept s number word (Some keyword.Reader) ws t none e st = with_reader-kept s number ws t e st
 outside-kept s number word (Some keyword.Open) ws t none e st = with_open-kept s number ws t e st
 outside-kept s number word (Some keyword.Close) ws t none e st = with_close-kept s number ws t e st
 outside-kept s number word (Some keyword.Phase) ws t none e st = with_phase-kept s number ws t none e st
-outside-kept s number word (Some keyword.End) ws t none e st = absurd (cc)
+outside-kept s number word (Some other) ws t none e st = absurd (cc)
 outside-kept s number word None ws t none e st = unknown_outside-kept (actor_named s word) t (IsState t) e
 
 unknown_inside-kept : (s : State) (number : ℕ) (word : List ℕ) (o : Option Actor) (ws : List (List ℕ)) (t : State) → actor_named s word ≡ o → unknown_inside s number o ws ≡ Ok t → IsState s → IsState t
@@ -493,12 +434,8 @@ unknown_inside-kept s number word (Some actor) ws t who e st =
 
 inside-kept : (s : State) (opened number : ℕ) (word : List ℕ) (k : Option Keyword) (ws : List (List ℕ)) (t : State) → s.phase ≡ Some opened → inside s number word k ws ≡ Ok t → IsState s → IsState t
 inside-kept s opened number word (Some keyword.Card) ws t some e st = with_line-kept s number Card ws t tt e st
-inside-kept s opened number word (Some keyword.Client) ws t some e st = absurd (cc)
-inside-kept s opened number word (Some keyword.Reader) ws t some e st = absurd (cc)
-inside-kept s opened number word (Some keyword.Open) ws t some e st = absurd (cc)
-inside-kept s opened number word (Some keyword.Close) ws t some e st = absurd (cc)
-inside-kept s opened number word (Some keyword.Phase) ws t some e st = absurd (cc)
 inside-kept s opened number word (Some keyword.End) ws t some e st = with_end-kept s opened ws t some e st
+inside-kept s opened number word (Some other) ws t some e st = absurd (cc)
 inside-kept s opened number word None ws t some e st = unknown_inside-kept s number word (actor_named s word) ws t refl e st
 
 line_at-kept : (o : Option ℕ) (s : State) (number : ℕ) (word : List ℕ) (ws : List (List ℕ)) (t : State) → s.phase ≡ o → line_at o s number word ws ≡ Ok t → IsState s → IsState t
@@ -507,7 +444,7 @@ line_at-kept (Some opened) s number word ws t is e st = inside-kept s opened num
 
 -- one line more
 pub with_words-kept : (s : State) (number : ℕ) (ws : List (List ℕ)) (t : State) → with_words s number ws ≡ Ok t → IsState s → IsState t
-with_words-kept s number [] t e st = ok_state s t e st
+with_words-kept s number [] t e st = ok_to IsState s t e st
 with_words-kept s number (word ∷ ws) t e st = line_at-kept s.phase s number word ws t refl e st
 
 -- what a value of a line says
@@ -521,26 +458,23 @@ after-kept s (line ∷ lines) t e st =
     let next = on_line-ok line.0 (with_words s line.0 line.1) (λ n. after n lines) t e in
     after-kept next.0 lines t next.2 (with_words-kept s line.0 line.1 next.0 next.1 st)
 
-ok_script : (x script : Script) → ◌≡◌ {A = Result Script ScriptError} (Ok x) (Ok script) → IsScript x → IsScript script
-ok_script x script e h = let same : x ≡ script = cc (e) in subst IsScript same h
-
 ended-is : (s : State) (o : Option ℕ) (script : Script) → script_at_end s o ≡ Ok script → IsState s → IsScript script
 ended-is s (Some opened) script e st = absurd (cc)
 ended-is s None script e st =
-    ok_script _ script e (record {
+    ok_to IsScript _ script e (record {
       card = st.card;
-      clients = st.clients;
-      readers = st.readers;
-      each_client = st.each_client;
-      each_reader = st.each_reader;
-      clients_differ = st.clients_differ;
-      readers_differ = st.readers_differ;
-      apart = st.apart;
-      body = st.body;
-      phases = let p = st.phases in let few = st.few_phases in omega arith;
-      gone = st.gone;
-      frames = let p = st.played in let few = st.frames in omega arith;
-      laps = let p = st.played in let room = st.laps in omega arith;
+      clients = st.declared.few_clients;
+      readers = st.declared.few_readers;
+      each_client = st.declared.each_client;
+      each_reader = st.declared.each_reader;
+      clients_differ = st.declared.clients_differ;
+      readers_differ = st.declared.readers_differ;
+      apart = st.declared.apart;
+      body = st.items.each_item;
+      phases = let p = st.phases.count_is in let few = st.phases.few in omega arith;
+      gone = st.phases.after;
+      frames = let p = st.played.sum in let few = st.played.frames in omega arith;
+      laps = let p = st.played.sum in let room = st.played.laps in omega arith;
     })
 
 script_at-is : (r : Result State ScriptError) (script : Script) → script_at r ≡ Ok script → ((s : State) → r ≡ Ok s → IsState s) → IsScript script
@@ -549,13 +483,7 @@ script_at-is (Err x) script e h = absurd (cc)
 
 first_by-ranges : (number : ℕ) (k : Option Keyword) (ws : List (List ℕ)) (card : CardLine) → first_by number k ws ≡ Ok card → IsCardLine card
 first_by-ranges number (Some keyword.Card) ws card e = card_of-ranges number ws card e
-first_by-ranges number (Some keyword.Client) ws card e = absurd (cc)
-first_by-ranges number (Some keyword.Reader) ws card e = absurd (cc)
-first_by-ranges number (Some keyword.Open) ws card e = absurd (cc)
-first_by-ranges number (Some keyword.Close) ws card e = absurd (cc)
-first_by-ranges number (Some keyword.Phase) ws card e = absurd (cc)
-first_by-ranges number (Some keyword.End) ws card e = absurd (cc)
-first_by-ranges number None ws card e = absurd (cc)
+first_by-ranges number other ws card e = absurd (cc)
 
 card_line-ranges : (number : ℕ) (ws : List (List ℕ)) (card : CardLine) → card_line number ws ≡ Ok card → IsCardLine card
 card_line-ranges number [] card e = absurd (cc)

@@ -1,5 +1,5 @@
 -- Samples, two bytes each.
-use Rattle.std.proofs.Common.{◌≡◌, ℕ, zero, suc, ◌+◌, ◌*◌, ◌^◌, ◌<◌, List, [], ◌∷◌, ◌++◌, length, get_or, drop, ℤ, refl, sym, ap, ◌∙◌, append_assoc, arith, false, ◌%◌, ◌/◌, take, ◌≤◌, set, length-set}
+use Rattle.std.proofs.Common.{◌≡◌, ℕ, zero, suc, ◌+◌, ◌*◌, ◌<◌, List, [], ◌∷◌, ◌++◌, length, get_or, drop, ℤ, refl, sym, ap, ◌∙◌, append_assoc, arith, false, ◌%◌, ◌/◌, take, ◌≤◌, set, length-set}
 use Rattle.std.specs.Prelude.{FitsSigned}
 use Rattle.std.specs.Str.{bytes_eq}
 use Rattle.std.proofs.Math.Nat.{mul-mod_left, div-mul-le_self}
@@ -7,18 +7,12 @@ use Rattle.std.proofs.lemmas.Bool.{false_from_ne_true}
 use Rattle.std.proofs.lemmas.Slice.Eq.{bytes_eq-Decides}
 use Rattle.std.specs.List.{flat_map, AllByRecursion}
 use Rattle.std.specs.Int.{w16, from_le_bytes, to_le_bytes, cast_signed, cast_unsigned}
-use Rattle.std.proofs.Math.Facts.{sfits_to_z, Fits-of_lt, Fits-of_z}
-use Rattle.std.proofs.lemmas.Int.{to_z-of_z, of_z-to_z}
+use Rattle.std.proofs.Math.Facts.{Fits-of_z}
+use Rattle.std.proofs.lemmas.Int.{to_z-of_z}
 use Rattle.std.proofs.lemmas.List.{append-nil, take_more_set, drop_more, length-drop, length-take, length-take-le}
-use Rattle.std.proofs.lemmas.Nat.{le_bytes_2, from_le_bytes-to_le_bytes_2}
-use Rattle.wav_io.specs.declared.format.Format.{Format}
-use Rattle.wav_io.specs.Sound.{IsWholeSound}
+use Rattle.std.proofs.lemmas.Nat.{from_le_bytes-to_le_bytes_2}
 use Rattle.wav_io.specs.Canonical.{sample_bytes}
-use Rattle.wav_io.specs.Formats.{IsFormat}
 use Rattle.wav_io.specs.Fields.{samples_of_bytes, whole_frames}
-
-abbrev pub IsBytes : List ℕ → Type 0
-IsBytes bytes = (i : ℕ) → get_or bytes i 0 < 256
 
 abbrev pair : ℕ → ℕ → ℤ
 pair low high = cast_signed w16 (from_le_bytes w16 (low ∷ high ∷ []))
@@ -47,27 +41,10 @@ pub ends : (front : List ℤ) (bytes : List ℕ) (i : ℕ) (whole : List ℤ) �
 ends front bytes i whole past so_far =
     sym (append-nil front) ∙ ap (λ (rest : List ℤ). front ++ rest) (sym (samples_of_bytes-short (drop (2 * i) bytes) (omega (arith, length-drop (2 * i) bytes)))) ∙ so_far
 
-IsBytes-rest : (b : ℕ) (bytes : List ℕ) → IsBytes (b ∷ bytes) → IsBytes bytes
-IsBytes-rest b bytes h i = h (suc i)
-
-pair_fits : (low high : ℕ) → low < 256 → high < 256 → from_le_bytes w16 (low ∷ high ∷ []) < 2 ^ 16
-pair_fits low high l h = omega arith
-
 two : (low high i : ℕ) → low < 256 → high < 256 → get_or (low ∷ high ∷ []) i 0 < 256
 two low high zero l h = l
 two low high (suc zero) l h = h
 two low high (suc (suc i)) l h = omega arith
-
--- the bytes of the samples that bytes hold are these bytes
-pub sample_bytes-samples_of_bytes : (n : ℕ) (bytes : List ℕ) → IsBytes bytes → length bytes ≡ 2 * n → flat_map sample_bytes (samples_of_bytes bytes) ≡ bytes
-sample_bytes-samples_of_bytes n [] fits even = refl
-sample_bytes-samples_of_bytes n (low ∷ []) fits even = absurd (omega arith)
-sample_bytes-samples_of_bytes zero (low ∷ high ∷ rest) fits even = absurd (omega arith)
-sample_bytes-samples_of_bytes (suc n) (low ∷ high ∷ rest) fits even =
-    let number : cast_unsigned w16 (pair low high) ≡ from_le_bytes w16 (low ∷ high ∷ []) = of_z-to_z w16 _ (pair_fits low high (fits 0) (fits 1)) in
-    let here : to_le_bytes w16 (cast_unsigned w16 (pair low high)) ≡ low ∷ high ∷ [] = le_bytes_2 (low ∷ high ∷ []) _ refl (λ i. two low high i (fits 0) (fits 1)) number in
-    let behind : flat_map sample_bytes (samples_of_bytes rest) ≡ rest = sample_bytes-samples_of_bytes n rest (λ i. fits (suc (suc i))) (omega arith) in
-    ap (λ (front : List ℕ). front ++ flat_map sample_bytes (samples_of_bytes rest)) here ∙ ap (λ (back : List ℕ). low ∷ high ∷ back) behind
 
 pub length-samples_of_bytes : (n : ℕ) (bytes : List ℕ) → length bytes ≡ 2 * n → length (samples_of_bytes bytes) ≡ n
 length-samples_of_bytes n [] even = omega arith
@@ -83,11 +60,6 @@ samples_of_bytes-sample_bytes (z ∷ zs) fit =
     let here : cast_signed w16 (from_le_bytes w16 (to_le_bytes w16 (cast_unsigned w16 z))) ≡ z = ap (cast_signed w16) number ∙ to_z-of_z w16 z fit.0 in
     ap (λ (first : ℤ). first ∷ samples_of_bytes (flat_map sample_bytes zs)) here ∙ ap (λ (others : List ℤ). z ∷ others) (samples_of_bytes-sample_bytes zs fit.1)
 
-pub samples_of_bytes-fit : (bytes : List ℕ) → IsBytes bytes → AllByRecursion (FitsSigned w16) (samples_of_bytes bytes)
-samples_of_bytes-fit [] fits = tt
-samples_of_bytes-fit (low ∷ []) fits = tt
-samples_of_bytes-fit (low ∷ high ∷ rest) fits = (sfits_to_z (Fits-of_lt (pair_fits low high (fits 0) (fits 1))), samples_of_bytes-fit rest (λ i. fits (suc (suc i))))
-
 pub length-sample_bytes : (zs : List ℤ) → length (flat_map sample_bytes zs) ≡ 2 * length zs
 length-sample_bytes [] = refl
 length-sample_bytes (z ∷ zs) = ap (λ (n : ℕ). suc (suc n)) (length-sample_bytes zs) ∙ omega arith
@@ -100,14 +72,6 @@ whole_frames-whole channels body =
     let inside : frames * (2 * channels) ≤ length body = div-mul-le_self (length body) (2 * channels) in
     let even : length (whole_frames channels body) ≡ 2 * (frames * channels) = omega (arith, length-take-le (frames * (2 * channels)) body inside) in
     ap (λ (n : ℕ). n % channels) (length-samples_of_bytes (frames * channels) (whole_frames channels body) even) ∙ mul-mod_left frames channels
-
-pub is_sound : (f : Format) (body : List ℕ) (zs : List ℤ) → IsFormat f → zs ≡ samples_of_bytes (whole_frames f.channels body) → IsWholeSound (record { channels = f.channels; rate = f.rate; samples = zs })
-is_sound f body zs in_order e = record {
-  some_channel = in_order.some_channel;
-  few_channels = in_order.few_channels;
-  some_rate = in_order.some_rate;
-  whole = ap (λ (xs : List ℤ). length xs % f.channels) e ∙ whole_frames-whole f.channels body;
-}
 
 -- four bytes aren't there where fewer are left
 pub no_room : (place : ℕ) (bytes name : List ℕ) → length name ≡ 4 → length bytes < place + 4 → bytes_eq (take 4 (drop place bytes)) name ≡ false

@@ -34,18 +34,12 @@ same_sound a b c s p q r = ap (λ (n : ℕ). sound n b c) p ∙ ap (λ (n : ℕ)
 shown : List ℕ → Sound
 shown bytes = sound (number_at w16 22 bytes) (number_at w32 24 bytes) (samples_of_bytes (drop 44 bytes))
 
-read_two : (channels : ℕ) → channels < 2 ^ 16 → from_le_bytes w16 (to_le_bytes w16 channels) ≡ channels
-read_two channels fits = from_le_bytes-to_le_bytes_2 channels fits
-
-read_four : (rate : ℕ) → rate < 2 ^ 32 → from_le_bytes w32 (to_le_bytes w32 rate) ≡ rate
-read_four rate fits = from_le_bytes-to_le_bytes_4 rate fits
-
 shown-canonical : (s : Sound) → HasFile s → shown (canonical s) ≡ s
 unfolding shown
 shown-canonical s file =
     same_sound _ _ _ s
-    (read_two s.channels (omega (arith, file.sound.few_channels)))
-    (read_four s.rate (omega (arith, file.low_rate)))
+    (from_le_bytes-to_le_bytes_2 s.channels (omega (arith, file.sound.few_channels)))
+    (from_le_bytes-to_le_bytes_4 s.rate (omega (arith, file.low_rate)))
     (samples_of_bytes-sample_bytes s.samples (recursion_from_All (FitsSigned w16) s.samples file.fits))
 
 pub canonical_one : (s t : Sound) → HasFile s → HasFile t → canonical s ≡ canonical t → s ≡ t
@@ -72,8 +66,8 @@ format_body channels rate =
 format_of-body : (channels rate : ℕ) → 1 ≤ channels → channels ≤ 8 → 1 ≤ rate → rate < 2 ^ 32 → format_of Sixteen (format_body channels rate) ≡ Ok (format channels rate)
 unfolding format_of terms_of
 format_of-body channels rate some few rated fits =
-    ap (λ (n : ℕ). terms n (from_le_bytes w32 (to_le_bytes w32 rate)) 16) (read_two channels (omega arith))
-    ∙ ap (λ (n : ℕ). terms channels n 16) (read_four rate fits)
+    ap (λ (n : ℕ). terms n (from_le_bytes w32 (to_le_bytes w32 rate)) 16) (from_le_bytes-to_le_bytes_2 channels (omega arith))
+    ∙ ap (λ (n : ℕ). terms channels n 16) (from_le_bytes-to_le_bytes_4 rate fits)
     ∙ terms-in_order channels rate some few rated
 
 abbrev format_part : ℕ → ℕ → Chunk
@@ -118,7 +112,7 @@ from_format channels rate size body = codes "fmt " ++ to_le_bytes w32 16 ++ form
 
 scan_of-data : (f : Format) (size : ℕ) (body : List ℕ) → size < 2 ^ 32 → length body ≤ size → scan_of Sixteen (Some f) (chunks (from_data size body)) ≡ body_found f body
 scan_of-data f size body fits len =
-    let all : take (from_le_bytes w32 (to_le_bytes w32 size)) body ≡ body = ap (λ (n : ℕ). take n body) (read_four size fits) ∙ take_all size body len in
+    let all : take (from_le_bytes w32 (to_le_bytes w32 size)) body ≡ body = ap (λ (n : ℕ). take n body) (from_le_bytes-to_le_bytes_4 size fits) ∙ take_all size body len in
     scan_of-decides Sixteen (Some f) (from_data size body) (body_found f (take (from_le_bytes w32 (to_le_bytes w32 size)) body)) (omega arith) (verdict_of-data f _ _)
     ∙ ap (body_found f) all
 

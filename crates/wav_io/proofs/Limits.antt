@@ -22,10 +22,8 @@ at_end-with_body front (ended None) = refl
 at_end-with_body front (ended (Some f)) = refl
 
 pub before_end-with_body : (front : List ℕ) (f : Finding) → before_end (with_body front f) ≡ with_front front (before_end f)
-before_end-with_body front (refused e) = refl
-before_end-with_body front (body_found f body) = refl
 before_end-with_body front format_cut = refl
-before_end-with_body front (ended format) = refl
+before_end-with_body front other = refl
 
 -- a piece that doesn't pass the limit, and what follows it
 pub limited-append : (seen : ℕ) (old new : List ℕ → Finding) (front piece : List ℕ) → seen + length piece ≤ most_bytes

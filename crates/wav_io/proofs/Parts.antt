@@ -1,8 +1,8 @@
 -- Frames that are cut between two parts of the data.
-use Rattle.std.proofs.Common.{◌≡◌, ℕ, ◌+◌, ◌*◌, ◌/◌, ◌%◌, ◌<◌, ◌⊎◌, List, [], ◌++◌, length, take, drop, sym, ap, ◌∙◌, arith, inl, inr, append_assoc, append-nil, length-append}
+use Rattle.std.proofs.Common.{◌≡◌, ℕ, ◌+◌, ◌*◌, ◌/◌, ◌<◌, ◌⊎◌, List, [], ◌++◌, length, take, drop, sym, ap, ◌∙◌, arith, inl, inr, append_assoc, append-nil, length-append}
 use Rattle.std.specs.Prelude.{min}
 use Rattle.std.proofs.lemmas.List.{take-append-drop, length-take, length-drop, nil_from_length}
-use Rattle.std.proofs.lemmas.Nat.{div-add-mod'}
+use Rattle.std.proofs.lemmas.Nat.{div-add-mod', mod_below}
 use Rattle.std.proofs.Math.Nat.{div-mul-le_self}
 use Rattle.wav_io.specs.Frames.{IsCut}
 
@@ -13,10 +13,7 @@ nothing_behind size part rest before body same len less =
     nil_from_length rest (omega (arith, all, len))
 
 rest_less : (size : ℕ) (bytes : List ℕ) → 0 < size → length (drop (length bytes / size * size) bytes) < size
-rest_less size bytes some = omega (arith, length-drop (length bytes / size * size) bytes, div-add-mod' (length bytes) size, mod_less (length bytes) size some)
-  where
-    mod_less : (n size : ℕ) → 0 < size → n % size < size
-    mod_less n size some = omega arith
+rest_less size bytes some = omega (arith, length-drop (length bytes / size * size) bytes, div-add-mod' (length bytes) size, mod_below (length bytes) size some)
 
 -- what was filled in is all
 filled_all : (size : ℕ) (part left before rest : List ℕ) → part ++ left ≡ before ++ rest → length part ≡ min size (length before + length rest) → length before + length rest < size → part ≡ before ++ rest

@@ -49,33 +49,10 @@ long_body size more long = omega (arith, length-take size more)
 
 format_found-is : (depths : Depths) (name : List ℕ) (size : ℕ) (more : List ℕ) → 16 ≤ size
     → format_found depths size more ≡ finding_after (format_chunk depths None (chunk_of_size name size more)) (λ f. scan_of depths f (chunks (bytes_after size more)))
-format_found-is depths name size more big =
-    let next : Option Format → Finding = λ f. scan_of depths f (chunks (bytes_after size more)) in
-    let rest : Verdict = cond (ltb (length (take size more)) size) (decides format_cut) (verdict_of_format (format_of depths (take 40 (take size more)))) in
-    elim (cases_lt (length more) size) [
-      | inl short ↦
-          cond-true (ltb (length more) size) format_cut (finding_after (verdict_of_format (format_of depths (take 40 (take size more)))) next) (lt-ltb _ _ short)
-          ∙ ap (λ (v : Verdict). finding_after v next) (sym (cond-true (ltb (length (take size more)) size) (decides format_cut) (verdict_of_format (format_of depths (take 40 (take size more)))) (lt-ltb _ _ (short_body size more short))))
-          ∙ ap (λ (v : Verdict). finding_after v next) (sym (cond-false (ltb size 16) (decides (refused ShortFormat)) rest (le-ltb _ _ big)))
-      | inr long ↦
-          cond-false (ltb (length more) size) format_cut (finding_after (verdict_of_format (format_of depths (take 40 (take size more)))) next) (le-ltb _ _ long)
-          ∙ ap (λ (v : Verdict). finding_after v next) (sym (cond-false (ltb (length (take size more)) size) (decides format_cut) (verdict_of_format (format_of depths (take 40 (take size more)))) (le-ltb _ _ (long_body size more long))))
-          ∙ ap (λ (v : Verdict). finding_after v next) (sym (cond-false (ltb size 16) (decides (refused ShortFormat)) rest (le-ltb _ _ big)))
-    ]
-
-pub leads_format : (depths : Depths) (name : List ℕ) (size : ℕ) → 16 ≤ size
-    → LeadsTo depths (FormatBody size (size % 2)) (λ more. finding_after (format_chunk depths None (chunk_of_size name size more)) (λ f. scan_of depths f (chunks (bytes_after size more))))
-unfolding found_from
-leads_format depths name size big = record {
-  same = λ more. format_found-is depths name size more big;
-  place = (omega arith, omega arith, omega arith);
-  opened = λ kept n. tt;
-}
-
-pub leads_short : (depths : Depths) (name : List ℕ) (size : ℕ) → size < 16
-    → LeadsTo depths (Refused ShortFormat) (λ more. finding_after (format_chunk depths None (chunk_of_size name size more)) (λ f. scan_of depths f (chunks (bytes_after size more))))
-leads_short depths name size small =
-    leads_refused depths ShortFormat _ (λ more. ap (λ (v : Verdict). finding_after v (λ f. scan_of depths f (chunks (bytes_after size more)))) (sym (cond-true (ltb size 16) (decides (refused ShortFormat)) _ (lt-ltb _ _ small)))) (λ e. cc)
+format_found-is depths name size more big = elim (cases_lt (length more) size) [
+  | inl short ↦ rw (lt-ltb (length more) size short, le-ltb size 16 big, lt-ltb (length (take size more)) size (short_body size more short)) refl
+  | inr long ↦ rw (le-ltb (length more) size long, le-ltb size 16 big, le-ltb (length (take size more)) size (long_body size more long)) refl
+]
 
 pub leads_twice : (depths : Depths) (format : Option Format) (name : List ℕ) (size : ℕ) → is_some format ≡ true
     → LeadsTo depths (Refused FormatTwice) (λ more. finding_after (format_chunk depths format (chunk_of_size name size more)) (λ f. scan_of depths f (chunks (bytes_after size more))))
@@ -84,12 +61,18 @@ leads_twice depths (Some f) name size is = leads_refused depths FormatTwice _ (�
 
 pub leads_first_short : (depths : Depths) (format : Option Format) (name : List ℕ) (size : ℕ) → is_some format ≡ false → size < 16
     → LeadsTo depths (Refused ShortFormat) (λ more. finding_after (format_chunk depths format (chunk_of_size name size more)) (λ f. scan_of depths f (chunks (bytes_after size more))))
-leads_first_short depths None name size is small = leads_short depths name size small
+leads_first_short depths None name size is small =
+    leads_refused depths ShortFormat _ (λ more. ap (λ (v : Verdict). finding_after v (λ f. scan_of depths f (chunks (bytes_after size more)))) (sym (cond-true (ltb size 16) (decides (refused ShortFormat)) _ (lt-ltb _ _ small)))) (λ e. cc)
 leads_first_short depths (Some f) name size is small = absurd (cc)
 
 pub leads_first : (depths : Depths) (format : Option Format) (name : List ℕ) (size : ℕ) → is_some format ≡ false → 16 ≤ size
     → LeadsTo depths (FormatBody size (size % 2)) (λ more. finding_after (format_chunk depths format (chunk_of_size name size more)) (λ f. scan_of depths f (chunks (bytes_after size more))))
-leads_first depths None name size is big = leads_format depths name size big
+unfolding found_from
+leads_first depths None name size is big = record {
+  same = λ more. format_found-is depths name size more big;
+  place = (omega arith, omega arith, omega arith);
+  opened = λ kept n. tt;
+}
 leads_first depths (Some f) name size is big = absurd (cc)
 
 -- ---- a chunk whose head is known, by its name
@@ -287,9 +270,6 @@ take-take_front n a b =
       | inr short ↦ ap (λ (front : List ℕ). take n (front ++ b)) (take_all n a short)
     ]
 
-abbrev judged_body : Depths → ℕ → List ℕ → List ℕ → Finding
-judged_body depths pad body more = finding_after (verdict_of_format (format_of depths body)) (λ f. scan_of depths f (chunks (drop pad more)))
-
 pub body-stays : (depths : Depths) (missing pad : ℕ) (before bytes after : List ℕ) → after ≡ take 40 (before ++ bytes) → length bytes < missing → (length before ≤ 40) × (16 ≤ length before + missing)
     → GoesOn depths (FormatBody missing pad) before bytes (FormatBody (missing - length bytes) pad) after []
 unfolding found_from
@@ -314,17 +294,10 @@ body-stays depths missing pad before bytes after kept few place =
         sym (ap (λ (n : ℕ). drop n (bytes ++ more)) (omega arith) ∙ drop-append-add bytes more ((missing - length bytes) + pad))
 
     same : (more : List ℕ) → found_from depths (FormatBody (missing - length bytes) pad) after more ≡ found_from depths (FormatBody missing pad) before (bytes ++ more)
-    same more =
-        elim (cases_lt (length more) (missing - length bytes)) [
-          | inl short ↦
-              cond-true (ltb (length more) (missing - length bytes)) format_cut _ (lt-ltb _ _ short)
-              ∙ sym (cond-true (ltb (length (bytes ++ more)) missing) format_cut _ (lt-ltb _ _ (omega (arith, length-append bytes more))))
-          | inr long ↦
-              cond-false (ltb (length more) (missing - length bytes)) format_cut _ (le-ltb _ _ long)
-              ∙ ap (λ (b : List ℕ). finding_after (verdict_of_format (format_of depths b)) (λ f. scan_of depths f (chunks (drop ((missing - length bytes) + pad) more)))) (body more)
-              ∙ ap (λ (b : List ℕ). finding_after (verdict_of_format (format_of depths (take 40 (before ++ take missing (bytes ++ more))))) (λ f. scan_of depths f (chunks b))) (later more)
-              ∙ sym (cond-false (ltb (length (bytes ++ more)) missing) format_cut _ (le-ltb _ _ (omega (arith, length-append bytes more))))
-        ]
+    same more = elim (cases_lt (length more) (missing - length bytes)) [
+      | inl short ↦ rw (lt-ltb (length more) (missing - length bytes) short, lt-ltb (length (bytes ++ more)) missing (omega (arith, length-append bytes more))) refl
+      | inr long ↦ rw (le-ltb (length more) (missing - length bytes) long, le-ltb (length (bytes ++ more)) missing (omega (arith, length-append bytes more)), body more, later more) refl
+    ]
 
 pub body-leads : (depths : Depths) (missing pad : ℕ) (before bytes body : List ℕ) (new : Place) → body ≡ take 40 (before ++ take missing bytes) → missing ≤ length bytes
     → LeadsTo depths new (λ more. finding_after (verdict_of_format (format_of depths body)) (λ f. scan_of depths f (chunks (drop pad more))))

@@ -16,7 +16,7 @@ use Rattle.wav_io.specs.Fields.{whole}
 use Rattle.wav_io.specs.Formats.{IsFormat, is_accepted}
 use Rattle.wav_io.specs.Frames.{IsCut}
 use Rattle.wav_io.specs.Pieces.{found_from, with_front}
-use Rattle.wav_io.specs.Reading.{Contents, within_limit, most_bytes}
+use Rattle.wav_io.specs.Reading.{Contents, most_bytes}
 use Rattle.wav_io.specs.Readers.{Reader, IsOfHead, IsPart, Raw, error_of, rest_of, raw_to_come, raw_frame, raws, with_bytes}
 use Rattle.wav_io.specs.Scans.{IsScan, refusal_of, to_come}
 use Rattle.wav_io.proofs.Limits.{limited-short, limited-long}
@@ -33,12 +33,6 @@ raw_frame-some f in_order =
     let bytes : 1 ≤ f.bits / 8 = omega (arith, range.0) in
     omega (arith, mul-le-mul_left f.channels bytes, in_order.some_channel)
 
-pub raw_frame-few : (f : Format) → IsFormat f → raw_frame f ≤ 40
-raw_frame-few f in_order =
-    let range = bits_range f.bits in_order.whole_bytes in
-    let bytes : f.bits / 8 ≤ 4 = omega (arith, range.1) in
-    omega (arith, mul-le-mul_left f.channels bytes, in_order.few_channels)
-
 pub raws-frames : (r : Result Contents WavError) (s : Raw) → raws r ≡ Ok s → length s.body % (s.channels * (s.bits / 8)) ≡ 0
 raws-frames (Ok c) s is =
     let size = raw_frame c.format in
@@ -52,10 +46,9 @@ raws-cut : (f : Format) (part body bytes rest items : List ℕ) (r : Result Cont
     → with_bytes items (raws (with_front part (with_front body r))) ≡ with_bytes (items ++ bytes) (raws (with_front rest r))
 raws-cut f part body bytes rest items (Err e) cut some same = refl
 raws-cut f part body bytes rest items (Ok c) cut some same =
-    let is : c.format ≡ f = same c refl in
-    let frames : whole (raw_frame c.format) (part ++ (body ++ c.body)) ≡ bytes ++ whole (raw_frame c.format) (rest ++ c.body) =
-    subst (λ (g : Format). whole (raw_frame g) (part ++ (body ++ c.body)) ≡ bytes ++ whole (raw_frame g) (rest ++ c.body)) (sym is) (cut-whole (raw_frame f) part body bytes rest c.body cut some) in
-    ap (λ (b : List ℕ). Ok (record { channels = c.format.channels; rate = c.format.rate; bits = c.format.bits; body = b })) (ap (λ (b : List ℕ). items ++ b) frames ∙ sym (append_assoc items bytes (whole (raw_frame c.format) (rest ++ c.body))))
+    rw (same c refl)
+    (ap (λ (b : List ℕ). Ok (record { channels = f.channels; rate = f.rate; bits = f.bits; body = b }))
+    (ap (λ (b : List ℕ). items ++ b) (cut-whole (raw_frame f) part body bytes rest c.body cut some) ∙ sym (append_assoc items bytes (whole (raw_frame f) (rest ++ c.body)))))
 
 pub some_raw : (old new : Reader) (f : Format) (n : ℕ) (piece body bytes items after : List ℕ) → old.starved ≡ false → new.starved ≡ false → new.scan.place ≡ DataBody f n → 0 < raw_frame f
     → IsCut (raw_frame f) old.part body bytes new.part → after ≡ items ++ bytes
@@ -77,17 +70,10 @@ ends_raw r f n fed is part come =
 -- after a format, an answer has that format, or the file is too long
 of_data : (r : Reader) (f : Format) (n : ℕ) → r.scan.place ≡ DataBody f n → r.starved ≡ false → (more : List ℕ) → IsOfHead f.channels f.rate f.bits (raw_to_come r more)
 unfolding found_from
-of_data r f n is fed more =
-    let come : to_come UpTo32 r.scan more ≡ within_limit r.scan.seen (found_from UpTo32 (DataBody f n) r.scan.kept) more =
-    ap (λ (q : Place). within_limit r.scan.seen (found_from UpTo32 q r.scan.kept) more) is in
-    elim (cases_lt most_bytes (r.scan.seen + length more)) [
-      | inl long ↦
-          subst (λ (a : Result Contents WavError). IsOfHead f.channels f.rate f.bits (raws a))
-          (sym (fed_comes UpTo32 r more fed ∙ ap (with_front r.part) (come ∙ limited-long r.scan.seen (found_from UpTo32 (DataBody f n) r.scan.kept) more long))) refl
-      | inr short ↦
-          subst (λ (a : Result Contents WavError). IsOfHead f.channels f.rate f.bits (raws a))
-          (sym (fed_comes UpTo32 r more fed ∙ ap (with_front r.part) (come ∙ limited-short r.scan.seen (found_from UpTo32 (DataBody f n) r.scan.kept) more short))) (refl, refl, refl)
-    ]
+of_data r f n is fed more = elim (cases_lt most_bytes (r.scan.seen + length more)) [
+  | inl long ↦ rw (fed_comes UpTo32 r more fed, is, limited-long r.scan.seen (found_from UpTo32 (DataBody f n) r.scan.kept) more long) refl
+  | inr short ↦ rw (fed_comes UpTo32 r more fed, is, limited-short r.scan.seen (found_from UpTo32 (DataBody f n) r.scan.kept) more short) (refl, refl, refl)
+]
 
 pub raw_to_come-head : (r : Reader) (f : Format) (n : ℕ) → r.scan.place ≡ DataBody f n → error_of r ≡ None → (more : List ℕ) → IsOfHead f.channels f.rate f.bits (raw_to_come r more)
 raw_to_come-head r f n is none =
@@ -101,7 +87,5 @@ pub raw_to_come-ends : (r : Reader) (f : Format) (n : ℕ) → IsScan r.scan →
 raw_to_come-ends r f n scan is none =
     elim (cases_Bool r.starved) [
       | inl hungry ↦ absurd (let e : Some Memory ≡ None = sym (cond-true r.starved (Some Memory) (refusal_of r.scan.place) hungry) ∙ none in cc)
-      | inr fed ↦
-          subst (λ (a : Result Contents WavError). IsOk (raws a))
-          (sym (fed_comes UpTo32 r [] fed ∙ ap (with_front r.part) (ends_at UpTo32 r.scan (DataBody f n) _ scan is (ends_data UpTo32 f n r.scan.kept)))) refl
+      | inr fed ↦ rw (fed_comes UpTo32 r [] fed, ends_at UpTo32 r.scan (DataBody f n) _ scan is (ends_data UpTo32 f n r.scan.kept)) refl
     ]

@@ -4,7 +4,6 @@ use Rattle.std.proofs.Math.Seq.{take-append-add}
 use Rattle.std.specs.Prelude.{IfSome}
 use Rattle.std.specs.Int.{w16, cast_signed, from_le_bytes}
 use Rattle.std.proofs.lemmas.Bool.{cond-true, cond-false, cases_lt, cases_Bool}
-use Rattle.std.proofs.lemmas.List.{nil_from_length}
 use Rattle.std.proofs.Math.Nat.{div-eq_of_lt, mul-add-div_right}
 use Rattle.wav_io.specs.declared.error.WavError.{WavError}
 use Rattle.wav_io.specs.declared.error.WavError.TheVariants.{NotRiff, NotWave, NoFormat, FormatTwice, ShortFormat, Tag, Bits, Channels, RateZero, NoData, TooLong, Memory}
@@ -12,13 +11,13 @@ use Rattle.wav_io.specs.declared.format.Depths.{Depths}
 use Rattle.wav_io.specs.declared.format.Depths.TheVariants.{Sixteen}
 use Rattle.wav_io.specs.declared.format.Format.{Format}
 use Rattle.wav_io.specs.declared.place.Place.{Place}
-use Rattle.wav_io.specs.declared.place.Place.TheVariants.{Opening, Head, FormatBody, DataBody, Refused}
+use Rattle.wav_io.specs.declared.place.Place.TheVariants.{Opening, DataBody, Refused}
 use Rattle.wav_io.specs.declared.scan.Part.{Part}
 use Rattle.wav_io.specs.declared.scan.Scan.{Scan}
 use Rattle.wav_io.specs.Fields.{whole, samples_of_bytes}
 use Rattle.wav_io.specs.Frames.{IsCut}
 use Rattle.wav_io.specs.Pieces.{with_front, found_from}
-use Rattle.wav_io.specs.Reading.{Contents, contents, within_limit, most_bytes, sound_of, sounds, wav_file, IsRefusal}
+use Rattle.wav_io.specs.Reading.{Contents, contents, most_bytes, sound_of, sounds, wav_file, IsRefusal}
 use Rattle.wav_io.specs.Readers.{Reader, IsPart, error_of, rest_of, sound_to_come, wav_frame, with_samples}
 use Rattle.wav_io.specs.Scans.{to_come, refusal_of, FollowsData, IsScan}
 use Rattle.wav_io.specs.Sound.{Sound}
@@ -75,6 +74,11 @@ no_data depths old new bytes more fed still same come =
 pub refused_rest : (depths : Depths) (old : Reader) (bytes : List ℕ) (e : WavError) → old.starved ≡ false → to_come depths old.scan bytes ≡ Err e → rest_of depths old bytes ≡ Err e
 refused_rest depths old bytes e fed is = fed_comes depths old bytes fed ∙ ap (with_front old.part) is
 
+-- a piece that is refused
+pub refused_same : (depths : Depths) (old new : Reader) (bytes more : List ℕ) (e : WavError) → old.starved ≡ false → new.starved ≡ false → to_come depths old.scan (bytes ++ more) ≡ Err e → to_come depths new.scan more ≡ Err e
+    → rest_of depths old (bytes ++ more) ≡ rest_of depths new more
+refused_same depths old new bytes more e fed still was is = refused_rest depths old (bytes ++ more) e fed was ∙ sym (refused_rest depths new more e still is)
+
 -- ---- a piece with data
 
 whole-append : (n size : ℕ) (a b : List ℕ) → 0 < size → length a ≡ n * size → whole size (a ++ b) ≡ a ++ whole size b
@@ -102,27 +106,22 @@ pub sounds-cut : (f : Format) (part body bytes rest : List ℕ) (items : List �
     → with_samples items (sounds (with_front part (with_front body r))) ≡ with_samples (items ++ samples_of_bytes bytes) (sounds (with_front rest r))
 sounds-cut f part body bytes rest items (Err e) cut some same = refl
 sounds-cut f part body bytes rest items (Ok c) cut some same =
-    let is : c.format ≡ f = same c refl in
-    let frames : whole (wav_frame c.format) (part ++ (body ++ c.body)) ≡ bytes ++ whole (wav_frame c.format) (rest ++ c.body) =
-    subst (λ (g : Format). whole (wav_frame g) (part ++ (body ++ c.body)) ≡ bytes ++ whole (wav_frame g) (rest ++ c.body)) (sym is) (cut-whole (wav_frame f) part body bytes rest c.body cut some) in
-    let samples : items ++ samples_of_bytes (whole (wav_frame c.format) (part ++ (body ++ c.body))) ≡ (items ++ samples_of_bytes bytes) ++ samples_of_bytes (whole (wav_frame c.format) (rest ++ c.body)) =
-    ap (λ (b : List ℕ). items ++ samples_of_bytes b) frames
-    ∙ ap (λ (zs : List ℤ). items ++ zs) (samples_of_bytes-frames cut.frames f.channels bytes (whole (wav_frame c.format) (rest ++ c.body)) cut.whole_frames)
-    ∙ sym (append_assoc items (samples_of_bytes bytes) (samples_of_bytes (whole (wav_frame c.format) (rest ++ c.body)))) in
-    ap (λ (zs : List ℤ). Ok (record { channels = c.format.channels; rate = c.format.rate; samples = zs })) samples
+    rw (same c refl)
+    (ap (λ (zs : List ℤ). Ok (record { channels = f.channels; rate = f.rate; samples = zs }))
+    (ap (λ (b : List ℕ). items ++ samples_of_bytes b) (cut-whole (wav_frame f) part body bytes rest c.body cut some)
+    ∙ ap (λ (zs : List ℤ). items ++ zs) (samples_of_bytes-frames cut.frames f.channels bytes (whole (wav_frame f) (rest ++ c.body)) cut.whole_frames)
+    ∙ sym (append_assoc items (samples_of_bytes bytes) (samples_of_bytes (whole (wav_frame f) (rest ++ c.body))))))
 
 -- the format of the data that is to come
 pub format_comes : (depths : Depths) (s : Scan) (f : Format) (n : ℕ) → s.place ≡ DataBody f n → (more : List ℕ) (c : Contents) → to_come depths s more ≡ Ok c → c.format ≡ f
 unfolding found_from
-format_comes depths s f n is more c come =
-    let at : within_limit s.seen (found_from depths (DataBody f n) s.kept) more ≡ Ok c = sym (ap (λ (q : Place). within_limit s.seen (found_from depths q s.kept) more) is) ∙ come in
-    elim (cases_lt most_bytes (s.seen + length more)) [
-      | inl long ↦ absurd (let e = sym (limited-long s.seen (found_from depths (DataBody f n) s.kept) more long) ∙ at in cc)
-      | inr short ↦
-          let e : Ok (record { format = f; body = take n more }) ≡ Ok c = sym (limited-short s.seen (found_from depths (DataBody f n) s.kept) more short) ∙ at in
-          let same : record { format = f; body = take n more } ≡ c = cc in
-          ap (λ (d : Contents). d.format) (sym same)
-    ]
+format_comes depths s f n is more c come = elim (cases_lt most_bytes (s.seen + length more)) [
+  | inl long ↦ absurd (let e = rw (is, limited-long s.seen (found_from depths (DataBody f n) s.kept) more long) at come in cc)
+  | inr short ↦
+      let e : Ok (record { format = f; body = take n more }) ≡ Ok c = rw (is, limited-short s.seen (found_from depths (DataBody f n) s.kept) more short) at come in
+      let same : record { format = f; body = take n more } ≡ c = cc in
+      ap (λ (d : Contents). d.format) (sym same)
+]
 
 pub some_data : (old new : Reader) (f : Format) (n : ℕ) (piece body bytes : List ℕ) (items after : List ℤ) → old.starved ≡ false → new.starved ≡ false → new.scan.place ≡ DataBody f n → 0 < wav_frame f
     → IsCut (wav_frame f) old.part body bytes new.part → after ≡ items ++ samples_of_bytes bytes
@@ -143,18 +142,12 @@ not_refused depths old scan f n piece body fed is place come =
 -- ---- answers of a reader
 
 pub refused_place : (place : Place) → ((e : WavError) → place ≡ Refused e → ⊥) → refusal_of place ≡ None
-refused_place Opening other = refl
-refused_place (Head format skip) other = refl
-refused_place (FormatBody missing pad) other = refl
-refused_place (DataBody f n) other = refl
 refused_place (Refused e) other = absurd (other e refl)
+refused_place place other = refl
 
 pub place_refused : (place : Place) (e : WavError) → refusal_of place ≡ Some e → place ≡ Refused e
-place_refused Opening e is = absurd (cc)
-place_refused (Head format skip) e is = absurd (cc)
-place_refused (FormatBody missing pad) e is = absurd (cc)
-place_refused (DataBody f n) e is = absurd (cc)
 place_refused (Refused d) e is = let same : d ≡ e = cc in ap (λ (x : WavError). Refused x) same
+place_refused place e is = absurd (cc)
 
 pub error_comes : (depths : Depths) (r : Reader) (e : WavError) → error_of r ≡ Some e → (more : List ℕ) → rest_of depths r more ≡ Err e
 error_comes depths r e is more =
@@ -170,17 +163,14 @@ error_comes depths r e is more =
 
 -- a scan that goes on was at no refusal
 refusal_of-followed : (place : Place) (part : Option Part) → FollowsData place (Ok part) → refusal_of place ≡ None
-refusal_of-followed Opening part follows = refl
-refusal_of-followed (Head format skip) part follows = refl
-refusal_of-followed (FormatBody missing pad) part follows = refl
-refusal_of-followed (DataBody format missing) part follows = refl
 refusal_of-followed (Refused e) part follows = absurd follows
+refusal_of-followed place part follows = refl
 
 -- whatever a reader's error implies holds where its scan goes on, since there is none
 pub error_of-followed : (P : WavError → Type 0) (r now : Reader) (part : Option Part) → r ≡ now → r.starved ≡ false → FollowsData r.scan.place (Ok part) → IfSome (error_of now) P
 error_of-followed P r now part same fed follows =
     let none : error_of r ≡ None = cond-false r.starved (Some Memory) (refusal_of r.scan.place) fed ∙ refusal_of-followed r.scan.place part follows in
-    subst (λ (r : Reader). IfSome (error_of r) P) same (subst (λ (o : Option WavError). IfSome o P) (sym none) tt)
+    rw (← same, none) tt
 
 -- ---- a file in one piece
 
@@ -202,13 +192,6 @@ pub whole_ok : (old new : Reader) (bytes : List ℕ) (a b : List ℤ) (channels 
 whole_ok old new bytes a b channels rate file same none is =
     ap wav_file (sym (append-nil bytes)) ∙ sym (file (bytes ++ [])) ∙ sym (with_samples-nil (sound_to_come old (bytes ++ [])))
     ∙ ap (λ (zs : List ℤ). with_samples zs (sound_to_come old (bytes ++ []))) (sym none) ∙ same ∙ ap (with_samples b) is
-    ∙ ap (λ (zs : List ℤ). Ok (record { channels = channels; rate = rate; samples = zs })) (append-nil b)
-
--- a file in pieces, of which the last one came
-pub pieces_ok : (r : Reader) (bytes rest : List ℕ) (b : List ℤ) (channels rate : ℕ) → with_samples b (sound_to_come r rest) ≡ wav_file bytes → length rest ≡ 0
-    → sound_to_come r [] ≡ Ok (record { channels = channels; rate = rate; samples = [] }) → wav_file bytes ≡ Ok (record { channels = channels; rate = rate; samples = b })
-pieces_ok r bytes rest b channels rate same none is =
-    sym same ∙ ap (λ (x : List ℕ). with_samples b (sound_to_come r x)) (nil_from_length rest none) ∙ ap (with_samples b) is
     ∙ ap (λ (zs : List ℤ). Ok (record { channels = channels; rate = rate; samples = zs })) (append-nil b)
 
 -- ---- the end of a reader

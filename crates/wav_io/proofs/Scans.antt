@@ -55,11 +55,8 @@ through_data depths f missing old bytes p new is place moved same body =
 -- ---- up to the data, and through it
 
 not_data : (place : Place) (part : Option Part) → ((f : Format) (n : ℕ) → place ≡ DataBody f n → ⊥) → ContinuesData place part
-not_data Opening part other = tt
-not_data (Head format skip) part other = tt
-not_data (FormatBody missing pad) part other = tt
 not_data (DataBody f n) part other = absurd (other f n refl)
-not_data (Refused e) part other = tt
+not_data place part other = tt
 
 pub through_walk : (depths : Depths) (old walked : Scan) (bytes rest : List ℕ) (part : Option Part) (new : Scan) → ((f : Format) (n : ℕ) → old.place ≡ DataBody f n → ⊥)
     → GoesOn depths old.place old.kept bytes walked.place walked.kept rest → walked.seen ≡ old.seen → GoesThrough depths walked rest part new → GoesThrough depths old bytes part new
@@ -73,10 +70,8 @@ through_walk depths old walked bytes rest part new other goes counted through = 
 }
 
 with_body-nil : (f : Finding) → f ≡ with_body [] f
-with_body-nil (refused e) = refl
-with_body-nil (body_found f body) = refl
 with_body-nil format_cut = refl
-with_body-nil (ended format) = refl
+with_body-nil other = refl
 
 none-same : (depths : Depths) (place : Place) (kept rest : List ℕ) → IsWalked place rest → ((f : Format) (n : ℕ) → place ≡ DataBody f n → ⊥)
     → (more : List ℕ) → found_from depths place kept (rest ++ more) ≡ with_body [] (found_from depths place kept more)
@@ -89,17 +84,11 @@ none-same depths (Refused e) kept rest walked other more = refl
 
 none-seen : (place : Place) (kept rest : List ℕ) (n : ℕ) → IsWalked place rest → HasSeen place (kept ++ rest) n → HasSeen place kept n
 none-seen Opening kept rest n walked was = was ∙ ap (λ (b : List ℕ). length (kept ++ b)) walked ∙ ap length (append-nil kept)
-none-seen (Head format skip) kept rest n walked was = tt
-none-seen (FormatBody missing pad) kept rest n walked was = tt
-none-seen (DataBody f m) kept rest n walked was = tt
-none-seen (Refused e) kept rest n walked was = tt
+none-seen place kept rest n walked was = tt
 
 none-behind : (place : Place) → ((f : Format) (n : ℕ) → place ≡ DataBody f n → ⊥) → IsAfterData None place
-none-behind Opening other = tt
-none-behind (Head format skip) other = tt
-none-behind (FormatBody missing pad) other = tt
 none-behind (DataBody f n) other = other f n refl
-none-behind (Refused e) other = tt
+none-behind place other = tt
 
 pub through_none : (depths : Depths) (walked : Scan) (rest : List ℕ) → IsSoundPlace walked.place walked.kept → IsWalked walked.place rest → ((f : Format) (n : ℕ) → walked.place ≡ DataBody f n → ⊥) → GoesThrough depths walked rest None walked
 through_none depths walked rest place is other = record {
@@ -115,10 +104,7 @@ through_none depths walked rest place is other = record {
 
 seen-more : (place : Place) (kept bytes : List ℕ) (seen : ℕ) → HasSeen place kept seen → HasSeen place (kept ++ bytes) (seen + length bytes)
 seen-more Opening kept bytes seen is = ap (λ (n : ℕ). n + length bytes) is ∙ sym (length-append kept bytes)
-seen-more (Head format skip) kept bytes seen is = tt
-seen-more (FormatBody missing pad) kept bytes seen is = tt
-seen-more (DataBody f n) kept bytes seen is = tt
-seen-more (Refused e) kept bytes seen is = tt
+seen-more place kept bytes seen is = tt
 
 abbrev counted_on : Scan → List ℕ → Scan
 counted_on s bytes = record s { seen = s.seen + length bytes }
@@ -192,19 +178,14 @@ refused_past depths old mid piece part e through scan long is more =
     ∙ ap (λ (q : Place). with_front (part_bytes part) (before_end (found_from depths q mid.kept []))) is
 
 pub follows_from : (place : Place) (part : Option Part) → ContinuesData place part → ((e : WavError) → place ≡ Refused e → ⊥) → FollowsData place (Ok part)
-follows_from Opening part is unrefused = tt
-follows_from (Head format skip) part is unrefused = tt
-follows_from (FormatBody missing pad) part is unrefused = tt
 follows_from (DataBody f n) None is unrefused = is
 follows_from (DataBody f n) (Some p) is unrefused = is
 follows_from (Refused e) part is unrefused = unrefused e refl
+follows_from place part is unrefused = tt
 
 pub follows_err : (place : Place) (e : WavError) → ((d : WavError) → place ≡ Refused d → ⊥) → FollowsData place (Err e)
-follows_err Opening e unrefused = tt
-follows_err (Head format skip) e unrefused = tt
-follows_err (FormatBody missing pad) e unrefused = tt
-follows_err (DataBody f n) e unrefused = tt
 follows_err (Refused d) e unrefused = absurd (unrefused d refl)
+follows_err place e unrefused = tt
 
 -- ---- the end
 

@@ -1,18 +1,18 @@
 -- The data of a file has no more bytes than a file may have.
-use Rattle.std.proofs.Common.{◌≡◌, ℕ, zero, suc, ◌+◌, ◌-◌, ◌*◌, ◌/◌, ◌%◌, ◌<◌, ◌≤◌, true, false, cond, List, [], ◌∷◌, length, take, drop, Option, Some, None, Result, Ok, Err, refl, sym, ap, ◌∙◌, arith, inl, inr, ltb}
+use Rattle.std.proofs.Common.{◌≡◌, ℕ, zero, suc, ◌+◌, ◌-◌, ◌*◌, ◌/◌, ◌%◌, ◌≤◌, true, false, cond, List, [], ◌∷◌, length, take, drop, Option, Some, None, Result, Ok, Err, refl, sym, ap, ◌∙◌, arith, inl, inr, ltb}
 use Rattle.std.proofs.lemmas.Bool.{cases_lt}
 use Rattle.std.proofs.lemmas.List.{length-drop, length-take}
 use Rattle.std.specs.Prelude.{codes}
 use Rattle.std.specs.Str.{bytes_eq}
 use Rattle.wav_io.specs.declared.error.WavError.{WavError}
-use Rattle.wav_io.specs.declared.error.WavError.TheVariants.{NotRiff, NotWave, FormatTwice, ShortFormat}
+use Rattle.wav_io.specs.declared.error.WavError.TheVariants.{NotRiff, NotWave, ShortFormat}
 use Rattle.wav_io.specs.declared.format.Depths.{Depths}
 use Rattle.wav_io.specs.declared.format.Depths.TheVariants.{UpTo32}
 use Rattle.wav_io.specs.declared.format.Format.{Format}
 use Rattle.wav_io.specs.Chunks.{Chunk, size_at, first_chunk, after_chunk, chunks_in, chunks}
 use Rattle.wav_io.specs.Fields.{whole}
 use Rattle.wav_io.specs.Formats.{format_of}
-use Rattle.wav_io.specs.Reading.{Contents, Finding, refused, body_found, format_cut, ended, Verdict, decides, goes_on, verdict_of_format, format_chunk, data_chunk, verdict_of, finding_after, scan_of, found_in, at_end, before_end, contents, within_limit, most_bytes}
+use Rattle.wav_io.specs.Reading.{Contents, Finding, refused, body_found, format_cut, ended, decides, goes_on, verdict_of_format, format_chunk, data_chunk, verdict_of, finding_after, scan_of, found_in, at_end, before_end, contents, most_bytes}
 use Rattle.wav_io.specs.Readers.{Raw, raw_file, raw_frame, raws}
 use Rattle.wav_io.proofs.Limits.{limited-long, limited-short}
 
@@ -105,10 +105,8 @@ at_end-few n (ended None) c few is = absurd (cc)
 at_end-few n (ended (Some f)) c few is = absurd (cc)
 
 before_end-none : (f : Finding) (c : Contents) → before_end f ≡ Ok c → ⊥
-before_end-none (refused e) c is = cc
-before_end-none (body_found f body) c is = cc
 before_end-none format_cut c is = cc
-before_end-none (ended format) c is = cc
+before_end-none other c is = cc
 
 contents-few : (depths : Depths) (bytes : List ℕ) (c : Contents) → contents depths bytes ≡ Ok c → length c.body ≤ most_bytes
 contents-few depths bytes c is =

@@ -1,84 +1,56 @@
-use Rattle.std.proofs.Common.{◌≡◌, ◌<◌, ◌++◌, [], List, ℕ, Option, Err, refl, ap, sym, subst, ◌∙◌}
-use Rattle.std.specs.Prelude.{IsOk}
-use Rattle.wav_io.specs.declared.error.WavError.TheVariants.{Memory}
+use Rattle.std.proofs.Common.{[], ap, refl}
 use Rattle.wav_io.specs.declared.format.Depths.TheVariants.{UpTo32}
-use Rattle.wav_io.specs.declared.place.Place.{Place}
-use Rattle.wav_io.specs.declared.scan.Part.{Part}
 use Rattle.wav_io.specs.Formats.{IsFormat}
-use Rattle.wav_io.specs.Pieces.{IsSoundPlace, with_front}
-use Rattle.wav_io.specs.Readers.{Reader, raws, raw_to_come, raw_frame, with_bytes}
-use Rattle.wav_io.specs.Scans.{to_come, part_bytes, IsAfterData}
+use Rattle.wav_io.specs.Readers.{Reader, raws, with_bytes}
 use Rattle.wav_io.proofs.Raws.{some_raw, raw_frame-some}
-use Rattle.wav_io.proofs.Readers.{starved_comes, refused_rest, no_data, not_refused, error_of-followed}
+use Rattle.wav_io.proofs.Readers.{starved_comes, refused_rest, refused_same, no_data, not_refused, error_of-followed}
 use Rattle.wav_io.proofs.Scans.{refused_comes}
 use Rattle.wav_io.proofs.raw.RawReader.feed.Goals as goal
 
 pub returns-then-self-clause-after : goal.returns-then-self-clause-after
-returns-then-self-clause-after c more = subst (λ (r : Reader). raw_to_come r more ≡ Err Memory) c.self.view_is (ap raws (starved_comes UpTo32 _ more c.if-self.true))
+returns-then-self-clause-after c more = rw (← c.self.view_is) (ap raws (starved_comes UpTo32 _ more c.if-self.true))
 
 pub returns-in-Err-clause-same : goal.returns-in-Err-clause-same
 returns-in-Err-clause-same c ne more =
-    let e = c.in-Err.error in
-    let items = c.args.body.now.items in
-    let old : Reader = record { scan = c.self.inside.scan; part = c.self.inside.part; starved = c.self.inside.is_starved } in
-    let new : Reader = record { scan = c.advance.new.self; part = c.self.inside.part; starved = c.self.inside.is_starved } in
-    let before = ap raws (refused_rest UpTo32 old (c.args.piece.now ++ more) e c.if-self.false (c.in-Err.ensures.err more)) in
-    let after = ap raws (refused_rest UpTo32 new more e c.if-self.false (refused_comes UpTo32 c.advance.new.self e c.in-Err.ensures.refused.0 more)) in
-    subst (λ (r : Reader). with_bytes items (raw_to_come r (c.args.piece.now ++ more)) ≡ with_bytes items (raw_to_come new more)) c.self.view_is (ap (with_bytes items) (before ∙ sym after))
+    rw (← c.self.view_is)
+    (ap (λ r. with_bytes c.args.body.now.items (raws r))
+    (refused_same UpTo32 _ _ c.args.piece.now more _ c.if-self.false c.if-self.false (c.in-Err.ensures.err more) (refused_comes UpTo32 c.advance.new.self _ c.in-Err.ensures.refused.0 more)))
 
 pub returns-in-Err-clause-after : goal.returns-in-Err-clause-after
-returns-in-Err-clause-after c more =
-    let e = c.in-Err.error in
-    let new : Reader = record { scan = c.advance.new.self; part = c.self.inside.part; starved = c.self.inside.is_starved } in
-    ap raws (refused_rest UpTo32 new more e c.if-self.false (refused_comes UpTo32 c.advance.new.self e c.in-Err.ensures.refused.0 more))
+returns-in-Err-clause-after c more = ap raws (refused_rest UpTo32 _ more _ c.if-self.false (refused_comes UpTo32 c.advance.new.self _ c.in-Err.ensures.refused.0 more))
 
 pub returns-in-None-clause-same : goal.returns-in-None-clause-same
 returns-in-None-clause-same c ne more =
-    let items = c.args.body.now.items in
-    let old : Reader = record { scan = c.self.inside.scan; part = c.self.inside.part; starved = c.self.inside.is_starved } in
-    let new : Reader = record { scan = c.advance.new.self; part = c.self.inside.part; starved = c.self.inside.is_starved } in
-    let come : to_come UpTo32 old.scan (c.args.piece.now ++ more) ≡ with_front [] (to_come UpTo32 new.scan more) =
-    subst (λ (d : Option Part). to_come UpTo32 old.scan (c.args.piece.now ++ more) ≡ with_front (part_bytes d) (to_come UpTo32 new.scan more)) c.in-None.is (c.in-Ok.ensures.ok more) in
-    subst (λ (r : Reader). with_bytes items (raw_to_come r (c.args.piece.now ++ more)) ≡ with_bytes items (raw_to_come new more)) c.self.view_is
-    (ap (λ r. with_bytes items (raws r)) (no_data UpTo32 old new c.args.piece.now more c.if-self.false c.if-self.false refl come))
+    rw (← c.self.view_is)
+    (ap (λ r. with_bytes c.args.body.now.items (raws r)) (no_data UpTo32 _ _ c.args.piece.now more c.if-self.false c.if-self.false refl (rw c.in-None.is at (c.in-Ok.ensures.ok more))))
 
 pub returns-in-Ok-push_part-clause-same : goal.returns-in-Ok-push_part-clause-same
 returns-in-Ok-push_part-clause-same c ne more =
-    let items = c.args.body.now.items in
     let got = c.in-Some.data in
-    let old : Reader = record { scan = c.self.inside.scan; part = c.self.inside.part; starved = c.self.inside.is_starved } in
-    let new : Reader = record { scan = c.advance.new.self; part = c.push_part.new.part; starved = c.self.inside.is_starved } in
-    let come = subst (λ (d : Option Part). (more : List ℕ) → to_come UpTo32 old.scan (c.args.piece.now ++ more) ≡ with_front (part_bytes d) (to_come UpTo32 new.scan more)) c.in-Some.is c.in-Ok.ensures.ok in
-    let behind = subst (λ (d : Option Part). IsAfterData d c.advance.new.self.place) c.in-Some.is c.in-Ok.ensures.behind in
-    let in_order : IsFormat got.format = subst (λ (q : Place). IsSoundPlace q c.advance.new.self.kept) behind.1 c.in-Ok.ensures.scan.place in
-    let some : 0 < raw_frame got.format = raw_frame-some got.format in_order in
+    let come = rw c.in-Some.is at (c.in-Ok.ensures.ok more) in
+    let behind = rw c.in-Some.is at c.in-Ok.ensures.behind in
+    let in_order : IsFormat got.format = rw behind.1 at c.in-Ok.ensures.scan.place in
     let cut = c.in-Ok-push_part.ensures.ok in
-    subst (λ (r : Reader). with_bytes items (raw_to_come r (c.args.piece.now ++ more)) ≡ with_bytes c.push_part.new.body.items (raw_to_come new more)) c.self.view_is
-    (some_raw old new got.format behind.0 c.args.piece.now got.body.now cut.0 items c.push_part.new.body.items c.if-self.false c.if-self.false behind.1 some cut.2 cut.1 more (come more))
+    rw (← c.self.view_is)
+    (some_raw _ _ got.format behind.0 c.args.piece.now got.body.now cut.0 _ _ c.if-self.false c.if-self.false behind.1 (raw_frame-some got.format in_order) cut.2 cut.1 more come)
 
 pub returns-in-Err-push_part-clause-memory : goal.returns-in-Err-push_part-clause-memory
 returns-in-Err-push_part-clause-memory c _ _ =
     let got = c.in-Some.data in
     let old : Reader = record { scan = c.self.inside.scan; part = c.self.inside.part; starved = c.self.inside.is_starved } in
-    let come = subst (λ (d : Option Part). (more : List ℕ) → to_come UpTo32 old.scan (c.args.piece.now ++ more) ≡ with_front (part_bytes d) (to_come UpTo32 c.advance.new.self more)) c.in-Some.is c.in-Ok.ensures.ok in
-    let behind = subst (λ (d : Option Part). IsAfterData d c.advance.new.self.place) c.in-Some.is c.in-Ok.ensures.behind in
-    let rest = not_refused UpTo32 old c.advance.new.self got.format behind.0 c.args.piece.now got.body.now c.if-self.false c.in-Ok.ensures.scan behind.1 (come []) in
-    subst (λ (r : Reader). IsOk (raw_to_come r c.args.piece.now)) c.self.view_is (subst (λ r. IsOk (raws r)) (sym rest.1) refl)
+    let come = rw c.in-Some.is at (c.in-Ok.ensures.ok []) in
+    let behind = rw c.in-Some.is at c.in-Ok.ensures.behind in
+    let rest = not_refused UpTo32 old c.advance.new.self got.format behind.0 c.args.piece.now got.body.now c.if-self.false c.in-Ok.ensures.scan behind.1 come in
+    rw (← c.self.view_is, rest.1) refl
 
 pub returns-in-Err-push_part-clause-after : goal.returns-in-Err-push_part-clause-after
 returns-in-Err-push_part-clause-after c more = ap raws (starved_comes UpTo32 _ more refl)
 
 pub returns-in-Ok-push_part-clause-again : goal.returns-in-Ok-push_part-clause-again
-returns-in-Ok-push_part-clause-again c =
-    let old : Reader = record { scan = c.self.inside.scan; part = c.self.inside.part; starved = c.self.inside.is_starved } in
-    error_of-followed _ old c.args.self.now c.in-Ok.data c.self.view_is c.if-self.false c.in-Ok.ensures.follows
+returns-in-Ok-push_part-clause-again c = error_of-followed _ _ c.args.self.now c.in-Ok.data c.self.view_is c.if-self.false c.in-Ok.ensures.follows
 
 pub returns-in-None-clause-again : goal.returns-in-None-clause-again
-returns-in-None-clause-again c =
-    let old : Reader = record { scan = c.self.inside.scan; part = c.self.inside.part; starved = c.self.inside.is_starved } in
-    error_of-followed _ old c.args.self.now c.in-Ok.data c.self.view_is c.if-self.false c.in-Ok.ensures.follows
+returns-in-None-clause-again c = error_of-followed _ _ c.args.self.now c.in-Ok.data c.self.view_is c.if-self.false c.in-Ok.ensures.follows
 
 pub returns-in-Err-push_part-clause-again : goal.returns-in-Err-push_part-clause-again
-returns-in-Err-push_part-clause-again c =
-    let old : Reader = record { scan = c.self.inside.scan; part = c.self.inside.part; starved = c.self.inside.is_starved } in
-    error_of-followed _ old c.args.self.now c.in-Ok.data c.self.view_is c.if-self.false c.in-Ok.ensures.follows
+returns-in-Err-push_part-clause-again c = error_of-followed _ _ c.args.self.now c.in-Ok.data c.self.view_is c.if-self.false c.in-Ok.ensures.follows

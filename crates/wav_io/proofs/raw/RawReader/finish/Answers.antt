@@ -1,16 +1,15 @@
-use Rattle.std.proofs.Common.{◌≡◌, [], Ok, Err, ap, subst}
+use Rattle.std.proofs.Common.{◌≡◌, [], Err, ap, subst}
 use Rattle.std.specs.Prelude.{IfSome}
-use Rattle.wav_io.specs.declared.error.WavError.TheVariants.{Memory}
 use Rattle.wav_io.specs.declared.format.Depths.TheVariants.{UpTo32}
 use Rattle.wav_io.specs.Reading.{contents}
-use Rattle.wav_io.specs.Readers.{Reader, raws, error_of, raw_to_come}
+use Rattle.wav_io.specs.Readers.{Reader, raws, error_of}
 use Rattle.wav_io.proofs.Raws.{ends_raw, raws-frames}
 use Rattle.wav_io.proofs.Readers.{starved_comes, refused_rest, again_from, IfSome-weaker}
 use Rattle.wav_io.proofs.Sizes.{length-raw_file}
 use Rattle.wav_io.proofs.raw.RawReader.finish.Goals as goal
 
 pub returns-then-self-clause-err : goal.returns-then-self-clause-err
-returns-then-self-clause-err c = subst (λ r. raw_to_come r [] ≡ Err Memory) c.self.view_is (ap raws (starved_comes UpTo32 _ [] c.if-self.true))
+returns-then-self-clause-err c = rw (← c.self.view_is) (ap raws (starved_comes UpTo32 _ [] c.if-self.true))
 
 pub returns-then-self-clause-frames : goal.returns-then-self-clause-frames
 returns-then-self-clause-frames c bytes s is = raws-frames (contents UpTo32 bytes) s is
@@ -18,15 +17,14 @@ returns-then-self-clause-frames c bytes s is = raws-frames (contents UpTo32 byte
 pub returns-in-Ok-clause-ok : goal.returns-in-Ok-clause-ok
 returns-in-Ok-clause-ok c =
     let f = c.in-Ok.format in
-    subst (λ (r : Reader). raw_to_come r [] ≡ Ok (record { channels = f.channels; rate = f.rate; bits = f.bits; body = [] })) c.self.view_is
+    rw (← c.self.view_is)
     (ends_raw (record { scan = c.self.inside.scan; part = c.self.inside.part; starved = c.self.inside.is_starved }) f c.in-Ok.ensures.place.0 c.if-self.false c.in-Ok.ensures.place.1 c.self.invariant.part c.in-Ok.ensures.ok)
 
 pub returns-in-Ok-clause-frames : goal.returns-in-Ok-clause-frames
 returns-in-Ok-clause-frames c bytes s is = raws-frames (contents UpTo32 bytes) s is
 
 pub returns-in-Err-clause-err : goal.returns-in-Err-clause-err
-returns-in-Err-clause-err c =
-    subst (λ (r : Reader). raw_to_come r [] ≡ Err c.in-Err.error) c.self.view_is (ap raws (refused_rest UpTo32 _ [] c.in-Err.error c.if-self.false c.in-Err.ensures.err))
+returns-in-Err-clause-err c = rw (← c.self.view_is) (ap raws (refused_rest UpTo32 _ [] c.in-Err.error c.if-self.false c.in-Err.ensures.err))
 
 pub returns-in-Err-clause-again : goal.returns-in-Err-clause-again
 returns-in-Err-clause-again c =

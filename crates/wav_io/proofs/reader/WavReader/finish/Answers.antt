@@ -1,14 +1,13 @@
-use Rattle.std.proofs.Common.{◌≡◌, [], Ok, Err, ap, subst}
+use Rattle.std.proofs.Common.{◌≡◌, [], Err, ap, subst}
 use Rattle.std.specs.Prelude.{IfSome}
-use Rattle.wav_io.specs.declared.error.WavError.TheVariants.{Memory}
 use Rattle.wav_io.specs.declared.format.Depths.TheVariants.{Sixteen}
 use Rattle.wav_io.specs.Reading.{contents, sounds}
-use Rattle.wav_io.specs.Readers.{Reader, error_of, sound_to_come}
+use Rattle.wav_io.specs.Readers.{Reader, error_of}
 use Rattle.wav_io.proofs.Readers.{starved_comes, refused_rest, ends_fed, sounds-frames, again_from, IfSome-weaker}
 use Rattle.wav_io.proofs.reader.WavReader.finish.Goals as goal
 
 pub returns-then-self-clause-err : goal.returns-then-self-clause-err
-returns-then-self-clause-err c = subst (λ r. sound_to_come r [] ≡ Err Memory) c.self.view_is (ap sounds (starved_comes Sixteen _ [] c.if-self.true))
+returns-then-self-clause-err c = rw (← c.self.view_is) (ap sounds (starved_comes Sixteen _ [] c.if-self.true))
 
 pub returns-then-self-clause-frames : goal.returns-then-self-clause-frames
 returns-then-self-clause-frames c bytes s is = sounds-frames (contents Sixteen bytes) s is
@@ -16,15 +15,14 @@ returns-then-self-clause-frames c bytes s is = sounds-frames (contents Sixteen b
 pub returns-in-Ok-clause-ok : goal.returns-in-Ok-clause-ok
 returns-in-Ok-clause-ok c =
     let f = c.in-Ok.format in
-    subst (λ (r : Reader). sound_to_come r [] ≡ Ok (record { channels = f.channels; rate = f.rate; samples = [] })) c.self.view_is
+    rw (← c.self.view_is)
     (ends_fed (record { scan = c.self.inside.scan; part = c.self.inside.part; starved = c.self.inside.is_starved }) f c.in-Ok.ensures.place.0 c.if-self.false c.in-Ok.ensures.place.1 c.self.invariant.part c.in-Ok.ensures.ok)
 
 pub returns-in-Ok-clause-frames : goal.returns-in-Ok-clause-frames
 returns-in-Ok-clause-frames c bytes s is = sounds-frames (contents Sixteen bytes) s is
 
 pub returns-in-Err-clause-err : goal.returns-in-Err-clause-err
-returns-in-Err-clause-err c =
-    subst (λ (r : Reader). sound_to_come r [] ≡ Err c.in-Err.error) c.self.view_is (ap sounds (refused_rest Sixteen _ [] c.in-Err.error c.if-self.false c.in-Err.ensures.err))
+returns-in-Err-clause-err c = rw (← c.self.view_is) (ap sounds (refused_rest Sixteen _ [] c.in-Err.error c.if-self.false c.in-Err.ensures.err))
 
 pub returns-in-Err-clause-again : goal.returns-in-Err-clause-again
 returns-in-Err-clause-again c =
