@@ -2,7 +2,6 @@ pub mod Backing
 pub mod Boxes
 pub mod Counted
 pub mod FreePlaces
-pub mod Going
 pub mod Handed
 pub mod HandleLaws
 pub mod Handles
@@ -10,7 +9,6 @@ pub mod Making
 pub mod Opening
 pub mod OpeningDuplex
 pub mod ReaderMaking
-pub mod ReaderUnstopped
 pub mod Ringed
 pub mod Seated
 pub mod SettingUp

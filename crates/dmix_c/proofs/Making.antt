@@ -10,12 +10,15 @@ use Rattle.sum_table.specs.Seats.{seat_view}
 use Rattle.course.specs.AtPort.{LaysAt, LoadsAt, NoGet, TakesAt}
 use Rattle.course.specs.Course.{Course, ends}
 use Rattle.course.specs.CourseLaws.{Takes-map}
+use Rattle.course.specs.Gives.{Gives}
+use Rattle.course.specs.Stops.{CountsStop}
 use Rattle.pcm_states.specs.declared.calls.Call.{Call}
 use Rattle.pcm_states.specs.declared.calls.Call.TheVariants as call
 use Rattle.pcm_stream.specs.declared.direction.Direction.TheVariants.{Playback}
 use Rattle.pcm_stream.specs.Status.{is_moving, refusal_of}
 use Rattle.dmix_client.specs.declared.stream.Identity.{Identity}
 use Rattle.dmix_client.specs.declared.stream.PlaybackStream.{PlaybackStream}
+use Rattle.dmix_client.specs.CallRelations.{Calls}
 use Rattle.dmix_client.specs.Calls.{Answered}
 use Rattle.dmix_client.specs.Course.{admitted_by, if_admitted}
 use Rattle.dmix_client.specs.Port.{CanUse}
@@ -26,7 +29,7 @@ use Rattle.dmix_c.specs.Backed.{IsBackedBy, StaysBacked}
 use Rattle.dmix_c.specs.SeatPort.{TakesAt-goes, no_gate, seat_port}
 use Rattle.dmix_c.specs.ClientCalls.{HasMade, call_course, done_course, ring_after}
 use Rattle.dmix_c.proofs.Backing.{still-configured}
-use Rattle.dmix_c.proofs.Unstopped.{call-unstopped}
+use Rattle.dmix_c.proofs.Unstopped.{IsLeft, Unstopped, unstopped-by}
 
 -- a course that gives nothing, with its answer
 pub done-taken : (s t : MixSeat × NeverStops) (m : Course (Answered (Unit {0}))) (d : PlaybackStream) (result : Result (Unit {0}) PcmError) (made : Result ℕ PcmError)
@@ -57,43 +60,48 @@ CanUse-resting c d v same rests usable = record {
 }
 
 -- a call by its course
-pub made-by : (asked : ClientCall) (s t : MixSeat) (g h : NeverStops) (c d : ClientView) (made : Result ℕ PcmError)
+made-by : {asked : ClientCall} {s t : MixSeat} (g h : NeverStops) {c d : ClientView} {made : Result ℕ PcmError}
     → TakesAt seat_port no_gate (s, g) (call_course asked c (seat_view s).marks) (t, h) (d.stream, made)
-    → d.ring ≡ ring_after asked made c.ring → CanUse d.stream (seat_view t) → StaysBacked s c t d → HasMade asked s c t d made
-made-by asked s t g h c d made takes ring usable stays = record {
+    → d.ring ≡ ring_after asked made c.ring → (c.stream.status.stopped ≡ false → d.stream.status.stopped ≡ false) → CanUse d.stream (seat_view t)
+    → StaysBacked s c t d → HasMade asked s c t d made
+made-by g h takes ring unstopped usable stays = record {
   before = g;
   after = h;
   takes = takes;
   ring = ring;
-  unstopped = call-unstopped asked (s, g) (t, h) c d.stream (seat_view s).marks made takes;
+  unstopped = unstopped;
   usable = usable;
-  goes = TakesAt-goes (s, g) (t, h) (call_course asked c (seat_view s).marks) (d.stream, made) takes;
+  goes = TakesAt-goes _ _ _ _ takes;
   stays = stays;
 }
 
--- a call with steps, which gives no configuration, by the samples of its segment
-pub made-stepping : (asked named : ClientCall) (what : Call) (s t : MixSeat) (g h : NeverStops) (c d : ClientView) (made : Result ℕ PcmError) → asked ≡ named
-    → (what ≡ call.HwParams → ⊥) → IsSoundClient c.stream c.ring → ((e : PcmError) → refusal_of Playback c.stream.status what ≡ Some e → d ≡ c)
-    → TakesAt seat_port no_gate (s, g) (call_course named c (seat_view s).marks) (t, h) (d.stream, made)
-    → d.ring ≡ ring_after named made c.ring → CanUse d.stream (seat_view t) → ((samples : List ℤ) → IsBackedBy s c samples → IsBackedBy t d samples)
-    → HasMade asked s c t d made
-made-stepping asked named what s t g h c d made is other sound refused takes ring usable backed =
-    subst (λ (a : ClientCall). HasMade a s c t d made) (sym is) (made-by named s t g h c d made takes ring usable
-    (record { configured = still-configured what c d other sound refused; backed = λ has. backed }))
+-- a call with steps, which gives no configuration, by the samples of its segment: where it ends in what the client's own call answers
+pub made-stepping : {asked : ClientCall} (named : ClientCall) {what : Call} {s t : MixSeat × NeverStops} {c d : ClientView} {X Frame Cause : Type 0}
+    {course : Course (Answered X)} {answer : Result X PcmError} (made : Result ℕ PcmError) → Calls seat_port no_gate s t c d answer what course Frame Cause
+    → asked ≡ named → (what ≡ call.HwParams → ⊥) → IsSoundClient c.stream c.ring
+    → TakesAt seat_port no_gate s (call_course named c (seat_view s.0).marks) t (d.stream, made) → d.ring ≡ ring_after named made c.ring
+    → (Unstopped c.stream → Gives IsLeft (if_admitted c.stream what course)) → (Unstopped c.stream → CountsStop answer 0 0)
+    → CanUse d.stream (seat_view t.0) → ((samples : List ℤ) → IsBackedBy s.0 c samples → IsBackedBy t.0 d samples) → HasMade asked s.0 c t.0 d made
+made-stepping named {what = what} {s = s} {t = t} {c = c} {d = d} {course = course} {answer = answer} made called is other sound takes ring gives told usable backed =
+    subst (λ (a : ClientCall). HasMade a s.0 c t.0 d made) (sym is) (made-by s.1 t.1 takes ring
+    (λ still. unstopped-by s t (if_admitted c.stream what course) d.stream answer (gives still) called.takes (told still)) usable
+    (record { configured = still-configured what c d other sound (λ e found. (called.refused e found).1); backed = λ has. backed }))
 
 StaysBacked-same : (s : MixSeat) (c : ClientView) → StaysBacked s c s c
 StaysBacked-same s c = record { configured = λ has. has; backed = λ has samples is. is }
 
 -- a call without steps, which leaves the client as `end`
-pub made-plain : (asked named : ClientCall) (what : Call) (s : MixSeat) (g : NeverStops) (c d end : ClientView) (result : Result (Unit {0}) PcmError) (made : Result ℕ PcmError)
+pub made-plain : {asked : ClientCall} (named : ClientCall) (what : Call) {s : MixSeat} (g : NeverStops) {c d : ClientView} (end : ClientView)
+    (result : Result (Unit {0}) PcmError) {made : Result ℕ PcmError}
     → asked ≡ named → call_course named c (seat_view s).marks ≡ done_course (if_admitted c.stream what (ends (end.stream, Ok tt)))
     → end.ring ≡ ring_after named (Ok 0) c.ring → ((e : PcmError) → c.ring ≡ ring_after named (Err e) c.ring)
-    → end.stream.identity ≡ c.stream.identity → is_moving end.stream.status.state ≡ false → CanUse c.stream (seat_view s)
+    → end.stream.identity ≡ c.stream.identity → end.stream.status.stopped ≡ c.stream.status.stopped → is_moving end.stream.status.state ≡ false
+    → CanUse c.stream (seat_view s)
     → (refusal_of Playback c.stream.status what ≡ None → StaysBacked s c s end)
     → ((e : PcmError) → refusal_of Playback c.stream.status what ≡ Some e → (result ≡ Err e) × (d ≡ c))
     → (refusal_of Playback c.stream.status what ≡ None → (result ≡ Ok tt) × (d ≡ end))
     → made ≡ done_of result → HasMade asked s c s d made
-made-plain asked named what s g c d end result made named_is course_is ring_ok ring_err same rests usable stays refused goes is =
+made-plain {asked = asked} named what {s = s} g {c = c} {d = d} end result {made = made} named_is course_is ring_ok ring_err same kept rests usable stays refused goes is =
     subst (λ (a : ClientCall). HasMade a s c s d made) (sym named_is) (by_refusal (refusal_of Playback c.stream.status what) refl)
   where
     takes : TakesAt seat_port no_gate (s, g) (call_course named c (seat_view s).marks) (s, g) (d.stream, made)
@@ -104,16 +112,18 @@ made-plain asked named what s g c d end result made named_is course_is ring_ok r
         (λ found. let r = goes found in (r.0, ap (λ (v : ClientView). v.stream) r.1)))
         is)
 
+    -- what it leaves, where that is a client `v`
+    left_as : (v : ClientView) → d ≡ v → v.ring ≡ ring_after named made c.ring → v.stream.status.stopped ≡ c.stream.status.stopped
+        → CanUse v.stream (seat_view s) → StaysBacked s c s v → HasMade named s c s d made
+    left_as v is_left ring kept_so usable_so stays_so =
+        made-by g g takes (ap (λ (u : ClientView). u.ring) is_left ∙ ring) (λ still. ap (λ (u : ClientView). u.stream.status.stopped) is_left ∙ (kept_so ∙ still))
+        (subst (λ (u : ClientView). CanUse u.stream (seat_view s)) (sym is_left) usable_so) (subst (λ (u : ClientView). StaysBacked s c s u) (sym is_left) stays_so)
+
     by_refusal : (refusal : Option PcmError) → refusal_of Playback c.stream.status what ≡ refusal → HasMade named s c s d made
     by_refusal None found =
         let r = goes found in
-        made-by named s s g g c d made takes
-        (ap (λ (v : ClientView). v.ring) r.1 ∙ (ring_ok ∙ ap (λ (a : Result ℕ PcmError). ring_after named a c.ring) (sym (is ∙ ap done_of r.0))))
-        (subst (λ (v : ClientView). CanUse v.stream (seat_view s)) (sym r.1) (CanUse-resting c.stream end.stream (seat_view s) same rests usable))
-        (subst (λ (v : ClientView). StaysBacked s c s v) (sym r.1) (stays found))
+        left_as end r.1 (ring_ok ∙ ap (λ (a : Result ℕ PcmError). ring_after named a c.ring) (sym (is ∙ ap done_of r.0))) kept
+        (CanUse-resting c.stream end.stream (seat_view s) same rests usable) (stays found)
     by_refusal (Some e) found =
         let r = refused e found in
-        made-by named s s g g c d made takes
-        (ap (λ (v : ClientView). v.ring) r.1 ∙ (ring_err e ∙ ap (λ (a : Result ℕ PcmError). ring_after named a c.ring) (sym (is ∙ ap done_of r.0))))
-        (subst (λ (v : ClientView). CanUse v.stream (seat_view s)) (sym r.1) usable)
-        (subst (λ (v : ClientView). StaysBacked s c s v) (sym r.1) (StaysBacked-same s c))
+        left_as c r.1 (ring_err e ∙ ap (λ (a : Result ℕ PcmError). ring_after named a c.ring) (sym (is ∙ ap done_of r.0))) refl usable (StaysBacked-same s c)

@@ -24,9 +24,10 @@ not-read : (answer : Result (List ℕ) Why) (xs : List ℕ) (why : Why) → answ
 not-read answer xs why ok err = cc
 
 -- a stream that its state may refuse, and that is as `after` says once it is set up
-module _ (X : Type 0) (refusal : Option PcmError) (after : List ℕ → X) (g : Geometry) (rate : ℕ) (params : StreamHwParams) (list : List ℕ) (c : X) where
-  pub SetsUp-refused : (e : PcmError) (made : Result ℕ PcmError) → refusal ≡ Some e → made ≡ Err e → SetsUp refusal after g rate params list c c made
-  SetsUp-refused e made some is = subst (SetsUp refusal after g rate params list c c) (sym is) (record {
+module _ {X : Type 0} {refusal : Option PcmError} {after : List ℕ → X} {g : Geometry} {rate : ℕ} {params : StreamHwParams} {list : List ℕ} {c : X}
+    {made : Result ℕ PcmError} where
+  pub SetsUp-refused : (e : PcmError) → refusal ≡ Some e → made ≡ Err e → SetsUp refusal after g rate params list c c made
+  SetsUp-refused e some is = subst (SetsUp refusal after g rate params list c c) (sym is) (record {
     refused = λ f found. ap failed (same-refusal refusal e f some found);
     invalid = λ none cannot. absurd (not-both refusal e some none);
     set = λ none can. absurd (not-both refusal e some none);
@@ -34,9 +35,9 @@ module _ (X : Type 0) (refusal : Option PcmError) (after : List ℕ → X) (g : 
     kept = refl;
   })
 
-  pub SetsUp-unbound : (why : Why) (made : Result ℕ PcmError) → refusal ≡ None → answer_of list g.channels ≡ Err why → made ≡ Err (Invalid why)
+  pub SetsUp-unbound : (why : Why) → refusal ≡ None → answer_of list g.channels ≡ Err why → made ≡ Err (Invalid why)
       → SetsUp refusal after g rate params list c c made
-  SetsUp-unbound why made none bad is = subst (SetsUp refusal after g rate params list c c) (sym is) (record {
+  SetsUp-unbound why none bad is = subst (SetsUp refusal after g rate params list c c) (sym is) (record {
     refused = λ e some. absurd (not-both refusal e some none);
     invalid = λ admitted cannot. (why, refl);
     set = λ admitted can. absurd (not-read (answer_of list g.channels) can.bindings why can.bound bad);
@@ -44,9 +45,9 @@ module _ (X : Type 0) (refusal : Option PcmError) (after : List ℕ → X) (g : 
     kept = refl;
   })
 
-  pub SetsUp-unfit : (bindings : List ℕ) (made : Result ℕ PcmError) → refusal ≡ None → answer_of list g.channels ≡ Ok bindings
+  pub SetsUp-unfit : (bindings : List ℕ) → refusal ≡ None → answer_of list g.channels ≡ Ok bindings
       → (CanConfigure rate (length bindings) params → ⊥) → made ≡ Err (Invalid Config) → SetsUp refusal after g rate params list c c made
-  SetsUp-unfit bindings made none bound unfit is = subst (SetsUp refusal after g rate params list c c) (sym is) (record {
+  SetsUp-unfit bindings none bound unfit is = subst (SetsUp refusal after g rate params list c c) (sym is) (record {
     refused = λ e some. absurd (not-both refusal e some none);
     invalid = λ admitted cannot. (Config, refl);
     set = λ admitted can. absurd (unfit (subst (λ (b : List ℕ). CanConfigure rate (length b) params) (same-list (answer_of list g.channels) can.bindings bindings can.bound bound) can.runs));
@@ -55,10 +56,10 @@ module _ (X : Type 0) (refusal : Option PcmError) (after : List ℕ → X) (g : 
   })
 
   -- by the answer of the stream's own call
-  pub SetsUp-done : (can : CanSetUp g rate params list) (d : X) (r : Result (Unit {0}) PcmError) (made : Result ℕ PcmError) → refusal ≡ None
+  pub SetsUp-done : {d : X} (can : CanSetUp g rate params list) (r : Result (Unit {0}) PcmError) → refusal ≡ None
       → OnOk r (d ≡ after can.bindings) → OnErr r (d ≡ c) → IfErr r (λ e. (refusal ≡ Some e) ⊎ (e ≡ Memory))
       → made ≡ done_of r → SetsUp refusal after g rate params list c d made
-  SetsUp-done can d r made none ok err only is = subst (SetsUp refusal after g rate params list c d) (sym is) (by_answer r ok err only)
+  SetsUp-done {d = d} can r none ok err only is = subst (SetsUp refusal after g rate params list c d) (sym is) (by_answer r ok err only)
     where
       by_answer : (r : Result (Unit {0}) PcmError) → OnOk r (d ≡ after can.bindings) → OnErr r (d ≡ c) → IfErr r (λ e. (refusal ≡ Some e) ⊎ (e ≡ Memory))
           → SetsUp refusal after g rate params list c d (done_of r)
@@ -78,13 +79,14 @@ module _ (X : Type 0) (refusal : Option PcmError) (after : List ℕ → X) (g : 
         kept = err;
       }
 
-  -- what it has as it was, and with any bindings, it has afterwards
-  pub SetsUp-keeps : (Q : X → Type 0) (d : X) (made : Result ℕ PcmError) → SetsUp refusal after g rate params list c d made
-      → ((bindings : List ℕ) → Q (after bindings)) → Q c → Q d
-  SetsUp-keeps Q d (Ok n) has set kept = subst Q (sym has.done.1.1) (set has.done.1.0.bindings)
-  SetsUp-keeps Q d (Err e) has set kept = subst Q (sym has.kept) kept
+-- what it has as it was, and with any bindings, it has afterwards
+pub SetsUp-keeps : {X : Type 0} {refusal : Option PcmError} {after : List ℕ → X} {g : Geometry} {rate : ℕ} {params : StreamHwParams} {list : List ℕ} {c d : X}
+    (Q : X → Type 0) (made : Result ℕ PcmError) → SetsUp refusal after g rate params list c d made
+    → ((bindings : List ℕ) → Q (after bindings)) → Q c → Q d
+SetsUp-keeps Q (Ok n) has set kept = subst Q (sym has.done.1.1) (set has.done.1.0.bindings)
+SetsUp-keeps Q (Err e) has set kept = subst Q (sym has.kept) kept
 
 -- what a stream has as it was, and as a call leaves it, it has after the call, whether that is refused or not
-pub kept-by : {Y : Type 0} (X : Type 0) (Q : X → Type 0) (c d end : X) (r : Result Y PcmError) → OnOk r (d ≡ end) → OnErr r (d ≡ c) → Q end → Q c → Q d
-kept-by X Q c d end (Ok done) ok err after before = subst Q (sym ok) after
-kept-by X Q c d end (Err e) ok err after before = subst Q (sym err) before
+pub kept-by : {X Y : Type 0} (Q : X → Type 0) (c d end : X) (r : Result Y PcmError) → OnOk r (d ≡ end) → OnErr r (d ≡ c) → Q end → Q c → Q d
+kept-by Q c d end (Ok done) ok err after before = subst Q (sym ok) after
+kept-by Q c d end (Err e) ok err after before = subst Q (sym err) before

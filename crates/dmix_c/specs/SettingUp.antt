@@ -16,7 +16,8 @@ pub record CanSetUp (g : Geometry) (rate : ℕ) (params : StreamHwParams) (list 
 
 -- a stream was set up with parameters and bindings, after which it is as `after` says, and answers 0; or it refused them: by its state, as
 -- invalid exactly where it can't be set up with them, or for memory
-pub record SetsUp {X : Type 0} (refusal : Option PcmError) (after : List ℕ → X) (g : Geometry) (rate : ℕ) (params : StreamHwParams) (list : List ℕ) (c d : X) (made : Result ℕ PcmError) : Type 0 where
+pub record SetsUp {X : Type 0} (refusal : Option PcmError) (after : List ℕ → X) (g : Geometry) (rate : ℕ)
+    (params : StreamHwParams) (list : List ℕ) (c d : X) (made : Result ℕ PcmError) : Type 0 where
   pub refused : (e : PcmError) → refusal ≡ Some e → made ≡ Err e
   pub invalid : refusal ≡ None → (CanSetUp g rate params list → ⊥) → (why : Why) × (made ≡ Err (Invalid why))
   pub set : refusal ≡ None → CanSetUp g rate params list → (made ≡ Ok 0) ⊎ (made ≡ Err Memory)

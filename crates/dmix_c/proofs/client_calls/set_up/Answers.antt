@@ -25,20 +25,17 @@ pub returns-in_err-admit-clause-set_up : goal.returns-in_err-admit-clause-set_up
 returns-in_err-admit-clause-set_up c =
     let v = c.args.client.now in
     let e = c.in_err-admit.field-0.0 in
-    SetsUp-refused ClientView (refusal v) (set_up_with v c.args.params.now) c.args.geometry c.args.rate c.args.params.now c.args.list.now v e c.from_residual.result
-    (refusal-of_err (refusal v) c.admit.result e c.admit.ensures c.in_err-admit.was) (passed-on c.from_residual.result e c.from_residual.ensures.1)
+    SetsUp-refused e (refusal-of_err (refusal v) c.admit.result e c.admit.ensures c.in_err-admit.was) (passed-on c.from_residual.result e c.from_residual.ensures.1)
 
 pub returns-in-Err-clause-set_up : goal.returns-in-Err-clause-set_up
 returns-in-Err-clause-set_up c =
     let v = c.args.client.now in
-    SetsUp-unbound ClientView (refusal v) (set_up_with v c.args.params.now) c.args.geometry c.args.rate c.args.params.now c.args.list.now v c.in-Err.why _
-    (refusal-of_ok (refusal v) c.admit.result c.admit.ensures c.in_ok-admit.was) (sym c.in-Err.ensures.answer) refl
+    SetsUp-unbound c.in-Err.why (refusal-of_ok (refusal v) c.admit.result c.admit.ensures c.in_ok-admit.was) (sym c.in-Err.ensures.answer) refl
 
 pub returns-then-not-can_configure-clause-set_up : goal.returns-then-not-can_configure-clause-set_up
 returns-then-not-can_configure-clause-set_up c =
     let v = c.args.client.now in
-    SetsUp-unfit ClientView (refusal v) (set_up_with v c.args.params.now) c.args.geometry c.args.rate c.args.params.now c.args.list.now v c.in-Ok.bindings _
-    (refusal-of_ok (refusal v) c.admit.result c.admit.ensures c.in_ok-admit.was) (sym c.in-Ok.ensures.answer)
+    SetsUp-unfit c.in-Ok.bindings (refusal-of_ok (refusal v) c.admit.result c.admit.ensures c.in_ok-admit.was) (sym c.in-Ok.ensures.answer)
     (λ can. false≢true (sym c.if-not-can_configure.true ∙ c.can_configure.ensures.1 (subst (λ (n : ℕ). CanConfigure c.args.rate n c.args.params.now) (sym c.len.ensures.value) can))) refl
 
 pub returns-clause-set_up : goal.returns-clause-set_up
@@ -51,8 +48,7 @@ returns-clause-set_up c =
       bound = sym c.in-Ok.ensures.answer;
       runs = subst (λ (n : ℕ). CanConfigure c.args.rate n c.args.params.now) c.len.ensures.value (c.can_configure.ensures.0 c.if-not-can_configure.false);
     } in
-    SetsUp-done ClientView (refusal v) (set_up_with v c.args.params.now) c.args.geometry c.args.rate c.args.params.now c.args.list.now v can d c.hw_params.result c.done_of.result
-    (refusal-of_ok (refusal v) c.admit.result c.admit.ensures c.in_ok-admit.was)
+    SetsUp-done can c.hw_params.result (refusal-of_ok (refusal v) c.admit.result c.admit.ensures c.in_ok-admit.was)
     (subst (λ (x : Config). OnOk c.hw_params.result (d ≡ (let w : ClientView = record { stream = configured_with v.stream x bindings; ring = replicate (x.buffer_size * length bindings) (pos 0) } in w)))
     c.config-config.ensures c.hw_params.ensures.ok)
     c.hw_params.ensures.err c.hw_params.ensures.only c.done_of.ensures
@@ -63,7 +59,7 @@ returns-clause-backed c s backed =
     let d = c.hw_params.new.self in
     let bindings = c.in-Ok.bindings in
     let end = set_up_with v c.args.params.now bindings in
-    kept-by ClientView (IsBackedSeat s) v d end c.hw_params.result
+    kept-by (IsBackedSeat s) v d end c.hw_params.result
     (subst (λ (x : Config). OnOk c.hw_params.result (d ≡ (let w : ClientView = record { stream = configured_with v.stream x bindings; ring = replicate (x.buffer_size * length bindings) (pos 0) } in w)))
     c.config-config.ensures c.hw_params.ensures.ok)
     c.hw_params.ensures.err (λ has. ∣ ([], backed-new s end refl refl refl []) ∣₁) backed

@@ -3,21 +3,31 @@ use Rattle.std.proofs.Math.Logic.{∥∥₁_map}
 use Rattle.std.specs.Prelude.{Result}
 use Rattle.snd_base.specs.declared.errors.PcmError.{PcmError}
 use Rattle.pcm_states.specs.declared.calls.Call.TheVariants as call
-use Rattle.sum_table.specs.Seats.{seat_view}
+use Rattle.dmix_client.specs.EachCall.{write-counted}
 use Rattle.dmix_client.specs.Writes.{frames_in}
 use Rattle.dmix_c.specs.SeatPort.{TakesAt-goes}
 use Rattle.dmix_c.specs.ClientCalls.{Writes}
 use Rattle.dmix_c.proofs.Backing.{backed-written, still-set_up}
 use Rattle.dmix_c.proofs.Settled.{settled}
-use Rattle.dmix_c.proofs.Unstopped.{write-unstopped}
+use Rattle.dmix_c.proofs.Unstopped.{unstopped, unstopped-by, unstopped-write}
 use Rattle.dmix_c.proofs.client_calls.write_frames.Goals as goal
 
 -- what the client's own call says
 pub returns-clause-writes : goal.returns-clause-writes
 returns-clause-writes c =
     let made = c.writei.ensures in
-    subst (λ (r : Result ℕ PcmError). Writes c.args.seat.now c.args.client.now c.writei.new.port c.writei.new.self c.args.samples.now r) (sym c.frames_of.ensures)
-    (record { before = _; after = _; takes = made.takes; keeps = made.keeps; unstopped = write-unstopped (c.args.seat.now, _) (c.writei.new.port, _) c.args.client.now c.writei.new.self.stream c.args.samples.now (seat_view c.args.seat.now).marks.cursor c.writei.result made.takes; goes = TakesAt-goes _ _ _ _ made.takes })
+    let v = c.args.client.now in
+    subst (λ (r : Result ℕ PcmError). Writes c.args.seat.now v c.writei.new.port c.writei.new.self c.args.samples.now r) (sym c.frames_of.ensures)
+    (record {
+      before = _;
+      after = _;
+      takes = made.takes;
+      keeps = made.keeps;
+      unstopped = λ still.
+          unstopped-by _ _ _ c.writei.new.self.stream c.writei.result
+          (write-counted unstopped (unstopped-write (frames_in v.stream c.args.samples.now)) v.stream v.ring c.args.samples.now _ still) made.takes (made.keeps.told still);
+      goes = TakesAt-goes _ _ _ _ made.takes;
+    })
 
 pub returns-clause-backed : goal.returns-clause-backed
 returns-clause-backed c backed has =

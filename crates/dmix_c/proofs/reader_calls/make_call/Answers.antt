@@ -5,7 +5,7 @@ use Rattle.pcm_states.specs.declared.states.State.TheVariants as state
 use Rattle.dsnoop_client.specs.Calls.{after_hw_free, in_state}
 use Rattle.dmix_c.specs.declared.reader_calls.ReaderCall.TheVariants as asked
 use Rattle.dmix_c.proofs.ReaderMaking.{reader-made-by, reader-made-plain, reader_done-taken}
-use Rattle.dmix_c.proofs.ReaderUnstopped.{unstopped-by}
+use Rattle.dmix_c.proofs.Unstopped.{reader-unstopped}
 use Rattle.dmix_c.proofs.reader_calls.make_call.Goals as goal
 
 abbrev gate : NeverStops
@@ -35,7 +35,7 @@ returns-in-Start c =
     let v = c.args.reader.now in
     let d = c.start.new.self in
     reader-made-by _ asked.Start c.args.seat.now c.start.new.port _ _ v d c.done_of-in-Start.result c.in-Start.is
-    (reader_done-taken _ _ _ _ c.start.result c.done_of-in-Start.result made.takes c.done_of-in-Start.ensures) (unstopped-by _ _ _ _ _ made.keeps) made.keeps.port
+    (reader_done-taken _ _ _ _ c.start.result c.done_of-in-Start.result made.takes c.done_of-in-Start.ensures) (reader-unstopped _ _ _ _ _ made.keeps) made.keeps.port
 
 pub returns-in-Drop : goal.returns-in-Drop
 returns-in-Drop c =
@@ -51,4 +51,4 @@ returns-in-AvailUpdate c =
     let made = c.avail_update.ensures in
     let v = c.args.reader.now in
     let d = c.avail_update.new.self in
-    reader-made-by _ asked.AvailUpdate c.args.seat.now c.avail_update.new.port _ _ v d c.avail_update.result c.in-AvailUpdate.is made.takes (unstopped-by _ _ _ _ _ made.keeps) made.keeps.port
+    reader-made-by _ asked.AvailUpdate c.args.seat.now c.avail_update.new.port _ _ v d c.avail_update.result c.in-AvailUpdate.is made.takes (reader-unstopped _ _ _ _ _ made.keeps) made.keeps.port

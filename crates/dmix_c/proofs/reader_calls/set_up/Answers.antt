@@ -9,7 +9,7 @@ use Rattle.pcm_stream.specs.declared.direction.Direction.TheVariants.{Capture}
 use Rattle.pcm_stream.specs.Status.{refusal_of}
 use Rattle.dsnoop_client.specs.declared.stream.CaptureStream.{CaptureStream}
 use Rattle.dsnoop_client.specs.Calls.{configured_with}
-use Rattle.dmix_c.specs.Params.{CanConfigure, config_with}
+use Rattle.dmix_c.specs.Params.{CanConfigure}
 use Rattle.dmix_c.specs.SettingUp.{CanSetUp}
 use Rattle.pcm_stream.specs.RefusalLaws.{passed-on, refusal-of_err, refusal-of_ok}
 use Rattle.dmix_c.proofs.SettingUp.{SetsUp-done, SetsUp-refused, SetsUp-unbound, SetsUp-unfit}
@@ -23,20 +23,17 @@ pub returns-in_err-admit : goal.returns-in_err-admit
 returns-in_err-admit c =
     let v = c.args.reader.now in
     let e = c.in_err-admit.field-0.0 in
-    SetsUp-refused CaptureStream (refusal v) (configured_with v (config_with c.args.params.now)) c.args.geometry c.args.rate c.args.params.now c.args.list.now v e c.from_residual.result
-    (refusal-of_err (refusal v) c.admit.result e c.admit.ensures c.in_err-admit.was) (passed-on c.from_residual.result e c.from_residual.ensures.1)
+    SetsUp-refused e (refusal-of_err (refusal v) c.admit.result e c.admit.ensures c.in_err-admit.was) (passed-on c.from_residual.result e c.from_residual.ensures.1)
 
 pub returns-in-Err : goal.returns-in-Err
 returns-in-Err c =
     let v = c.args.reader.now in
-    SetsUp-unbound CaptureStream (refusal v) (configured_with v (config_with c.args.params.now)) c.args.geometry c.args.rate c.args.params.now c.args.list.now v c.in-Err.why _
-    (refusal-of_ok (refusal v) c.admit.result c.admit.ensures c.in_ok-admit.was) (sym c.in-Err.ensures.answer) refl
+    SetsUp-unbound c.in-Err.why (refusal-of_ok (refusal v) c.admit.result c.admit.ensures c.in_ok-admit.was) (sym c.in-Err.ensures.answer) refl
 
 pub returns-then-not-can_configure : goal.returns-then-not-can_configure
 returns-then-not-can_configure c =
     let v = c.args.reader.now in
-    SetsUp-unfit CaptureStream (refusal v) (configured_with v (config_with c.args.params.now)) c.args.geometry c.args.rate c.args.params.now c.args.list.now v c.in-Ok.bindings _
-    (refusal-of_ok (refusal v) c.admit.result c.admit.ensures c.in_ok-admit.was) (sym c.in-Ok.ensures.answer)
+    SetsUp-unfit c.in-Ok.bindings (refusal-of_ok (refusal v) c.admit.result c.admit.ensures c.in_ok-admit.was) (sym c.in-Ok.ensures.answer)
     (λ can. false≢true (sym c.if-not-can_configure.true ∙ c.can_configure.ensures.1 (subst (λ (n : ℕ). CanConfigure c.args.rate n c.args.params.now) (sym c.len.ensures.value) can))) refl
 
 pub hw_params-requires : goal.hw_params-requires
@@ -60,7 +57,6 @@ returns c =
       bound = sym c.in-Ok.ensures.answer;
       runs = subst (λ (n : ℕ). CanConfigure c.args.rate n c.args.params.now) c.len.ensures.value (c.can_configure.ensures.0 c.if-not-can_configure.false);
     } in
-    SetsUp-done CaptureStream (refusal v) (configured_with v (config_with c.args.params.now)) c.args.geometry c.args.rate c.args.params.now c.args.list.now v can d c.hw_params.result c.done_of.result
-    (refusal-of_ok (refusal v) c.admit.result c.admit.ensures c.in_ok-admit.was)
+    SetsUp-done can c.hw_params.result (refusal-of_ok (refusal v) c.admit.result c.admit.ensures c.in_ok-admit.was)
     (subst (λ (x : Config). OnOk c.hw_params.result (d ≡ configured_with v x bindings)) c.config-config.ensures c.hw_params.ensures.ok)
     c.hw_params.ensures.err c.hw_params.ensures.only c.done_of.ensures

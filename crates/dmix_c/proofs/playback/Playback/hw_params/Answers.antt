@@ -22,10 +22,8 @@ invariant_of-self c =
     let p = c.args.self.now in
     let params = c.args.params.now in
     record {
-      unstopped = SetsUp-keeps ClientView _ _ c.geometry-geometry.result p.rate params c.args.list.now p.client (λ (v : ClientView). v.stream.status.stopped ≡ false)
-          c.set_up.new.client c.set_up.result c.set_up.ensures.set_up (λ bindings. p.unstopped) p.unstopped;
-      usable = SetsUp-keeps ClientView _ _ c.geometry-geometry.result p.rate params c.args.list.now p.client (λ (v : ClientView). CanUse v.stream (seat_view p.seat))
-          c.set_up.new.client c.set_up.result c.set_up.ensures.set_up
+      unstopped = SetsUp-keeps (λ (v : ClientView). v.stream.status.stopped ≡ false) c.set_up.result c.set_up.ensures.set_up (λ bindings. p.unstopped) p.unstopped;
+      usable = SetsUp-keeps (λ (v : ClientView). CanUse v.stream (seat_view p.seat)) c.set_up.result c.set_up.ensures.set_up
           (λ bindings. CanUse-resting p.client.stream (set_up_with p.client params bindings).stream (seat_view p.seat) refl refl p.usable) p.usable;
       backed = c.set_up.ensures.backed p.seat p.backed;
       own_way = p.own_way;

@@ -32,10 +32,10 @@ invariant_of-self c =
     let r = c.sw_params.result in
     let ensures = c.sw_params.ensures in
     record {
-      unstopped = kept-by ClientView (λ (v : ClientView). v.stream.status.stopped ≡ false) p.client d end r ensures.ok ensures.err p.unstopped p.unstopped;
-      usable = kept-by ClientView (λ (v : ClientView). CanUse v.stream (seat_view p.seat)) p.client d end r ensures.ok ensures.err
+      unstopped = kept-by (λ (v : ClientView). v.stream.status.stopped ≡ false) p.client d end r ensures.ok ensures.err p.unstopped p.unstopped;
+      usable = kept-by (λ (v : ClientView). CanUse v.stream (seat_view p.seat)) p.client d end r ensures.ok ensures.err
           (CanUse-given p.client c.thresholds.result (seat_view p.seat) p.usable) p.usable;
-      backed = kept-by ClientView (IsBackedSeat p.seat) p.client d end r ensures.ok ensures.err (backed-given p.seat p.client c.thresholds.result p.backed) p.backed;
+      backed = kept-by (IsBackedSeat p.seat) p.client d end r ensures.ok ensures.err (backed-given p.seat p.client c.thresholds.result p.backed) p.backed;
       own_way = p.own_way;
       has_room = p.has_room;
     }

@@ -24,9 +24,7 @@ invariant_of-self c =
     let p = c.args.self.now in
     let params = c.args.params.now in
     record {
-      unstopped = SetsUp-keeps CaptureStream _ _ c.geometry-geometry.result p.rate params c.args.list.now p.reader (λ (v : CaptureStream). v.status.stopped ≡ false)
-          c.set_up.new.reader c.set_up.result c.set_up.ensures (λ bindings. p.unstopped) p.unstopped;
-      usable = SetsUp-keeps CaptureStream _ _ c.geometry-geometry.result p.rate params c.args.list.now p.reader (λ (v : CaptureStream). CanUse v (seat_view p.seat))
-          c.set_up.new.reader c.set_up.result c.set_up.ensures
+      unstopped = SetsUp-keeps (λ (v : CaptureStream). v.status.stopped ≡ false) c.set_up.result c.set_up.ensures (λ bindings. p.unstopped) p.unstopped;
+      usable = SetsUp-keeps (λ (v : CaptureStream). CanUse v (seat_view p.seat)) c.set_up.result c.set_up.ensures
           (λ bindings. CanUse-seen p.reader (configured_with p.reader (config_with params) bindings) (seat_view p.seat) refl refl p.usable) p.usable;
     }

@@ -32,7 +32,7 @@ invariant_of-self c =
     let r = c.sw_params.result in
     let ensures = c.sw_params.ensures in
     record {
-      unstopped = kept-by CaptureStream (λ (v : CaptureStream). v.status.stopped ≡ false) p.reader d end r ensures.ok ensures.err p.unstopped p.unstopped;
-      usable = kept-by CaptureStream (λ (v : CaptureStream). CanUse v (seat_view p.seat)) p.reader d end r ensures.ok ensures.err
+      unstopped = kept-by (λ (v : CaptureStream). v.status.stopped ≡ false) p.reader d end r ensures.ok ensures.err p.unstopped p.unstopped;
+      usable = kept-by (λ (v : CaptureStream). CanUse v (seat_view p.seat)) p.reader d end r ensures.ok ensures.err
           (CanUse-seen p.reader end (seat_view p.seat) refl refl p.usable) p.usable;
     }
