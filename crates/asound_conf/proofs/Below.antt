@@ -5,7 +5,7 @@ use Rattle.asound_conf.specs.declared.error.ConfWhy.TheVariants as why
 use Rattle.asound_conf.specs.Key.{Part, part_named}
 use Rattle.asound_conf.specs.Answer.{answer_view}
 use Rattle.asound_conf.specs.Place.{base, clashes, is_last, meets_text, node_met, node_at, put_or_clash, put}
-use Rattle.asound_conf.specs.Tree.{Tree, text, group, Entries, empty, get, group_in, has_node}
+use Rattle.asound_conf.specs.Tree.{Tree, text, group, Entries, get, group_in}
 use Rattle.asound_conf.specs.Tree as tree
 use Rattle.asound_conf.proofs.Places.{get-set, set-set}
 

@@ -1,5 +1,5 @@
 -- What the functions of a table change, by the cells that they read and write.
-use Rattle.std.proofs.Common.{◌≡◌, ℕ, zero, suc, ◌<◌, ◌^◌, true, false, List, [], ◌∷◌, ◌++◌, length, get_or, set, Option, Some, refl, sym, ap, subst, ◌∙◌, arith, inl, inr, length-append, length-set}
+use Rattle.std.proofs.Common.{◌≡◌, ℕ, zero, suc, ◌<◌, ◌^◌, true, false, List, [], ◌∷◌, ◌++◌, length, get_or, set, Option, Some, refl, sym, ap, ◌∙◌, arith, inl, inr, length-append, length-set}
 use Rattle.std.specs.Prelude.{◌==◌, map, is_none}
 use Rattle.std.specs.Str.{bytes_eq}
 use Rattle.std.specs.Fmt.{decimal}
@@ -16,8 +16,8 @@ use Rattle.asound_conf.specs.declared.cell.Content.{Content}
 use Rattle.asound_conf.specs.declared.cell.Content.TheVariants as contents
 use Rattle.asound_conf.specs.declared.cell.Cell.{Cell}
 use Rattle.asound_conf.specs.Rows.{Contents, ConfRow, row_at, with_row}
-use Rattle.asound_conf.specs.Table.{HasBelow, IsIndexed, IsLink, IsTable, bucket_at, bucket_of, cell_at, content_of, contents_of, fits, is_live, name_in, new_row, no_cell, no_number, content_with, parent_of, removed_row, cell_row, span_in, value_in}
-use Rattle.asound_conf.proofs.Tables.{IsLink-along, IsNew, IsNoted, IsSame, IsTable-push, IsTable-set, cell_at-push, is_live-noted, row_at-map, row_is, rows-push, rows-set}
+use Rattle.asound_conf.specs.Table.{IsIndexed, IsLink, IsTable, bucket_at, bucket_of, cell_at, content_of, contents_of, fits, is_live, name_in, new_row, no_cell, no_number, content_with, parent_of, removed_row, cell_row, span_in, value_in}
+use Rattle.asound_conf.proofs.Tables.{IsNew, IsNoted, IsSame, IsTable-push, IsTable-set, cell_at-push, is_live-noted, row_at-map, row_is, rows-push, rows-set}
 
 -- numbers are the same where their decimal texts are
 pub bytes_eq-numbers : (m n : ℕ) → m < 2 ^ 32 → n < 2 ^ 32 → (m == n) ≡ bytes_eq (decimal m) (decimal n)
@@ -60,13 +60,11 @@ with_rows text rows = record { text = text; rows = rows }
 -- a cell that is removed, and one that gets another text
 pub IsTable-removed : (text : List ℕ) (cells : List Cell) (heads : List ℕ) (n : ℕ) (new : Cell) → IsChanged cells n contents.Removed new → IsTable text cells heads → IsTable text (set cells n new) heads
 IsTable-removed text cells heads n new it is =
-    let own : HasBelow text cells n new.content = subst (HasBelow text cells n) (sym it.content_is) tt in
-    IsTable-set text cells heads n new it.inside it.same own is
+    IsTable-set text cells heads n new it.inside it.same (rw it.content_is tt) is
 
 pub IsTable-text : (text : List ℕ) (cells : List Cell) (heads : List ℕ) (n : ℕ) (span : Span) (new : Cell) → IsChanged cells n (contents.Text span) new → IsTable text cells heads → IsTable text (set cells n new) heads
 IsTable-text text cells heads n span new it is =
-    let own : HasBelow text cells n new.content = subst (HasBelow text cells n) (sym it.content_is) tt in
-    IsTable-set text cells heads n new it.inside it.same own is
+    IsTable-set text cells heads n new it.inside it.same (rw it.content_is tt) is
 
 pub contents-removed : (text : List ℕ) (cells : List Cell) (now : Contents) (n : ℕ) (new : Cell) → IsChanged cells n contents.Removed new → contents_of text cells ≡ now
     → contents_of text (set cells n new) ≡ with_rows now.text (set now.rows n (removed_row (row_at now.rows n)))
@@ -109,20 +107,11 @@ pub record IsAdded (text : List ℕ) (cells more : List Cell) (heads : List ℕ)
 
 pub IsTable-added : (text : List ℕ) (cells more : List Cell) (heads : List ℕ) (p : ℕ) (name : Name) (value : Option Span) (n b e : ℕ) (c g : Cell) → IsAdded text cells more heads p name value n b e c g → IsTable text cells heads
     → IsTable text (set more p g) (set heads b n)
-IsTable-added text cells more heads p name value n b e c g it is =
-    subst (λ (x : List Cell). IsTable text (set x p g) (set heads b n)) (sym it.all)
-    (subst (λ (x : ℕ). IsTable text (set (cells ++ c ∷ []) x g) (set heads b n)) it.parent
-    (subst (λ (x : ℕ). IsTable text (set (cells ++ c ∷ []) c.parent g) (set heads b x)) (sym it.number)
-    (IsTable-push text cells heads c g b value it.new it.noted it.content is)))
+IsTable-added text cells more heads p name value n b e c g it is = rw (it.all, ← it.parent, it.number) (IsTable-push text cells heads c g b value it.new it.noted it.content is)
 
 pub contents-added : (text : List ℕ) (cells more : List Cell) (heads : List ℕ) (p : ℕ) (name : Name) (value : Option Span) (n b e : ℕ) (c g : Cell) → IsAdded text cells more heads p name value n b e c g
     → contents_of text (set more p g) ≡ with_row (new_row text p name value) (contents_of text cells)
-contents-added text cells more heads p name value n b e c g it =
-    ap (with_rows text)
-    (ap (λ (x : List Cell). map (cell_row text) (set x p g)) it.all ∙ ap (λ (x : ℕ). map (cell_row text) (set (cells ++ c ∷ []) x g)) (sym it.parent)
-    ∙ rows-push text cells heads c g b value it.new it.noted it.content
-    ∙ ap (λ (q : ℕ). map (cell_row text) cells ++ new_row text q c.name value ∷ []) it.parent
-    ∙ ap (λ (m : Name). map (cell_row text) cells ++ new_row text p m value ∷ []) it.name_is)
+contents-added text cells more heads p name value n b e c g it = rw (it.all, ← it.parent, ← it.name_is) (ap (with_rows text) (rows-push text cells heads c g b value it.new it.noted it.content))
 
 pub IsAdded-steps : (text : List ℕ) (cells more : List Cell) (heads : List ℕ) (p : ℕ) (name : Name) (value : Option Span) (n size b e : ℕ) (keyed : List ℕ) (content note : Content) (c c2 c3 g : Cell)
     → p < length cells → n ≡ length cells → n < no_number → size ≡ length heads → b < size → b ≡ bucket_of size p keyed → keyed ≡ name_in text name → content ≡ content_of value → e ≡ get_or heads b e
@@ -205,9 +194,7 @@ head-forget text cells heads n b e k some gone bucket within at before_it is ins
         ];
         same = λ more. ap (bucket_at (length heads) text cells) (head ∙ before_it) ∙ link.same (omega (arith, head, before_it, more)) ∙ sym bucket ∙ sym same_bucket;
       }
-  | inr ne ↦
-      let head : get_or heads k 0 ≡ get_or (set heads b e) k 0 = sym (get_or-set_other heads b k e 0 ne) in
-      IsLink-along (length heads) (length heads) text cells k k (get_or heads k 0) (get_or (set heads b e) k 0) (length cells) refl refl head (is.head k inside)
+  | inr ne ↦ rw (get_or-set_other heads b k e 0 ne) (is.head k inside)
 ]
 
 pub IsTable-forget : (text : List ℕ) (cells : List Cell) (heads : List ℕ) (n b e : ℕ) → 0 < n → is_live (cell_at cells n).content ≡ false → b ≡ bucket_at (length heads) text cells n → b < length heads
@@ -221,11 +208,8 @@ IsTable-forget text cells heads n b e some gone bucket within at before_it is =
         buckets = omega (arith, wide, is.indexed.buckets);
         root = is.indexed.root;
         falls = is.indexed.falls;
-        head = λ k inside.
-            subst (λ (m : ℕ). IsLink m text cells k (get_or (set heads b e) k 0) (length cells)) wide
-            (head-forget text cells heads n b e k some gone bucket within at before_it is.indexed (omega (arith, wide, inside)));
-        link = λ i more inside.
-            subst (λ (m : ℕ). IsLink m text cells (bucket_at m text cells i) (cell_at cells i).earlier i) wide (is.indexed.link i more inside);
+        head = λ k inside. rw (length-set heads b e) (head-forget text cells heads n b e k some gone bucket within at before_it is.indexed (omega (arith, wide, inside)));
+        link = λ i more inside. rw (length-set heads b e) (is.indexed.link i more inside);
       };
       below = is.below;
     }

@@ -1,8 +1,6 @@
 -- How many nodes a group has.
-use Rattle.std.proofs.Common.{◌≡◌, ℕ, zero, suc, ◌+◌, Bool, true, false, cond, List, [], ◌∷◌, length, drop, min, refl, sym, ap, ◌∙◌, arith, inl, inr}
+use Rattle.std.proofs.Common.{◌≡◌, ℕ, zero, suc, ◌+◌, Bool, true, false, cond, List, [], ◌∷◌, drop, refl, sym, ap, ◌∙◌, arith}
 use Rattle.std.specs.Prelude.{count_by, map, if◌then◌else◌}
-use Rattle.std.proofs.lemmas.Bool.{cases_lt}
-use Rattle.std.proofs.lemmas.List.{drop_all}
 use Rattle.std.proofs.lemmas.List.Sums.{sum_by-cons}
 use Rattle.asound_conf.specs.declared.cell.Cell.{Cell}
 use Rattle.asound_conf.specs.Device.{count_of_names}
@@ -35,9 +33,3 @@ count_of_names-cells text p cells now view =
     let next : p + 1 ≡ suc p = omega arith in
     ap (λ (n : ℕ). count_by (counts p) (drop n cells)) next ∙ sym (count_of_names-within text p (suc p) (drop (suc p) cells)) ∙ ap (λ (rows : List ConfRow). count_of_names (group_in_rows p (suc p) rows)) (sym (drop-map text (suc p) cells))
     ∙ ap (λ (k : Contents). count_of_names (group_of p k.rows)) view
-
-pub drop-least : (cells : List Cell) (n : ℕ) → drop (min n (length cells)) cells ≡ drop n cells
-drop-least cells n = elim (cases_lt n (length cells)) [
-  | inl inside ↦ let same : min n (length cells) ≡ n = omega arith in ap (λ (k : ℕ). drop k cells) same
-  | inr past ↦ let all : min n (length cells) ≡ length cells = omega arith in ap (λ (k : ℕ). drop k cells) all ∙ drop_all (length cells) cells (omega arith) ∙ sym (drop_all n cells past)
-]

@@ -1,6 +1,6 @@
 -- The steps down the parts of a key as the code takes them: the first part, and the rest of a slice.
 use Rattle.std.proofs.Common.{◌≡◌, ℕ, ◌-◌, ◌<◌, ◌≤◌, true, false, cond, ◌||◌, List, [], ◌∷◌, ◌++◌, length, get_or, take, drop, is_none, Option, Some, None, Result, Ok, Err, IfOk, refl, sym, ap, ap₂, ◌∙◌, subst, arith, append_assoc}
-use Rattle.std.proofs.lemmas.List.{take_all}
+use Rattle.std.proofs.lemmas.List.{nil_from_length, take_all}
 use Rattle.asound_conf.specs.declared.cell.Name.TheVariants as names
 use Rattle.asound_conf.specs.declared.cell.Span.{Span}
 use Rattle.asound_conf.specs.declared.error.ConfWhy.{ConfWhy}
@@ -31,27 +31,24 @@ is_last-some : (text : List ℕ) (parts : List code.Part) → 1 ≤ length parts
 is_last-some text [] some = absurd (omega arith)
 is_last-some text (p ∷ parts) some = refl
 
+-- a slice of one part
+one_part : (d : code.Part) (parts : List code.Part) → 1 ≤ length parts → length (take (length parts - 1) (drop 1 parts)) ≡ 0 → parts ≡ get_or parts 0 d ∷ []
+one_part d [] some none = absurd (omega arith)
+one_part d (p ∷ parts) some none = ap (λ ps. p ∷ ps) (nil_from_length parts (sym (ap length (rest-cons p parts)) ∙ none))
+
 -- the last part
 pub here-placed : (d : code.Part) (r : Result ℕ ConfWhy) (first mid new : Contents) (q : ℕ) (parts : List code.Part) (value : Option Span) (path : List Part) → 1 ≤ length parts → length (take (length parts - 1) (drop 1 parts)) ≡ 0 → IsWay first.rows 0 path q
     → Alters q first.rows mid.rows → mid.text ≡ first.text → Alters q mid.rows new.rows → group_of q mid.rows ≡ base (part_in first.text (get_or parts 0 d)) (group_of q first.rows)
     → Leads r (group_of q new.rows) (put_or_clash (text_in mid.text value) (part_named (name_in mid.text (get_or parts 0 d).name) ∷ []) (group_of q mid.rows))
     → Leads r (group_of 0 new.rows) (put_or_clash (text_in first.text value) (path ++ parts_in first.text parts) (group_of 0 first.rows))
-here-placed d r first mid new q [] value path some none way clears same puts cleared leads = absurd (omega arith)
-here-placed d r first mid new q (p ∷ []) value path some none way clears same puts cleared leads =
-    put-last r first.rows mid.rows new.rows q (part_in first.text p) (text_in first.text value) path way clears puts cleared
-    (subst (λ t. Leads r (group_of q new.rows) (put_or_clash (text_in t value) (part_named (name_in t p.name) ∷ []) (group_of q mid.rows))) same leads)
-here-placed d r first mid new q (p ∷ next ∷ parts) value path some none way clears same puts cleared leads =
-    let rest : length (next ∷ parts) ≡ 0 = sym (ap length (rest-cons p (next ∷ parts))) ∙ none in
-    absurd (omega arith)
+here-placed d r first mid new q parts value path some none way clears same puts cleared leads =
+    rw (one_part d parts some none)
+    (put-last r first.rows mid.rows new.rows q (part_in first.text (get_or parts 0 d)) (text_in first.text value) path way clears puts cleared (rw same at leads))
 
 pub here-way : (d : code.Part) (r : Result ℕ ConfWhy) (first mid new : Contents) (q : ℕ) (parts : List code.Part) (W : Type 0) (path : List Part) → 1 ≤ length parts → length (take (length parts - 1) (drop 1 parts)) ≡ 0 → IsWay first.rows 0 path q
     → Alters q first.rows new.rows → mid.text ≡ first.text → IfOk r (λ n. W → IsKeyStep new.rows q (part_named (name_in mid.text (get_or parts 0 d).name)) n) → IfOk r (λ n. W → IsWay new.rows 0 (path ++ without_marks (parts_in first.text parts)) n)
-here-way d r first mid new q [] W path some none way alters same step = absurd (omega arith)
-here-way d r first mid new q (p ∷ []) W path some none way alters same step =
-    put-last-way r first.rows new.rows q (part_in first.text p) W path way alters (subst (λ t. IfOk r (λ n. W → IsKeyStep new.rows q (part_named (name_in t p.name)) n)) same step)
-here-way d r first mid new q (p ∷ next ∷ parts) W path some none way alters same step =
-    let rest : length (next ∷ parts) ≡ 0 = sym (ap length (rest-cons p (next ∷ parts))) ∙ none in
-    absurd (omega arith)
+here-way d r first mid new q parts W path some none way alters same step =
+    rw (one_part d parts some none) (put-last-way r first.rows new.rows q (part_in first.text (get_or parts 0 d)) W path way alters (rw same at step))
 
 pub step-row : (r : Result ℕ ConfWhy) (rows : List ConfRow) (q : ℕ) (part : Part) (W : Type 0) → IfOk r (λ n. W → IsKeyStep rows q part n) → IfOk r (λ n. W → (q < n) × (n < length rows))
 step-row (Ok n) rows q part W step = λ w. ((step w).is_node.falls, (step w).is_node.inside)
@@ -142,11 +139,7 @@ down-refused d cause first cleared q (p ∷ parts) given some more same is clear
 
 -- the texts that parts before the last meet
 pub meets-last : (text : List ℕ) (parts : List code.Part) (g : Entries) → 1 ≤ length parts → length (take (length parts - 1) (drop 1 parts)) ≡ 0 → meets_text (parts_in text parts) g ≡ false
-meets-last text [] g some none = absurd (omega arith)
-meets-last text (p ∷ []) g some none = meets_text-one (part_in text p) g
-meets-last text (p ∷ next ∷ parts) g some none =
-    let rest : length (next ∷ parts) ≡ 0 = sym (ap length (rest-cons p (next ∷ parts))) ∙ none in
-    absurd (omega arith)
+meets-last text parts g some none = rw (one_part no_part parts some none) (meets_text-one (part_in text (get_or parts 0 no_part)) g)
 
 pub meets-node : (d : code.Part) (text : List ℕ) (parts : List code.Part) (g : Entries) (m : Option Tree) → 1 ≤ length parts → 1 ≤ length (take (length parts - 1) (drop 1 parts)) → node_met (part_in text (get_or parts 0 d)) g ≡ m
     → meets_text (parts_in text parts) g ≡ (is_text m || meets_text (parts_in text (take (length parts - 1) (drop 1 parts))) (group_in m))

@@ -1,9 +1,7 @@
 -- A device that is read in steps is read as field by field.
-use Rattle.std.proofs.Common.{◌≡◌, ℕ, List, codes, refl, Option, Result, Ok, Err}
+use Rattle.std.proofs.Common.{◌≡◌, ℕ, List, codes, refl, Result, Ok, Err}
 use Rattle.asound_conf.specs.declared.error.ConfWhy.{ConfWhy}
-use Rattle.asound_conf.specs.declared.plugin.Card.{Card}
-use Rattle.asound_conf.specs.declared.plugin.DeviceKind.{DeviceKind}
-use Rattle.asound_conf.specs.Device.{◌>>=◌, definition_of, device_bindings, device_slave, device_kind, format_of, field, field_pair, slave_numbers, slave_card, device_in, device_by}
+use Rattle.asound_conf.specs.Device.{◌>>=◌, definition_of, device_slave, device_kind, format_of, field, field_pair, slave_numbers, slave_card, device_in, device_by}
 use Rattle.asound_conf.specs.Tree.{Entries, get}
 
 -- after a value, what follows may be said in another way
@@ -26,7 +24,7 @@ pair_after first second slave f g same =
     apart_after (field first slave) _ _ _ (λ x. apart_after (field second slave) _ _ _ (λ y. same x y))
 
 -- the number fields of a slave are three pairs and one more
-slave_numbers_pairs : (slave : Entries)
+pub slave_numbers_pairs : (slave : Entries)
     → slave_numbers slave
     ≡ (field_pair (codes "channels") (codes "rate") slave >>= (λ a. field_pair (codes "period_size") (codes "period_time") slave >>= (λ b.
     field_pair (codes "buffer_size") (codes "periods") slave >>= (λ c. field (codes "buffer_time") slave >>= (λ d.
@@ -37,37 +35,6 @@ slave_numbers_pairs slave =
     pair_after (codes "period_size") (codes "period_time") slave _ _ (λ period_size period_time.
     pair_after (codes "buffer_size") (codes "periods") slave _ _ (λ buffer_size periods. refl)))
 
--- the first pair is refused
-pub first_refused : (slave : Entries) (e : ConfWhy) → Err e ≡ field_pair (codes "channels") (codes "rate") slave → Err e ≡ slave_numbers slave
-first_refused slave e first = rw (slave_numbers_pairs slave, ← first) refl
-
--- the second pair is refused
-pub second_refused : (slave : Entries) (a : ℕ × ℕ) (e : ConfWhy)
-    → Ok a ≡ field_pair (codes "channels") (codes "rate") slave → Err e ≡ field_pair (codes "period_size") (codes "period_time") slave
-    → Err e ≡ slave_numbers slave
-second_refused slave a e first second = rw (slave_numbers_pairs slave, ← first, ← second) refl
-
--- the third pair is refused
-pub third_refused : (slave : Entries) (a b : ℕ × ℕ) (e : ConfWhy)
-    → Ok a ≡ field_pair (codes "channels") (codes "rate") slave → Ok b ≡ field_pair (codes "period_size") (codes "period_time") slave
-    → Err e ≡ field_pair (codes "buffer_size") (codes "periods") slave
-    → Err e ≡ slave_numbers slave
-third_refused slave a b e first second third = rw (slave_numbers_pairs slave, ← first, ← second, ← third) refl
-
--- the last field is refused
-pub last_refused : (slave : Entries) (a b c : ℕ × ℕ) (e : ConfWhy)
-    → Ok a ≡ field_pair (codes "channels") (codes "rate") slave → Ok b ≡ field_pair (codes "period_size") (codes "period_time") slave
-    → Ok c ≡ field_pair (codes "buffer_size") (codes "periods") slave → Err e ≡ field (codes "buffer_time") slave
-    → Err e ≡ slave_numbers slave
-last_refused slave a b c e first second third last = rw (slave_numbers_pairs slave, ← first, ← second, ← third, ← last) refl
-
--- all fields are numbers
-pub all_fields : (slave : Entries) (a b c : ℕ × ℕ) (d : ℕ)
-    → Ok a ≡ field_pair (codes "channels") (codes "rate") slave → Ok b ≡ field_pair (codes "period_size") (codes "period_time") slave
-    → Ok c ≡ field_pair (codes "buffer_size") (codes "periods") slave → Ok d ≡ field (codes "buffer_time") slave
-    → Ok (record { channels = a.0; rate = a.1; period_size = b.0; period_time = b.1; buffer_size = c.0; periods = c.1; buffer_time = d }) ≡ slave_numbers slave
-all_fields slave a b c d first second third last = rw (slave_numbers_pairs slave, ← first, ← second, ← third, ← last) refl
-
 -- a device is what its definition says
 pub device_by_definition : (root : Entries) (name : List ℕ) → device_by root name ≡ (definition_of (codes "pcm") name root >>= device_in root)
 unfolding device_by device_in slave_card
@@ -76,30 +43,3 @@ device_by_definition root name =
     same_after (device_slave root (get (codes "slave") definition)) _ _ (λ slave.
     same_after (device_kind (get (codes "type") definition)) _ _ (λ kind.
     apart_after (format_of (get (codes "format") slave)) _ _ _ (λ fits. apart_after (slave_numbers slave) _ _ _ (λ numbers. refl)))))
-
--- a device whose slave, kind, card or bindings are refused
-pub device_in-slave : (root definition : Entries) (e : ConfWhy) → Err e ≡ device_slave root (get (codes "slave") definition) → Err e ≡ device_in root definition
-unfolding device_in
-device_in-slave root definition e slaves = rw (← slaves) refl
-
-pub device_in-kind : (root definition slave : Entries) (e : ConfWhy) → Ok slave ≡ device_slave root (get (codes "slave") definition) → Err e ≡ device_kind (get (codes "type") definition)
-    → Err e ≡ device_in root definition
-unfolding device_in
-device_in-kind root definition slave e slaves kinds = rw (← slaves, ← kinds) refl
-
-pub device_in-card : (root definition slave : Entries) (kind : DeviceKind) (e : ConfWhy) → Ok slave ≡ device_slave root (get (codes "slave") definition) → Ok kind ≡ device_kind (get (codes "type") definition)
-    → Err e ≡ slave_card slave → Err e ≡ device_in root definition
-unfolding device_in
-device_in-card root definition slave kind e slaves kinds cards = rw (← slaves, ← kinds, ← cards) refl
-
-pub device_in-bindings : (root definition slave : Entries) (kind : DeviceKind) (card : Card) (e : ConfWhy) → Ok slave ≡ device_slave root (get (codes "slave") definition) → Ok kind ≡ device_kind (get (codes "type") definition)
-    → Ok card ≡ slave_card slave → Err e ≡ device_bindings (get (codes "bindings") definition) card.channels → Err e ≡ device_in root definition
-unfolding device_in
-device_in-bindings root definition slave kind card e slaves kinds cards bound = rw (← slaves, ← kinds, ← cards, ← bound) refl
-
--- a device of which all are given
-pub device_in-whole : (root definition slave : Entries) (kind : DeviceKind) (card : Card) (bindings : Option (List ℕ)) → Ok slave ≡ device_slave root (get (codes "slave") definition) → Ok kind ≡ device_kind (get (codes "type") definition)
-    → Ok card ≡ slave_card slave → Ok bindings ≡ device_bindings (get (codes "bindings") definition) card.channels
-    → Ok (record { kind = kind; channels = card.channels; rate = card.rate; period = card.period; ring = card.ring; bindings = bindings }) ≡ device_in root definition
-unfolding device_in
-device_in-whole root definition slave kind card bindings slaves kinds cards bound = rw (← slaves, ← kinds, ← cards, ← bound) refl

@@ -1,20 +1,22 @@
 -- What the first byte of a text says of the token there, and of its end.
-use Rattle.std.proofs.Common.{◌≡◌, ℕ, true, false, List, take, drop, Option, Some, None, refl, ap, ◌∙◌, arith, inl, inr}
-use Rattle.std.specs.Prelude.{Bool, ◌==◌, is_none, not, slice_index}
-use Rattle.std.proofs.lemmas.Bool.{and_parts, cond-true, cond-false, or_cases, or_parts}
+use Rattle.std.proofs.Common.{◌⊎◌, sym, ◌≡◌, ℕ, true, false, List, take, drop, Option, Some, None, refl, ap, ◌∙◌, arith, inl, inr}
+use Rattle.std.specs.Prelude.{◌==◌, is_none, slice_index}
+use Rattle.std.proofs.lemmas.Bool.{and_parts, cases_Bool, false_from_ne_true, false≢true, cond-false, cond-true, not-true, or_cases, or_parts}
 use Rattle.std.proofs.lemmas.Bool.Decides.{nat_tests}
 use Rattle.asound_conf.specs.declared.error.ConfWhy.TheVariants as why
 use Rattle.asound_conf.specs.declared.token.Mark.{Mark}
 use Rattle.asound_conf.specs.Token.{Token, word, mark, bad, end_at, ends_word, is_quote, is_skipped, is_word_byte, mark_of, mark_or, quoted_size, quoted_token, token_at, token_end}
-use Rattle.asound_conf.proofs.Starts.{is_quote-35, is_word_byte-35}
-
-not-true : (t : Bool) → not t ≡ true → t ≡ false
-not-true false is = refl
-not-true true is = cc
 
 is_none-true : (m : Option Mark) → is_none m ≡ true → m ≡ None
 is_none-true None is = refl
 is_none-true (Some m) is = cc
+
+-- a byte of a word, or a quote, isn't a `#`
+is_word_byte-35 : (b : ℕ) → is_word_byte b ≡ true → (b == 35) ≡ false
+is_word_byte-35 b is = false_from_ne_true (b == 35) (λ e. let at : b ≡ 35 = grind (arith, nat_tests, e) in false≢true (sym (ap is_word_byte at) ∙ is))
+
+is_quote-35 : (b : ℕ) → is_quote b ≡ true → (b == 35) ≡ false
+is_quote-35 b is = false_from_ne_true (b == 35) (λ e. let at : b ≡ 35 = grind (arith, nat_tests, e) in false≢true (sym (ap is_quote at) ∙ is))
 
 -- a byte of a word is no quote and no mark
 is_word_byte-quote : (b : ℕ) → is_word_byte b ≡ true → is_quote b ≡ false
@@ -78,3 +80,17 @@ unfolding token_end
 token_end-one text kept quotes words =
     let b = slice_index text 0 in
     cond-false (b == 35) _ _ (or_parts _ _ kept).1 ∙ cond-false (is_quote b) _ _ quotes ∙ cond-false (is_word_byte b) _ _ words
+
+-- a text begins with a word, with a quote, with a mark, or with none of them
+pub first-cases : (text : List ℕ) → (is_word_byte (slice_index text 0) ≡ true) ⊎ ((is_quote (slice_index text 0) ≡ true) ⊎ (((m : Mark) × (token_at text ≡ mark m)) ⊎ (token_at text ≡ bad why.Byte)))
+first-cases text = elim (cases_Bool (is_word_byte (slice_index text 0))) [
+  | inl is ↦ inl is
+  | inr words ↦ elim (cases_Bool (is_quote (slice_index text 0))) [
+    | inl is ↦ inr (inl is)
+    | inr quotes ↦ inr (inr (by_mark quotes words (mark_of (slice_index text 0)) refl))
+  ]
+]
+  where
+    by_mark : is_quote (slice_index text 0) ≡ false → is_word_byte (slice_index text 0) ≡ false → (m : Option Mark) → mark_of (slice_index text 0) ≡ m → ((m : Mark) × (token_at text ≡ mark m)) ⊎ (token_at text ≡ bad why.Byte)
+    by_mark quotes words (Some m) is = inl (m, token_at-mark text m is)
+    by_mark quotes words None is = inr (token_at-bad text is quotes words)

@@ -1,13 +1,14 @@
 -- The groups of rows by their numbers: what is found in them, and what one row more or another row changes.
-use Rattle.std.proofs.Common.{◌≡◌, ℕ, zero, suc, ◌+◌, ◌<◌, ◌≤◌, ◌-◌, Bool, true, false, cond, List, [], ◌∷◌, ◌++◌, length, drop, Option, Some, None, refl, sym, ap, ap₂, ◌∙◌, subst, arith, length-append, ◌⊎◌, inl, inr}
+use Rattle.std.proofs.Common.{◌≡◌, ℕ, zero, suc, ◌+◌, ◌<◌, ◌≤◌, ◌-◌, true, false, cond, List, [], ◌∷◌, ◌++◌, length, drop, Some, None, refl, sym, ap, ap₂, ◌∙◌, arith, inl, inr}
+use Rattle.std.proofs.lemmas.Bool.{cases_Bool}
 use Rattle.std.proofs.Common as common
 use Rattle.std.specs.Str.{bytes_eq}
-use Rattle.std.proofs.lemmas.List.{get_or-drop, length-drop, drop-drop, drop-append-le, drop-set-add, drop_all}
-use Rattle.asound_conf.specs.Tree.{Tree, text, group, Entries, empty, has_node, get, without_name}
+use Rattle.std.proofs.lemmas.List.{get_or-drop, length-drop, drop-drop, drop-append-le, drop-set-add}
+use Rattle.asound_conf.specs.Tree.{text, group, empty, has_node, get, without_name}
 use Rattle.asound_conf.specs.Tree as tree
-use Rattle.asound_conf.specs.Rows.{ConfRow, Alters, IsAbsent, IsNode, IsOnlyIn, group_of, is_in, no_row, node, row_at, group_in_rows}
+use Rattle.asound_conf.specs.Rows.{ConfRow, Alters, IsAbsent, IsNode, group_of, is_in, no_row, node, row_at, group_in_rows}
 use Rattle.asound_conf.proofs.Places.{get-none}
-use Rattle.asound_conf.proofs.Rows.{IsAt, get-at, has_node-at, has_node-absent, reaches, within-child, within-push, within-set, without-removed}
+use Rattle.asound_conf.proofs.Rows.{IsAt, get-at, has_node-absent, reaches, within-child, within-push, within-set, without-removed}
 
 -- the rows after a row, as they are among those after an earlier row
 row-after : (rows : List ConfRow) (p n : ℕ) → p < n → row_at (drop (suc p) rows) (n - suc p) ≡ row_at rows n
@@ -47,9 +48,6 @@ at-IsNode rows p name n is =
       last = ap (λ (rs : List ConfRow). has_node name (group_in_rows p (suc n) rs)) (drop-after rows p n low) ∙ absent-after rows p (suc n) name (λ j later there. is.last j (omega arith) there);
     }
 
-pub has_node-IsNode : (rows : List ConfRow) (p : ℕ) (name : List ℕ) (n : ℕ) → IsNode rows p name n → has_node name (group_of p rows) ≡ true
-has_node-IsNode rows p name n is = has_node-at p name n (suc p) (n - suc p) (drop (suc p) rows) (at-IsNode rows p name n is)
-
 pub get-IsNode : (rows : List ConfRow) (p : ℕ) (name : List ℕ) (n : ℕ) → IsNode rows p name n → get name (group_of p rows) ≡ Some (node (row_at rows n).value (group_of n rows))
 get-IsNode rows p name n is =
     get-at p name n (suc p) (n - suc p) (drop (suc p) rows) (at-IsNode rows p name n is)
@@ -59,10 +57,6 @@ get-IsNode rows p name n is =
 pub group-push : (rows : List ConfRow) (q : ℕ) (row : ConfRow) → q < length rows → row.parent ≡ Some q → has_node row.name (group_of q rows) ≡ false → group_of q (rows ++ row ∷ []) ≡ tree.set row.name (node row.value empty) (group_of q rows)
 group-push rows q row inside parent none =
     ap (group_in_rows q (suc q)) (drop-append-le (suc q) rows (row ∷ []) (omega arith)) ∙ within-push q (suc q) row (drop (suc q) rows) parent (omega arith) none
-
--- and has an empty group
-pub group-new : (rows : List ConfRow) (row : ConfRow) → group_of (length rows) (rows ++ row ∷ []) ≡ empty
-group-new rows row = ap (group_in_rows (length rows) (suc (length rows))) (drop_all (suc (length rows)) (rows ++ row ∷ []) (omega (arith, length-append rows (row ∷ []))))
 
 set-after : (rows : List ConfRow) (q n : ℕ) (s : ConfRow) → q < n → drop (suc q) (common.set rows n s) ≡ common.set (drop (suc q) rows) (n - suc q) s
 set-after rows q n s low =
@@ -87,12 +81,8 @@ alters-drop q n old new a =
     let longer : length old ≤ length new = a.longer in
     record {
       longer = omega (arith, length-drop n old, length-drop n new);
-      each = λ j. by_change j (a.each (n + j));
+      each = λ j. rw (get_or-drop n old j no_row, get_or-drop n new j no_row) (a.each (n + j));
     }
-  where
-    by_change : (j : ℕ) → (row_at old (n + j) ≡ row_at new (n + j)) ⊎ (IsOnlyIn q (row_at old (n + j)) × IsOnlyIn q (row_at new (n + j))) → (row_at (drop n old) j ≡ row_at (drop n new) j) ⊎ (IsOnlyIn q (row_at (drop n old) j) × IsOnlyIn q (row_at (drop n new) j))
-    by_change j (inl same) = inl (get_or-drop n old j no_row ∙ same ∙ sym (get_or-drop n new j no_row))
-    by_change j (inr only) = inr (λ d differ. ap (λ (r : ConfRow). is_in d r.parent) (get_or-drop n old j no_row) ∙ only.0 d differ, λ d differ. ap (λ (r : ConfRow). is_in d r.parent) (get_or-drop n new j no_row) ∙ only.1 d differ)
 
 -- a group has the new group of a row below which the change is
 pub group-child : (q p : ℕ) (name : List ℕ) (n : ℕ) (old new : List ConfRow) → Alters q old new → IsNode old p name n → (row_at old n).value ≡ None → (p ≡ q → ⊥) → reaches q n (suc n) (drop (suc n) old) ≡ true
@@ -108,14 +98,13 @@ pub Alters-both : (q : ℕ) (old mid new : List ConfRow) → Alters q old mid �
 Alters-both q old mid new a b =
     let first : length old ≤ length mid = a.longer in
     let second : length mid ≤ length new = b.longer in
-    record { longer = omega arith; each = λ j. by_change j (a.each j) (b.each j) }
-  where
-    by_change : (j : ℕ) → (row_at old j ≡ row_at mid j) ⊎ (IsOnlyIn q (row_at old j) × IsOnlyIn q (row_at mid j)) → (row_at mid j ≡ row_at new j) ⊎ (IsOnlyIn q (row_at mid j) × IsOnlyIn q (row_at new j))
-        → (row_at old j ≡ row_at new j) ⊎ (IsOnlyIn q (row_at old j) × IsOnlyIn q (row_at new j))
-    by_change j (inl same) (inl also) = inl (same ∙ also)
-    by_change j (inl same) (inr only) = inr (subst (λ (r : ConfRow). IsOnlyIn q r) (sym same) only.0, only.1)
-    by_change j (inr only) (inl same) = inr (only.0, subst (λ (r : ConfRow). IsOnlyIn q r) same only.1)
-    by_change j (inr only) (inr also) = inr (only.0, also.1)
+    record {
+      longer = omega arith;
+      each = λ j. elim (a.each j) [
+        | inl same ↦ rw same (b.each j)
+        | inr only ↦ elim (b.each j) [ inl same ↦ inr (only.0, rw (← same) only.1) | inr also ↦ inr (only.0, also.1) ]
+      ];
+    }
 
 -- how many rows are in a group
 abbrev pub members : ℕ → List ConfRow → ℕ
@@ -126,11 +115,9 @@ members q (row ∷ rows) = cond (is_in q row.parent) (suc (members q rows)) (mem
 pub members-removed : (q n : ℕ) (s : ConfRow) (rows : List ConfRow) → n < length rows → is_in q (row_at rows n).parent ≡ true → is_in q s.parent ≡ false → members q (common.set rows n s) < members q rows
 members-removed q n s [] inside was out = absurd (omega arith)
 members-removed q zero s (r ∷ rows) inside was out = rw (was, out) (omega arith)
-members-removed q (suc n) s (r ∷ rows) inside was out = by_test (is_in q r.parent) (members-removed q n s rows (omega arith) was out)
-  where
-    by_test : (b : Bool) → members q (common.set rows n s) < members q rows → cond b (suc (members q (common.set rows n s))) (members q (common.set rows n s)) < cond b (suc (members q rows)) (members q rows)
-    by_test true fewer = omega arith
-    by_test false fewer = fewer
+members-removed q (suc n) s (r ∷ rows) inside was out =
+    let fewer = members-removed q n s rows (omega arith) was out in
+    elim (cases_Bool (is_in q r.parent)) [ inl is ↦ rw is (omega (arith, fewer)) | inr is ↦ rw is fewer ]
 
 pub Alters-same : (q : ℕ) (rows : List ConfRow) → Alters q rows rows
 Alters-same q rows = record { longer = omega arith; each = λ j. inl refl }

@@ -4,7 +4,6 @@ pub mod Counts
 pub mod Downs
 pub mod Fields
 pub mod FirstBytes
-pub mod Fronts
 pub mod Groups
 pub mod Joined
 pub mod NumberedValues
@@ -14,7 +13,6 @@ pub mod Puts
 pub mod Readers
 pub mod Readings
 pub mod Rows
-pub mod Splits
 pub mod Starts
 pub mod Tables
 pub mod Tokens

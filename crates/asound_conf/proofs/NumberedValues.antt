@@ -91,7 +91,3 @@ bindings_in-take (Some list) kept channels same =
     let is : kept ≡ take 9 list = cc in
     ap bound (ap (λ l. answer_of l channels) is ∙ answer_of-take list channels)
 bindings_in-take None kept channels same = cc
-
-pub bindings_in-None : (values : Option (List ℕ)) (channels : ℕ) → None ≡ option_map (λ list. take 9 list) values → bindings_in values channels ≡ Err why.BindingKey
-bindings_in-None (Some list) channels same = cc
-bindings_in-None None channels same = refl

@@ -2,7 +2,7 @@
 use Rattle.std.proofs.Common.{◌≡◌, ℕ, zero, suc, ◌+◌, ◌-◌, ◌<◌, ◌≤◌, Bool, true, false, ◌||◌, List, [], ◌∷◌, ◌++◌, length, take, drop, get_or, refl, sym, ap, subst, ◌∙◌, arith, append_assoc}
 use Rattle.std.specs.Prelude.{map}
 use Rattle.std.specs.List.{list_any, slice_split}
-use Rattle.std.proofs.lemmas.List.{map-append, map_more}
+use Rattle.std.proofs.lemmas.List.{map-append}
 use Rattle.asound_conf.specs.declared.cell.Name.TheVariants as names
 use Rattle.asound_conf.specs.declared.part.Part as code
 use Rattle.asound_conf.specs.Key.{Part, is_dot, key_part, word_parts}
@@ -34,32 +34,10 @@ IsPushed-next text old now word rest piece behind at part split follows sizes is
           ∙ append_assoc (parts_in text now) (key_part piece ∷ []) (word_parts behind) ∙ ap (λ (p : List Part). parts_in text now ++ p) (sym parts) ∙ pushed.parts;
     }
 
--- the last piece was added
-pub parts_in-last : (text : List ℕ) (old now : List code.Part) (word rest : List ℕ) (at : ℕ) (part : code.Part) → slice_split is_dot rest ≡ rest ∷ [] → part_in text part ≡ key_part rest → IsPushed text old now word rest at
-    → parts_in text (now ++ part ∷ []) ≡ parts_in text old ++ word_parts word
-parts_in-last text old now word rest at part split is pushed =
-    parts_in-push text now part ∙ ap (λ (p : Part). parts_in text now ++ p ∷ []) is ∙ ap (λ (p : List Part). parts_in text now ++ p) (sym (ap (map key_part) split)) ∙ pushed.parts
-
 -- the place of the piece
 pub piece-place : (text rest piece : List ℕ) (at : ℕ) → length piece ≤ length rest → piece ≡ take (length piece) rest → span_in text (record { start = at; count = length rest }) ≡ rest
     → span_in text (record { start = at; count = length piece }) ≡ piece
 piece-place text rest piece at within is place = span-take text rest at (length piece) within place ∙ sym is
-
--- whether one of some parts passes a test
-list_any-append : (p : Part → Bool) (xs ys : List Part) → list_any p (xs ++ ys) ≡ (list_any p xs || list_any p ys)
-list_any-append p [] ys = refl
-list_any-append p (x ∷ xs) ys = by (p x) (list_any-append p xs ys)
-  where
-    by : (t : Bool) → list_any p (xs ++ ys) ≡ (list_any p xs || list_any p ys) → (t || list_any p (xs ++ ys)) ≡ ((t || list_any p xs) || list_any p ys)
-    by true e = refl
-    by false e = e
-
--- the first parts don't pass, and neither does the next
-pub none_more : (p : Part → Bool) (text : List ℕ) (parts : List code.Part) (i : ℕ) (d : code.Part) → i < length parts → list_any p (parts_in text (take i parts)) ≡ false → p (part_in text (get_or parts i d)) ≡ false
-    → list_any p (parts_in text (take (i + 1) parts)) ≡ false
-none_more p text parts i d inside none next =
-    ap (list_any p) (map_more (part_in text) parts i d inside) ∙ list_any-append p (parts_in text (take i parts)) (part_in text (get_or parts i d) ∷ [])
-    ∙ ap (λ (t : Bool). t || (p (part_in text (get_or parts i d)) || false)) none ∙ ap (λ (t : Bool). t || false) next
 
 -- a part that passes is one of them
 pub some-at : (p : Part → Bool) (text : List ℕ) (parts : List code.Part) (i : ℕ) (d : code.Part) → i < length parts → p (part_in text (get_or parts i d)) ≡ true → list_any p (parts_in text parts) ≡ true

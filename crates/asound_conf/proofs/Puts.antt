@@ -1,5 +1,7 @@
 -- What an item puts into the group of a row.
 use Rattle.std.proofs.Common.{◌≡◌, ℕ, ◌<◌, Bool, true, false, cond, ◌||◌, List, [], ◌∷◌, ◌++◌, length, length-append, is_none, set, Option, Some, None, Result, Ok, Err, IfOk, IfErr, OnErr, OnOk, refl, sym, ap, ◌∙◌, subst, arith}
+use Rattle.std.proofs.Math.Seq.{get_or-append_seam}
+use Rattle.std.proofs.lemmas.Bool.{or_parts}
 use Rattle.std.proofs.lemmas.List.{get_or_past}
 use Rattle.asound_conf.specs.declared.error.ConfWhy.{ConfWhy}
 use Rattle.asound_conf.specs.declared.error.ConfWhy.TheVariants as why
@@ -108,30 +110,22 @@ push-Alters (Err cause) q name value old new pushed kept = subst (λ (c : Conten
 -- the row that was added is where its name leads
 IsNode-push : (q : ℕ) (name : List ℕ) (value : Option (List ℕ)) (rows : List ConfRow) → q < length rows → IsNode (rows ++ new_row q name value ∷ []) q name (length rows)
 IsNode-push q name value rows inside =
-    let row : row_at (rows ++ new_row q name value ∷ []) (length rows) ≡ new_row q name value = at-length rows in
+    let more = rows ++ new_row q name value ∷ [] in
+    let row : row_at more (length rows) ≡ new_row q name value = get_or-append_seam rows (new_row q name value) [] no_row in
     record {
       inside = omega (arith, length-append rows (new_row q name value ∷ []));
       parent = ap (λ (r : ConfRow). r.parent) row;
       named = ap (λ (r : ConfRow). r.name) row;
       falls = inside;
-      last = λ j later there. let none : None ≡ Some q = sym (ap (λ (r : ConfRow). r.parent) (past rows j later)) ∙ there in cc;
+      last = λ j later there.
+          let past = get_or_past more j no_row (omega (arith, later, length-append rows (new_row q name value ∷ []))) in
+          absurd (let none : None ≡ Some q = rw past at there in cc);
     }
-  where
-    at-length : (rows : List ConfRow) → row_at (rows ++ new_row q name value ∷ []) (length rows) ≡ new_row q name value
-    at-length [] = refl
-    at-length (r ∷ rows) = at-length rows
-
-    past : (rows : List ConfRow) (j : ℕ) → length rows < j → row_at (rows ++ new_row q name value ∷ []) j ≡ no_row
-    past rows j later = get_or_past (rows ++ new_row q name value ∷ []) j no_row (omega (arith, length-append rows (new_row q name value ∷ [])))
 
 pub IsKeyStep-push : (r : Result ℕ ConfWhy) (q : ℕ) (name : List ℕ) (old new : Contents) → q < length old.rows → OnOk r (new ≡ with_row (new_row q name None) old) → IfOk r (λ n. n ≡ length old.rows) → IfOk r (λ n. IsKeyStep new.rows q (part_named name) n)
 IsKeyStep-push (Ok n) q name old new inside pushed number =
     subst (λ (c : Contents). IsKeyStep c.rows q (part_named name) n) (sym pushed) (subst (λ m. IsKeyStep (old.rows ++ new_row q name None ∷ []) q (part_named name) m) (sym number)
-    (record { stays = refl; is_node = IsNode-push q name None old.rows inside; is_group = ap (λ (r : ConfRow). r.value) (at-length old.rows) }))
-  where
-    at-length : (rows : List ConfRow) → row_at (rows ++ new_row q name None ∷ []) (length rows) ≡ new_row q name None
-    at-length [] = refl
-    at-length (r ∷ rows) = at-length rows
+    (record { stays = refl; is_node = IsNode-push q name None old.rows inside; is_group = ap (λ (r : ConfRow). r.value) (get_or-append_seam old.rows (new_row q name None) [] no_row) }))
 IsKeyStep-push (Err cause) q name old new inside pushed number = tt
 
 pub IsKeyStep-IsNode : (rows : List ConfRow) (q : ℕ) (name : List ℕ) (n : ℕ) → IsNode rows q name n → is_none (row_at rows n).value ≡ true → IsKeyStep rows q (part_named name) n
@@ -209,24 +203,16 @@ put-refused cause part [] g cleared given some clear is refuses = cc
 put-refused cause part (next ∷ parts) g cleared given some clear is refuses =
     let m = node_met part g in
     let same : get part.name cleared ≡ m = ap (get part.name) is ∙ get-base part g in
-    let no_text : is_text m ≡ false = first_of_neither (is_text m) (meets_text (next ∷ parts) (group_in m)) clear in
+    let no_text : is_text m ≡ false = (or_parts (is_text m) (meets_text (next ∷ parts) (group_in m)) clear).0 in
     let puts : put_or_clash None (part_named part.name ∷ []) cleared ≡ Ok (tree.set part.name (put_there None (get part.name cleared)) cleared) =
     placed-one None part.name cleared ∙ ap (λ b. cond b (Err why.Kind) (Ok (tree.set part.name (put_there None (get part.name cleared)) cleared))) (ap is_text same ∙ no_text) in
     cc
-  where
-    first_of_neither : (b c : Bool) → (b || c) ≡ false → b ≡ false
-    first_of_neither true c is = cc
-    first_of_neither false c is = refl
 
 -- the texts on the way of the other parts
 pub meets_text-rest : (part : Part) (parts : List Part) (g inner : Entries) → is_last parts ≡ false → meets_text (part ∷ parts) g ≡ false → group_in (node_met part g) ≡ inner → meets_text parts inner ≡ false
 unfolding meets_text
 meets_text-rest part [] g inner some clear meets_it = cc
-meets_text-rest part (next ∷ parts) g inner some clear meets_it = ap (meets_text (next ∷ parts)) (sym meets_it) ∙ second_of_neither (is_text (node_met part g)) (meets_text (next ∷ parts) (group_in (node_met part g))) clear
-  where
-    second_of_neither : (b c : Bool) → (b || c) ≡ false → c ≡ false
-    second_of_neither true c is = cc
-    second_of_neither false c is = is
+meets_text-rest part (next ∷ parts) g inner some clear meets_it = ap (meets_text (next ∷ parts)) (sym meets_it) ∙ (or_parts (is_text (node_met part g)) (meets_text (next ∷ parts) (group_in (node_met part g))) clear).1
 
 met-empty : (part : Part) → node_met part empty ≡ None
 met-empty part = elim part.removes as (λ b. cond b None (get part.name empty) ≡ None) [ true ↦ refl | false ↦ refl ]

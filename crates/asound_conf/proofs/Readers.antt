@@ -1,8 +1,7 @@
 -- Where a reader is among the groups of rows, before and after each step.
-use Rattle.std.proofs.Common.{◌≡◌, ℕ, zero, suc, ◌+◌, ◌<◌, ◌≤◌, Bool, true, false, cond, nat_lt, nat_le, List, [], ◌∷◌, ◌++◌, length, length-append, map, take, drop, Option, Some, None, Result, Ok, Err, refl, sym, ap, ap₂, ◌∙◌, subst, arith}
+use Rattle.std.proofs.Common.{◌≡◌, ℕ, zero, suc, ◌+◌, ◌<◌, ◌≤◌, Bool, true, false, cond, nat_lt, nat_le, List, [], ◌∷◌, ◌++◌, length, length-append, length-drop, map, take, drop, Option, Some, None, Result, Ok, Err, refl, sym, ap, ap₂, ◌∙◌, subst, arith}
 use Rattle.std.proofs.lemmas.Bool.Decides.{nat_tests}
-use Rattle.std.proofs.lemmas.List.{append-nil, drop-append-le, drop-map, drop_at, take-append-le}
-use Rattle.std.specs.Fmt.{decimal}
+use Rattle.std.proofs.lemmas.List.{append-nil, drop-map, drop_all, drop_at, length-take, length-take-le, nil_from_length, take-append-le, take-take, take_at}
 use Rattle.std.specs.Prelude.{reverse}
 use Rattle.asound_conf.specs.declared.bracket.Awaits.{Awaits}
 use Rattle.asound_conf.specs.declared.bracket.Awaits.TheVariants.{Item, Value}
@@ -11,17 +10,18 @@ use Rattle.asound_conf.specs.declared.cell.Name.TheVariants as names
 use Rattle.asound_conf.specs.declared.error.ConfWhy.{ConfWhy}
 use Rattle.asound_conf.specs.declared.error.ConfWhy.TheVariants as why
 use Rattle.asound_conf.specs.declared.part.Part as part
+use Rattle.asound_conf.specs.declared.reading.Reading.{Reading}
 use Rattle.asound_conf.specs.Answer.{Leads, Refuses, answer_view}
-use Rattle.asound_conf.specs.Grammar.{State, after_item, at_key, at_number, close_to, open_group, put_key, put_text, in_group, start}
+use Rattle.asound_conf.specs.Grammar.{State, after_item, at_key, close_to, open_group, put_key, put_text, in_group, start}
 use Rattle.asound_conf.specs.Key.{Part, key_defect, part_named, without_marks}
 use Rattle.asound_conf.specs.Parts.{part_in, parts_in}
 use Rattle.asound_conf.specs.Place.{meets_text, put_or_clash}
 use Rattle.asound_conf.specs.Opening.{AreAround, IsHere, IsOpen, bracket_of, key_cause, or_cause, state_in}
+use Rattle.asound_conf.specs.Reading.{IsReading, rest_of_key, state_of}
 use Rattle.asound_conf.specs.Rows.{Contents, group_of, no_row}
 use Rattle.asound_conf.specs.Tree.{Entries}
 use Rattle.asound_conf.specs.Way.{IsWay}
 use Rattle.asound_conf.proofs.Below.{meets_text-below}
-use Rattle.asound_conf.proofs.Fronts.{drop-front, take-least}
 use Rattle.asound_conf.proofs.Puts.{Leads-along, Leads-seen, meets_text-one}
 use Rattle.asound_conf.proofs.Ways.{group_at-IsWay}
 
@@ -54,26 +54,6 @@ take-path_in zero text path more low = refl
 take-path_in (suc n) text [] more low = absurd (omega arith)
 take-path_in (suc n) text (p ∷ path) more low = ap (λ rest. part_named (part_in text p).name ∷ rest) (take-path_in n text path more (omega arith))
 
-take-whole : {X : Type 0} (xs ys : List X) → take (length xs) (xs ++ ys) ≡ xs
-take-whole [] ys = refl
-take-whole (x ∷ xs) ys = ap (λ more. x ∷ more) (take-whole xs ys)
-
-take-front : {X : Type 0} (n : ℕ) (xs ys : List X) → n ≤ length xs → take n (xs ++ ys) ≡ take n xs
-take-front zero xs ys low = refl
-take-front (suc n) [] ys low = absurd (omega arith)
-take-front (suc n) (x ∷ xs) ys low = ap (λ more. x ∷ more) (take-front n xs ys (omega arith))
-
-take-take : {X : Type 0} (n m : ℕ) (xs : List X) → n ≤ m → take n (take m xs) ≡ take n xs
-take-take zero m xs low = refl
-take-take (suc n) zero xs low = absurd (omega arith)
-take-take (suc n) (suc m) [] low = refl
-take-take (suc n) (suc m) (x ∷ xs) low = ap (λ more. x ∷ more) (take-take n m xs (omega arith))
-
-length-take : {X : Type 0} (n : ℕ) (xs : List X) → n ≤ length xs → length (take n xs) ≡ n
-length-take zero xs low = refl
-length-take (suc n) [] low = absurd (omega arith)
-length-take (suc n) (x ∷ xs) low = ap suc (length-take n xs (omega arith))
-
 -- after a text that was put
 after_item-state : (c d : Contents) (path key : List part.Part) (here : code.Bracket) (outer : List code.Bracket) (awaits : Awaits) → here.names ≡ length path → d.text ≡ c.text
     → after_item (state_in c path key here outer awaits) (group_of 0 d.rows) ≡ state_in d path [] here outer (Item true)
@@ -82,7 +62,7 @@ after_item-state c d path key here outer awaits depth same =
     let ways : take here.names (path_in c.text path ++ parts_in c.text key) ≡ path_in d.text path ++ [] =
     take-path_in here.names c.text path (parts_in c.text key) (omega arith)
     ∙ ap (λ n. path_in c.text (take n path)) depth
-    ∙ ap (path_in c.text) (ap (take (length path)) (sym (append-nil path)) ∙ take-whole path [])
+    ∙ ap (path_in c.text) (ap (take (length path)) (sym (append-nil path)) ∙ take_at path [] (length path) refl)
     ∙ ap (λ t. path_in t path) (sym same)
     ∙ sym (append-nil (path_in d.text path)) in
     λ i. record { root = group_of 0 d.rows; path = ways i; here = bracket_of here; outer = map bracket_of outer; awaits = Item true }
@@ -124,15 +104,6 @@ put_key-state c path key here outer awaits depth way =
         ≡ key_leads (or_cause defect (cond (nat_lt 16 (here.names + length (parts_in c.text key))) (Some why.Deep) (cond (meets_text (parts_in c.text key) (group_of here.group c.rows)) (Some why.Kind) None))) (state_in c path key here outer (Value true))
     by_defect (Some defect) is = refl
     by_defect None is = is ∙ by_tests (nat_lt 16 (here.names + length (parts_in c.text key))) (meets_text (parts_in c.text key) (group_of here.group c.rows))
-
--- the place of the next value of a list
-pub at_number-state : (c : Contents) (path : List part.Part) (here : code.Bracket) (outer : List code.Bracket) (awaits : Awaits)
-    → at_number (state_in c path [] here outer awaits)
-    ≡ state_in c path (record { removes = false; name = names.Number here.values } ∷ []) (record { line = here.line; array = here.array; values = here.values + 1; names = here.names; group = here.group }) outer (Value false)
-at_number-state c path here outer awaits =
-    let front = without_marks (parts_in c.text path) in
-    let ways : (front ++ []) ++ part_named (decimal here.values) ∷ [] ≡ front ++ part_named (decimal here.values) ∷ [] = ap (λ f. f ++ part_named (decimal here.values) ∷ []) (append-nil front) in
-    λ i. record { root = group_of 0 c.rows; path = ways i; here = record { line = here.line; array = here.array; names = here.names; values = here.values + 1 }; outer = map bracket_of outer; awaits = Value false }
 
 -- within a bracket that was opened
 pub open_group-state : {X : Type 0} (r : Result X ConfWhy) (c d : Contents) (path key : List part.Part) (here : code.Bracket) (outer : List code.Bracket) (awaits : Awaits) (line group : ℕ) (array : Bool)
@@ -206,7 +177,7 @@ AreAround-longer c path more here (b ∷ outer) low around =
     let lower : b.names ≤ here.names = around.0 in (
       around.0,
       around.1,
-      subst (λ p. IsWay c.rows 0 (without_marks (parts_in c.text p)) b.group) (sym (take-front b.names path more (omega arith))) around.2,
+      subst (λ p. IsWay c.rows 0 (without_marks (parts_in c.text p)) b.group) (sym (take-append-le b.names path more (omega arith))) around.2,
       AreAround-longer c path more b outer (omega arith) around.3,
     )
 
@@ -224,7 +195,7 @@ AreAround-shorter c n path here (b ∷ outer) low around =
 pub AreAround-open : (c : Contents) (path key : List part.Part) (here new : code.Bracket) (outer : List code.Bracket) → IsHere c path here → here.names ≤ new.names → here.group ≤ new.group → AreAround c path here outer → AreAround c (path ++ key) new (here ∷ outer)
 AreAround-open c path key here new outer is longer later around =
     let depth : here.names ≡ length path = is.depth in
-    let same : take here.names (path ++ key) ≡ path = ap (λ n. take n (path ++ key)) depth ∙ take-whole path key in
+    let same : take here.names (path ++ key) ≡ path = ap (λ n. take n (path ++ key)) depth ∙ take_at path key (length path) refl in
     (longer, later, subst (λ p. IsWay c.rows 0 (without_marks (parts_in c.text p)) here.group) (sym same) is.way, AreAround-longer c path key here outer (omega arith) around)
 
 -- the bracket around one that is closed is then the innermost
@@ -234,15 +205,10 @@ IsHere-around c path here around outer is are =
     let inside : here.group < length c.rows = is.inside in
     let low : around.names ≤ here.names = are.0 in
     let lower : around.group ≤ here.group = are.1 in
-    record { inside = omega arith; depth = sym (length-take around.names path (omega arith)); way = are.2 }
+    record { inside = omega arith; depth = sym (length-take-le around.names path (omega arith)); way = are.2 }
 
 pub AreAround-close : (c : Contents) (path : List part.Part) (here around : code.Bracket) (outer : List code.Bracket) → AreAround c path here (around ∷ outer) → AreAround c (take around.names path) around outer
 AreAround-close c path here around outer are = AreAround-shorter c around.names path around outer (omega arith) are.3
-
--- no parts
-pub no-parts : (key : List part.Part) → length key ≡ 0 → key ≡ []
-no-parts [] none = refl
-no-parts (p ∷ key) none = absurd (omega arith)
 
 -- the brackets around one that counts one value more
 AreAround-values : (c : Contents) (path : List part.Part) (here new : code.Bracket) (outer : List code.Bracket) → new.names ≡ here.names → new.group ≡ here.group → AreAround c path here outer → AreAround c path new outer
@@ -250,23 +216,12 @@ AreAround-values c path here new [] names_are group_is around = tt
 AreAround-values c path here new (b ∷ outer) names_are group_is around =
     (subst (λ n. b.names ≤ n) (sym names_are) around.0, subst (λ n. b.group ≤ n) (sym group_is) around.1, around.2, around.3)
 
--- a reader that goes to the place of the next value of a list
-pub number-leads : (c : Contents) (path key : List part.Part) (here : code.Bracket) (outer : List code.Bracket) (awaits : Awaits) (next : ℕ) → length key ≡ 0 → next ≡ here.values + 1
-    → at_number (state_in c path key here outer awaits)
-    ≡ state_in c path (key ++ record { removes = false; name = names.Number here.values } ∷ []) (record { line = here.line; array = here.array; values = next; names = here.names; group = here.group }) outer (Value false)
-number-leads c path key here outer awaits next none more =
-    let p : part.Part = record { removes = false; name = names.Number here.values } in
-    let empty_key = no-parts key none in
-    ap (λ k. at_number (state_in c path k here outer awaits)) empty_key
-    ∙ at_number-state c path here outer awaits
-    ∙ ap₂ (λ k n. state_in c path (k ++ p ∷ []) (record { line = here.line; array = here.array; values = n; names = here.names; group = here.group }) outer (Value false)) (sym empty_key) (sym more)
-
 pub number-open : (c : Contents) (path key : List part.Part) (here : code.Bracket) (outer : List code.Bracket) (awaits : Awaits) (next : ℕ) → length key ≡ 0 → IsOpen c path key here outer awaits
     → IsOpen c path (key ++ record { removes = false; name = names.Number here.values } ∷ []) (record { line = here.line; array = here.array; values = next; names = here.names; group = here.group }) outer (Value false)
 number-open c path key here outer awaits next none is =
     let p : part.Part = record { removes = false; name = names.Number here.values } in
     let new : code.Bracket = record { line = here.line; array = here.array; values = next; names = here.names; group = here.group } in
-    subst (λ k. IsOpen c path (k ++ p ∷ []) new outer (Value false)) (sym (no-parts key none))
+    subst (λ k. IsOpen c path (k ++ p ∷ []) new outer (Value false)) (sym (nil_from_length key none))
     (record {
       keyed = (omega arith, meets_text-one (part_in c.text p) (group_of here.group c.rows));
       innermost = record { inside = is.innermost.inside; depth = is.innermost.depth; way = is.innermost.way };
@@ -294,15 +249,8 @@ cause-none names parts g none = by_tests (key_defect parts) (nat_lt 16 (names + 
     by_tests None false true none = cc
     by_tests None false false none = refl
 
-pub key-open : (c : Contents) (path old key : List part.Part) (here : code.Bracket) (outer : List code.Bracket) (awaits : Awaits) → IsOpen c path old here outer awaits → 1 ≤ length key → key_cause here.names (parts_in c.text key) (group_of here.group c.rows) ≡ None → IsOpen c path key here outer (Value true)
-key-open c path old key here outer awaits is some none = record { keyed = (some, cause-none here.names (parts_in c.text key) (group_of here.group c.rows) none); innermost = is.innermost; around = is.around }
-
-pub key-leads : (c : Contents) (path old key : List part.Part) (here : code.Bracket) (outer : List code.Bracket) (awaits : Awaits) → IsOpen c path old here outer awaits → length old ≡ 0
-    → put_key (state_in c path old here outer awaits) (key_defect (parts_in c.text key)) (parts_in c.text key)
-    ≡ key_leads (key_cause here.names (parts_in c.text key) (group_of here.group c.rows)) (state_in c path key here outer (Value true))
-key-leads c path old key here outer awaits is none =
-    ap (λ k. put_key (state_in c path k here outer awaits) (key_defect (parts_in c.text key)) (parts_in c.text key)) (no-parts old none)
-    ∙ put_key-state c path key here outer awaits is.innermost.depth is.innermost.way
+pub key-open : (c : Contents) (path key : List part.Part) (here : code.Bracket) (outer : List code.Bracket) (awaits : Awaits) → IsOpen c path [] here outer awaits → 1 ≤ length key → key_cause here.names (parts_in c.text key) (group_of here.group c.rows) ≡ None → IsOpen c path key here outer (Value true)
+key-open c path key here outer awaits is some none = record { keyed = (some, cause-none here.names (parts_in c.text key) (group_of here.group c.rows) none); innermost = is.innermost; around = is.around }
 
 -- a reader within a bracket that was opened
 pub group-open : (c d : Contents) (path key : List part.Part) (here : code.Bracket) (outer : List code.Bracket) (awaits : Awaits) (line group : ℕ) (array : Bool) → IsOpen c path key here outer awaits → d.text ≡ c.text → length c.rows ≤ length d.rows
@@ -321,70 +269,61 @@ group-open c d path key here outer awaits line group array is same longer kept l
     }
 
 -- a reader after a bracket that was closed
-pub close-open : (c : Contents) (path key : List part.Part) (here around : code.Bracket) (outer : List code.Bracket) (awaits : Awaits) → IsOpen c path key here (around ∷ outer) awaits → length key ≡ 0 → IsOpen c (take around.names path) key around outer (Item true)
-close-open c path key here around outer awaits is none = record {
-  keyed = none;
+pub close-open : (c : Contents) (path key : List part.Part) (here around : code.Bracket) (outer : List code.Bracket) (awaits : Awaits) → IsOpen c path key here (around ∷ outer) awaits → IsOpen c (take around.names path) [] around outer (Item true)
+close-open c path key here around outer awaits is = record {
+  keyed = refl;
   innermost = IsHere-around c path here around outer is.innermost is.around;
   around = AreAround-close c path here around outer is.around;
 }
 
 pub close-leads : (c : Contents) (path key : List part.Part) (here around : code.Bracket) (outer : List code.Bracket) (awaits : Awaits) → IsOpen c path key here (around ∷ outer) awaits → length key ≡ 0
-    → close_to (state_in c path key here (around ∷ outer) awaits) (map bracket_of (around ∷ outer)) ≡ Ok (state_in c (take around.names path) key around outer (Item true))
+    → close_to (state_in c path key here (around ∷ outer) awaits) (map bracket_of (around ∷ outer)) ≡ Ok (state_in c (take around.names path) [] around outer (Item true))
 close-leads c path key here around outer awaits is none =
     let depth : here.names ≡ length path = is.innermost.depth in
     let low : around.names ≤ here.names = is.around.0 in
-    ap (λ k. close_to (state_in c path k here (around ∷ outer) awaits) (map bracket_of (around ∷ outer))) (no-parts key none)
+    ap (λ k. close_to (state_in c path k here (around ∷ outer) awaits) (map bracket_of (around ∷ outer))) (nil_from_length key none)
     ∙ close_to-state c path here around outer awaits (omega arith)
-    ∙ ap (λ k. Ok (state_in c (take around.names path) k around outer (Item true))) (sym (no-parts key none))
 
 -- a cause that is given is refused by
 pub Refuses-Err : {S : Type 0} (cause : ConfWhy) (given : Result S ConfWhy) → given ≡ Err cause → Refuses cause given
 Refuses-Err why.Memory given is = tt
 Refuses-Err cause given is = is
 
--- where a reader is, by other names
-pub IsOpen-along : (c : Contents) (path path' key key' : List part.Part) (line values names names' group : ℕ) (array : Bool) (outer outer' : List code.Bracket) (awaits : Awaits) → path ≡ path' → key ≡ key' → names ≡ names' → outer ≡ outer'
-    → IsOpen c path key (record { line = line; array = array; values = values; names = names; group = group }) outer awaits → IsOpen c path' key' (record { line = line; array = array; values = values; names = names'; group = group }) outer' awaits
-IsOpen-along c path path' key key' line values names names' group array outer outer' awaits paths keys names_are outers is =
-    subst (λ p. IsOpen c p key' (record { line = line; array = array; values = values; names = names'; group = group }) outer' awaits) paths
-    (subst (λ k. IsOpen c path k (record { line = line; array = array; values = values; names = names'; group = group }) outer' awaits) keys
-    (subst (λ n. IsOpen c path key (record { line = line; array = array; values = values; names = n; group = group }) outer' awaits) names_are
-    (subst (λ o. IsOpen c path key (record { line = line; array = array; values = values; names = names; group = group }) o awaits) outers is)))
-
 -- how many parts lead to a bracket
-pub names-least : (c : Contents) (parts key : List part.Part) (here : code.Bracket) (outer : List code.Bracket) (awaits : Awaits) → IsOpen c (take here.names parts) key here outer awaits → here.names ≤ length parts
-names-least c parts key here outer awaits is = take-least here.names parts (sym is.innermost.depth)
+pub names-least : (c : Contents) (parts : List part.Part) (here : code.Bracket) → IsHere c (take here.names parts) here → here.names ≤ length parts
+names-least c parts here is = omega (arith, is.depth, length-take here.names parts)
 
 -- a key's parts before the last meet no text
 pub key-clear : (c : Contents) (path key : List part.Part) (here : code.Bracket) (outer : List code.Bracket) (awaits : Awaits) → IsOpen c path key here outer awaits → 1 ≤ length key → meets_text (parts_in c.text key) (group_of here.group c.rows) ≡ false
 key-clear c path key here outer (Item separator) is some = let none : length key ≡ 0 = is.keyed in absurd (omega (arith, none, some))
 key-clear c path key here outer (Value equals) is some = is.keyed.1
 
--- the first parts and those after them, once one part was added
-pub take-push : (n : ℕ) (parts new : List part.Part) (p : part.Part) → n ≤ length parts → new ≡ parts ++ p ∷ [] → take n parts ≡ take n new
-take-push n parts new p low is = sym (ap (take n) is ∙ take-append-le n parts (p ∷ []) low)
+-- nothing is after the first parts, where only they are left
+pub drop-front : (n : ℕ) (parts : List part.Part) → drop n (take n parts) ≡ []
+drop-front n parts = drop_all n (take n parts) (omega (arith, length-take n parts))
 
-pub drop-push : (n : ℕ) (parts new : List part.Part) (p : part.Part) → n ≤ length parts → new ≡ parts ++ p ∷ [] → drop n parts ++ p ∷ [] ≡ drop n new
-drop-push n parts new p low is = sym (ap (drop n) is ∙ drop-append-le n parts (p ∷ []) low)
+-- a reader whose path got the parts of a key
+pub record IsKeyed (r : Reading) (new : List part.Part) (added : List Part) : Type 0 where
+  pub valid : IsOpen r.table (take r.here.names new) [] r.here (reverse r.outer.items) r.awaits
+  pub some : 1 ≤ length (drop r.here.names new)
+  pub same : state_in r.table (take r.here.names new) [] r.here (reverse r.outer.items) r.awaits ≡ state_of r
+  pub are : parts_in r.table.text (drop r.here.names new) ≡ added
 
--- the first parts and those after them, where only the first are left
-pub take-truncate : (n m : ℕ) (parts new : List part.Part) → n ≤ m → new ≡ take n parts → take n (take m parts) ≡ take n new
-take-truncate n m parts new low is = take-take n m parts low ∙ sym (ap (take n) is ∙ take-take n n parts (omega arith))
-
-pub take-cleared : (n : ℕ) (parts new : List part.Part) → new ≡ take n parts → take n parts ≡ take n new
-take-cleared n parts new is = sym (ap (take n) is ∙ take-take n n parts (omega arith))
-
-pub drop-truncate : (n : ℕ) (parts new : List part.Part) → new ≡ take n parts → [] ≡ drop n new
-drop-truncate n parts new is = sym (ap (drop n) is ∙ drop-front n parts)
-
--- the first parts, once others were added after all
-pub take-kept : (n : ℕ) (parts new : List part.Part) → n ≤ length parts → take (length parts) new ≡ parts → take n new ≡ take n parts
-take-kept n parts new low kept = sym (take-take n (length parts) new low) ∙ ap (take n) kept
-
--- the parts that were added
-pub parts_in-added : (text : List ℕ) (n : ℕ) (parts new : List part.Part) (added : List Part) → length parts ≡ n → parts_in text new ≡ parts_in text parts ++ added → parts_in text (drop n new) ≡ added
-parts_in-added text n parts new added count is =
-    sym (drop-map (part_in text) n new) ∙ ap (drop n) is ∙ drop_at (parts_in text parts) added n (length-parts_in text parts ∙ count)
+pub keyed : (r : Reading) (new : List part.Part) (added : List Part) → IsReading r → length (rest_of_key r) ≡ 0 → take (length r.path.items) new ≡ r.path.items → length r.path.items < length new
+    → parts_in r.table.text new ≡ parts_in r.table.text r.path.items ++ added → IsKeyed r new added
+keyed r new added is none kept more are =
+    let n = r.here.names in
+    let parts = r.path.items in
+    let low = names-least r.table parts r.here is.innermost in
+    let count : length parts ≡ n = omega (arith, length-drop n parts, low, none) in
+    let front : take n new ≡ take n parts = sym (take-take n (length parts) new low) ∙ ap (take n) kept in
+    let key : [] ≡ drop n parts = sym (nil_from_length (drop n parts) none) in
+    record {
+      valid = rw (front, key) is;
+      some = omega (arith, count, more, length-drop n new);
+      same = ap₂ (λ (p k : List part.Part). state_in r.table p k r.here (reverse r.outer.items) r.awaits) front key;
+      are = sym (drop-map (part_in r.table.text) n new) ∙ ap (drop n) are ∙ drop_at (parts_in r.table.text parts) added n (length-parts_in r.table.text parts ∙ count);
+    }
 
 -- a reader before the first token of a text
 pub new-start : (c : Contents) (text : List ℕ) (path : List part.Part) (outer : List code.Bracket) → c ≡ record { text = text; rows = no_row ∷ [] } → path ≡ [] → outer ≡ []

@@ -1,13 +1,14 @@
 -- The groups of rows: what is found in them, and what one row more or another row changes.
-use Rattle.std.proofs.Common.{◌≡◌, ℕ, zero, suc, ◌+◌, ◌<◌, ◌≤◌, ◌-◌, ◌==◌, Bool, true, false, cond, ◌||◌, List, [], ◌∷◌, ◌++◌, length, get_or, drop, Option, Some, None, refl, sym, ap, ap₂, ◌∙◌, subst, arith, ◌⊎◌, inl, inr, length-append}
+use Rattle.std.proofs.Common.{◌≡◌, ℕ, zero, suc, ◌+◌, ◌<◌, ◌-◌, ◌==◌, Bool, true, false, cond, ◌||◌, List, [], ◌∷◌, ◌++◌, length, drop, Option, Some, None, refl, sym, ap, ap₂, ◌∙◌, subst, arith, ◌⊎◌, inl, inr, length-append}
 use Rattle.std.specs.Str.{bytes_eq}
+use Rattle.std.proofs.lemmas.Bool.{cases_Bool, or_cases, or_parts, or_right}
 use Rattle.std.proofs.lemmas.Bool.Decides.{nat_tests}
 use Rattle.std.proofs.lemmas.List.{length-set}
 use Rattle.std.proofs.Common as common
-use Rattle.asound_conf.specs.Tree.{Tree, text, group, Entries, empty, entry, has_node, get, without_name}
+use Rattle.asound_conf.specs.Tree.{text, group, empty, entry, has_node, get, without_name}
 use Rattle.asound_conf.specs.Tree as tree
 use Rattle.asound_conf.specs.Rows.{ConfRow, row_at, is_in, node, group_in_rows, Alters, IsOnlyIn}
-use Rattle.asound_conf.proofs.Places.{bytes_eq-self, or-true}
+use Rattle.asound_conf.proofs.Places.{bytes_eq-self}
 
 -- a row that is in a group
 pub is_in-Some : (p : ℕ) (parent : Option ℕ) → parent ≡ Some p → is_in p parent ≡ true
@@ -28,11 +29,9 @@ is_in-one p q (Some r) differ is = grind (arith, nat_tests)
 -- a group in which no row has this name
 pub has_node-absent : (p first : ℕ) (name : List ℕ) (rows : List ConfRow) → ((j : ℕ) → (row_at rows j).parent ≡ Some p → bytes_eq (row_at rows j).name name ≡ false) → has_node name (group_in_rows p first rows) ≡ false
 has_node-absent p first name [] none = refl
-has_node-absent p first name (row ∷ rows) none = by_test (is_in p row.parent) refl (has_node-absent p (suc first) name rows (λ j is. none (suc j) is))
-  where
-    by_test : (b : Bool) → is_in p row.parent ≡ b → has_node name (group_in_rows p (suc first) rows) ≡ false → has_node name (cond b (entry row.name (node row.value (group_in_rows first (suc first) rows)) (group_in_rows p (suc first) rows)) (group_in_rows p (suc first) rows)) ≡ false
-    by_test true is rest = rw (none 0 (is_in-true p row.parent is), rest) refl
-    by_test false is rest = rest
+has_node-absent p first name (row ∷ rows) none =
+    let rest = has_node-absent p (suc first) name rows (λ j is. none (suc j) is) in
+    elim (cases_Bool (is_in p row.parent)) [ inl is ↦ rw (is, none 0 (is_in-true p row.parent is), rest) refl | inr is ↦ rw is rest ]
 
 -- the row of this index, which is the last of its name in a group; its number is e
 pub record IsAt (p : ℕ) (name : List ℕ) (e first k : ℕ) (rows : List ConfRow) : Type 0 where
@@ -51,11 +50,9 @@ has_node-at p name e first k [] at = absurd (omega arith)
 has_node-at p name e first zero (row ∷ rows) at =
     let named : bytes_eq row.name name ≡ true = rw at.name_is (bytes_eq-self name) in
     rw (is_in-Some p row.parent at.parent, named) refl
-has_node-at p name e first (suc k) (row ∷ rows) at = by_test (is_in p row.parent) (has_node-at p name e (suc first) k rows (at-next p name e first k row rows at))
-  where
-    by_test : (b : Bool) → has_node name (group_in_rows p (suc first) rows) ≡ true → has_node name (cond b (entry row.name (node row.value (group_in_rows first (suc first) rows)) (group_in_rows p (suc first) rows)) (group_in_rows p (suc first) rows)) ≡ true
-    by_test true rest = rw rest (or-true (bytes_eq row.name name))
-    by_test false rest = rest
+has_node-at p name e first (suc k) (row ∷ rows) at =
+    let rest = has_node-at p name e (suc first) k rows (at-next p name e first k row rows at) in
+    elim (cases_Bool (is_in p row.parent)) [ inl is ↦ rw (is, rest) (or_right (bytes_eq row.name name) true refl) | inr is ↦ rw is rest ]
 
 -- and has its node
 pub get-at : (p : ℕ) (name : List ℕ) (e first k : ℕ) (rows : List ConfRow) → IsAt p name e first k rows → get name (group_in_rows p first rows) ≡ Some (node (row_at rows k).value (group_in_rows e (suc e) (drop (suc k) rows)))
@@ -67,12 +64,8 @@ get-at p name e first zero (row ∷ rows) at =
     rw (is_in-Some p row.parent at.parent, last, named) (ap (λ n. Some (node row.value (group_in_rows n (suc n) rows))) here)
 get-at p name e first (suc k) (row ∷ rows) at =
     let next = at-next p name e first k row rows at in
-    by_test (is_in p row.parent) (has_node-at p name e (suc first) k rows next) (get-at p name e (suc first) k rows next)
-  where
-    by_test : (b : Bool) → has_node name (group_in_rows p (suc first) rows) ≡ true → get name (group_in_rows p (suc first) rows) ≡ Some (node (row_at rows k).value (group_in_rows e (suc e) (drop (suc k) rows)))
-        → get name (cond b (entry row.name (node row.value (group_in_rows first (suc first) rows)) (group_in_rows p (suc first) rows)) (group_in_rows p (suc first) rows)) ≡ Some (node (row_at rows k).value (group_in_rows e (suc e) (drop (suc k) rows)))
-    by_test true there rest = rw there rest
-    by_test false there rest = rest
+    let rest = get-at p name e (suc first) k rows next in
+    elim (cases_Bool (is_in p row.parent)) [ inl is ↦ rw (is, has_node-at p name e (suc first) k rows next) rest | inr is ↦ rw is rest ]
 
 -- a number is that of a group, or that of a row in the group or in a group in it
 pub reaches : ℕ → ℕ → ℕ → List ConfRow → Bool
@@ -89,14 +82,6 @@ unfolding reaches
 reaches-self q first [] = grind (arith, nat_tests)
 reaches-self q first (row ∷ rows) = rw (reaches-self q (suc first) rows) (cond-true (is_in q row.parent) (reaches q first (suc first) rows))
 
-either : (b c : Bool) → (b || c) ≡ true → (b ≡ true) ⊎ (c ≡ true)
-either true c is = inl refl
-either false c is = inr is
-
-neither : (b c : Bool) → (b || c) ≡ false → (b ≡ false) × (c ≡ false)
-neither true c is = cc
-neither false c is = (refl, is)
-
 -- no number is below two groups of which neither is below the other
 reaches-one : (q d e first : ℕ) (rows : List ConfRow) → (d ≡ e → ⊥) → d < first → e < first → reaches q d first rows ≡ true → reaches q e first rows ≡ false
 unfolding reaches
@@ -107,7 +92,7 @@ reaches-one q d e first (row ∷ rows) differ low lower is = by_tests (λ x y. r
         → (b c : Bool) → is_in d row.parent ≡ b → is_in e row.parent ≡ c → cond b (reaches q first (suc first) rows || reaches q d (suc first) rows) (reaches q d (suc first) rows) ≡ true
         → cond c (reaches q first (suc first) rows || reaches q e (suc first) rows) (reaches q e (suc first) rows) ≡ false
     by_tests again true true in_d in_e is = let other = is_in-one d e row.parent differ in_d in cc
-    by_tests again true false in_d in_e is = elim (either (reaches q first (suc first) rows) (reaches q d (suc first) rows) is) [
+    by_tests again true false in_d in_e is = elim (or_cases (reaches q first (suc first) rows) (reaches q d (suc first) rows) is) [
       | inl below ↦ again first e (λ same. omega arith) (omega arith) (omega arith) below
       | inr below ↦ again d e differ (omega arith) (omega arith) below
     ]
@@ -119,11 +104,9 @@ reaches-later : (q d first : ℕ) (rows : List ConfRow) → (q ≡ d → ⊥) �
 unfolding reaches
 reaches-later q d first [] differ low = grind (arith, nat_tests)
 reaches-later q d first (row ∷ rows) differ low =
-    rw (reaches-later q first (suc first) rows (λ same. omega arith) (omega arith), reaches-later q d (suc first) rows differ (omega arith)) (none (is_in d row.parent))
-  where
-    none : (b : Bool) → cond b (false || false) false ≡ false
-    none true = refl
-    none false = refl
+    let inner = reaches-later q first (suc first) rows (λ same. omega arith) (omega arith) in
+    let rest = reaches-later q d (suc first) rows differ (omega arith) in
+    elim (cases_Bool (is_in d row.parent)) [ inl is ↦ rw (is, inner, rest) refl | inr is ↦ rw is rest ]
 
 -- what is below a row is below the group that the row is in
 pub reaches-at : (q p : ℕ) (name : List ℕ) (e first k : ℕ) (rows : List ConfRow) → IsAt p name e first k rows → reaches q e (suc e) (drop (suc k) rows) ≡ true → reaches q p first rows ≡ true
@@ -157,22 +140,19 @@ within-kept q d first [] (s ∷ new) a apart =
     let out : is_in d s.parent ≡ false = elim (a.each 0) [ inl same ↦ ap (λ (x : ConfRow). is_in d x.parent) (sym same) | inr only ↦ only.1 d differ ] in
     rw out (within-kept q d (suc first) [] new (alters-nil q s new a) apart)
 within-kept q d first (r ∷ old) [] a apart = let h = a.longer in absurd (omega arith)
-within-kept q d first (r ∷ old) (s ∷ new) a apart = by_change (λ x. within-kept q x (suc first) old new (alters-next q r s old new a)) (a.each 0)
-  where
-    by_test : ((x : ℕ) → reaches q x (suc first) old ≡ false → group_in_rows x (suc first) new ≡ group_in_rows x (suc first) old) → (b : Bool)
-        → cond b (reaches q first (suc first) old || reaches q d (suc first) old) (reaches q d (suc first) old) ≡ false
-        → cond b (entry r.name (node r.value (group_in_rows first (suc first) new)) (group_in_rows d (suc first) new)) (group_in_rows d (suc first) new) ≡ cond b (entry r.name (node r.value (group_in_rows first (suc first) old)) (group_in_rows d (suc first) old)) (group_in_rows d (suc first) old)
-    by_test again true apart =
-        let both = neither (reaches q first (suc first) old) (reaches q d (suc first) old) apart in
-        ap₂ (λ inner rest. entry r.name (node r.value inner) rest) (again first both.0) (again d both.1)
-    by_test again false apart = again d apart
-
-    by_change : ((x : ℕ) → reaches q x (suc first) old ≡ false → group_in_rows x (suc first) new ≡ group_in_rows x (suc first) old) → (r ≡ s) ⊎ (IsOnlyIn q r × IsOnlyIn q s) → group_in_rows d first (s ∷ new) ≡ group_in_rows d first (r ∷ old)
-    by_change again (inl same) = subst (λ (x : ConfRow). group_in_rows d first (x ∷ new) ≡ group_in_rows d first (r ∷ old)) same (by_test again (is_in d r.parent) apart)
-    by_change again (inr only) =
-        let differ : d ≡ q → ⊥ = λ same. apart-differ q d first (r ∷ old) apart same in
-        let left : reaches q d (suc first) old ≡ false = rw (only.0 d differ) at apart in
-        rw (only.1 d differ, only.0 d differ) (again d left)
+within-kept q d first (r ∷ old) (s ∷ new) a apart =
+    let again : (x : ℕ) → reaches q x (suc first) old ≡ false → group_in_rows x (suc first) new ≡ group_in_rows x (suc first) old = λ x h. within-kept q x (suc first) old new (alters-next q r s old new a) h in
+    elim (a.each 0) [
+      | inl same ↦ elim (cases_Bool (is_in d r.parent)) [
+        | inl is ↦
+            let parts = or_parts (reaches q first (suc first) old) (reaches q d (suc first) old) (rw is at apart) in
+            rw (← same, is) (ap₂ (λ inner rest. entry r.name (node r.value inner) rest) (again first parts.0) (again d parts.1))
+        | inr is ↦ rw (← same, is) (again d (rw is at apart))
+      ]
+      | inr only ↦
+          let differ : d ≡ q → ⊥ = λ same. apart-differ q d first (r ∷ old) apart same in
+          rw (only.1 d differ, only.0 d differ) (again d (rw (only.0 d differ) at apart))
+    ]
 
 -- a group has the new group of its row, below which the change is
 pub within-child : (q d : ℕ) (name : List ℕ) (e first k : ℕ) (old new : List ConfRow) → Alters q old new → IsAt d name e first k old → (row_at old k).value ≡ None → (d ≡ q → ⊥) → d < first → reaches q e (suc e) (drop (suc k) old) ≡ true
@@ -186,28 +166,23 @@ within-child q d name e first zero (r ∷ old) (s ∷ new) a at is_group differ 
     let rest : group_in_rows d (suc first) new ≡ group_in_rows d (suc first) old = within-kept q d (suc first) old new (alters-next q r s old new a) apart in
     let last : has_node name (group_in_rows d (suc first) old) ≡ false = ap (λ n. has_node name (group_in_rows d (suc n) old)) here ∙ at.last in
     let named : bytes_eq r.name name ≡ true = rw at.name_is (bytes_eq-self name) in
-    by_change inside here rest last named (a.each 0)
-  where
-    by_change : is_in d r.parent ≡ true → first ≡ e → group_in_rows d (suc first) new ≡ group_in_rows d (suc first) old → has_node name (group_in_rows d (suc first) old) ≡ false → bytes_eq r.name name ≡ true
-        → (r ≡ s) ⊎ (IsOnlyIn q r × IsOnlyIn q s) → group_in_rows d first (s ∷ new) ≡ tree.set name (group (group_in_rows e (suc e) new)) (group_in_rows d first (r ∷ old))
-    by_change inside here rest last named (inl same) = subst (λ (x : ConfRow). group_in_rows d first (x ∷ new) ≡ tree.set name (group (group_in_rows e (suc e) new)) (group_in_rows d first (r ∷ old))) same
-        (rw (inside, is_group, last, named) (ap₂ (λ n more. entry r.name (group (group_in_rows n (suc n) new)) more) here rest))
-    by_change inside here rest last named (inr only) = let out = only.0 d differ in cc
+    elim (a.each 0) [
+      | inl same ↦ rw (← same, inside, is_group, last, named) (ap₂ (λ n more. entry r.name (group (group_in_rows n (suc n) new)) more) here rest)
+      | inr only ↦ let out = only.0 d differ in cc
+    ]
 within-child q d name e first (suc k) (r ∷ old) (s ∷ new) a at is_group differ low below =
     let next = at-next d name e first k r old at in
     let under : reaches q d (suc first) old ≡ true = reaches-at q d name e (suc first) k old next below in
     let apart : reaches q first (suc first) old ≡ false = reaches-one q d first (suc first) old (λ same. omega arith) (omega arith) (omega arith) under in
-    by_change (within-kept q first (suc first) old new (alters-next q r s old new a) apart) (has_node-at d name e (suc first) k old next) (within-child q d name e (suc first) k old new (alters-next q r s old new a) next is_group differ (omega arith) below) (a.each 0)
-  where
-    by_test : group_in_rows first (suc first) new ≡ group_in_rows first (suc first) old → has_node name (group_in_rows d (suc first) old) ≡ true → (x : Tree) → group_in_rows d (suc first) new ≡ tree.set name x (group_in_rows d (suc first) old) → (b : Bool)
-        → cond b (entry r.name (node r.value (group_in_rows first (suc first) new)) (group_in_rows d (suc first) new)) (group_in_rows d (suc first) new) ≡ tree.set name x (cond b (entry r.name (node r.value (group_in_rows first (suc first) old)) (group_in_rows d (suc first) old)) (group_in_rows d (suc first) old))
-    by_test inner there x rest true = rw there (ap₂ (λ i more. entry r.name (node r.value i) more) inner rest)
-    by_test inner there x rest false = rest
-
-    by_change : group_in_rows first (suc first) new ≡ group_in_rows first (suc first) old → has_node name (group_in_rows d (suc first) old) ≡ true → group_in_rows d (suc first) new ≡ tree.set name (group (group_in_rows e (suc e) (drop (suc k) new))) (group_in_rows d (suc first) old)
-        → (r ≡ s) ⊎ (IsOnlyIn q r × IsOnlyIn q s) → group_in_rows d first (s ∷ new) ≡ tree.set name (group (group_in_rows e (suc e) (drop (suc k) new))) (group_in_rows d first (r ∷ old))
-    by_change inner there rest (inl same) = subst (λ (x : ConfRow). group_in_rows d first (x ∷ new) ≡ tree.set name (group (group_in_rows e (suc e) (drop (suc k) new))) (group_in_rows d first (r ∷ old))) same (by_test inner there (group (group_in_rows e (suc e) (drop (suc k) new))) rest (is_in d r.parent))
-    by_change inner there rest (inr only) = rw (only.1 d differ, only.0 d differ) rest
+    let inner = within-kept q first (suc first) old new (alters-next q r s old new a) apart in
+    let rest = within-child q d name e (suc first) k old new (alters-next q r s old new a) next is_group differ (omega arith) below in
+    elim (a.each 0) [
+      | inl same ↦ elim (cases_Bool (is_in d r.parent)) [
+        | inl is ↦ rw (← same, is, has_node-at d name e (suc first) k old next) (ap₂ (λ i more. entry r.name (node r.value i) more) inner rest)
+        | inr is ↦ rw (← same, is) rest
+      ]
+      | inr only ↦ rw (only.1 d differ, only.0 d differ) rest
+    ]
 
 -- one row more changes its own group
 each-push : (q : ℕ) (row : ConfRow) → row.parent ≡ Some q → (rows : List ConfRow) (j : ℕ) → (row_at rows j ≡ row_at (rows ++ row ∷ []) j) ⊎ (IsOnlyIn q (row_at rows j) × IsOnlyIn q (row_at (rows ++ row ∷ []) j))
@@ -222,18 +197,13 @@ Alters-push q row rows parent = record { longer = omega (arith, length-append ro
 pub within-push : (q first : ℕ) (row : ConfRow) (rows : List ConfRow) → row.parent ≡ Some q → q < first → has_node row.name (group_in_rows q first rows) ≡ false → group_in_rows q first (rows ++ row ∷ []) ≡ tree.set row.name (node row.value empty) (group_in_rows q first rows)
 within-push q first row [] parent low none = rw (is_in-Some q row.parent parent) refl
 within-push q first row (r ∷ rows) parent low none =
-    by_test (is_in q r.parent) (within-kept q first (suc first) rows (rows ++ row ∷ []) (Alters-push q row rows parent) (reaches-later q first (suc first) rows (λ same. omega arith) (omega arith)))
-    (within-push q (suc first) row rows parent (omega arith)) none
-  where
-    by_test : (b : Bool) → group_in_rows first (suc first) (rows ++ row ∷ []) ≡ group_in_rows first (suc first) rows
-        → (has_node row.name (group_in_rows q (suc first) rows) ≡ false → group_in_rows q (suc first) (rows ++ row ∷ []) ≡ tree.set row.name (node row.value empty) (group_in_rows q (suc first) rows))
-        → has_node row.name (cond b (entry r.name (node r.value (group_in_rows first (suc first) rows)) (group_in_rows q (suc first) rows)) (group_in_rows q (suc first) rows)) ≡ false
-        → cond b (entry r.name (node r.value (group_in_rows first (suc first) (rows ++ row ∷ []))) (group_in_rows q (suc first) (rows ++ row ∷ []))) (group_in_rows q (suc first) (rows ++ row ∷ []))
-        ≡ tree.set row.name (node row.value empty) (cond b (entry r.name (node r.value (group_in_rows first (suc first) rows)) (group_in_rows q (suc first) rows)) (group_in_rows q (suc first) rows))
-    by_test true inner later none =
-        let both = neither (bytes_eq r.name row.name) (has_node row.name (group_in_rows q (suc first) rows)) none in
-        rw (both.1, both.0) (ap₂ (λ i more. entry r.name (node r.value i) more) inner (later both.1))
-    by_test false inner later none = later none
+    let inner = within-kept q first (suc first) rows (rows ++ row ∷ []) (Alters-push q row rows parent) (reaches-later q first (suc first) rows (λ same. omega arith) (omega arith)) in
+    elim (cases_Bool (is_in q r.parent)) [
+      | inl is ↦
+          let parts = or_parts (bytes_eq r.name row.name) (has_node row.name (group_in_rows q (suc first) rows)) (rw is at none) in
+          rw (is, parts.1, parts.0) (ap₂ (λ i more. entry r.name (node r.value i) more) inner (within-push q (suc first) row rows parent (omega arith) parts.1))
+      | inr is ↦ rw is (within-push q (suc first) row rows parent (omega arith) (rw is at none))
+    ]
 
 -- another row in the place of one of a group changes that group
 each-set : (q : ℕ) (s : ConfRow) → IsOnlyIn q s → (rows : List ConfRow) (k : ℕ) → IsOnlyIn q (row_at rows k) → (j : ℕ) → (row_at rows j ≡ row_at (common.set rows k s) j) ⊎ (IsOnlyIn q (row_at rows j) × IsOnlyIn q (row_at (common.set rows k s) j))
@@ -262,14 +232,12 @@ within-set q name e first zero s t (r ∷ rows) at low parent same value =
     rw (is_in-Some q s.parent parent, is_in-Some q r.parent at.parent, value, last, named) (ap (λ n. entry n (text t) (group_in_rows q (suc first) rows)) same)
 within-set q name e first (suc k) s t (r ∷ rows) at low parent same value =
     let next = at-next q name e first k r rows at in
-    by_test (within-kept q first (suc first) rows (common.set rows k s) (Alters-set q k s rows at.parent (only-Some q s parent)) (reaches-later q first (suc first) rows (λ same. omega arith) (omega arith)))
-    (has_node-at q name e (suc first) k rows next) (within-set q name e (suc first) k s t rows next (omega arith) parent same value) (is_in q r.parent)
-  where
-    by_test : group_in_rows first (suc first) (common.set rows k s) ≡ group_in_rows first (suc first) rows → has_node name (group_in_rows q (suc first) rows) ≡ true → group_in_rows q (suc first) (common.set rows k s) ≡ tree.set name (text t) (group_in_rows q (suc first) rows) → (b : Bool)
-        → cond b (entry r.name (node r.value (group_in_rows first (suc first) (common.set rows k s))) (group_in_rows q (suc first) (common.set rows k s))) (group_in_rows q (suc first) (common.set rows k s))
-        ≡ tree.set name (text t) (cond b (entry r.name (node r.value (group_in_rows first (suc first) rows)) (group_in_rows q (suc first) rows)) (group_in_rows q (suc first) rows))
-    by_test inner there rest true = rw there (ap₂ (λ i more. entry r.name (node r.value i) more) inner rest)
-    by_test inner there rest false = rest
+    let inner = within-kept q first (suc first) rows (common.set rows k s) (Alters-set q k s rows at.parent (only-Some q s parent)) (reaches-later q first (suc first) rows (λ same. omega arith) (omega arith)) in
+    let rest = within-set q name e (suc first) k s t rows next (omega arith) parent same value in
+    elim (cases_Bool (is_in q r.parent)) [
+      | inl is ↦ rw (is, has_node-at q name e (suc first) k rows next) (ap₂ (λ i more. entry r.name (node r.value i) more) inner rest)
+      | inr is ↦ rw is rest
+    ]
 
 -- a row that is taken out of its group
 pub without-removed : (q : ℕ) (name : List ℕ) (e first k : ℕ) (s : ConfRow) (rows : List ConfRow) → IsAt q name e first k rows → q < first → s.parent ≡ None → without_name name (group_in_rows q first (common.set rows k s)) ≡ without_name name (group_in_rows q first rows)
@@ -280,11 +248,9 @@ without-removed q name e first zero s (r ∷ rows) at low parent =
     rw (out, is_in-Some q r.parent at.parent, named) refl
 without-removed q name e first (suc k) s (r ∷ rows) at low parent =
     let next = at-next q name e first k r rows at in
-    by_test (within-kept q first (suc first) rows (common.set rows k s) (Alters-set q k s rows at.parent (only-None q s parent)) (reaches-later q first (suc first) rows (λ same. omega arith) (omega arith)))
-    (without-removed q name e (suc first) k s rows next (omega arith) parent) (is_in q r.parent)
-  where
-    by_test : group_in_rows first (suc first) (common.set rows k s) ≡ group_in_rows first (suc first) rows → without_name name (group_in_rows q (suc first) (common.set rows k s)) ≡ without_name name (group_in_rows q (suc first) rows) → (b : Bool)
-        → without_name name (cond b (entry r.name (node r.value (group_in_rows first (suc first) (common.set rows k s))) (group_in_rows q (suc first) (common.set rows k s))) (group_in_rows q (suc first) (common.set rows k s)))
-        ≡ without_name name (cond b (entry r.name (node r.value (group_in_rows first (suc first) rows)) (group_in_rows q (suc first) rows)) (group_in_rows q (suc first) rows))
-    by_test inner rest true = ap₂ (λ i w. cond (bytes_eq r.name name) w (entry r.name (node r.value i) w)) inner rest
-    by_test inner rest false = rest
+    let inner = within-kept q first (suc first) rows (common.set rows k s) (Alters-set q k s rows at.parent (only-None q s parent)) (reaches-later q first (suc first) rows (λ same. omega arith) (omega arith)) in
+    let rest = without-removed q name e (suc first) k s rows next (omega arith) parent in
+    elim (cases_Bool (is_in q r.parent)) [
+      | inl is ↦ rw is (ap₂ (λ i w. cond (bytes_eq r.name name) w (entry r.name (node r.value i) w)) inner rest)
+      | inr is ↦ rw is rest
+    ]

@@ -1,9 +1,7 @@
 -- Where the tokens of a text are in it.
-use Rattle.std.proofs.Common.{◌≡◌, ℕ, ◌+◌, ◌-◌, ◌<◌, ◌≤◌, ◌^◌, Bool, true, false, List, length, take, drop, Option, Some, None, refl, sym, ap, ◌∙◌, arith}
+use Rattle.std.proofs.Common.{inl, inr, ◌≡◌, ℕ, ◌+◌, ◌-◌, ◌<◌, ◌≤◌, ◌^◌, Bool, true, false, List, length, take, drop, refl, sym, ap, ◌∙◌, arith}
 use Rattle.std.specs.Prelude.{◌==◌, if◌then◌else◌, slice_index}
-use Rattle.std.specs.List.{list_any}
-use Rattle.std.proofs.lemmas.Bool.{false≢true}
-use Rattle.std.proofs.lemmas.Bool.Decides.{nat_tests}
+use Rattle.std.proofs.lemmas.Bool.{cond-true}
 use Rattle.std.proofs.lemmas.List.{drop-drop, drop-take, length-drop, length-take, take-take}
 use Rattle.asound_conf.specs.declared.error.ConfWhy.TheVariants as why
 use Rattle.asound_conf.specs.declared.token.Mark.{Mark}
@@ -11,7 +9,8 @@ use Rattle.asound_conf.specs.declared.token.Token as code
 use Rattle.asound_conf.specs.declared.token.Token.TheVariants as lent
 use Rattle.asound_conf.specs.Start.{AreAt, AreBefore, IsBefore, IsSuffix}
 use Rattle.asound_conf.specs.Table.{span_in}
-use Rattle.asound_conf.specs.Token.{word, quoted, bad, end_at, ends_word, is_control, is_quote, is_word_byte, mark_of, mark_or, quoted_end, quoted_size, quoted_token, token_at, token_end, token_of}
+use Rattle.asound_conf.specs.Token.{word, quoted, bad, end_at, ends_word, quoted_end, token_at, token_end, token_of}
+use Rattle.asound_conf.proofs.FirstBytes.{first-cases, token_at-quote, token_at-word, token_end-quote, token_end-word}
 
 -- a text ends with itself
 pub IsSuffix-self : (text : List ℕ) → IsSuffix text text
@@ -60,14 +59,6 @@ AreAt-before text rest after bytes start small at before = record {
   small = omega (arith, small, at, before.room);
 }
 
--- what is_word_byte says of a byte
-pub is_word_byte-35 : (b : ℕ) → is_word_byte b ≡ true → (b == 35) ≡ false
-is_word_byte-35 b is = by (b == 35) refl
-  where
-    by : (t : Bool) → (b == 35) ≡ t → t ≡ false
-    by false e = refl
-    by true e = let at : b ≡ 35 = grind (arith, nat_tests, e) in absurd (false≢true (sym (ap is_word_byte at) ∙ is))
-
 quoted-no_word : (a b c : Bool) (w q : List ℕ) → word w ≡ (if a then bad why.Byte else if b then bad why.Escape else if c then quoted q else bad why.Unclosed) → ⊥
 quoted-no_word true b c w q e = cc
 quoted-no_word false true c w q e = cc
@@ -80,38 +71,18 @@ pub record IsWordFirst (text w : List ℕ) : Type 0 where
   pub is : w ≡ take (end_at ends_word text) text
 
 pub word-first : (text w : List ℕ) → word w ≡ token_at text → IsWordFirst text w
-unfolding token_at token_end
-word-first text w e = marked (mark_of (slice_index text 0)) e
-  where
-    worded : (h : Bool) → is_word_byte (slice_index text 0) ≡ h → is_quote (slice_index text 0) ≡ false → word w ≡ (if h then word (take (end_at ends_word text) text) else bad why.Byte) → IsWordFirst text w
-    worded false is none e = cc
-    worded true is none e = record {
-      end = ap (λ (t : Bool). if t then end_at (λ c. c == 10) text else if is_quote (slice_index text 0) then quoted_size (slice_index text 0) (drop 1 text) else if is_word_byte (slice_index text 0) then end_at ends_word text else 1) (is_word_byte-35 (slice_index text 0) is)
-          ∙ ap (λ (t : Bool). if t then quoted_size (slice_index text 0) (drop 1 text) else if is_word_byte (slice_index text 0) then end_at ends_word text else 1) none
-          ∙ ap (λ (t : Bool). if t then end_at ends_word text else 1) is;
-      is = cc;
-    }
-
-    quote : (q : Bool) → is_quote (slice_index text 0) ≡ q → word w ≡ (if q then quoted_token (slice_index text 0) (drop 1 text) else if is_word_byte (slice_index text 0) then word (take (end_at ends_word text) text) else bad why.Byte) → IsWordFirst text w
-    quote true is e = absurd (quoted-no_word _ _ _ w _ e)
-    quote false is e = worded (is_word_byte (slice_index text 0)) refl is e
-
-    marked : (m : Option Mark) → word w ≡ mark_or m (if is_quote (slice_index text 0) then quoted_token (slice_index text 0) (drop 1 text) else if is_word_byte (slice_index text 0) then word (take (end_at ends_word text) text) else bad why.Byte) → IsWordFirst text w
-    marked (Some m) e = cc
-    marked None e = quote (is_quote (slice_index text 0)) refl e
+word-first text w e = elim (first-cases text) [
+  | inl is ↦ record { end = token_end-word text is; is = let same : word w ≡ word (take (end_at ends_word text) text) = e ∙ token_at-word text is in cc }
+  | inr other ↦ elim other [
+    | inl is ↦ absurd (quoted-no_word _ _ _ w _ (e ∙ token_at-quote text is))
+    | inr neither ↦ elim neither [ inl is ↦ absurd (cc (e ∙ is.1)) | inr is ↦ absurd (cc (e ∙ is)) ]
+  ]
+]
 
 -- a quoted text is after the first byte of a text, and the text goes on after the quote that follows it
 pub record IsQuotedFirst (text q : List ℕ) : Type 0 where
   pub end : token_end text ≡ quoted_end (slice_index text 0) (drop 1 text) + 2
   pub is : q ≡ take (quoted_end (slice_index text 0) (drop 1 text)) (drop 1 text)
-
--- a byte that is no quote, or no mark and a quote, isn't a `#`
-pub is_quote-35 : (b : ℕ) → is_quote b ≡ true → (b == 35) ≡ false
-is_quote-35 b is = by (b == 35) refl
-  where
-    by : (t : Bool) → (b == 35) ≡ t → t ≡ false
-    by false e = refl
-    by true e = let at : b ≡ 35 = grind (arith, nat_tests, e) in absurd (false≢true (sym (ap is_quote at) ∙ is))
 
 quoted-it : (a b c : Bool) (q x : List ℕ) → quoted q ≡ (if a then bad why.Byte else if b then bad why.Escape else if c then quoted x else bad why.Unclosed) → (c ≡ true) × (q ≡ x)
 quoted-it true b c q x e = cc
@@ -120,31 +91,15 @@ quoted-it false false true q x e = (refl, cc)
 quoted-it false false false q x e = cc
 
 pub quoted-first : (text q : List ℕ) → quoted q ≡ token_at text → IsQuotedFirst text q
-unfolding token_at token_end
-quoted-first text q e = marked (mark_of (slice_index text 0)) e
-  where
-    quote : (t : Bool) → is_quote (slice_index text 0) ≡ t → quoted q ≡ (if t then quoted_token (slice_index text 0) (drop 1 text) else if is_word_byte (slice_index text 0) then word (take (end_at ends_word text) text) else bad why.Byte) → IsQuotedFirst text q
-    quote true is e =
-        let it = quoted-it
-        (list_any is_control (take (quoted_end (slice_index text 0) (drop 1 text)) (drop 1 text)))
-        (list_any (λ b. b == 92) (take (quoted_end (slice_index text 0) (drop 1 text)) (drop 1 text)))
-        (slice_index (drop 1 text) (quoted_end (slice_index text 0) (drop 1 text)) == slice_index text 0) q
-        (take (quoted_end (slice_index text 0) (drop 1 text)) (drop 1 text)) e in
-        record {
-          end = ap (λ (t : Bool). if t then end_at (λ c. c == 10) text else if is_quote (slice_index text 0) then quoted_size (slice_index text 0) (drop 1 text) else if is_word_byte (slice_index text 0) then end_at ends_word text else 1) (is_quote-35 (slice_index text 0) is)
-              ∙ ap (λ (t : Bool). if t then quoted_size (slice_index text 0) (drop 1 text) else if is_word_byte (slice_index text 0) then end_at ends_word text else 1) is
-              ∙ ap (λ (t : Bool). if t then quoted_end (slice_index text 0) (drop 1 text) + 2 else quoted_end (slice_index text 0) (drop 1 text) + 1) it.0;
-          is = it.1;
-        }
-    quote false is e = worded (is_word_byte (slice_index text 0)) e
-      where
-        worded : (h : Bool) → quoted q ≡ (if h then word (take (end_at ends_word text) text) else bad why.Byte) → IsQuotedFirst text q
-        worded false e = cc
-        worded true e = cc
-
-    marked : (m : Option Mark) → quoted q ≡ mark_or m (if is_quote (slice_index text 0) then quoted_token (slice_index text 0) (drop 1 text) else if is_word_byte (slice_index text 0) then word (take (end_at ends_word text) text) else bad why.Byte) → IsQuotedFirst text q
-    marked (Some m) e = cc
-    marked None e = quote (is_quote (slice_index text 0)) refl e
+quoted-first text q e = elim (first-cases text) [
+  | inl is ↦ absurd (cc (e ∙ token_at-word text is))
+  | inr other ↦ elim other [
+    | inl is ↦
+        let it = quoted-it _ _ (slice_index (drop 1 text) (quoted_end (slice_index text 0) (drop 1 text)) == slice_index text 0) q _ (e ∙ token_at-quote text is) in
+        record { end = token_end-quote text is ∙ cond-true _ _ _ it.0; is = it.1 }
+    | inr neither ↦ elim neither [ inl is ↦ absurd (cc (e ∙ is.1)) | inr is ↦ absurd (cc (e ∙ is)) ]
+  ]
+]
 
 -- the first token of a text is before what follows
 pub IsBefore-first : (text rest : List ℕ) (token : code.Token) → token_of token ≡ token_at text → rest ≡ drop (token_end text) text → token_end text ≤ length text → IsBefore text rest token

@@ -1,11 +1,11 @@
 -- Cells of a table: how they are sought, and what holds as they are added and changed.
 use Rattle.std.proofs.Common.{◌≡◌, ℕ, zero, suc, ◌+◌, ◌<◌, ◌≤◌, Bool, true, false, ◌&&◌, List, [], ◌∷◌, ◌++◌, length, get_or, set, Option, Some, None, refl, sym, ap, subst, ◌∙◌, arith, inl, inr, ◌⊎◌, length-append, length-set}
-use Rattle.std.specs.Prelude.{◌==◌, if◌then◌else◌, map, max, nat_lt, nat_le}
+use Rattle.std.specs.Prelude.{◌==◌, if◌then◌else◌, map, nat_lt, nat_le}
 use Rattle.std.specs.Str.{bytes_eq}
 use Rattle.std.specs.Fmt.{decimal}
 use Rattle.std.proofs.Math.Seq.{map-set_same, get_or-append_seam}
 use Rattle.std.proofs.Math.ListN.{get_or-append}
-use Rattle.std.proofs.lemmas.Bool.{cases_eq, cases_lt, false≢true}
+use Rattle.std.proofs.lemmas.Bool.{and_parts, cases_eq, cases_lt, false_from_ne_true, false≢true, leb-true, ltb-true}
 use Rattle.std.proofs.lemmas.Bool.Decides.{nat_tests}
 use Rattle.std.proofs.lemmas.Fmt.{decimal_injective}
 use Rattle.std.proofs.lemmas.Grind.{get_or-set_at}
@@ -21,12 +21,7 @@ use Rattle.asound_conf.specs.declared.cell.Content.TheVariants as contents
 use Rattle.asound_conf.specs.declared.cell.Cell.{Cell}
 use Rattle.asound_conf.specs.Rows.{IsAbsent, IsNode, ConfRow, is_in, no_row, row_at}
 use Rattle.asound_conf.specs.Table.{HasBelow, IsIndexed, IsLink, IsTable, bucket_at, bucket_of, cell_at, content_of, fits, is_live, text_bytes, lacks, name_in, new_row, no_cell, no_number, content_with, parent_of, number_after, cell_row, value_in}
-use Rattle.text_words.proofs.Tests.{both}
-
--- a group's number is the one that a row names
-is_in-true : (p : ℕ) (o : Option ℕ) → is_in p o ≡ true → o ≡ Some p
-is_in-true p None e = absurd (false≢true e)
-is_in-true p (Some q) e = let same : q ≡ p = grind (arith, nat_tests, e) in ap Some same
+use Rattle.asound_conf.proofs.Rows.{is_in-true}
 
 parented : (t : Bool) (q p : ℕ) → (if t then None else Some q) ≡ Some p → q ≡ p
 parented true q p e = cc
@@ -46,8 +41,7 @@ live-Some q contents.Removed p e = cc
 -- a cell in no group
 parent_of-root : (content : Content) → parent_of no_number content ≡ None
 parent_of-root (contents.Text s) = refl
-parent_of-root (contents.Group numbers) = refl
-parent_of-root contents.Removed = refl
+parent_of-root other = refl
 
 -- a cell that is the node of this name in a group
 pub record Fits (text : List ℕ) (cell : Cell) (p : ℕ) (name : List ℕ) : Type 0 where
@@ -57,7 +51,7 @@ pub record Fits (text : List ℕ) (cell : Cell) (p : ℕ) (name : List ℕ) : Ty
 
 fits-true : (text : List ℕ) (cell : Cell) (p : ℕ) (name : List ℕ) → fits p name (cell_row text cell) ≡ true → Fits text cell p name
 fits-true text cell p name e =
-    let parts = both (is_in p (parent_of cell.parent cell.content)) (bytes_eq (name_in text cell.name) name) e in
+    let parts = and_parts (is_in p (parent_of cell.parent cell.content)) (bytes_eq (name_in text cell.name) name) e in
     let in_it = is_in-true p (parent_of cell.parent cell.content) parts.0 in
     record {
       in_it = in_it;
@@ -79,6 +73,13 @@ row_at-map text cells j inside = get_or-map (cell_row text) cells j no_cell no_r
 no_row-past : (text : List ℕ) (cells : List Cell) (j : ℕ) → length cells ≤ j → row_at (map (cell_row text) cells) j ≡ no_row
 no_row-past text cells j past = get_or_past (map (cell_row text) cells) j no_row (omega (arith, length-map cells (cell_row text)))
 
+-- a row of a group is that of a cell
+row-inside : (text : List ℕ) (cells : List Cell) (j p : ℕ) → (row_at (map (cell_row text) cells) j).parent ≡ Some p → j < length cells
+row-inside text cells j p e = elim (cases_lt j (length cells)) [
+  | inl inside ↦ inside
+  | inr past ↦ absurd (let none : None ≡ Some p = rw (no_row-past text cells j past) at e in cc)
+]
+
 -- where a search for a name in a group is: it is left to look at the cells of the bucket up to this one
 pub record IsSought (text : List ℕ) (cells : List Cell) (buckets p : ℕ) (name : List ℕ) (at : ℕ) : Type 0 where
   pub inside : at < length cells
@@ -88,13 +89,9 @@ pub record IsSought (text : List ℕ) (cells : List Cell) (buckets p : ℕ) (nam
 -- a cell of another bucket isn't sought
 apart : (text : List ℕ) (cells : List Cell) (buckets p : ℕ) (name : List ℕ) (j : ℕ) → (is_live (cell_at cells j).content ≡ true → bucket_at buckets text cells j ≡ bucket_of buckets p name → ⊥)
     → fits p name (cell_row text (cell_at cells j)) ≡ false
-apart text cells buckets p name j other = by (fits p name (cell_row text (cell_at cells j))) refl
-  where
-    by : (t : Bool) → fits p name (cell_row text (cell_at cells j)) ≡ t → t ≡ false
-    by false e = refl
-    by true e =
-        let it = fits-true text (cell_at cells j) p name e in
-        absurd (other (live-Some (cell_at cells j).parent (cell_at cells j).content p it.in_it) (ap (λ (q : ℕ). bucket_of buckets q (name_in text (cell_at cells j).name)) it.parent ∙ ap (bucket_of buckets p) it.named))
+apart text cells buckets p name j other = false_from_ne_true (fits p name (cell_row text (cell_at cells j))) (λ e.
+    let it = fits-true text (cell_at cells j) p name e in
+    other (live-Some (cell_at cells j).parent (cell_at cells j).content p it.in_it) (ap (λ (q : ℕ). bucket_of buckets q (name_in text (cell_at cells j).name)) it.parent ∙ ap (bucket_of buckets p) it.named))
 
 pub IsSought-first : (text : List ℕ) (cells : List Cell) (heads : List ℕ) (p : ℕ) (name : List ℕ) → IsIndexed text cells heads → bucket_of (length heads) p name < length heads
     → IsSought text cells (length heads) p name (get_or heads (bucket_of (length heads) p name) 0)
@@ -126,17 +123,11 @@ IsSought-next text cells heads p name at is sought some other =
       ];
     }
 
-pub earlier-less : (text : List ℕ) (cells : List Cell) (heads : List ℕ) (p : ℕ) (name : List ℕ) (at : ℕ) → IsIndexed text cells heads
-    → IsSought text cells (length heads) p name at → 0 < at → (cell_at cells at).earlier < at
-earlier-less text cells heads p name at is sought some = (is.link at some sought.inside).order
-
 -- rows of a group after a place have other names
 behind-row : (text : List ℕ) (cells : List Cell) (p : ℕ) (name : List ℕ) (at j : ℕ) → ((k : ℕ) → at < k → fits p name (cell_row text (cell_at cells k)) ≡ false) → at < j
     → (row_at (map (cell_row text) cells) j).parent ≡ Some p → bytes_eq (row_at (map (cell_row text) cells) j).name name ≡ false
-behind-row text cells p name at j behind after e = elim (cases_lt j (length cells)) [
-  | inl inside ↦ other_name (row_at (map (cell_row text) cells) j) p name (ap (fits p name) (row_at-map text cells j inside) ∙ behind j after) e
-  | inr past ↦ absurd (let none : None ≡ Some p = sym (ap (λ (r : ConfRow). r.parent) (no_row-past text cells j past)) ∙ e in cc)
-]
+behind-row text cells p name at j behind after e =
+    other_name (row_at (map (cell_row text) cells) j) p name (ap (fits p name) (row_at-map text cells j (row-inside text cells j p e)) ∙ behind j after) e
 
 pub IsAbsent-sought : (text : List ℕ) (cells : List Cell) (heads : List ℕ) (p : ℕ) (name : List ℕ) (at : ℕ) → IsIndexed text cells heads
     → IsSought text cells (length heads) p name at → at ≡ 0 → IsAbsent (map (cell_row text) cells) p name
@@ -169,37 +160,16 @@ pub IsAbsent-lacks : (text : List ℕ) (cells : List Cell) (heads : List ℕ) (p
     → lacks (cell_at cells p).content key ≡ true → IsAbsent (map (cell_row text) cells) p (text_bytes key)
 IsAbsent-lacks text cells heads p key is lacking j e = by (cell_at cells p).content key lacking (is.below p)
   where
-    place : (cell_at cells j).parent ≡ p
-    place = elim (cases_lt j (length cells)) [
-      | inl inside ↦ parent_of-Some (cell_at cells j).parent (cell_at cells j).content p (sym (ap (λ (r : ConfRow). r.parent) (row_at-map text cells j inside)) ∙ e)
-      | inr past ↦ absurd (let none : None ≡ Some p = sym (ap (λ (r : ConfRow). r.parent) (no_row-past text cells j past)) ∙ e in cc)
-    ]
-
-    named : (row_at (map (cell_row text) cells) j).name ≡ name_in text (cell_at cells j).name
-    named = elim (cases_lt j (length cells)) [
-      | inl inside ↦ ap (λ (r : ConfRow). r.name) (row_at-map text cells j inside)
-      | inr past ↦ absurd (let none : None ≡ Some p = sym (ap (λ (r : ConfRow). r.parent) (no_row-past text cells j past)) ∙ e in cc)
-    ]
-
-    told : (name : List ℕ) (t : Bool) → bytes_eq (row_at (map (cell_row text) cells) j).name name ≡ t → (name_in text (cell_at cells j).name ≡ name → ⊥) → t ≡ false
-    told name false same other = refl
-    told name true same other = absurd (other (sym named ∙ (bytes_eq-Decides (row_at (map (cell_row text) cells) j).name name).0 same))
+    row : row_at (map (cell_row text) cells) j ≡ cell_row text (cell_at cells j)
+    row = row_at-map text cells j (row-inside text cells j p e)
 
     by : (content : Content) (k : ConfText) → lacks content k ≡ true → HasBelow text cells p content
         → bytes_eq (row_at (map (cell_row text) cells) j).name (text_bytes k) ≡ false
-    by (contents.Text s) k lacking below = absurd (false≢true lacking)
-    by contents.Removed k lacking below = absurd (false≢true lacking)
-    by (contents.Group numbers) (keys.Bytes b) lacking below = absurd (false≢true lacking)
     by (contents.Group numbers) (keys.Number n) lacking below =
-        let parts = both (nat_le numbers n) (nat_lt n no_number) lacking in
-        let low : numbers ≤ n = grind (arith, nat_tests, parts.0) in
-        let less : n < no_number = grind (arith, nat_tests, parts.1) in
-        told (decimal n) (bytes_eq (row_at (map (cell_row text) cells) j).name (decimal n)) refl (below j n place low less)
-
--- a link is the same one by equal numbers
-pub IsLink-along : (m k : ℕ) (text : List ℕ) (cells : List Cell) (b c from start to : ℕ) → m ≡ k → b ≡ c → from ≡ start → IsLink m text cells b from to → IsLink k text cells c start to
-IsLink-along m k text cells b c from start to em eb ef link =
-    subst (λ x. IsLink x text cells c start to) em (subst (λ x. IsLink m text cells x start to) eb (subst (λ x. IsLink m text cells b x to) ef link))
+        let parts = and_parts (nat_le numbers n) (nat_lt n no_number) lacking in
+        let place = parent_of-Some (cell_at cells j).parent (cell_at cells j).content p (rw row at e) in
+        rw row (false_from_ne_true _ (λ t. below j n place (leb-true numbers n parts.0) (ltb-true n no_number parts.1) ((bytes_eq-Decides (name_in text (cell_at cells j).name) (decimal n)).0 t)))
+    by content k lacking below = absurd (false≢true lacking)
 
 -- a cell is added: the earlier ones stay
 pub cell_at-push : (cells : List Cell) (c : Cell) (j : ℕ) → j < length cells → cell_at (cells ++ c ∷ []) j ≡ cell_at cells j
@@ -265,16 +235,12 @@ link-push : (text : List ℕ) (cells : List Cell) (heads : List ℕ) (c : Cell) 
     → IsLink (length heads) text (cells ++ c ∷ []) (bucket_at (length heads) text (cells ++ c ∷ []) i) (cell_at (cells ++ c ∷ []) i).earlier i
 link-push text cells heads c b i new is some inside = elim (cases_lt i (length cells)) [
   | inl old ↦
-      IsLink-along (length heads) (length heads) text (cells ++ c ∷ []) (bucket_at (length heads) text cells i) (bucket_at (length heads) text (cells ++ c ∷ []) i)
-      (cell_at cells i).earlier (cell_at (cells ++ c ∷ []) i).earlier i refl (sym (bucket_at-push (length heads) text cells c i old)) (ap (λ (d : Cell). d.earlier) (sym (cell_at-push cells c i old)))
+      rw (cell_at-push cells c i old)
       (IsLink-push (length heads) text cells c (bucket_at (length heads) text cells i) (cell_at cells i).earlier i (omega (arith, old)) (is.link i some old))
   | inr last ↦
       let at : length cells ≡ i = omega (arith, last, inside) in
-      let cell : cell_at (cells ++ c ∷ []) i ≡ c = ap (cell_at (cells ++ c ∷ [])) (sym at) ∙ cell_at-pushed cells c in
-      let of_it : b ≡ bucket_at (length heads) text (cells ++ c ∷ []) i = new.bucket ∙ ap (λ (d : Cell). bucket_of (length heads) d.parent (name_in text d.name)) (sym cell) in
-      let earlier : get_or heads b 0 ≡ (cell_at (cells ++ c ∷ []) i).earlier = sym new.earlier ∙ ap (λ (d : Cell). d.earlier) (sym cell) in
-      subst (λ x. IsLink (length heads) text (cells ++ c ∷ []) (bucket_at (length heads) text (cells ++ c ∷ []) i) (cell_at (cells ++ c ∷ []) i).earlier x) at
-      (IsLink-along (length heads) (length heads) text (cells ++ c ∷ []) b (bucket_at (length heads) text (cells ++ c ∷ []) i) (get_or heads b 0) (cell_at (cells ++ c ∷ []) i).earlier (length cells) refl of_it earlier
+      rw (← at, cell_at-pushed cells c, ← new.bucket)
+      (subst (λ (from : ℕ). IsLink (length heads) text (cells ++ c ∷ []) b from (length cells)) (sym new.earlier)
       (IsLink-push (length heads) text cells c b (get_or heads b 0) (length cells) (omega arith) (is.head b new.inside)))
 ]
 
@@ -282,11 +248,8 @@ link-push text cells heads c b i new is some inside = elim (cases_lt i (length c
 falls-push : (text : List ℕ) (cells : List Cell) (heads : List ℕ) (c : Cell) (b j : ℕ) → IsNew text cells heads c b → IsIndexed text cells heads → 0 < j → j < length cells + 1
     → (cell_at (cells ++ c ∷ []) j).parent < j
 falls-push text cells heads c b j new is some inside = elim (cases_lt j (length cells)) [
-  | inl old ↦ let same = ap (λ (d : Cell). d.parent) (cell_at-push cells c j old) in let falls = is.falls j some old in omega (arith, same, falls)
-  | inr last ↦
-      let at : j ≡ length cells = omega (arith, last, inside) in
-      let same : (cell_at (cells ++ c ∷ []) j).parent ≡ c.parent = ap (λ (k : ℕ). (cell_at (cells ++ c ∷ []) k).parent) at ∙ ap (λ (d : Cell). d.parent) (cell_at-pushed cells c) in
-      omega (arith, same, at, new.parent)
+  | inl old ↦ rw (cell_at-push cells c j old) (is.falls j some old)
+  | inr last ↦ let at : length cells ≡ j = omega (arith, last, inside) in rw (← at, cell_at-pushed cells c) new.parent
 ]
 
 IsIndexed-push : (text : List ℕ) (cells : List Cell) (heads : List ℕ) (c : Cell) (b : ℕ) → IsNew text cells heads c b → IsIndexed text cells heads
@@ -300,13 +263,8 @@ IsIndexed-push text cells heads c b new is =
       buckets = omega (arith, wide, is.buckets);
       root = ap (λ (d : Cell). d.parent) (cell_at-push cells c 0 is.some) ∙ is.root;
       falls = λ j some inside. falls-push text cells heads c b j new is some (omega (arith, count, inside));
-      head = λ k inside.
-          subst (λ x. IsLink (length (set heads b (length cells))) text (cells ++ c ∷ []) k (get_or (set heads b (length cells)) k 0) x) (sym count)
-          (subst (λ m. IsLink m text (cells ++ c ∷ []) k (get_or (set heads b (length cells)) k 0) (length cells + 1)) wide
-          (head-push text cells heads c b k new is (omega (arith, wide, inside))));
-      link = λ i some inside.
-          subst (λ m. IsLink m text (cells ++ c ∷ []) (bucket_at m text (cells ++ c ∷ []) i) (cell_at (cells ++ c ∷ []) i).earlier i) wide
-          (link-push text cells heads c b i new is some (omega (arith, count, inside)));
+      head = λ k inside. rw (count, length-set heads b (length cells)) (head-push text cells heads c b k new is (omega (arith, wide, inside)));
+      link = λ i some inside. rw (length-set heads b (length cells)) (link-push text cells heads c b i new is some (omega (arith, count, inside)));
     }
 
 -- two cells have the same place
@@ -319,18 +277,8 @@ pub record IsSame (c d : Cell) : Type 0 where
 -- a cell is given another content
 kept : (cells : List Cell) (i : ℕ) (c : Cell) → i < length cells → IsSame c (cell_at cells i) → (j : ℕ) → IsSame (cell_at (set cells i c) j) (cell_at cells j)
 kept cells i c inside same j = elim (cases_eq j i) [
-  | inl e ↦
-      let new : cell_at (set cells i c) j ≡ c = get_or-set_at cells i j c no_cell e inside in
-      let old : cell_at cells i ≡ cell_at cells j = ap (cell_at cells) (sym e) in
-      record {
-        parent = ap (λ (d : Cell). d.parent) new ∙ same.parent ∙ ap (λ (d : Cell). d.parent) old;
-        name = ap (λ (d : Cell). d.name) new ∙ same.name ∙ ap (λ (d : Cell). d.name) old;
-        earlier = ap (λ (d : Cell). d.earlier) new ∙ same.earlier ∙ ap (λ (d : Cell). d.earlier) old;
-        live = λ live. ap (λ (d : Cell). is_live d.content) (sym old) ∙ same.live (ap (λ (d : Cell). is_live d.content) (sym new) ∙ live);
-      }
-  | inr ne ↦
-      let is : cell_at (set cells i c) j ≡ cell_at cells j = get_or-set_other cells i j c no_cell ne in
-      record { parent = ap (λ (d : Cell). d.parent) is; name = ap (λ (d : Cell). d.name) is; earlier = ap (λ (d : Cell). d.earlier) is; live = λ live. ap (λ (d : Cell). is_live d.content) (sym is) ∙ live }
+  | inl e ↦ rw (get_or-set_at cells i j c no_cell e inside, e) same
+  | inr ne ↦ rw (get_or-set_other cells i j c no_cell ne) (record { parent = refl; name = refl; earlier = refl; live = λ live. live })
 ]
 
 bucket-kept : (m : ℕ) (text : List ℕ) (old new : List Cell) (j : ℕ) → IsSame (cell_at new j) (cell_at old j) → bucket_at m text new j ≡ bucket_at m text old j
@@ -351,18 +299,16 @@ IsIndexed-kept text old new heads count same is = record {
   buckets = is.buckets;
   root = (same 0).parent ∙ is.root;
   falls = λ j some inside. let falls = is.falls j some (omega (arith, count, inside)) in let parent = (same j).parent in omega (arith, falls, parent);
-  head = λ b inside. IsLink-kept (length heads) text old new b (get_or heads b 0) (length new) same (subst (λ x. IsLink (length heads) text old b (get_or heads b 0) x) (sym count) (is.head b inside));
+  head = λ b inside. IsLink-kept (length heads) text old new b (get_or heads b 0) (length new) same (rw count (is.head b inside));
   link = λ i some inside.
-      IsLink-along (length heads) (length heads) text new (bucket_at (length heads) text old i) (bucket_at (length heads) text new i) (cell_at old i).earlier (cell_at new i).earlier i
-      refl (sym (bucket-kept (length heads) text old new i (same i))) (sym (same i).earlier)
+      rw (bucket-kept (length heads) text old new i (same i), (same i).earlier)
       (IsLink-kept (length heads) text old new (bucket_at (length heads) text old i) (cell_at old i).earlier i same (is.link i some (omega (arith, count, inside))));
 }
 
 HasBelow-kept : (text : List ℕ) (old new : List Cell) (p : ℕ) (content : Content) → ((j : ℕ) → IsSame (cell_at new j) (cell_at old j)) → HasBelow text old p content → HasBelow text new p content
-HasBelow-kept text old new p (contents.Text s) same below = tt
-HasBelow-kept text old new p contents.Removed same below = tt
 HasBelow-kept text old new p (contents.Group numbers) same below = λ j n e low small named.
     below j n (sym (same j).parent ∙ e) low small (ap (name_in text) (sym (same j).name) ∙ named)
+HasBelow-kept text old new p content same below = tt
 
 -- a cell is given a content that suits its names
 pub IsTable-set : (text : List ℕ) (cells : List Cell) (heads : List ℕ) (i : ℕ) (c : Cell) → i < length cells → IsSame c (cell_at cells i) → HasBelow text cells i c.content → IsTable text cells heads
@@ -370,14 +316,8 @@ pub IsTable-set : (text : List ℕ) (cells : List Cell) (heads : List ℕ) (i : 
 IsTable-set text cells heads i c inside same own is = record {
   indexed = IsIndexed-kept text cells (set cells i c) heads (length-set cells i c) (kept cells i c inside same) is.indexed;
   below = λ p. elim (cases_eq p i) [
-    | inl e ↦
-        let new : cell_at (set cells i c) p ≡ c = get_or-set_at cells i p c no_cell e inside in
-        subst (λ (d : Cell). HasBelow text (set cells i c) p d.content) (sym new)
-        (HasBelow-kept text cells (set cells i c) p c.content (kept cells i c inside same) (subst (λ (k : ℕ). HasBelow text cells k c.content) (sym e) own))
-    | inr ne ↦
-        let old : cell_at (set cells i c) p ≡ cell_at cells p = get_or-set_other cells i p c no_cell ne in
-        subst (λ (d : Cell). HasBelow text (set cells i c) p d.content) (sym old)
-        (HasBelow-kept text cells (set cells i c) p (cell_at cells p).content (kept cells i c inside same) (is.below p))
+    | inl e ↦ rw (get_or-set_at cells i p c no_cell e inside, e) (HasBelow-kept text cells (set cells i c) i c.content (kept cells i c inside same) own)
+    | inr ne ↦ rw (get_or-set_other cells i p c no_cell ne) (HasBelow-kept text cells (set cells i c) p (cell_at cells p).content (kept cells i c inside same) (is.below p))
   ];
 }
 
@@ -390,55 +330,39 @@ parent-push text cells heads c b j p new small e = elim (cases_lt j (length cell
     | inl past ↦ absurd (let none : no_number ≡ p = sym (ap (λ (d : Cell). d.parent) (cell_at-past cells c j past)) ∙ e in omega (arith, none, small))
     | inr last ↦
         let at : j ≡ length cells = omega (arith, more, last) in
-        inr (at, sym (ap (λ (k : ℕ). (cell_at (cells ++ c ∷ []) k).parent) at ∙ ap (λ (d : Cell). d.parent) (cell_at-pushed cells c)) ∙ e)
+        inr (at, rw (at, cell_at-pushed cells c) at e)
   ]
 ]
 
 -- a group's names go on where a cell is added to another one
 HasBelow-other : (text : List ℕ) (cells : List Cell) (heads : List ℕ) (c : Cell) (b p : ℕ) (content : Content) → IsNew text cells heads c b → p < no_number → (c.parent ≡ p → ⊥)
     → HasBelow text cells p content → HasBelow text (cells ++ c ∷ []) p content
-HasBelow-other text cells heads c b p (contents.Text s) new small other below = tt
-HasBelow-other text cells heads c b p contents.Removed new small other below = tt
 HasBelow-other text cells heads c b p (contents.Group numbers) new small other below = λ j n e low fits named. elim (parent-push text cells heads c b j p new small e) [
-  | inl old ↦
-      let same = cell_at-push cells c j old in
-      below j n (ap (λ (d : Cell). d.parent) (sym same) ∙ e) low fits (ap (λ (d : Cell). name_in text d.name) (sym same) ∙ named)
+  | inl old ↦ below j n (rw (cell_at-push cells c j old) at e) low fits (rw (cell_at-push cells c j old) at named)
   | inr it ↦ other it.1
 ]
+HasBelow-other text cells heads c b p content new small other below = tt
 
 -- what is past a group's names once it gets this one
 raised-name : (text : List ℕ) (numbers n : ℕ) (name : Name) → number_after numbers name ≤ n → n < no_number → name_in text name ≡ decimal n → ⊥
 raised-name text numbers n (names.Bytes s) low fits named = omega (arith, low, fits)
-raised-name text numbers n (names.Number m) low fits named = by (nat_lt m no_number) refl low
-  where
-    by : (t : Bool) → nat_lt m no_number ≡ t → (if t then max numbers (m + 1) else no_number) ≤ n → ⊥
-    by true is low =
-        let small : m < no_number = grind (arith, nat_tests, is) in
-        let same : m ≡ n = decimal_injective m n (omega (arith, small)) (omega (arith, fits)) named in
-        omega (arith, same, low)
-    by false is low = omega (arith, low, fits)
+raised-name text numbers n (names.Number m) low fits named =
+    let small : m < no_number = grind (arith, nat_tests, low, fits) in
+    let same : m ≡ n = decimal_injective m n (omega (arith, small)) (omega (arith, fits)) named in
+    grind (arith, nat_tests, low, same, small)
 
 raised-more : (numbers n : ℕ) (name : Name) → number_after numbers name ≤ n → n < no_number → numbers ≤ n
 raised-more numbers n (names.Bytes s) low fits = absurd (omega (arith, low, fits))
-raised-more numbers n (names.Number m) low fits = by (nat_lt m no_number) low
-  where
-    by : (t : Bool) → (if t then max numbers (m + 1) else no_number) ≤ n → numbers ≤ n
-    by true low = omega (arith, low)
-    by false low = absurd (omega (arith, low, fits))
+raised-more numbers n (names.Number m) low fits = grind (arith, nat_tests, low, fits)
 
 -- a group's names go on where a cell is added to it
 HasBelow-noted : (text : List ℕ) (cells : List Cell) (heads : List ℕ) (c : Cell) (b p : ℕ) (content : Content) → IsNew text cells heads c b → p < no_number
     → HasBelow text cells p content → HasBelow text (cells ++ c ∷ []) p (content_with content c.name)
-HasBelow-noted text cells heads c b p (contents.Text s) new small below = tt
-HasBelow-noted text cells heads c b p contents.Removed new small below = tt
 HasBelow-noted text cells heads c b p (contents.Group numbers) new small below = λ j n e low fits named. elim (parent-push text cells heads c b j p new small e) [
-  | inl old ↦
-      let same = cell_at-push cells c j old in
-      below j n (ap (λ (d : Cell). d.parent) (sym same) ∙ e) (raised-more numbers n c.name low fits) fits (ap (λ (d : Cell). name_in text d.name) (sym same) ∙ named)
-  | inr it ↦
-      let cell : cell_at (cells ++ c ∷ []) j ≡ c = ap (cell_at (cells ++ c ∷ [])) it.0 ∙ cell_at-pushed cells c in
-      raised-name text numbers n c.name low fits (ap (λ (d : Cell). name_in text d.name) (sym cell) ∙ named)
+  | inl old ↦ below j n (rw (cell_at-push cells c j old) at e) (raised-more numbers n c.name low fits) fits (rw (cell_at-push cells c j old) at named)
+  | inr it ↦ raised-name text numbers n c.name low fits (rw (it.0, cell_at-pushed cells c) at named)
 ]
+HasBelow-noted text cells heads c b p content new small below = tt
 
 -- a new cell has no names
 HasBelow-new : (text : List ℕ) (cells : List Cell) (heads : List ℕ) (c : Cell) (b : ℕ) (value : Option Span) → IsNew text cells heads c b → IsIndexed text cells heads
@@ -466,44 +390,31 @@ below-push : (text : List ℕ) (cells : List Cell) (heads : List ℕ) (c g : Cel
 below-push text cells heads c g b p value new is_noted content is same = elim (cases_eq p c.parent) [
   | inl e ↦
       let count : c.parent < length (cells ++ c ∷ []) = omega (arith, length-append cells (c ∷ []), new.parent) in
-      let cell : cell_at (set (cells ++ c ∷ []) c.parent g) p ≡ g = get_or-set_at (cells ++ c ∷ []) c.parent p g no_cell e count in
-      let below : HasBelow text (cells ++ c ∷ []) p (content_with (cell_at cells p).content c.name) =
-      HasBelow-noted text cells heads c b p (cell_at cells p).content new (omega (arith, e, new.parent, new.room)) (is.below p) in
-      let its : content_with (cell_at cells p).content c.name ≡ (cell_at (set (cells ++ c ∷ []) c.parent g) p).content =
-      ap (λ (k : ℕ). content_with (cell_at cells k).content c.name) e ∙ sym is_noted.content ∙ ap (λ (d : Cell). d.content) (sym cell) in
-      subst (λ x. HasBelow text (set (cells ++ c ∷ []) c.parent g) p x) its
-      (HasBelow-kept text (cells ++ c ∷ []) (set (cells ++ c ∷ []) c.parent g) p (content_with (cell_at cells p).content c.name) same below)
+      rw (get_or-set_at (cells ++ c ∷ []) c.parent p g no_cell e count, e)
+      (subst (HasBelow text (set (cells ++ c ∷ []) c.parent g) c.parent) (sym is_noted.content)
+      (HasBelow-kept text (cells ++ c ∷ []) (set (cells ++ c ∷ []) c.parent g) c.parent (content_with (cell_at cells c.parent).content c.name) same
+      (HasBelow-noted text cells heads c b c.parent (cell_at cells c.parent).content new (omega (arith, new.parent, new.room)) (is.below c.parent))))
   | inr ne ↦
-      let cell : cell_at (set (cells ++ c ∷ []) c.parent g) p ≡ cell_at (cells ++ c ∷ []) p = get_or-set_other (cells ++ c ∷ []) c.parent p g no_cell ne in
-      subst (λ (d : Cell). HasBelow text (set (cells ++ c ∷ []) c.parent g) p d.content) (sym cell)
+      rw (get_or-set_other (cells ++ c ∷ []) c.parent p g no_cell ne)
       (HasBelow-kept text (cells ++ c ∷ []) (set (cells ++ c ∷ []) c.parent g) p (cell_at (cells ++ c ∷ []) p).content same (before ne))
 ]
   where
     before : (p ≡ c.parent → ⊥) → HasBelow text (cells ++ c ∷ []) p (cell_at (cells ++ c ∷ []) p).content
     before ne = elim (cases_lt p (length cells)) [
       | inl old ↦
-          subst (λ (d : Cell). HasBelow text (cells ++ c ∷ []) p d.content) (sym (cell_at-push cells c p old))
+          rw (cell_at-push cells c p old)
           (HasBelow-other text cells heads c b p (cell_at cells p).content new (omega (arith, old, new.room)) (λ e. ne (sym e)) (is.below p))
       | inr more ↦ elim (cases_lt (length cells) p) [
-        | inl past ↦ subst (λ (d : Cell). HasBelow text (cells ++ c ∷ []) p d.content) (sym (cell_at-past cells c p past)) tt
+        | inl past ↦ rw (cell_at-past cells c p past) tt
         | inr last ↦
             let at : length cells ≡ p = omega (arith, more, last) in
-            let its : content_of value ≡ (cell_at (cells ++ c ∷ []) p).content = sym content ∙ ap (λ (d : Cell). d.content) (sym (ap (cell_at (cells ++ c ∷ [])) (sym at) ∙ cell_at-pushed cells c)) in
-            subst (λ x. HasBelow text (cells ++ c ∷ []) p x) its
-            (subst (λ (k : ℕ). HasBelow text (cells ++ c ∷ []) k (content_of value)) at (HasBelow-new text cells heads c b value new is.indexed))
+            rw (← at, cell_at-pushed cells c) (subst (HasBelow text (cells ++ c ∷ []) (length cells)) (sym content) (HasBelow-new text cells heads c b value new is.indexed))
       ]
     ]
 
 -- the place of the group of a new cell stays
 same-noted : (cells : List Cell) (c g : Cell) → c.parent < length cells → IsNoted cells c g → IsSame g (cell_at (cells ++ c ∷ []) c.parent)
-same-noted cells c g inside is_noted =
-    let old = cell_at-push cells c c.parent inside in
-    record {
-      parent = is_noted.place.parent ∙ ap (λ (d : Cell). d.parent) (sym old);
-      name = is_noted.place.name ∙ ap (λ (d : Cell). d.name) (sym old);
-      earlier = is_noted.place.earlier ∙ ap (λ (d : Cell). d.earlier) (sym old);
-      live = λ live. ap (λ (d : Cell). is_live d.content) old ∙ is_noted.place.live live;
-    }
+same-noted cells c g inside is_noted = rw (cell_at-push cells c c.parent inside) is_noted.place
 
 -- a cell is added
 pub IsTable-push : (text : List ℕ) (cells : List Cell) (heads : List ℕ) (c g : Cell) (b : ℕ) (value : Option Span) → IsNew text cells heads c b → IsNoted cells c g → c.content ≡ content_of value
@@ -519,19 +430,16 @@ IsTable-push text cells heads c g b value new is_noted content is =
 -- a group with one name more isn't removed
 pub is_live-noted : (content : Content) (name : Name) → is_live (content_with content name) ≡ is_live content
 is_live-noted (contents.Text s) name = refl
-is_live-noted (contents.Group numbers) name = refl
-is_live-noted contents.Removed name = refl
+is_live-noted other name = refl
 
 -- a group with one name more is the same row
 parent_of-noted : (q : ℕ) (content : Content) (name : Name) → parent_of q (content_with content name) ≡ parent_of q content
 parent_of-noted q (contents.Text s) name = refl
-parent_of-noted q (contents.Group numbers) name = refl
-parent_of-noted q contents.Removed name = refl
+parent_of-noted q other name = refl
 
 value_in-noted : (text : List ℕ) (content : Content) (name : Name) → value_in text (content_with content name) ≡ value_in text content
 value_in-noted text (contents.Text s) name = refl
-value_in-noted text (contents.Group numbers) name = refl
-value_in-noted text contents.Removed name = refl
+value_in-noted text other name = refl
 
 abbrev row_with : Option ℕ → List ℕ → Option (List ℕ) → ConfRow
 row_with parent name value = record { parent = parent; name = name; value = value }

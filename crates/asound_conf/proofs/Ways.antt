@@ -1,10 +1,10 @@
 -- The ways from row to row down the parts of a key.
-use Rattle.std.proofs.Common.{◌≡◌, ℕ, suc, ◌<◌, ◌≤◌, ◌-◌, true, cond, List, [], ◌∷◌, ◌++◌, length, drop, Some, None, refl, sym, ap, ◌∙◌, subst, arith, ◌⊎◌, inl, inr}
+use Rattle.std.proofs.Common.{◌≡◌, ℕ, suc, ◌<◌, ◌≤◌, ◌-◌, true, cond, List, [], ◌∷◌, ◌++◌, length, drop, Some, None, refl, sym, ap, ◌∙◌, subst, arith, inl, inr}
 use Rattle.std.specs.Str.{bytes_eq}
 use Rattle.asound_conf.specs.Key.{Part}
 use Rattle.asound_conf.specs.Place.{node_met}
-use Rattle.asound_conf.specs.Rows.{ConfRow, Alters, IsNode, IsOnlyIn, group_of, node, row_at}
-use Rattle.asound_conf.specs.Tree.{Tree, group, Entries, get, group_in}
+use Rattle.asound_conf.specs.Rows.{ConfRow, Alters, IsNode, group_of, node, row_at}
+use Rattle.asound_conf.specs.Tree.{group, get, group_in}
 use Rattle.asound_conf.specs.Tree as tree
 use Rattle.asound_conf.specs.Way.{IsKeyStep, IsWay}
 use Rattle.asound_conf.proofs.Below.{found_in, group_at, inner_group, with_group}
@@ -52,24 +52,16 @@ with_group-IsWay old new p (part ∷ path) q a way =
 
 -- a node of a group that doesn't change
 row-kept : (q : ℕ) (old new : List ConfRow) (p n : ℕ) → Alters q old new → p < q → (row_at old n).parent ≡ Some p → row_at old n ≡ row_at new n
-row-kept q old new p n a low there = by_change (a.each n)
-  where
-    by_change : (row_at old n ≡ row_at new n) ⊎ (IsOnlyIn q (row_at old n) × IsOnlyIn q (row_at new n)) → row_at old n ≡ row_at new n
-    by_change (inl same) = same
-    by_change (inr only) =
-        let out = only.0 p (λ same. omega arith) in
-        let inside = is_in-Some p (row_at old n).parent there in
-        cc
+row-kept q old new p n a low there = elim (a.each n) [
+  | inl same ↦ same
+  | inr only ↦ let out = only.0 p (λ same. omega arith) in let inside = is_in-Some p (row_at old n).parent there in cc
+]
 
 row-was : (q : ℕ) (old new : List ConfRow) (p n : ℕ) → Alters q old new → p < q → (row_at new n).parent ≡ Some p → row_at old n ≡ row_at new n
-row-was q old new p n a low there = by_change (a.each n)
-  where
-    by_change : (row_at old n ≡ row_at new n) ⊎ (IsOnlyIn q (row_at old n) × IsOnlyIn q (row_at new n)) → row_at old n ≡ row_at new n
-    by_change (inl same) = same
-    by_change (inr only) =
-        let out = only.1 p (λ same. omega arith) in
-        let inside = is_in-Some p (row_at new n).parent there in
-        cc
+row-was q old new p n a low there = elim (a.each n) [
+  | inl same ↦ same
+  | inr only ↦ let out = only.1 p (λ same. omega arith) in let inside = is_in-Some p (row_at new n).parent there in cc
+]
 
 IsNode-kept : (q : ℕ) (old new : List ConfRow) (p : ℕ) (name : List ℕ) (n : ℕ) → Alters q old new → p < q → IsNode old p name n → IsNode new p name n
 IsNode-kept q old new p name n a low is =

@@ -60,12 +60,12 @@ format_of (Some (group g)) = Err why.Format
 format_of None = Ok tt
 
 -- a text is a number: 1 to 10 decimal digits, below 2 ^ 32
-abbrev pub is_number : List ℕ → Bool
-is_number t = nat_le 1 (length t) && nat_le (length t) 10 && all_ascii_digits t && nat_lt (digits_value 10 t) 4294967296
+abbrev pub is_small_numeral : List ℕ → Bool
+is_small_numeral t = nat_le 1 (length t) && nat_le (length t) 10 && all_ascii_digits t && nat_lt (digits_value 10 t) 4294967296
 
 -- the number that a text is
 abbrev pub number_of_text : List ℕ → Option ℕ
-number_of_text t = if is_number t then Some (digits_value 10 t) else None
+number_of_text t = if is_small_numeral t then Some (digits_value 10 t) else None
 
 -- the number that a node is
 abbrev pub number_of_node : Option Tree → Option ℕ

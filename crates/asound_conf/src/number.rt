@@ -33,7 +33,7 @@ pub fn number_in(node: Option<Node<'_>>) -> Option<u32>
 }
 
 /// Whether a name is the decimal text of a number.
-pub fn is_decimal(name: &[u8], number: u64) -> bool
+pub fn is_decimal_of(name: &[u8], number: u64) -> bool
     requires { number < 2 ^ 63 }
     ensures { result ≡ bytes_eq name.now (decimal number) }
 {

@@ -7,7 +7,7 @@ ghost use Rattle.asound_conf.specs.Table.{IsTable, bucket_of, cell_at, content_o
 
 use crate::cell::{Cell, ConfText, Content, Name, Span};
 use crate::error::ConfWhy;
-use crate::number::is_decimal;
+use crate::number::is_decimal_of;
 use std::alloc::{AllocError, Global};
 use std::marker::Model;
 use text_words::decimal_of;
@@ -99,7 +99,7 @@ fn bucket_of(buckets: usize, group: u32, key: ConfText<'_>) -> usize
 }
 
 /// Whether two numbers have the same decimal text.
-fn is_number(number: u32, other: u32) -> bool
+fn is_same_number(number: u32, other: u32) -> bool
     ensures { result ≡ bytes_eq (decimal number) (decimal other) }
 {
     number == other
@@ -111,9 +111,9 @@ fn is_named(text: &[u8], name: Name, key: ConfText<'_>) -> bool
 {
     match (key_in(text, name), key) {
         (ConfText::Bytes(name), ConfText::Bytes(other)) => name == other,
-        (ConfText::Bytes(name), ConfText::Number(number)) => is_decimal(name, u64::from(number)),
-        (ConfText::Number(number), ConfText::Bytes(name)) => is_decimal(name, u64::from(number)),
-        (ConfText::Number(number), ConfText::Number(other)) => is_number(number, other),
+        (ConfText::Bytes(name), ConfText::Number(number)) => is_decimal_of(name, u64::from(number)),
+        (ConfText::Number(number), ConfText::Bytes(name)) => is_decimal_of(name, u64::from(number)),
+        (ConfText::Number(number), ConfText::Number(other)) => is_same_number(number, other),
     }
 }
 

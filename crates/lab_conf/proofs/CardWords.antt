@@ -1,5 +1,6 @@
 -- The words of a card's line with its channels, rate, period and ring are read as this card.
 use Rattle.std.proofs.Common.{◌≡◌, ◌≤◌, ◌%◌, ◌*◌, ◌/◌, ℕ, true, List, [], ◌∷◌, codes, Some, None, Ok, nat_le, refl, arith}
+use Rattle.std.proofs.lemmas.Bool.{le-leb}
 use Rattle.std.proofs.lemmas.Bool.Decides.{nat_tests}
 use Rattle.asound_conf.specs.Device.{IsCard}
 use Rattle.lab_lines.specs.declared.script.Share.TheVariants as share
@@ -35,10 +36,6 @@ record AreTested (c r p n : ℕ) : Type 0 where
   ring_most : nat_le n 4294967295 ≡ true
   divides : divides p n ≡ true
 
--- a number that is at most another one passes the test of it
-nat_le-le : (a b : ℕ) → a ≤ b → nat_le a b ≡ true
-nat_le-le a b h = grind (arith, nat_tests)
-
 -- a period that divides its ring at least twice
 divides-card : (p n : ℕ) → 16 ≤ p → p * 2 ≤ n → n % p ≡ 0 → divides p n ≡ true
 divides-card p n low twice whole =
@@ -48,17 +45,17 @@ divides-card p n low twice whole =
 -- the numbers of a card pass these tests
 AreTested-card : (c r p n : ℕ) → IsCard c r p n → AreTested c r p n
 AreTested-card c r p n card = record {
-  channels_low = nat_le-le 1 c card.channels_low;
-  channels_high = nat_le-le c 8 card.channels_high;
-  channels_most = nat_le-le c 255 (omega (arith, card.channels_high));
-  rate_low = nat_le-le 4000 r card.rate_low;
-  rate_high = nat_le-le r 192000 card.rate_high;
-  rate_most = nat_le-le r 4294967295 (omega (arith, card.rate_high));
-  period_low = nat_le-le 16 p card.period_low;
-  period_high = nat_le-le p 9999999999999999999 (omega (arith, card.period_twice, card.ring_high));
-  ring_low = nat_le-le 64 n card.ring_low;
-  ring_high = nat_le-le n 16384 card.ring_high;
-  ring_most = nat_le-le n 4294967295 (omega (arith, card.ring_high));
+  channels_low = le-leb 1 c card.channels_low;
+  channels_high = le-leb c 8 card.channels_high;
+  channels_most = le-leb c 255 (omega (arith, card.channels_high));
+  rate_low = le-leb 4000 r card.rate_low;
+  rate_high = le-leb r 192000 card.rate_high;
+  rate_most = le-leb r 4294967295 (omega (arith, card.rate_high));
+  period_low = le-leb 16 p card.period_low;
+  period_high = le-leb p 9999999999999999999 (omega (arith, card.period_twice, card.ring_high));
+  ring_low = le-leb 64 n card.ring_low;
+  ring_high = le-leb n 16384 card.ring_high;
+  ring_most = le-leb n 4294967295 (omega (arith, card.ring_high));
   divides = divides-card p n card.period_low card.period_twice card.period_divides;
 }
 

@@ -1,82 +1,21 @@
 -- The answers to a request, line by line.
-use Rattle.std.proofs.Common.{◌≡◌, ℕ, List, [], ◌∷◌, ◌++◌, ap, refl, sym, ◌∙◌, append_assoc, arith, ◌≤◌, ◌<◌, ◌+◌, false, subst, take, get_or, length}
+use Rattle.std.proofs.Common.{◌≡◌, ℕ, List, [], ◌∷◌, ◌++◌, ap, refl, sym, ◌∙◌, append_assoc, ◌<◌, ◌+◌, subst, take, get_or, length}
 use Rattle.std.proofs.lemmas.List.{append-nil, take_more}
-use Rattle.std.specs.Prelude.{Option, Result, Ok, Err, OnOk, OnErr, unwrap_or}
+use Rattle.std.specs.Prelude.{Option, unwrap_or}
 use Rattle.hw_space.specs.declared.param.Param.{Param}
-use Rattle.hw_space.specs.declared.param.Param.TheVariants.{Access, Format, SampleBits, FrameBits, Channels, Rate, PeriodTime, PeriodSize, PeriodBytes, Periods, BufferTime, BufferSize, BufferBytes}
+use Rattle.hw_space.specs.declared.param.Param.TheVariants.{Access, Format}
 use Rattle.hw_space.specs.declared.param_box.ParamBox.{ParamBox}
 use Rattle.hw_space.specs.declared.param.ParamKind.{ParamKind}
 use Rattle.hw_space.specs.declared.param.ParamKind.TheVariants as kinds
 use Rattle.hw_space.specs.ChoiceLaws.{Leaves-unique, IsNear-unique, IsChoice-unique}
-use Rattle.hw_space.specs.Narrowings.{FitsParam, IsNearKind, with_value, with_min, with_max, with_integer}
-use Rattle.hw_space.specs.Params.{HasInterval, kind_of}
+use Rattle.hw_space.specs.Narrowings.{IsNearKind, with_value, with_min, with_max, with_integer}
+use Rattle.hw_space.specs.Params.{kind_of}
 use Rattle.hw_space.specs.SettledLaws.{IsGreatest-unique}
 use Rattle.hw_space.specs.Widest.{widest}
-use Rattle.hw_space.specs.Settled.{space_left}
-use Rattle.pcm_interval.specs.declared.empty.Empty.{Empty}
 use Rattle.lab_refine.specs.declared.request.Ask.{Ask}
 use Rattle.lab_refine.specs.declared.request.Ask.TheVariants as ask_kinds
 use Rattle.lab_refine.specs.declared.request.Request.{Request}
-use Rattle.lab_refine.specs.Params.{is_mask, most_of}
 use Rattle.lab_refine.specs.Answers.{AreAnswers, Answers, IsAnswer, IsAppended, IsNarrowing, left_line, chosen_line}
-
--- a parameter that isn't a mask has an interval
-pub HasInterval-other : (param : Param) → is_mask param ≡ false → HasInterval param
-HasInterval-other Access e = absurd (let n = e in cc)
-HasInterval-other Format e = absurd (let n = e in cc)
-HasInterval-other SampleBits e = tt
-HasInterval-other FrameBits e = tt
-HasInterval-other Channels e = tt
-HasInterval-other Rate e = tt
-HasInterval-other PeriodTime e = tt
-HasInterval-other PeriodSize e = tt
-HasInterval-other PeriodBytes e = tt
-HasInterval-other Periods e = tt
-HasInterval-other BufferTime e = tt
-HasInterval-other BufferSize e = tt
-HasInterval-other BufferBytes e = tt
-
--- a value that a line can give for a parameter fits it
-pub FitsParam-most : (param : Param) (value : ℕ) → value ≤ most_of param → FitsParam param value
-FitsParam-most Access value h = omega arith
-FitsParam-most Format value h = omega arith
-FitsParam-most SampleBits value h = tt
-FitsParam-most FrameBits value h = tt
-FitsParam-most Channels value h = tt
-FitsParam-most Rate value h = tt
-FitsParam-most PeriodTime value h = tt
-FitsParam-most PeriodSize value h = tt
-FitsParam-most PeriodBytes value h = tt
-FitsParam-most Periods value h = tt
-FitsParam-most BufferTime value h = tt
-FitsParam-most BufferSize value h = tt
-FitsParam-most BufferBytes value h = tt
-
--- what stays of a box after a narrowing
-left-stays : (r : Result (Unit {0}) Empty) (old new : ParamBox) → OnErr r (new ≡ old) → new ≡ unwrap_or (space_left r new) old
-left-stays (Ok x) old new same = refl
-left-stays (Err e) old new same = same
-
--- a narrowing says what it leaves
-pub IsNarrowing-is_line : (leaves : Option ParamBox → Type 0) (param : Param) (old new : ParamBox) (r : Result (Unit {0}) Empty)
-    → leaves (space_left r new) → OnErr r (new ≡ old) → IsNarrowing leaves param old (left_line param (space_left r new)) new
-IsNarrowing-is_line leaves param old new r left same = record {
-  left = space_left r new;
-  is_left = left;
-  is_line = refl;
-  stays = left-stays r old new same;
-}
-
--- a line that was appended to a text answers what was asked
-pub IsAppended-put : {E : Type 0} (period : ℕ) (old new : ParamBox) (ask : Ask) (before after line : List ℕ)
-    (r : Result (Unit {0}) E)
-    → IsAnswer period old ask line new → OnOk r (after ≡ before ++ line) → OnOk r (IsAppended period old new ask before after)
-IsAppended-put period old new ask before after line (Ok x) answers put = record { line = line; answers = answers; put = put }
-IsAppended-put period old new ask before after line (Err e) answers put = tt
-
--- no line asks anything
-pub Answers-none : (period : ℕ) (b : ParamBox) → Answers period b [] [] b
-Answers-none period b = (refl, refl)
 
 -- one more line is answered
 pub Answers-more : (period : ℕ) (old between new : ParamBox) (asks : List Ask) (ask : Ask) (before after : List ℕ)

@@ -3,25 +3,19 @@ use Rattle.std.proofs.Common.{◌≡◌, ℕ, ◌+◌, List, [], ◌∷◌, ◌+
 use Rattle.std.proofs.lemmas.List.{map-append}
 use Rattle.std.specs.List.{All, AllByRecursion}
 use Rattle.std.proofs.lemmas.List.Elements.{All-append, All-cons, All-nil, All-filter, All-map, recursion_from_All}
-use Rattle.lab_lines.specs.declared.line.Actor.{Actor}
-use Rattle.lab_lines.specs.declared.line.Actor.TheVariants.{Card, Client, Reader}
 use Rattle.lab_lines.specs.declared.line.Item.{Item}
 use Rattle.lab_lines.specs.declared.line.Item.TheVariants as item
 use Rattle.lab_lines.specs.declared.line.Line.{Line}
 use Rattle.lab_lines.specs.declared.script.Script.{Script}
-use Rattle.lab_lines.specs.Limits.{IsActor, IsBorder, IsItem, IsScript}
+use Rattle.lab_lines.specs.Limits.{IsActor, IsItem, IsScript}
 use Rattle.lab_lines.specs.Script.{phases_of}
 use Rattle.lab_lines.specs.declared.request.Request.{Request}
 use Rattle.lab_report.specs.Requests.{request_of, of_place, before_place, in_order, item_requests, requests_from, requests_of}
+use Rattle.lab_script.proofs.States.{border-actor}
 
 -- a request is of one of so many clients and readers, or of the card
 abbrev pub IsAsked : ℕ → ℕ → Request → Type 0
 IsAsked m n request = IsActor m n request.actor
-
-border : (m n : ℕ) (actor : Actor) → IsBorder m n actor → IsActor m n actor
-border m n Card h = tt
-border m n (Client k) h = h
-border m n (Reader k) h = h
 
 before_place-all : (P : Line → Type 0) (lines : List Line) (place : ℕ) → All P lines → All P (before_place lines place)
 unfolding before_place
@@ -29,8 +23,8 @@ before_place-all P lines zero h = All-nil P
 before_place-all P lines (suc place) h = All-append P (before_place lines place) (of_place lines place) (before_place-all P lines place h) (All-filter _ P lines h)
 
 item_requests-asked : (m n phases : ℕ) (i : Item) → IsItem m n i → All (IsAsked m n) (item_requests phases i)
-item_requests-asked m n phases (item.Opens number actor) h = All-cons (IsAsked m n) _ [] (border m n actor h) (All-nil (IsAsked m n))
-item_requests-asked m n phases (item.Closes number actor) h = All-cons (IsAsked m n) _ [] (border m n actor h) (All-nil (IsAsked m n))
+item_requests-asked m n phases (item.Opens number actor) h = All-cons (IsAsked m n) _ [] (border-actor m n actor h) (All-nil (IsAsked m n))
+item_requests-asked m n phases (item.Closes number actor) h = All-cons (IsAsked m n) _ [] (border-actor m n actor h) (All-nil (IsAsked m n))
 item_requests-asked m n phases (item.Phase lines) h =
     All-map (IsAsked m n) (request_of (phases + 1)) (in_order lines) (before_place-all (λ (line : Line). IsActor m n line.actor) lines 129 (λ k d l. (h.each k d l).actor))
 

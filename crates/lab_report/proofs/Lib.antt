@@ -3,7 +3,6 @@ pub mod Actors
 pub mod Sorting
 pub mod RowLine
 pub mod Ends
-pub mod Read
 pub mod Printed
 pub mod PrintedRows
 pub mod PrintedReport

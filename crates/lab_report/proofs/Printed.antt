@@ -1,5 +1,6 @@
 -- What is printed is read back: words, numbers, and the lines of a text.
 use Rattle.std.proofs.Common.{◌≡◌, ℕ, ◌^◌, ◌≤◌, ◌<◌, Bool, true, false, not, List, [], ◌∷◌, ◌++◌, length, map, take, drop, refl, ap, sym, subst, ◌∙◌, arith, one-add, append_assoc, Some, None, Ok, codes, bytes_eq}
+use Rattle.std.proofs.lemmas.Bool.{and_from, and_parts, not-true}
 use Rattle.std.specs.List.{AllByRecursion, flat_map, list_all, slice_split, onto_first as piece_first, position_or_len, join_with_byte}
 use Rattle.std.specs.Char.{is_ascii_digit}
 use Rattle.std.specs.Fmt.{decimal}
@@ -14,7 +15,6 @@ use Rattle.lab_report.specs.Causes.{◌>>=◌, some_or}
 use Rattle.lab_report.specs.Words.{is_end, lines_of, front_word, number_at, most_frames, next_number, dash_or_number, number_or_dash_at, expect_word, expect_words}
 use Rattle.text_words.specs.Word.{is_feed, is_space}
 use Rattle.text_words.proofs.Digits.{all_digits, own}
-use Rattle.text_words.proofs.Tests.{both, and_true}
 use Rattle.text_words.proofs.Decimals.{decimal_of-decimal}
 
 -- a byte within a word
@@ -25,16 +25,12 @@ in_word b = not (is_end b)
 abbrev pub in_line : ℕ → Bool
 in_line b = not (is_feed b)
 
-is_true : (b : Bool) → not b ≡ true → b ≡ false
-is_true true e = absurd (cc)
-is_true false e = refl
-
 -- the first end of a word that is followed by one
 position_or_len-word : (w : List ℕ) (e : ℕ) (r : List ℕ) → list_all in_word w ≡ true → is_end e ≡ true → position_or_len is_end (w ++ e ∷ r) ≡ length w
 position_or_len-word [] e r h t = rw t refl
 position_or_len-word (b ∷ bs) e r h t =
-    let parts = both (in_word b) (list_all in_word bs) h in
-    rw (is_true (is_end b) parts.0, position_or_len-word bs e r parts.1 t) (one-add (length bs))
+    let parts = and_parts (in_word b) (list_all in_word bs) h in
+    rw (not-true (is_end b) parts.0, position_or_len-word bs e r parts.1 t) (one-add (length bs))
 
 front_word-some : (xs : List ℕ) → 0 < length xs → front_word xs ≡ Ok (take (position_or_len is_end xs) xs, drop (position_or_len is_end xs) xs)
 front_word-some [] h = absurd (omega arith)
@@ -62,8 +58,8 @@ digit_in_word b e = grind (arith, nat_tests)
 digits_in_word : (ds : List ℕ) → list_all is_ascii_digit ds ≡ true → list_all in_word ds ≡ true
 digits_in_word [] e = refl
 digits_in_word (d ∷ ds) e =
-    let parts = both (is_ascii_digit d) (list_all is_ascii_digit ds) e in
-    and_true (in_word d) (list_all in_word ds) (digit_in_word d parts.0) (digits_in_word ds parts.1)
+    let parts = and_parts (is_ascii_digit d) (list_all is_ascii_digit ds) e in
+    and_from (in_word d) (list_all in_word ds) (digit_in_word d parts.0) (digits_in_word ds parts.1)
 
 -- a number's decimal form is digits
 pub decimal_in_word : (n : ℕ) → n < 2 ^ 64 → list_all in_word (decimal n) ≡ true
@@ -118,11 +114,11 @@ expect_words-joined w (v ∷ vs) r h =
     (expect_words-joined v vs r h.1)
 
 first_more : (b : ℕ) (ws : List (List ℕ)) → in_word b ≡ true → AreWords ws → AreWords (piece_first b ws)
-first_more b [] e h = (and_true (in_word b) true e refl, tt)
-first_more b (w ∷ ws) e h = (and_true (in_word b) (list_all in_word w) e h.0, h.1)
+first_more b [] e h = (and_from (in_word b) true e refl, tt)
+first_more b (w ∷ ws) e h = (and_from (in_word b) (list_all in_word w) e h.0, h.1)
 
 in_word-of : (b : ℕ) → is_space b ≡ false → in_line b ≡ true → in_word b ≡ true
-in_word-of b e h = rw (e, is_true (is_feed b) h) refl
+in_word-of b e h = rw (e, not-true (is_feed b) h) refl
 
 words_more : (b : ℕ) (bs : List ℕ) (t : Bool) → is_space b ≡ t → in_line b ≡ true → AreWords (slice_split is_space bs) → AreWords (slice_split is_space (b ∷ bs))
 words_more b bs true e h rest = rw (slice_split-cons_yes is_space b bs e) (refl, rest)
@@ -132,7 +128,7 @@ words_more b bs false e h rest = rw (slice_split-cons_no is_space b bs e) (first
 slice_split-words : (front : List ℕ) → list_all in_line front ≡ true → AreWords (slice_split is_space front)
 slice_split-words [] h = (refl, tt)
 slice_split-words (b ∷ bs) h =
-    let parts = both (in_line b) (list_all in_line bs) h in
+    let parts = and_parts (in_line b) (list_all in_line bs) h in
     words_more b bs (is_space b) refl parts.0 (slice_split-words bs parts.1)
 
 expect_by : (ws : List (List ℕ)) (front r : List ℕ) → AreWords ws → 0 < length ws → join_with_byte 32 ws ≡ front → expect_words ws (front ++ 32 ∷ r) ≡ Ok r
@@ -153,8 +149,8 @@ pub record IsLineText (text : List ℕ) : Type 0 where
 lines_of-words : (m rest : List ℕ) → list_all in_line m ≡ true → lines_of ((m ++ 10 ∷ []) ++ rest) ≡ (m ++ 10 ∷ []) ∷ lines_of rest
 lines_of-words [] rest h = refl
 lines_of-words (b ∷ bs) rest h =
-    let parts = both (in_line b) (list_all in_line bs) h in
-    rw (is_true (is_feed b) parts.0, lines_of-words bs rest parts.1) refl
+    let parts = and_parts (in_line b) (list_all in_line bs) h in
+    rw (not-true (is_feed b) parts.0, lines_of-words bs rest parts.1) refl
 
 -- a line before a text is its first
 pub lines_of-line : (line rest : List ℕ) → IsLineText line → lines_of (line ++ rest) ≡ line ∷ lines_of rest

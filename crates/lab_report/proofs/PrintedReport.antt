@@ -1,5 +1,6 @@
 -- A report that is printed is read back.
 use Rattle.std.proofs.Common.{◌≡◌, ◌≢◌, ℕ, ◌≤◌, ◌<◌, Bool, true, false, cond, List, [], ◌∷◌, ◌++◌, length, get_or, refl, ap, sym, subst, ◌∙◌, arith, zero, suc, Some, None, Ok, bytes_eq, nat_lt}
+use Rattle.std.proofs.lemmas.Bool.{and_parts, and_from}
 use Rattle.std.specs.List.{list_all, slice_get, position, position_or_len}
 use Rattle.std.specs.Fmt.{decimal}
 use Rattle.std.specs.Option.{option_map_or}
@@ -21,7 +22,6 @@ use Rattle.lab_report.specs.Text.{client_name, reader_name}
 use Rattle.lab_report.specs.Words.{most_frames}
 use Rattle.lab_report.proofs.Printed.{in_word, front_word-printed, next_number-printed}
 use Rattle.lab_report.specs.Ranges.{IsWide, IsSegmentInRange}
-use Rattle.text_words.proofs.Tests.{both, and_true}
 
 name_byte_in_word : (b : ℕ) → is_name_byte b ≡ true → in_word b ≡ true
 name_byte_in_word b e = grind (arith, nat_tests)
@@ -29,12 +29,12 @@ name_byte_in_word b e = grind (arith, nat_tests)
 name_bytes_in_word : (w : List ℕ) → list_all is_name_byte w ≡ true → list_all in_word w ≡ true
 name_bytes_in_word [] e = refl
 name_bytes_in_word (b ∷ bs) e =
-    let parts = both (is_name_byte b) (list_all is_name_byte bs) e in
-    and_true (in_word b) (list_all in_word bs) (name_byte_in_word b parts.0) (name_bytes_in_word bs parts.1)
+    let parts = and_parts (is_name_byte b) (list_all is_name_byte bs) e in
+    and_from (in_word b) (list_all in_word bs) (name_byte_in_word b parts.0) (name_bytes_in_word bs parts.1)
 
 -- a name is a word
 name_in_word : (w : List ℕ) → is_name w ≡ true → list_all in_word w ≡ true
-name_in_word w e = name_bytes_in_word w (both _ (list_all is_name_byte w) (both _ _ e).0).1
+name_in_word w e = name_bytes_in_word w (and_parts _ (list_all is_name_byte w) (and_parts _ _ e).0).1
 
 -- the element at a place
 element : {X : Type 0} (xs : List X) (n : ℕ) → n < length xs → (x : X) × (slice_get xs n ≡ Some x)

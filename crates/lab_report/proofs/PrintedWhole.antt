@@ -1,5 +1,6 @@
 -- A report that is printed is read back, line by line.
 use Rattle.std.proofs.Common.{◌≡◌, ℕ, ◌≤◌, ◌<◌, true, List, [], ◌∷◌, ◌++◌, length, refl, ◌∙◌, arith, Option, Some, None, codes}
+use Rattle.std.proofs.lemmas.Bool.{and_parts, and_from}
 use Rattle.std.specs.List.{list_all}
 use Rattle.std.specs.Fmt.{decimal}
 use Rattle.std.proofs.lemmas.List.Folds.{list_all-append}
@@ -14,18 +15,17 @@ use Rattle.lab_script.specs.Ops.{op_text}
 use Rattle.pcm_states.specs.declared.states.State.{State as PcmState}
 use Rattle.pcm_states.specs.declared.states.State.TheVariants as state
 use Rattle.pcm_states.specs.States.{state_name}
-use Rattle.snd_base.specs.declared.errors.PcmError.TheVariants.{BadState, Xrun, Again, NoDevice, Invalid, Busy, NotSupported, LapEnd, Stopped, Memory}
+use Rattle.snd_base.specs.declared.errors.PcmError.TheVariants.{Xrun, Busy}
 use Rattle.snd_base.specs.declared.errors.XrunWhy.{XrunWhy}
 use Rattle.snd_base.specs.declared.errors.XrunWhy.TheVariants.{Empty, Already, Avail, Late, Overtaken}
 use Rattle.lab_lines.specs.declared.row.Answer.{Answer}
-use Rattle.lab_lines.specs.declared.row.Answer.TheVariants.{Done, Count, Failed}
+use Rattle.lab_lines.specs.declared.row.Answer.TheVariants.{Count, Failed}
 use Rattle.lab_lines.specs.declared.row.Row.{Row}
 use Rattle.lab_lines.specs.Rows.{request_of_row}
 use Rattle.lab_report.specs.Text.{client_name, reader_name, actor_name, number_or_dash, xrun_text, answer_text, front_text, row_line, segment_line, run_line, played_line, IsRowOf}
 use Rattle.lab_report.proofs.Printed.{in_word, in_line, decimal_in_word, IsLineText}
 use Rattle.lab_report.specs.Ranges.{IsWide, IsWideWhere, IsXrunInRange, IsAnswerInRange, IsOpInRange, IsRowInRange, IsSegmentInRange}
 use Rattle.lab_report.proofs.PrintedReport.{client-found, reader-found}
-use Rattle.text_words.proofs.Tests.{both, and_true}
 
 byte_in_line : (b : ℕ) → in_word b ≡ true → in_line b ≡ true
 byte_in_line b e = grind arith
@@ -33,15 +33,15 @@ byte_in_line b e = grind arith
 word_in_line : (w : List ℕ) → list_all in_word w ≡ true → list_all in_line w ≡ true
 word_in_line [] e = refl
 word_in_line (b ∷ bs) e =
-    let parts = both (in_word b) (list_all in_word bs) e in
-    and_true (in_line b) (list_all in_line bs) (byte_in_line b parts.0) (word_in_line bs parts.1)
+    let parts = and_parts (in_word b) (list_all in_word bs) e in
+    and_from (in_line b) (list_all in_line bs) (byte_in_line b parts.0) (word_in_line bs parts.1)
 
 decimal_in_line : (n : ℕ) → IsWide n → list_all in_line (decimal n) ≡ true
 decimal_in_line n h = word_in_line (decimal n) (decimal_in_word n h)
 
 -- two parts of a line
 joined_in_line : (a b : List ℕ) → list_all in_line a ≡ true → list_all in_line b ≡ true → list_all in_line (a ++ b) ≡ true
-joined_in_line a b e f = list_all-append in_line a b ∙ and_true (list_all in_line a) (list_all in_line b) e f
+joined_in_line a b e f = list_all-append in_line a b ∙ and_from (list_all in_line a) (list_all in_line b) e f
 
 -- a part of a line, a space, and another part
 spaced_in_line : (a b : List ℕ) → list_all in_line a ≡ true → list_all in_line b ≡ true → list_all in_line (a ++ 32 ∷ b) ≡ true
@@ -62,52 +62,25 @@ xrun_in_line (Late f c s) h = spaced_in_line (codes "late " ++ decimal f) (decim
 xrun_in_line (Overtaken f c s) h = spaced_in_line (codes "overtaken " ++ decimal f) (decimal c) (joined_in_line (codes "overtaken ") (decimal f) refl (decimal_in_line f h.0)) (decimal_in_line c (byte_wide c h.1))
 
 answer_in_line : (a : Answer) → IsAnswerInRange a → list_all in_line (answer_text a) ≡ true
-answer_in_line Done h = refl
 answer_in_line (Count n) h = decimal_in_line n h
-answer_in_line (Failed BadState) h = refl
 answer_in_line (Failed (Xrun w)) h = joined_in_line (codes "EPIPE ") (xrun_text w) refl (xrun_in_line w h)
-answer_in_line (Failed Again) h = refl
-answer_in_line (Failed NoDevice) h = refl
-answer_in_line (Failed (Invalid w)) h = refl
 answer_in_line (Failed (Busy u s)) h = spaced_in_line (codes "EBUSY " ++ number_or_dash u) (decimal s) (joined_in_line (codes "EBUSY ") (number_or_dash u) refl (number_in_line u h.0)) (decimal_in_line s h.1)
-answer_in_line (Failed NotSupported) h = refl
-answer_in_line (Failed Stopped) h = refl
-answer_in_line (Failed LapEnd) h = refl
-answer_in_line (Failed Memory) h = refl
+answer_in_line other h = refl
 
 state_in_line : (s : PcmState) → list_all in_line (state_name s) ≡ true
 state_in_line state.Open = refl
-state_in_line state.Setup = refl
-state_in_line state.Prepared = refl
-state_in_line state.Running = refl
-state_in_line state.Xrun = refl
-state_in_line state.Draining = refl
-state_in_line state.Paused = refl
-state_in_line state.Suspended = refl
-state_in_line state.Disconnected = refl
+state_in_line other = refl
 
 counted_in_line : (w : List ℕ) (n : ℕ) → list_all in_line w ≡ true → IsWide n → list_all in_line (w ++ 32 ∷ decimal n) ≡ true
 counted_in_line w n e h = spaced_in_line w (decimal n) e (decimal_in_line n h)
 
 op_in_line : (o : Op) → IsOpInRange o → list_all in_line (op_text o) ≡ true
 op_in_line (op.Play n) h = counted_in_line (codes "play") n refl h
-op_in_line op.Unplug h = refl
 op_in_line (op.Write n) h = counted_in_line (codes "write") n refl h
 op_in_line (op.Read n) h = counted_in_line (codes "read") n refl h
-op_in_line op.Start h = refl
-op_in_line op.Sync h = refl
-op_in_line op.Avail h = refl
-op_in_line op.Delay h = refl
-op_in_line op.Drain h = refl
-op_in_line op.Drop h = refl
-op_in_line op.Prepare h = refl
-op_in_line op.Pause h = refl
-op_in_line op.Resume h = refl
 op_in_line (op.Rewind n) h = counted_in_line (codes "rewind") n refl h
-op_in_line op.Rewindable h = refl
 op_in_line (op.Die n) h = counted_in_line (codes "die") n refl h
-op_in_line op.Opens h = refl
-op_in_line op.Closes h = refl
+op_in_line other h = refl
 
 actor_in_line : (script : Script) (actor : Actor) → IsScript script → IsActor (length script.clients) (length script.readers) actor → list_all in_line (actor_name script actor) ≡ true
 actor_in_line script Card valid h = refl

@@ -1,7 +1,7 @@
 -- The line of a row, part by part.
 use Rattle.std.proofs.Common.{◌≡◌, refl, ℕ, List, [], ◌∷◌, ◌++◌, append_assoc}
 use Rattle.snd_base.specs.declared.errors.PcmError.{PcmError}
-use Rattle.snd_base.specs.declared.errors.PcmError.TheVariants.{BadState, Xrun, Again, NoDevice, Invalid, Busy, NotSupported, LapEnd, Stopped, Memory}
+use Rattle.snd_base.specs.declared.errors.PcmError.TheVariants.{BadState}
 use Rattle.pcm_states.specs.States.{state_name}
 use Rattle.lab_lines.specs.declared.script.Script.{Script}
 use Rattle.lab_lines.specs.declared.request.Request.{Request}
@@ -12,15 +12,7 @@ use Rattle.lab_report.specs.Text.{error_front, error_rest, error_text, front_tex
 -- a refusal's text is its front and what is said after that
 pub error_text_parts : (error : PcmError) → error_text error ≡ error_front error ++ error_rest error
 error_text_parts BadState = refl
-error_text_parts (Xrun why) = refl
-error_text_parts Again = refl
-error_text_parts NoDevice = refl
-error_text_parts (Invalid why) = refl
-error_text_parts (Busy until seen) = refl
-error_text_parts NotSupported = refl
-error_text_parts Stopped = refl
-error_text_parts LapEnd = refl
-error_text_parts Memory = refl
+error_text_parts other = refl
 
 appended : (t f a s m : List ℕ)
     → (((((t ++ f) ++ 32 ∷ []) ++ a) ++ 32 ∷ s) ++ 32 ∷ m) ++ 10 ∷ []

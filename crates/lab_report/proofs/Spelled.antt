@@ -1,5 +1,5 @@
--- What is read is spelled so: each word, number, answer and state of a report has one text.
-use Rattle.std.proofs.Common.{◌≡◌, ℕ, ◌^◌, ◌<◌, Bool, true, false, cond, List, [], ◌∷◌, ◌++◌, length, take, drop, refl, ap, sym, ◌∙◌, arith, append_assoc, Option, Some, None, option_map, Result, Ok, Err, codes, bytes_eq}
+-- What is read is spelled so: each word, number, answer and state of a report has a text, and only one.
+use Rattle.std.proofs.Common.{◌≡◌, ℕ, ◌^◌, ◌<◌, Bool, true, false, cond, List, [], ◌∷◌, ◌++◌, length, take, drop, refl, ap, sym, ◌∙◌, arith, append_assoc, Option, Some, None, option_map, Result, Ok, Err, codes, bytes_eq, subst}
 use Rattle.std.specs.List.{slice_split, position_or_len, join_with_byte}
 use Rattle.std.specs.Fmt.{decimal}
 use Rattle.std.proofs.lemmas.Bool.Decides.{nat_tests}
@@ -17,12 +17,21 @@ use Rattle.lab_report.specs.declared.error.ReportWhy.TheVariants as why
 use Rattle.lab_lines.specs.declared.row.Answer.{Answer}
 use Rattle.lab_lines.specs.declared.row.Answer.TheVariants.{Count, Failed}
 use Rattle.lab_report.specs.Answers.{plain_answers, states, frame_and_channel, xrun_by, xrun_of, busy_of, count_and_rest, longer_answer, answer_by, answer_at, state_at}
-use Rattle.lab_report.specs.Causes.{some_or}
-use Rattle.lab_report.specs.Text.{number_or_dash, xrun_text, answer_text}
+use Rattle.lab_report.specs.Causes.{◌>>=◌, some_or}
+use Rattle.lab_report.specs.Text.{HasStateText, HasText, HasXrunText, number_or_dash, xrun_text, answer_text}
 use Rattle.lab_report.specs.Words.{is_end, front_word, space_of, feed_of, number_at, most_frames, next_number, dash_or_number, number_or_dash_at, not_word, expect_word, expect_words}
 use Rattle.text_words.specs.Word.{decimal_of, is_space, is_feed}
-use Rattle.lab_report.proofs.Read.{bind_ok, some_is}
+use Rattle.lab_script.proofs.Ranges.{ok_to}
 use Rattle.text_words.proofs.Decimals.{decimal_of-is}
+
+-- what a value after a step says
+pub bind_ok : {A B : Type 0} (r : Result A ReportWhy) (f : A → Result B ReportWhy) (y : B) → (r >>= f) ≡ Ok y → (x : A) × (r ≡ Ok x) × (f x ≡ Ok y)
+bind_ok (Ok x) f y e = (x, refl, e)
+bind_ok (Err w) f y e = absurd (cc)
+
+pub some_is : {A : Type 0} (w : ReportWhy) (o : Option A) (x : A) → some_or w o ≡ Ok x → o ≡ Some x
+some_is w None x e = absurd (cc)
+some_is w (Some y) x e = cc
 
 -- a word and the rest are the text that they were read from
 pub front_word-is : (xs : List ℕ) (y : List ℕ × List ℕ) → front_word xs ≡ Ok y → xs ≡ y.0 ++ y.1
@@ -52,6 +61,14 @@ feed_by b bs u false t e = absurd (cc)
 pub feed_of-is : (xs : List ℕ) (u : Unit {0}) → feed_of xs ≡ Ok u → (bs : List ℕ) × (xs ≡ 10 ∷ bs)
 feed_of-is [] u e = absurd (cc)
 feed_of-is (b ∷ bs) u e = (bs, feed_by b bs u (is_feed b) refl e)
+
+-- what is read at the front of a text: a value that a report can have, spelled there, and the rest
+pub record Begins {A : Type 0} (P : A → Type 0) (f : A → List ℕ) (xs : List ℕ) (y : A × List ℕ) : Type 0 where
+  pub has : P y.0
+  pub is : xs ≡ f y.0 ++ y.1
+
+begins : {A : Type 0} (P : A → Type 0) (f : A → List ℕ) (x : A) (r : List ℕ) (y : A × List ℕ) (xs : List ℕ) → ◌≡◌ {A = Result (A × List ℕ) ReportWhy} (Ok (x, r)) (Ok y) → P x → xs ≡ f x ++ r → Begins P f xs y
+begins P f x r y xs e has is = ok_to (Begins P f xs) (x, r) y e (record { has = has; is = is })
 
 same_pair : {A : Type 0} (f : A → List ℕ) (x : A) (r : List ℕ) (y : A × List ℕ) (xs : List ℕ) → ◌≡◌ {A = Result (A × List ℕ) ReportWhy} (Ok (x, r)) (Ok y) → xs ≡ f x ++ r → xs ≡ f y.0 ++ y.1
 same_pair {A = A} f x r y xs e h = let same : ◌≡◌ {A = A × List ℕ} (x, r) y = cc (e) in h ∙ ap (λ p. f p.0 ++ p.1) same
@@ -135,94 +152,98 @@ place_of-is xs y e =
     ∙ ap (λ r. 32 ∷ r) (sym (append_assoc (decimal a.0.0) (32 ∷ decimal b.0.0) b.0.1))
     ∙ ap (λ (p : (ℕ × ℕ) × List ℕ). 32 ∷ ((decimal p.0.0 ++ 32 ∷ decimal p.0.1) ++ p.1)) same
 
--- why there was an xrun is spelled so
-xrun_by-is : (w rest : List ℕ) (y : XrunWhy × List ℕ) → xrun_by w rest ≡ Ok y → w ++ rest ≡ xrun_text y.0 ++ y.1
+-- why there was an xrun
+xrun_by-is : (w rest : List ℕ) (y : XrunWhy × List ℕ) → xrun_by w rest ≡ Ok y → Begins HasXrunText xrun_text (w ++ rest) y
 xrun_by-is w rest y e =
-    let P : Type 0 = w ++ rest ≡ xrun_text y.0 ++ y.1 in
-    word_choice w (codes "empty") _ _ y P (λ v f. same_pair xrun_text Empty rest y (w ++ rest) f (ap (λ x. x ++ rest) v))
-    (λ g. word_choice w (codes "already") _ _ y P (λ v f. same_pair xrun_text Already rest y (w ++ rest) f (ap (λ x. x ++ rest) v))
+    let P : Type 0 = Begins HasXrunText xrun_text (w ++ rest) y in
+    word_choice w (codes "empty") _ _ y P (λ v f. begins HasXrunText xrun_text Empty rest y (w ++ rest) f tt (ap (λ x. x ++ rest) v))
+    (λ g. word_choice w (codes "already") _ _ y P (λ v f. begins HasXrunText xrun_text Already rest y (w ++ rest) f tt (ap (λ x. x ++ rest) v))
     (λ h. word_choice w (codes "avail") _ _ y P
     (λ v f.
     let a = bind_ok (next_number most_frames rest) _ y f in
-    same_pair xrun_text (Avail a.0.0 0) a.0.1 y (w ++ rest) a.2
+    begins HasXrunText xrun_text (Avail a.0.0 0) a.0.1 y (w ++ rest) a.2 refl
     (ap (λ x. x ++ rest) v ∙ ap (λ r. codes "avail" ++ r) (next_number-is most_frames rest a.0 small_frames a.1)))
     (λ i. word_choice w (codes "late") _ _ y P
     (λ v f.
     let a = bind_ok (frame_and_channel rest) _ y f in
-    same_pair xrun_text (Late a.0.0.0 a.0.0.1 0) a.0.1 y (w ++ rest) a.2
+    begins HasXrunText xrun_text (Late a.0.0.0 a.0.0.1 0) a.0.1 y (w ++ rest) a.2 refl
     (ap (λ x. x ++ rest) v ∙ ap (λ r. codes "late" ++ r) (place_of-is rest a.0 a.1)))
     (λ j. word_choice w (codes "overtaken") _ _ y P
     (λ v f.
     let a = bind_ok (frame_and_channel rest) _ y f in
-    same_pair xrun_text (Overtaken a.0.0.0 a.0.0.1 0) a.0.1 y (w ++ rest) a.2
+    begins HasXrunText xrun_text (Overtaken a.0.0.0 a.0.0.1 0) a.0.1 y (w ++ rest) a.2 refl
     (ap (λ x. x ++ rest) v ∙ ap (λ r. codes "overtaken" ++ r) (place_of-is rest a.0 a.1)))
     (λ k. absurd (cc (k))) j) i) h) g) e
 
-xrun_of-is : (w rest : List ℕ) (y : Answer × List ℕ) → w ≡ codes "EPIPE" → xrun_of rest ≡ Ok y → w ++ rest ≡ answer_text y.0 ++ y.1
+xrun_of-is : (w rest : List ℕ) (y : Answer × List ℕ) → w ≡ codes "EPIPE" → xrun_of rest ≡ Ok y → Begins HasText answer_text (w ++ rest) y
 xrun_of-is w rest y v e =
     let a = bind_ok (space_of rest) _ y e in
     let u = bind_ok (front_word a.0) _ y a.2 in
     let x = bind_ok (xrun_by u.0.0 u.0.1) _ y u.2 in
-    same_pair answer_text (Failed (Xrun x.0.0)) x.0.1 y (w ++ rest) x.2
+    let why = xrun_by-is u.0.0 u.0.1 x.0 x.1 in
+    begins HasText answer_text (Failed (Xrun x.0.0)) x.0.1 y (w ++ rest) x.2 why.has
     (ap (λ p. p ++ rest) v ∙ ap (λ r. codes "EPIPE" ++ r) (space_of-is rest a.0 a.1)
-    ∙ ap (λ r. codes "EPIPE " ++ r) (front_word-is a.0 u.0 u.1 ∙ xrun_by-is u.0.0 u.0.1 x.0 x.1))
+    ∙ ap (λ r. codes "EPIPE " ++ r) (front_word-is a.0 u.0 u.1 ∙ why.is))
 
-busy_of-is : (w rest : List ℕ) (y : Answer × List ℕ) → w ≡ codes "EBUSY" → busy_of rest ≡ Ok y → w ++ rest ≡ answer_text y.0 ++ y.1
+busy_of-is : (w rest : List ℕ) (y : Answer × List ℕ) → w ≡ codes "EBUSY" → busy_of rest ≡ Ok y → Begins HasText answer_text (w ++ rest) y
 busy_of-is w rest y v e =
     let a = bind_ok (space_of rest) _ y e in
     let u = bind_ok (number_or_dash_at a.0) _ y a.2 in
     let s = bind_ok (next_number most_frames u.0.1) _ y u.2 in
-    same_pair answer_text (Failed (Busy u.0.0 s.0.0)) s.0.1 y (w ++ rest) s.2
+    begins HasText answer_text (Failed (Busy u.0.0 s.0.0)) s.0.1 y (w ++ rest) s.2 tt
     (ap (λ p. p ++ rest) v ∙ ap (λ r. codes "EBUSY" ++ r) (space_of-is rest a.0 a.1)
     ∙ ap (λ r. codes "EBUSY " ++ r) (number_or_dash_at-is a.0 u.0 u.1)
     ∙ ap (λ r. codes "EBUSY " ++ (number_or_dash u.0.0 ++ r)) (next_number-is most_frames u.0.1 s.0 small_frames s.1)
     ∙ ap (λ r. codes "EBUSY " ++ r) (sym (append_assoc (number_or_dash u.0.0) (32 ∷ decimal s.0.0) s.0.1)))
 
-count_and_rest-is : (w rest : List ℕ) (y : Answer × List ℕ) → count_and_rest w rest ≡ Ok y → w ++ rest ≡ answer_text y.0 ++ y.1
+count_and_rest-is : (w rest : List ℕ) (y : Answer × List ℕ) → count_and_rest w rest ≡ Ok y → Begins HasText answer_text (w ++ rest) y
 count_and_rest-is w rest y e =
     let n = bind_ok (some_or why.Word (decimal_of most_frames w)) _ y e in
-    same_pair answer_text (Count n.0) rest y (w ++ rest) n.2 (ap (λ x. x ++ rest) (decimal_of-is most_frames n.0 w small_frames (some_is why.Word _ n.0 n.1)))
+    begins HasText answer_text (Count n.0) rest y (w ++ rest) n.2 tt (ap (λ x. x ++ rest) (decimal_of-is most_frames n.0 w small_frames (some_is why.Word _ n.0 n.1)))
 
-longer_answer-is : (w rest : List ℕ) (y : Answer × List ℕ) → longer_answer w rest ≡ Ok y → w ++ rest ≡ answer_text y.0 ++ y.1
+longer_answer-is : (w rest : List ℕ) (y : Answer × List ℕ) → longer_answer w rest ≡ Ok y → Begins HasText answer_text (w ++ rest) y
 longer_answer-is w rest y e =
-    let P : Type 0 = w ++ rest ≡ answer_text y.0 ++ y.1 in
+    let P : Type 0 = Begins HasText answer_text (w ++ rest) y in
     word_choice w (codes "EPIPE") _ _ y P (xrun_of-is w rest y)
     (λ g. word_choice w (codes "EBUSY") _ _ y P (busy_of-is w rest y) (count_and_rest-is w rest y) g) e
 
--- each value of a table is named by its text
-abbrev pub AreNamed : {A : Type 0} → (A → List ℕ) → List (List ℕ × A) → Type 0
-AreNamed f [] = Unit {0}
-AreNamed f (row ∷ rows) = (row.0 ≡ f row.1) × (AreNamed f rows)
+-- each value of a table can be in a report, and is named by its text
+abbrev pub AreNamed : {A : Type 0} → (A → Type 0) → (A → List ℕ) → List (List ℕ × A) → Type 0
+AreNamed P f [] = Unit {0}
+AreNamed P f (row ∷ rows) = (P row.1 × (row.0 ≡ f row.1)) × (AreNamed P f rows)
 
-named_by : {A : Type 0} (f : A → List ℕ) (w v : List ℕ) (y x : A) (rest : Option A) (t : Bool) → bytes_eq w v ≡ t → v ≡ f y → (rest ≡ Some x → w ≡ f x) → cond t (Some y) rest ≡ Some x → w ≡ f x
-named_by f w v y x rest true t n r e = let same : y ≡ x = cc (e) in (bytes_eq-Decides w v).0 t ∙ n ∙ ap f same
-named_by f w v y x rest false t n r e = r e
+named_by : {A : Type 0} (P : A → Type 0) (f : A → List ℕ) (w v : List ℕ) (y x : A) (rest : Option A) (t : Bool) → bytes_eq w v ≡ t → P y × (v ≡ f y) → (rest ≡ Some x → P x × (w ≡ f x)) → cond t (Some y) rest ≡ Some x → P x × (w ≡ f x)
+named_by P f w v y x rest true t n r e = let same : y ≡ x = cc (e) in (subst P same n.0, (bytes_eq-Decides w v).0 t ∙ n.1 ∙ ap f same)
+named_by P f w v y x rest false t n r e = r e
 
 -- a word of a table is the text of its value
-row_of-is : {A : Type 0} (f : A → List ℕ) (rows : List (List ℕ × A)) (w : List ℕ) (x : A) → AreNamed f rows → row_of rows w ≡ Some x → w ≡ f x
-row_of-is f [] w x h e = absurd (cc)
-row_of-is f (row ∷ rows) w x h e = named_by f w row.0 row.1 x (row_of rows w) (bytes_eq w row.0) refl h.0 (row_of-is f rows w x h.1) e
+row_of-is : {A : Type 0} (P : A → Type 0) (f : A → List ℕ) (rows : List (List ℕ × A)) (w : List ℕ) (x : A) → AreNamed P f rows → row_of rows w ≡ Some x → P x × (w ≡ f x)
+row_of-is P f [] w x h e = absurd (cc)
+row_of-is P f (row ∷ rows) w x h e = named_by P f w row.0 row.1 x (row_of rows w) (bytes_eq w row.0) refl h.0 (row_of-is P f rows w x h.1) e
 
-answers_named : AreNamed answer_text plain_answers
-answers_named = (refl, (refl, (refl, (refl, (refl, (refl, (refl, tt)))))))
+answers_named : AreNamed HasText answer_text plain_answers
+answers_named = ((tt, refl), ((tt, refl), ((tt, refl), ((tt, refl), ((refl, refl), ((tt, refl), ((tt, refl), tt)))))))
 
-answer_by-is : (o : Option Answer) (w rest : List ℕ) (y : Answer × List ℕ) → row_of plain_answers w ≡ o → answer_by o w rest ≡ Ok y → w ++ rest ≡ answer_text y.0 ++ y.1
-answer_by-is (Some a) w rest y o e = same_pair answer_text a rest y (w ++ rest) e (ap (λ x. x ++ rest) (row_of-is answer_text plain_answers w a answers_named o))
+answer_by-is : (o : Option Answer) (w rest : List ℕ) (y : Answer × List ℕ) → row_of plain_answers w ≡ o → answer_by o w rest ≡ Ok y → Begins HasText answer_text (w ++ rest) y
+answer_by-is (Some a) w rest y o e =
+    let row = row_of-is HasText answer_text plain_answers w a answers_named o in
+    begins HasText answer_text a rest y (w ++ rest) e row.0 (ap (λ x. x ++ rest) row.1)
 answer_by-is None w rest y o e = longer_answer-is w rest y e
 
--- an answer that is read is spelled so
-pub answer_at-is : (xs : List ℕ) (y : Answer × List ℕ) → answer_at xs ≡ Ok y → xs ≡ answer_text y.0 ++ y.1
+-- an answer that is read
+pub answer_at-is : (xs : List ℕ) (y : Answer × List ℕ) → answer_at xs ≡ Ok y → Begins HasText answer_text xs y
 answer_at-is xs y e =
     let w = bind_ok (front_word xs) _ y e in
-    front_word-is xs w.0 w.1 ∙ answer_by-is (row_of plain_answers w.0.0) w.0.0 w.0.1 y refl w.2
+    let by = answer_by-is (row_of plain_answers w.0.0) w.0.0 w.0.1 y refl w.2 in
+    record { has = by.has; is = front_word-is xs w.0 w.1 ∙ by.is }
 
-states_named : AreNamed state_name states
-states_named = (refl, (refl, (refl, (refl, (refl, (refl, (refl, (refl, tt))))))))
+states_named : AreNamed HasStateText state_name states
+states_named = ((tt, refl), ((tt, refl), ((tt, refl), ((tt, refl), ((tt, refl), ((tt, refl), ((tt, refl), ((tt, refl), tt))))))))
 
--- a state that is read is spelled so
-pub state_at-is : (xs : List ℕ) (y : PcmState × List ℕ) → state_at xs ≡ Ok y → xs ≡ state_name y.0 ++ y.1
+-- a state that is read
+pub state_at-is : (xs : List ℕ) (y : PcmState × List ℕ) → state_at xs ≡ Ok y → Begins HasStateText state_name xs y
 state_at-is xs y e =
     let w = bind_ok (front_word xs) _ y e in
     let s = bind_ok (some_or why.Word (row_of states w.0.0)) _ y w.2 in
-    same_pair state_name s.0 w.0.1 y xs s.2
-    (front_word-is xs w.0 w.1 ∙ ap (λ x. x ++ w.0.1) (row_of-is state_name states w.0.0 s.0 states_named (some_is why.Word _ s.0 s.1)))
+    let row = row_of-is HasStateText state_name states w.0.0 s.0 states_named (some_is why.Word _ s.0 s.1) in
+    begins HasStateText state_name s.0 w.0.1 y xs s.2 row.0 (front_word-is xs w.0 w.1 ∙ ap (λ x. x ++ w.0.1) row.1)

@@ -1,8 +1,7 @@
 -- Bytes divided into frames, in two pieces.
 use Rattle.std.proofs.Common.{◌≡◌, ℕ, zero, suc, ◌+◌, ◌*◌, ◌/◌, ◌%◌, ◌<◌, ◌≤◌, List, [], ◌∷◌, ◌++◌, length, take, drop, refl, sym, ap, ◌∙◌, arith, inl, inr, length-drop, length-append}
-use Rattle.std.proofs.Math.Seq.{drop-nil}
+use Rattle.std.proofs.lemmas.List.{drop-drop, take-append-le, drop-append-le}
 use Rattle.std.proofs.lemmas.Bool.{cases_lt}
-use Rattle.std.proofs.lemmas.List.{take-append-le, drop-append-le}
 use Rattle.std.proofs.lemmas.Nat.{div-add-mod', div-mul-add, mod_below}
 use Rattle.plug_chain.specs.Frames.{Conversion, frame_bytes, frame_count, frame_from_bytes, first_frames, frames_of_bytes, rest_of}
 
@@ -30,17 +29,11 @@ pub frames_of_bytes-more : (c : Conversion) (bytes : List ℕ) → 1 ≤ frame_b
 unfolding frames_of_bytes
 frames_of_bytes-more c bytes some enough = ap (λ (n : ℕ). first_frames c n bytes) (frame_count-more c bytes some enough)
 
--- more bytes dropped at once
-pub drop-add : {X : Type 0} (m n : ℕ) (xs : List X) → drop (m + n) xs ≡ drop n (drop m xs)
-drop-add zero n xs = ap (λ (k : ℕ). drop k xs) (let e : zero + n ≡ n = omega arith in e)
-drop-add (suc m) n [] = drop-nil (suc m + n) ∙ sym (drop-nil n)
-drop-add (suc m) n (x ∷ xs) = ap (λ (k : ℕ). drop k (x ∷ xs)) (let e : suc m + n ≡ suc (m + n) = omega arith in e) ∙ drop-add m n xs
-
 pub rest_of-more : (c : Conversion) (bytes : List ℕ) → 1 ≤ frame_bytes c → frame_bytes c ≤ length bytes → rest_of c bytes ≡ rest_of c (drop (frame_bytes c) bytes)
 unfolding rest_of
 rest_of-more c bytes some enough =
     ap (λ (n : ℕ). drop n bytes) (let e : frame_count c bytes * frame_bytes c ≡ frame_bytes c + frame_count c (drop (frame_bytes c) bytes) * frame_bytes c = omega (arith, ap (λ (n : ℕ). n * frame_bytes c) (frame_count-more c bytes some enough)) in e)
-    ∙ drop-add (frame_bytes c) (frame_count c (drop (frame_bytes c) bytes) * frame_bytes c) bytes
+    ∙ sym (drop-drop (frame_count c (drop (frame_bytes c) bytes) * frame_bytes c) (frame_bytes c) bytes)
 
 -- the rest is no whole frame
 pub length-rest_of : (c : Conversion) (bytes : List ℕ) → 1 ≤ frame_bytes c → length (rest_of c bytes) < frame_bytes c

@@ -5,7 +5,7 @@ use Rattle.std.proofs.lemmas.List.{nil_from_length}
 use Rattle.std.proofs.lemmas.Nat.{le-div}
 use Rattle.std.specs.List.{flat_map, range_with_len}
 use Rattle.std.specs.Prelude.{min}
-use Rattle.plug_chain.specs.Frames.{Conversion, frame_bytes, frame_count, frame_from_bytes, first_frames, frames_of_bytes, samples_in}
+use Rattle.plug_chain.specs.Frames.{Conversion, frame_bytes, frame_count, first_frames, frames_of_bytes, samples_in}
 use Rattle.plug_chain.specs.Plugs.{known_of, plug_of}
 use Rattle.plug_chain.specs.Rates.{AreRates, RatePair, frame_between, frame_at, known_samples, output_count, output_frame, output_frames}
 use Rattle.plug_chain.specs.Tables.{IsTable}

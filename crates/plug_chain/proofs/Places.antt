@@ -50,8 +50,7 @@ unfolding output_frame
 output_frame-at r frames j i part low is =
     let place_is : j * r.input / r.output ≡ i = ap (λ (m : ℕ). m / r.output) is ∙ div-mul-add i r.output part low in
     let part_is : j * r.input % r.output ≡ part = ap (λ (m : ℕ). m % r.output) is ∙ mod-mul-add i r.output part low in
-    ap (λ (k : ℕ). frame_between (j * r.input % r.output) r.output (frame_at frames k) (frame_at frames (k + 1))) place_is
-    ∙ ap (λ (k : ℕ). frame_between k r.output (frame_at frames i) (frame_at frames (i + 1))) part_is
+    rw (place_is, part_is) refl
 
 -- what the last frame is
 last_is : (r : RatePair) (channels : ℕ) (frames : List (List ℤ)) (last : List ℤ) (place m : ℕ) → IsRateAt r channels frames last place → length frames ≡ suc m → get_or frames m [] ≡ last
@@ -65,10 +64,8 @@ known_before : (r : RatePair) (frames : List (List ℤ)) (x : List ℤ) (j i par
 known_before r frames x j i part m many low is before =
     let here : i < length frames = omega (arith, many) in
     let next : i + 1 < length frames = omega (arith, many) in
-    output_frame-at r (frames ++ x ∷ []) j i part low is
-    ∙ (ap (λ f. frame_between part r.output f (frame_at (frames ++ x ∷ []) (i + 1))) (frame_at-append frames (x ∷ []) i here ∙ sym (frame_at-within frames i here))
-    ∙ (ap (λ f. frame_between part r.output (frame_at frames i) f) (frame_at-append frames (x ∷ []) (i + 1) next ∙ sym (frame_at-within frames (i + 1) next))
-    ∙ sym (output_frame-at r frames j i part low is)))
+    rw (output_frame-at r (frames ++ x ∷ []) j i part low is, output_frame-at r frames j i part low is)
+    (rw (frame_at-append frames (x ∷ []) i here, frame_at-append frames (x ∷ []) (i + 1) next, frame_at-within frames i here, frame_at-within frames (i + 1) next) refl)
 
 -- nor the one at it
 known_at : (r : RatePair) (frames : List (List ℤ)) (x : List ℤ) (j m : ℕ) → length frames ≡ suc m → 1 ≤ r.output → j * r.input ≡ m * r.output + 0
@@ -76,10 +73,8 @@ known_at : (r : RatePair) (frames : List (List ℤ)) (x : List ℤ) (j m : ℕ) 
 known_at r frames x j m many some is =
     let here : m < length frames = omega (arith, many) in
     output_frame-at r (frames ++ x ∷ []) j m 0 some is
-    ∙ (between-none r.output (frame_at (frames ++ x ∷ []) m) (frame_at (frames ++ x ∷ []) (m + 1)) some
-    ∙ ((frame_at-append frames (x ∷ []) m here ∙ sym (frame_at-within frames m here))
-    ∙ (sym (between-none r.output (frame_at frames m) (frame_at frames (m + 1)) some)
-    ∙ sym (output_frame-at r frames j m 0 some is))))
+    ∙ between-none r.output (frame_at (frames ++ x ∷ []) m) (frame_at (frames ++ x ∷ []) (m + 1)) some ∙ frame_at-append frames (x ∷ []) m here
+    ∙ sym (output_frame-at r frames j m 0 some is ∙ between-none r.output (frame_at frames m) (frame_at frames (m + 1)) some ∙ frame_at-within frames m here)
 
 known_by : (n : ℕ) (r : RatePair) (frames : List (List ℤ)) (x : List ℤ) (j : ℕ) → AreRates r → length frames ≡ n → j < known_count r n
     → output_frame r (frames ++ x ∷ []) j ≡ output_frame r frames j
@@ -138,9 +133,7 @@ last_by (suc m) r channels frames last start place j rates at many low is =
     let here : m < length frames = omega (arith, many) in
     let lies : j * r.input ≡ m * r.output + place = omega (arith, is) in
     output_frame-at r frames j m place low lies
-    ∙ (ap (λ f. frame_between place r.output f (frame_at frames (m + 1))) (frame_at-within frames m here ∙ last_is r channels frames last start m at many)
-    ∙ (ap (λ f. frame_between place r.output last f) (frame_at-past frames (m + 1) m many (omega arith) ∙ last_is r channels frames last start m at many)
-    ∙ between-same place r.output last rates.some_output))
+    ∙ rw (frame_at-within frames m here, frame_at-past frames (m + 1) m many (omega arith), last_is r channels frames last start m at many) (between-same place r.output last rates.some_output)
 
 -- the next output frame, after the last frame
 pub output_frame-last : (r : RatePair) (channels : ℕ) (frames : List (List ℤ)) (last : List ℤ) (start place j : ℕ) → AreRates r → IsRateAt r channels frames last start

@@ -1,14 +1,12 @@
 -- How far a run over the frames of some bytes has come.
-use Rattle.std.proofs.Common.{◌≡◌, ℕ, suc, ◌≤◌, ◌<◌, ◌++◌, List, [], ◌∷◌, length, take, drop, refl, sym, ap, subst, ◌∙◌, ℤ, append_assoc}
+use Rattle.std.proofs.Common.{◌≡◌, ℕ, suc, ◌≤◌, ◌<◌, ◌++◌, List, [], ◌∷◌, length, take, drop, sym, ap, subst, ◌∙◌, ℤ, append_assoc}
 use Rattle.std.proofs.lemmas.List.{append-nil}
 use Rattle.plug_chain.specs.declared.interpolation.Course.{Course}
 use Rattle.plug_chain.specs.Courses.{Advances, IsAdvance}
 use Rattle.plug_chain.specs.Frames.{Conversion, frame_bytes, frame_from_bytes, frames_of_bytes, samples_in}
-use Rattle.plug_chain.specs.Held.{samples_of}
-use Rattle.plug_chain.specs.Rates.{IsRateAt}
 use Rattle.plug_chain.specs.Samples.{bytes_of, wide_sample}
 use Rattle.plug_chain.specs.declared.wide.Wide.{Wide}
-use Rattle.plug_chain.proofs.Courses.{IsAdvance-none, IsAdvance-trans}
+use Rattle.plug_chain.proofs.Courses.{IsAdvance-trans}
 use Rattle.plug_chain.proofs.Cuts.{frames_of_bytes-more, frames_of_bytes-short}
 
 -- from some frames to others, which with those of the rest are all
@@ -16,10 +14,6 @@ pub record HasReached (c : Conversion) (frames : List (List ℤ)) (bytes rest : 
   pub reached : List (List ℤ)
   pub goes : IsAdvance c.rates c.table.outputs frames reached course old new
   pub left : reached ++ frames_of_bytes c rest ≡ frames ++ frames_of_bytes c bytes
-
-pub HasReached-start : (c : Conversion) (frames : List (List ℤ)) (bytes : List ℕ) (course : Course) (old : List ℤ)
-    → IsRateAt c.rates c.table.outputs frames (samples_of course.last) course.place → HasReached c frames bytes bytes course old old
-HasReached-start c frames bytes course old at = record { reached = frames; goes = IsAdvance-none c.rates c.table.outputs frames course old at; left = refl }
 
 pub HasReached-more : (c : Conversion) (frames : List (List ℤ)) (bytes rest : List ℕ) (start course : Course) (old mid new : List ℤ) → 1 ≤ frame_bytes c → frame_bytes c ≤ length rest
     → HasReached c frames bytes rest start old mid → Advances c.rates c.table.outputs (frame_from_bytes c (take (frame_bytes c) rest) ∷ []) start course mid new

@@ -1,42 +1,34 @@
-use Rattle.std.proofs.Common.{ℕ, List, None, sym, ◌∙◌, subst}
+use Rattle.std.proofs.Common.{refl, ℕ, List, None, sym, ◌∙◌, subst}
 use Rattle.asound_conf.specs.Rows.{IsAbsent, IsNode}
 use Rattle.asound_conf.specs.Table.{name_in}
 use Rattle.asound_conf.proofs.Groups.{Alters-same}
 use Rattle.asound_conf.proofs.Puts.{push-text, group-Kind, group-same, push-Alters, push-Leads, IsKeyStep-push, IsKeyStep-IsNode}
 use Rattle.asound_conf.proofs.group.put_group.Goals as goal
 
-pub returns-in_default-clause-value : goal.returns-in_default-clause-value
-returns-in_default-clause-value c =
+pub returns-in_default : goal.returns-in_default
+returns-in_default c =
     let old = c.args.table.now in
     let name = name_in old.text c.args.name in
     let none : IsAbsent old.rows c.args.group name = subst (λ (b : List ℕ). IsAbsent old.rows c.args.group b) c.key.ensures c.in_default.ensures.none in
-    push-Leads c.push.result c.args.group name None old c.push.new.self none c.requires c.push.ensures.rows c.push.ensures.memory
+    record {
+      value = push-Leads c.push.result c.args.group name None old c.push.new.self none c.requires c.push.ensures.rows c.push.ensures.memory;
+      step = IsKeyStep-push c.push.result c.args.group (name_in old.text c.args.name) old c.push.new.self c.requires c.push.ensures.rows c.push.ensures.number;
+      text = push-text c.push.result c.args.group (name_in old.text c.args.name) None old c.push.new.self c.push.ensures.rows c.push.ensures.kept;
+      alters = push-Alters c.push.result c.args.group (name_in old.text c.args.name) None old c.push.new.self c.push.ensures.rows c.push.ensures.kept;
+    }
 
-pub returns-in_default-clause-step : goal.returns-in_default-clause-step
-returns-in_default-clause-step c =
-    let old = c.args.table.now in
-    IsKeyStep-push c.push.result c.args.group (name_in old.text c.args.name) old c.push.new.self c.requires c.push.ensures.rows c.push.ensures.number
-
-pub returns-in_default-clause-alters : goal.returns-in_default-clause-alters
-returns-in_default-clause-alters c =
-    let old = c.args.table.now in
-    push-Alters c.push.result c.args.group (name_in old.text c.args.name) None old c.push.new.self c.push.ensures.rows c.push.ensures.kept
-
-pub returns-then-is_group-clause-value : goal.returns-then-is_group-clause-value
-returns-then-is_group-clause-value c =
+pub returns-then-is_group : goal.returns-then-is_group
+returns-then-is_group c =
     let rows = c.args.table.now.rows in
     let name = name_in c.args.table.now.text c.args.name in
     let n = c.in-Some.number in
     let is : IsNode rows c.args.group name n = subst (λ (b : List ℕ). IsNode rows c.args.group b n) c.key.ensures c.in-Some.ensures.some in
-    group-same rows c.args.group name n is (sym c.is_group.ensures ∙ c.if-is_group.true)
-
-pub returns-then-is_group-clause-step : goal.returns-then-is_group-clause-step
-returns-then-is_group-clause-step c =
-    let rows = c.args.table.now.rows in
-    let name = name_in c.args.table.now.text c.args.name in
-    let n = c.in-Some.number in
-    let is : IsNode rows c.args.group name n = subst (λ (b : List ℕ). IsNode rows c.args.group b n) c.key.ensures c.in-Some.ensures.some in
-    IsKeyStep-IsNode rows c.args.group name n is (sym c.is_group.ensures ∙ c.if-is_group.true)
+    record {
+      value = group-same rows c.args.group name n is (sym c.is_group.ensures ∙ c.if-is_group.true);
+      step = IsKeyStep-IsNode rows c.args.group name n is (sym c.is_group.ensures ∙ c.if-is_group.true);
+      text = refl;
+      alters = Alters-same c.args.group c.args.table.now.rows;
+    }
 
 pub returns-else-is_group-clause-value : goal.returns-else-is_group-clause-value
 returns-else-is_group-clause-value c =
@@ -45,14 +37,6 @@ returns-else-is_group-clause-value c =
     let n = c.in-Some.number in
     let is : IsNode rows c.args.group name n = subst (λ (b : List ℕ). IsNode rows c.args.group b n) c.key.ensures c.in-Some.ensures.some in
     group-Kind rows c.args.group name n is (sym c.is_group.ensures ∙ c.if-is_group.false)
-
-pub returns-in_default-clause-text : goal.returns-in_default-clause-text
-returns-in_default-clause-text c =
-    let old = c.args.table.now in
-    push-text c.push.result c.args.group (name_in old.text c.args.name) None old c.push.new.self c.push.ensures.rows c.push.ensures.kept
-
-pub returns-then-is_group-clause-alters : goal.returns-then-is_group-clause-alters
-returns-then-is_group-clause-alters c = Alters-same c.args.group c.args.table.now.rows
 
 pub returns-else-is_group-clause-alters : goal.returns-else-is_group-clause-alters
 returns-else-is_group-clause-alters c = Alters-same c.args.group c.args.table.now.rows

@@ -6,17 +6,16 @@ use Rattle.asound_conf.proofs.Groups.{Alters-same}
 use Rattle.asound_conf.proofs.Puts.{push-text, push-Alters, push-Leads, text-Kind, text-set}
 use Rattle.asound_conf.proofs.group.put_text.Goals as goal
 
-pub returns-in_default-clause-value : goal.returns-in_default-clause-value
-returns-in_default-clause-value c =
+pub returns-in_default : goal.returns-in_default
+returns-in_default c =
     let old = c.args.table.now in
     let name = name_in old.text c.args.name in
     let none : IsAbsent old.rows c.args.group name = subst (λ (b : List ℕ). IsAbsent old.rows c.args.group b) c.key.ensures c.in_default.ensures.none in
-    push-Leads c.push.result c.args.group name (Some (span_in old.text c.args.text)) old c.push.new.self none c.requires c.push.ensures.rows c.push.ensures.memory
-
-pub returns-in_default-clause-alters : goal.returns-in_default-clause-alters
-returns-in_default-clause-alters c =
-    let old = c.args.table.now in
-    push-Alters c.push.result c.args.group (name_in old.text c.args.name) (Some (span_in old.text c.args.text)) old c.push.new.self c.push.ensures.rows c.push.ensures.kept
+    record {
+      value = push-Leads c.push.result c.args.group name (Some (span_in old.text c.args.text)) old c.push.new.self none c.requires c.push.ensures.rows c.push.ensures.memory;
+      text = push-text c.push.result c.args.group (name_in old.text c.args.name) (Some (span_in old.text c.args.text)) old c.push.new.self c.push.ensures.rows c.push.ensures.kept;
+      alters = push-Alters c.push.result c.args.group (name_in old.text c.args.name) (Some (span_in old.text c.args.text)) old c.push.new.self c.push.ensures.rows c.push.ensures.kept;
+    }
 
 pub returns-then-is_group-clause-value : goal.returns-then-is_group-clause-value
 returns-then-is_group-clause-value c =
@@ -26,18 +25,20 @@ returns-then-is_group-clause-value c =
     let is : IsNode rows c.args.group name n = subst (λ (b : List ℕ). IsNode rows c.args.group b n) c.key.ensures c.in-Some.ensures.some in
     text-Kind rows c.args.group name n (span_in c.args.table.now.text c.args.text) is (sym c.is_group.ensures ∙ c.if-is_group.true)
 
-pub returns-clause-value : goal.returns-clause-value
-returns-clause-value c =
+pub returns : goal.returns
+returns c =
     let rows = c.args.table.now.rows in
     let name = name_in c.args.table.now.text c.args.name in
     let n = c.in-Some.number in
     let is : IsNode rows c.args.group name n = subst (λ (b : List ℕ). IsNode rows c.args.group b n) c.key.ensures c.in-Some.ensures.some in
-    text-set rows c.set_text.new.self.rows c.args.group name n (span_in c.args.table.now.text c.args.text) is (sym c.is_group.ensures ∙ c.if-is_group.false) (ap (λ (x : Contents). x.rows) c.set_text.ensures)
-
-pub returns-in_default-clause-text : goal.returns-in_default-clause-text
-returns-in_default-clause-text c =
-    let old = c.args.table.now in
-    push-text c.push.result c.args.group (name_in old.text c.args.name) (Some (span_in old.text c.args.text)) old c.push.new.self c.push.ensures.rows c.push.ensures.kept
+    let q = c.args.group in
+    let parent = c.in-Some.ensures.some.parent in
+    let new = record (row_at rows n) { value = Some (span_in c.args.table.now.text c.args.text) } in
+    record {
+      value = text-set rows c.set_text.new.self.rows c.args.group name n (span_in c.args.table.now.text c.args.text) is (sym c.is_group.ensures ∙ c.if-is_group.false) (ap (λ (x : Contents). x.rows) c.set_text.ensures);
+      text = ap (λ (x : Contents). x.text) c.set_text.ensures;
+      alters = subst (λ (r : List ConfRow). Alters q rows r) (sym (ap (λ (x : Contents). x.rows) c.set_text.ensures)) (Alters-set q n new rows parent (only-Some q new parent));
+    }
 
 pub returns-then-is_group-clause-alters : goal.returns-then-is_group-clause-alters
 returns-then-is_group-clause-alters c = Alters-same c.args.group c.args.table.now.rows
@@ -47,15 +48,3 @@ set_text-requires-clause-inside c = c.in-Some.ensures.some.inside
 
 pub set_text-requires-clause-text : goal.set_text-requires-clause-text
 set_text-requires-clause-text c = sym c.is_group.ensures ∙ c.if-is_group.false
-
-pub returns-clause-text : goal.returns-clause-text
-returns-clause-text c = ap (λ (x : Contents). x.text) c.set_text.ensures
-
-pub returns-clause-alters : goal.returns-clause-alters
-returns-clause-alters c =
-    let rows = c.args.table.now.rows in
-    let q = c.args.group in
-    let n = c.in-Some.number in
-    let parent = c.in-Some.ensures.some.parent in
-    let new = record (row_at rows n) { value = Some (span_in c.args.table.now.text c.args.text) } in
-    subst (λ (r : List ConfRow). Alters q rows r) (sym (ap (λ (x : Contents). x.rows) c.set_text.ensures)) (Alters-set q n new rows parent (only-Some q new parent))

@@ -1,8 +1,7 @@
 use Rattle.std.proofs.Common.{◌≡◌, ◌≤◌, ◌+◌, List, [], ◌∷◌, length, length-append, take, refl, sym, ap, subst, ◌∙◌, arith}
-use Rattle.std.proofs.lemmas.List.{take-append-le}
+use Rattle.std.proofs.lemmas.List.{length-take, take-append-le}
 use Rattle.std.proofs.Math.Seq.{take-length}
 use Rattle.asound_conf.specs.declared.part.Part as code
-use Rattle.asound_conf.proofs.Fronts.{take-least}
 use Rattle.asound_conf.proofs.PartLists.{IsPushed, IsPushed-next, piece-place}
 use Rattle.asound_conf.proofs.part.push_parts.Goals as goal
 
@@ -31,7 +30,7 @@ loop-piece-preserved c =
           let old = c.args.parts.now.items in
           let now = c.loop-piece.parts.items in
           let kept : take (length old) now ≡ old = c.loop-piece.invariant.kept in
-          ap (take (length old)) c.in_ok-push.ensures.items ∙ take-append-le (length old) now (c.part_of.result ∷ []) (take-least (length old) now (ap length kept)) ∙ kept;
+          ap (take (length old)) c.in_ok-push.ensures.items ∙ take-append-le (length old) now (c.part_of.result ∷ []) (omega (arith, length-take (length old) now, ap length kept)) ∙ kept;
     }
 
 pub returns-clause-kept : goal.returns-clause-kept
@@ -39,13 +38,13 @@ returns-clause-kept c =
     let old = c.args.parts.now.items in
     let now = c.loop-piece.parts.items in
     let kept : take (length old) now ≡ old = c.loop-piece.invariant.kept in
-    ap (take (length old)) c.in_ok-push-2.ensures.items ∙ take-append-le (length old) now (c.part_of-2.result ∷ []) (take-least (length old) now (ap length kept)) ∙ kept
+    ap (take (length old)) c.in_ok-push-2.ensures.items ∙ take-append-le (length old) now (c.part_of-2.result ∷ []) (omega (arith, length-take (length old) now, ap length kept)) ∙ kept
 
 pub returns-clause-more : goal.returns-clause-more
 returns-clause-more c =
     let old = c.args.parts.now.items in
     let now = c.loop-piece.parts.items in
     let kept : take (length old) now ≡ old = c.loop-piece.invariant.kept in
-    let low : length old ≤ length now = take-least (length old) now (ap length kept) in
+    let low : length old ≤ length now = omega (arith, length-take (length old) now, ap length kept) in
     let count : length c.push-2.new.self.items ≡ length now + 1 = ap length c.in_ok-push-2.ensures.items ∙ length-append now (c.part_of-2.result ∷ []) in
     omega (arith, low, count)

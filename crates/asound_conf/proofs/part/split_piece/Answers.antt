@@ -3,16 +3,16 @@ use Rattle.std.specs.List.{position}
 use Rattle.std.proofs.lemmas.List.{length-drop, length-take-le, take_rest}
 use Rattle.std.proofs.lemmas.List.Quantifiers.{position-Some}
 use Rattle.asound_conf.specs.Key.{is_dot}
-use Rattle.asound_conf.proofs.Splits.{slice_split-at, slice_split-none}
+use Rattle.text_words.proofs.Cuts.{split_at, split_none}
 use Rattle.asound_conf.proofs.part.split_piece.Goals as goal
 
 pub returns-in_err-end-clause-none : goal.returns-in_err-end-clause-none
 returns-in_err-end-clause-none c =
     let none : position is_dot c.args.word.now ≡ None = sym c.in_err-end.ensures in
-    rw c.from_residual.ensures (slice_split-none is_dot c.args.word.now none)
+    rw c.from_residual.ensures (split_none is_dot c.args.word.now none)
 
 pub returns-clause-some : goal.returns-clause-some
-returns-clause-some c = slice_split-at is_dot c.args.word.now c.in_ok-end.end (sym c.in_ok-end.ensures)
+returns-clause-some c = split_at is_dot c.args.word.now c.in_ok-end.end (sym c.in_ok-end.ensures)
 
 pub returns-clause-piece : goal.returns-clause-piece
 returns-clause-piece c =

@@ -4,8 +4,7 @@ use Rattle.lab_lines.specs.declared.request.Request.{Request}
 use Rattle.lab_report.proofs.Actors.{IsAsked, requests_of-asked}
 use Rattle.lab_report.specs.Reading.{nothing, lines_after, Answers}
 use Rattle.lab_report.specs.Words.{lines_of}
-use Rattle.lab_report.proofs.Read.{answers-of}
-use Rattle.lab_report.proofs.SpelledText.{answers-spelled}
+use Rattle.lab_report.proofs.SpelledText.{answers-of, answers-spelled}
 use Rattle.lab_report.proofs.reader.read_report.Goals as goal
 
 pub read_lines-requires-clause-actors : goal.read_lines-requires-clause-actors
@@ -22,6 +21,6 @@ returns-in-Ok-clause-of c =
 
 pub returns-in-Ok-clause-one : goal.returns-in-Ok-clause-one
 returns-in-Ok-clause-one c =
-    answers-spelled c.args.script.now c.args.text.now c.read_lines.result
+    answers-spelled c.args.script.now c.args.text.now c.read_lines.result c.requires
     (subst (λ (qs : List Request). Answers c.read_lines.result (lines_after c.args.script.now qs nothing 0 (lines_of c.args.text.now)))
     (c.as_slice.ensures.value ∙ c.in-Ok.ensures) c.read_lines.ensures)

@@ -1,11 +1,11 @@
-use Rattle.std.proofs.Common.{◌≡◌, ◌<◌, ◌∙◌, Ok, ap, arith, length, map, sym}
+use Rattle.std.proofs.Common.{◌≡◌, ◌<◌, ◌∙◌, [], arith, length, map, sym}
 use Rattle.std.specs.Prelude.{reverse}
 use Rattle.std.proofs.lemmas.Bool.Decides.{nat_tests}
-use Rattle.std.proofs.lemmas.List.{length-map, length-reverse}
+use Rattle.std.proofs.lemmas.List.{length-map, length-reverse, nil_from_length}
 use Rattle.asound_conf.specs.Grammar.{last_line}
 use Rattle.asound_conf.specs.Opening.{bracket_of}
 use Rattle.asound_conf.specs.Reading.{state_of}
-use Rattle.asound_conf.proofs.Readings.{end_of_text-Item, end_of_text-Value, end_of_text-open}
+use Rattle.asound_conf.proofs.Readings.{end_of_text-open}
 use Rattle.asound_conf.proofs.reading.Reading.finish.Goals as goal
 
 pub returns-then-not-is_empty : goal.returns-then-not-is_empty
@@ -19,18 +19,14 @@ returns-then-not-is_empty c =
 
 pub returns-in-Value : goal.returns-in-Value
 returns-in-Value c =
-    let r = c.args.self in
-    let outer = reverse r.outer.items in
-    let count : length (map bracket_of outer) ≡ length r.outer.items = length-map outer bracket_of ∙ length-reverse r.outer.items in
+    let items = c.args.self.outer.items in
     let open_ones = sym c.is_empty.ensures ∙ c.if-not-is_empty.false in
-    let none : length r.outer.items ≡ 0 = grind (arith, nat_tests, open_ones, r.outer.ok) in
-    end_of_text-Value (state_of r) (last_line r.table.text) c.last_line.result (map bracket_of outer) r.awaits c.in-Value.equals (count ∙ none) c.in-Value.is (c.last_line.ensures ∙ ap last_line c.text.ensures)
+    let none : items ≡ [] = nil_from_length items (grind (arith, nat_tests, open_ones, c.args.self.outer.ok)) in
+    rw (none, c.in-Value.is, c.last_line.ensures, c.text.ensures)
 
 pub returns : goal.returns
 returns c =
-    let r = c.args.self in
-    let outer = reverse r.outer.items in
-    let count : length (map bracket_of outer) ≡ length r.outer.items = length-map outer bracket_of ∙ length-reverse r.outer.items in
+    let items = c.args.self.outer.items in
     let open_ones = sym c.is_empty.ensures ∙ c.if-not-is_empty.false in
-    let none : length r.outer.items ≡ 0 = grind (arith, nat_tests, open_ones, r.outer.ok) in
-    end_of_text-Item (state_of r) (last_line r.table.text) (map bracket_of outer) r.awaits c.in_default.field-0 (count ∙ none) c.in_default.is ∙ ap Ok (sym c.of.ensures)
+    let none : items ≡ [] = nil_from_length items (grind (arith, nat_tests, open_ones, c.args.self.outer.ok)) in
+    rw (none, c.in_default.is, c.of.ensures)

@@ -3,11 +3,9 @@ use Rattle.asound_conf.specs.Rows.{Contents}
 use Rattle.asound_conf.proofs.Readers.{new-open, new-start}
 use Rattle.asound_conf.proofs.reading.Reading.new.Goals as goal
 
-pub returns-clause-start : goal.returns-clause-start
-returns-clause-start c = new-start c.in_ok-new.field-0 c.args.text.now c.new-2.result.items c.new-3.result.items c.in_ok-new.ensures c.new-2.ensures.items c.new-3.ensures.items
-
-pub returns-clause-valid : goal.returns-clause-valid
-returns-clause-valid c = new-open c.in_ok-new.field-0 c.args.text.now c.new-2.result.items c.new-3.result.items c.in_ok-new.ensures c.new-2.ensures.items c.new-3.ensures.items
-
-pub returns-clause-text : goal.returns-clause-text
-returns-clause-text c = ap (λ (k : Contents). k.text) c.in_ok-new.ensures
+pub returns : goal.returns
+returns c = record {
+  start = new-start c.in_ok-new.field-0 c.args.text.now c.new-2.result.items c.new-3.result.items c.in_ok-new.ensures c.new-2.ensures.items c.new-3.ensures.items;
+  valid = new-open c.in_ok-new.field-0 c.args.text.now c.new-2.result.items c.new-3.result.items c.in_ok-new.ensures c.new-2.ensures.items c.new-3.ensures.items;
+  text = ap (λ (k : Contents). k.text) c.in_ok-new.ensures;
+}

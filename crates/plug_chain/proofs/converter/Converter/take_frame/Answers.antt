@@ -1,10 +1,7 @@
-use Rattle.std.proofs.Common.{◌≡◌, ap, sym, subst, ◌∙◌, length, [], ◌∷◌, List, ℤ, ℕ, pos}
+use Rattle.std.proofs.Common.{◌≡◌, ap, ◌∙◌, length, pos}
 use Rattle.std.proofs.lemmas.List.{length-replicate}
-use Rattle.std.specs.Prelude.{OnOk}
-use Rattle.plug_chain.specs.Courses.{Advances}
 use Rattle.plug_chain.specs.Frames.{frame_from_bytes}
 use Rattle.plug_chain.specs.Held.{samples_of}
-use Rattle.plug_chain.specs.Rates.{IsCourse}
 use Rattle.plug_chain.specs.Tables.{output_samples}
 use Rattle.plug_chain.specs.Views.{conversion_of}
 use Rattle.plug_chain.proofs.Stages.{length-output_samples, length-samples_in}
@@ -22,8 +19,11 @@ read-requires-clause-channels c = ap length c.silent-samples.ensures ∙ length-
 pub silent-frame-requires : goal.silent-frame-requires
 silent-frame-requires c = rw c.outputs.ensures.value c.outputs.ensures.bound.few_outputs
 
-pub returns-clause-grows : goal.returns-clause-grows
-returns-clause-grows c = c.advance.ensures.grows
+pub returns : goal.returns
+returns c =
+    let frame : samples_of c.mix.new.frame ≡ frame_from_bytes (conversion_of c.args.self.now) c.args.bytes.now = c.mix.ensures ∙ ap (output_samples c.args.self.now.table) (c.as_slice.ensures ∙ c.read.ensures) in
+    let count = ap length c.mix.ensures ∙ length-output_samples c.args.self.now.table c.as_slice.result.now in
+    record { course = rw count at c.advance.ensures.course; ok = rw (count, frame) at c.advance.ensures.ok; grows = c.advance.ensures.grows }
 
 pub mix-requires-clause-channels : goal.mix-requires-clause-channels
 mix-requires-clause-channels c = ap length c.silent-frame.ensures ∙ length-replicate c.outputs.result (pos 0) ∙ c.outputs.ensures.value
@@ -33,17 +33,4 @@ mix-requires-clause-samples c = ap length (c.as_slice.ensures ∙ c.read.ensures
 
 pub advance-requires : goal.advance-requires
 advance-requires c =
-    subst (λ (n : ℕ). IsCourse c.args.self.now.rates n (samples_of c.args.course.now.last) c.args.course.now.place)
-    (sym (ap length c.mix.ensures ∙ length-output_samples c.args.self.now.table c.as_slice.result.now)) c.requires.course
-
-pub returns-clause-course : goal.returns-clause-course
-returns-clause-course c =
-    subst (λ (n : ℕ). OnOk c.advance.result (IsCourse c.args.self.now.rates n (samples_of c.advance.new.course.last) c.advance.new.course.place))
-    (ap length c.mix.ensures ∙ length-output_samples c.args.self.now.table c.as_slice.result.now) c.advance.ensures.course
-
-pub returns-clause-ok : goal.returns-clause-ok
-returns-clause-ok c =
-    let frame : samples_of c.mix.new.frame ≡ frame_from_bytes (conversion_of c.args.self.now) c.args.bytes.now = c.mix.ensures ∙ ap (output_samples c.args.self.now.table) (c.as_slice.ensures ∙ c.read.ensures) in
-    subst (λ (xs : List ℤ). OnOk c.advance.result (Advances c.args.self.now.rates c.args.self.now.table.outputs (xs ∷ []) c.args.course.now c.advance.new.course c.args.out.now.items c.advance.new.out.items)) frame
-    (subst (λ (n : ℕ). OnOk c.advance.result (Advances c.args.self.now.rates n (samples_of c.mix.new.frame ∷ []) c.args.course.now c.advance.new.course c.args.out.now.items c.advance.new.out.items))
-    (ap length c.mix.ensures ∙ length-output_samples c.args.self.now.table c.as_slice.result.now) c.advance.ensures.ok)
+    rw (ap length c.mix.ensures ∙ length-output_samples c.args.self.now.table c.as_slice.result.now) c.requires.course

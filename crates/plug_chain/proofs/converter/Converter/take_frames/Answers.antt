@@ -11,24 +11,15 @@ use Rattle.plug_chain.proofs.converter.Converter.take_frames.Goals as goal
 pub take_frame-requires-clause-bytes : goal.take_frame-requires-clause-bytes
 take_frame-requires-clause-bytes c = omega (arith, ap length c.split_at.ensures.front, c.frame_bytes-width.ensures.value)
 
-pub returns-in_err-take_frame-clause-course : goal.returns-in_err-take_frame-clause-course
-returns-in_err-take_frame-clause-course c =
+pub returns-in_err-take_frame : goal.returns-in_err-take_frame
+returns-in_err-take_frame c =
     let p = err_from_is_err_and c.from_residual.result c.from_residual.ensures.1 in
-    rw p.1 tt
-
-pub returns-in_err-take_frame-clause-ok : goal.returns-in_err-take_frame-clause-ok
-returns-in_err-take_frame-clause-ok c =
-    let p = err_from_is_err_and c.from_residual.result c.from_residual.ensures.1 in
-    rw p.1 tt
-
-pub returns-in_err-take_frame-clause-rest : goal.returns-in_err-take_frame-clause-rest
-returns-in_err-take_frame-clause-rest c =
-    let p = err_from_is_err_and c.from_residual.result c.from_residual.ensures.1 in
-    rw p.1 tt
-
-pub returns-in_err-take_frame-clause-grows : goal.returns-in_err-take_frame-clause-grows
-returns-in_err-take_frame-clause-grows c =
-    Extends-trans c.args.out.now.items c.loop-rest.out.items c.take_frame.new.out.items c.loop-rest.invariant.grows c.in_err-take_frame.ensures.grows
+    record {
+      course = rw p.1 tt;
+      ok = rw p.1 tt;
+      rest = rw p.1 tt;
+      grows = Extends-trans c.args.out.now.items c.loop-rest.out.items c.take_frame.new.out.items c.loop-rest.invariant.grows c.in_err-take_frame.ensures.grows;
+    }
 
 pub loop-rest-preserved : goal.loop-rest-preserved
 loop-rest-preserved c =

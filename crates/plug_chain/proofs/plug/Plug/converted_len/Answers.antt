@@ -1,4 +1,4 @@
-use Rattle.std.proofs.Common.{◌≡◌, ℕ, List, length, ◌*◌, ◌/◌, ap, sym, subst, ◌∙◌}
+use Rattle.std.proofs.Common.{◌≡◌, ℕ, length, ◌*◌, ◌/◌, ap, sym, subst, ◌∙◌}
 use Rattle.plug_chain.specs.Frames.{Conversion, frame_bytes}
 use Rattle.plug_chain.specs.Plugs.{Stage, plug_of}
 use Rattle.plug_chain.specs.Rates.{output_count}

@@ -36,19 +36,14 @@ loop-course-preserved c =
       grows = Extends-trans c.args.out.now.items c.loop-course.out.items c.push_frame.new.out.items c.loop-course.invariant.grows c.in_ok-push_frame.ensures.grows;
     }
 
-pub returns-in_err-push_frame-clause-course : goal.returns-in_err-push_frame-clause-course
-returns-in_err-push_frame-clause-course c =
+pub returns-in_err-push_frame : goal.returns-in_err-push_frame
+returns-in_err-push_frame c =
     let p = err_from_is_err_and c.from_residual.result c.from_residual.ensures.1 in
-    rw p.1 tt
-
-pub returns-in_err-push_frame-clause-ok : goal.returns-in_err-push_frame-clause-ok
-returns-in_err-push_frame-clause-ok c =
-    let p = err_from_is_err_and c.from_residual.result c.from_residual.ensures.1 in
-    rw p.1 tt
-
-pub returns-in_err-push_frame-clause-grows : goal.returns-in_err-push_frame-clause-grows
-returns-in_err-push_frame-clause-grows c =
-    Extends-trans c.args.out.now.items c.loop-course.out.items c.push_frame.new.out.items c.loop-course.invariant.grows c.in_err-push_frame.ensures.grows
+    record {
+      course = rw p.1 tt;
+      ok = rw p.1 tt;
+      grows = Extends-trans c.args.out.now.items c.loop-course.out.items c.push_frame.new.out.items c.loop-course.invariant.grows c.in_err-push_frame.ensures.grows;
+    }
 
 pub returns-clause-ok : goal.returns-clause-ok
 returns-clause-ok c = λ frames at.

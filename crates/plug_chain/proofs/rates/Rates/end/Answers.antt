@@ -26,14 +26,13 @@ loop-place-preserved c =
       grows = Extends-more c.args.out.now.items c.loop-place.out.items c.push_all.new.out.items (samples_of c.args.course.last) c.loop-place.invariant.grows grown;
     }
 
-pub returns-in_err-push_all-clause-ok : goal.returns-in_err-push_all-clause-ok
-returns-in_err-push_all-clause-ok c =
+pub returns-in_err-push_all : goal.returns-in_err-push_all
+returns-in_err-push_all c =
     let p = err_from_is_err_and c.from_residual.result c.from_residual.ensures.1 in
-    rw p.1 tt
-
-pub returns-in_err-push_all-clause-grows : goal.returns-in_err-push_all-clause-grows
-returns-in_err-push_all-clause-grows c =
-    Extends-trans c.args.out.now.items c.loop-place.out.items c.push_all.new.out.items c.loop-place.invariant.grows c.in_err-push_all.ensures.grows
+    record {
+      ok = rw p.1 tt;
+      grows = Extends-trans c.args.out.now.items c.loop-place.out.items c.push_all.new.out.items c.loop-place.invariant.grows c.in_err-push_all.ensures.grows;
+    }
 
 pub returns-clause-ok : goal.returns-clause-ok
 returns-clause-ok c = λ frames at. Appends-end c.args.self frames c.loop-place.place c.args.out.now.items c.loop-place.out.items c.output.ensures.bound (c.loop-place.invariant.underway frames at) (omega arith) (omega arith)

@@ -36,15 +36,13 @@ invariant_of-result c = record {
 pub usual_weight-requires : goal.usual_weight-requires
 usual_weight-requires c = c.requires.some_input
 
-pub returns-in_err-push-clause-ok : goal.returns-in_err-push-clause-ok
-returns-in_err-push-clause-ok c =
+pub returns-in_err-push : goal.returns-in_err-push
+returns-in_err-push c =
     let p = err_from_is_err_and c.from_residual.result c.from_residual.ensures.1 in
-    rw p.1 tt
-
-pub returns-in_err-push-clause-only_memory : goal.returns-in_err-push-clause-only_memory
-returns-in_err-push-clause-only_memory c =
-    let p = err_from_is_err_and c.from_residual.result c.from_residual.ensures.1 in
-    rw p.1 p.2
+    record {
+      ok = rw p.1 tt;
+      only_memory = rw p.1 p.2;
+    }
 
 pub returns-clause-ok : goal.returns-clause-ok
 returns-clause-ok c =

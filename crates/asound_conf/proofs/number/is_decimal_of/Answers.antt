@@ -1,7 +1,7 @@
 -- A name that is read as the number is its text.
 use Rattle.std.proofs.Common.{Some, None, sym}
 use Rattle.text_words.proofs.Decimals.{bytes_eq-decimal}
-use Rattle.asound_conf.proofs.number.is_decimal.Goals as goal
+use Rattle.asound_conf.proofs.number.is_decimal_of.Goals as goal
 
 pub returns-in-Some : goal.returns-in-Some
 returns-in-Some c = sym (bytes_eq-decimal c.args.name.now c.args.number c.requires (Some c.in-Some.value) c.in-Some.ensures.value)
